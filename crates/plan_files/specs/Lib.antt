@@ -1,0 +1,5 @@
+pub mod Changes
+pub mod Counts
+pub mod Folder
+pub mod Others
+pub mod Sinks
