@@ -1,0 +1,2 @@
+//! The pool of lines, and what they cost.
+#![tactic(auto)]
