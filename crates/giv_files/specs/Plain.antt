@@ -1,5 +1,5 @@
 -- Plain texts: lines that end with a line feed, each of them a comment or a row of whole numbers.
-use Rattle.std.specs.Prelude.{ℕ, ◌+◌, ◌-◌, ◌*◌, ◌==◌, Bool, false, ◌&&◌, ◌||◌, not, if◌then◌else◌, List, [], ◌∷◌, length, fold, nat_le, slice_index, Option, Some, None}
+use Rattle.std.specs.Prelude.{ℕ, ◌≡◌, ◌<◌, ◌+◌, ◌-◌, ◌*◌, ◌==◌, Bool, false, ◌&&◌, ◌||◌, not, if◌then◌else◌, List, [], ◌∷◌, length, fold, nat_le, slice_index, Option, Some, None}
 use Rattle.std.specs.Char.{is_ascii_digit}
 use Rattle.std.specs.List.{slice_split, list_all}
 use Rattle.std.specs.Option.{option_map, option_and_then}
@@ -7,7 +7,7 @@ use Rattle.giv_files.specs.declared.plain.CellRange.{CellRange}
 
 -- one to nine digits, and no zero in front of another digit
 abbrev pub is_plain_number : List ℕ → Bool
-is_plain_number text = nat_le 1 (length text) && nat_le (length text) 9 && list_all is_ascii_digit text && (length text == 1 || not (slice_index text 0 == 48))
+is_plain_number text = nat_le 1 (length text) && nat_le (length text) 9 && (nat_le (length text) 1 || not (slice_index text 0 == 48)) && list_all is_ascii_digit text
 
 -- the number that decimal digits spell
 abbrev pub spelled_number : List ℕ → ℕ
@@ -60,3 +60,8 @@ rows_of ranges (piece ∷ next ∷ pieces) = rows_with ranges piece (rows_of ran
 -- the rows of a plain text, and nothing for other texts
 unfoldable pub plain_rows : List CellRange → List ℕ → Option (List (List ℕ))
 plain_rows ranges text = rows_of ranges (slice_split (λ byte. byte == 10) text)
+
+-- a text is a piece, then the first of a byte, and then the rest
+pub record CutAt (at : ℕ) (text piece after : List ℕ) : Type 0 where
+  pub pieces : slice_split (λ byte. byte == at) text ≡ piece ∷ slice_split (λ byte. byte == at) after
+  pub shorter : length after < length text

@@ -1,10 +1,10 @@
 // Plain texts: rows of whole numbers.
-ghost use Rattle.std.specs.Prelude.{◌≡◌, ◌+◌, ◌<◌, ◌≤◌, ◌++◌, ◌∷◌, [], List, ℕ, length, take, drop, IfOk, OnOk, MatchOption, slice_index_or, ◌==◌, true};
+ghost use Rattle.std.specs.Prelude.{◌≡◌, ◌+◌, ◌<◌, ◌≤◌, ◌++◌, ◌∷◌, [], List, ℕ, length, take, drop, IfOk, OnOk, MatchOption, slice_index_or, ◌==◌, true, false, position};
 ghost use Rattle.std.specs.Char.{is_ascii_digit};
 ghost use Rattle.std.specs.List.{slice_split, list_all};
 ghost use Rattle.std.specs.Option.{option_map, option_and_then, option_copied};
 ghost use Rattle.giv_files.specs.declared.plain.CellRange.{CellRange};
-ghost use Rattle.giv_files.specs.Plain.{begins_with, is_plain_number, spelled_number, cell_of, cells_of, spaced_pieces, row_of, plain_rows};
+ghost use Rattle.giv_files.specs.Plain.{CutAt, begins_with, is_plain_number, spelled_number, cell_of, cells_of, spaced_pieces, row_of, plain_rows};
 
 use plan_num::NoMemory;
 use std::alloc::Global;
@@ -92,13 +92,20 @@ pub fn read_plain(
 
 // What stands before the first of a byte, and what stands after it, or nothing where it is not there.
 fn cut(text: &[u8], at: u8) -> Option<(&[u8], &[u8])>
-    ensures parts { MatchOption result (slice_split (λ byte. byte == at) text.now ≡ text.now ∷ [])
-        (λ parts. slice_split (λ byte. byte == at) text.now
-            ≡ parts.0.now ∷ slice_split (λ byte. byte == at) parts.1.now) }
-    ensures shorter { MatchOption result (Unit {0}) (λ parts. length parts.1.now < length text.now) }
+    ensures { MatchOption result (slice_split (λ byte. byte == at) text.now ≡ text.now ∷ [])
+        (λ parts. CutAt at text.now parts.0.now parts.1.now) }
 {
-    let end = text.iter().position(|byte| *byte == at)?;
-    Some((&text[..end], &text[end + 1..]))
+    match position_of(text, at) {
+        None => None,
+        Some(end) => Some((&text[..end], &text[end + 1..])),
+    }
+}
+
+// The first place of a byte.
+fn position_of(text: &[u8], at: u8) -> Option<usize>
+    ensures { result ≡ position (λ byte. byte == at) text.now }
+{
+    text.iter().position(|byte| *byte == at)
 }
 
 // Whether a text begins with a byte.
@@ -119,14 +126,17 @@ fn read_row(
     let mut cells = Vec::new(alloc);
     let mut rest = Some(line);
     for range in ranges {
-        let Some(text) = rest else {
-            return Ok(None);
+        let text = match rest {
+            None => return Ok(None),
+            Some(text) => text,
         };
-        let Some((cell, after)) = first_cell(text, *range) else {
-            return Ok(None);
-        };
-        cells.push(cell)?;
-        rest = after;
+        match first_cell(text, *range) {
+            None => return Ok(None),
+            Some((cell, after)) => {
+                cells.push(cell)?;
+                rest = after;
+            }
+        }
     }
     match rest {
         Some(_) => Ok(None),
@@ -134,7 +144,7 @@ fn read_row(
     }
 }
 
-// The first cell of a text, and what stands after it and a semicolon and a space, where cells follow.
+// The first cell of a text, and what stands after it and its separator, where there is one.
 fn first_cell<'a>(text: &'a [u8], range: CellRange) -> Option<(u32, Option<&'a [u8]>)>
     ensures { (ranges : List CellRange) → cells_of (range ∷ ranges) (spaced_pieces (Some text.now))
         ≡ option_and_then (λ found. option_map (λ cells. found.0 ∷ cells)
@@ -144,12 +154,23 @@ fn first_cell<'a>(text: &'a [u8], range: CellRange) -> Option<(u32, Option<&'a [
         None => Some((read_cell(text, range)?, None)),
         Some((piece, after)) => {
             let cell = read_cell(piece, range)?;
-            let (space, text) = after.split_first()?;
-            (*space == b' ').then_some((cell, Some(text)))
+            let text = after_space(after)?;
+            Some((cell, Some(text)))
         }
     }
 }
 
+// What stands after a space at the front.
+fn after_space(text: &[u8]) -> Option<&[u8]>
+    ensures { MatchOption result (begins_with 32 text.now ≡ false) (λ after. text.now ≡ 32 ∷ after.now) }
+{
+    match text {
+        [b' ', after @ ..] => Some(after),
+        _ => None,
+    }
+}
+
+#[tactic(auto, using(std::proofs::lemmas::Bool::Decides::nat_tests), unfolding(crate::specs::Plain::cell_of))]
 // The number of a cell, or nothing where the text is no plain number in the range.
 fn read_cell(text: &[u8], range: CellRange) -> Option<u32>
     ensures { result ≡ cell_of range text.now }
@@ -158,23 +179,35 @@ fn read_cell(text: &[u8], range: CellRange) -> Option<u32>
         return None;
     }
     let number = spelled_number(text);
-    (range.least <= number && number <= range.greatest).then_some(number)
+    if number < range.least || range.greatest < number {
+        return None;
+    }
+    Some(number)
 }
 
 // Whether a text is one to nine digits, and no zero stands in front of another digit.
 fn is_plain_number(text: &[u8]) -> bool
     ensures { result ≡ is_plain_number text.now }
 {
-    !text.is_empty()
-        && text.len() <= 9
-        && text.iter().all(|byte| byte.is_ascii_digit())
-        && (text.len() == 1 || text[0] != b'0')
+    if text.is_empty() || text.len() > 9 {
+        return false;
+    }
+    if text.len() > 1 && text[0] == b'0' {
+        return false;
+    }
+    all_digits(text)
 }
 
-// The number that up to nine digits spell.
+// Whether each byte is a digit.
+fn all_digits(text: &[u8]) -> bool
+    ensures { result ≡ list_all is_ascii_digit text.now }
+{
+    text.iter().all(|byte| byte.is_ascii_digit())
+}
+
+// The number that one to nine digits spell.
 fn spelled_number(text: &[u8]) -> u32
-    requires short { length text.now ≤ 9 }
-    requires digits { list_all is_ascii_digit text.now ≡ true }
+    requires { is_plain_number text.now ≡ true }
     ensures { result ≡ spelled_number text.now }
 {
     let mut number = 0;
