@@ -3,7 +3,7 @@ use Rattle.std.proofs.Common.{◌≡◌, ℕ, ◌+◌, ◌-◌, ◌*◌, ◌^◌
 use Rattle.std.specs.Option.{option_map, option_and_then}
 use Rattle.std.specs.List.{slice_split, list_all, position_or_len, onto_first}
 use Rattle.std.specs.Char.{is_ascii_digit}
-use Rattle.std.proofs.lemmas.Bool.{cases_lt, lt-ltb, le-ltb, and_parts, leb-true}
+use Rattle.std.proofs.lemmas.Bool.{cases_lt, lt-ltb, le-ltb, and_parts, leb-true, ltb-true}
 use Rattle.std.proofs.lemmas.List.Splits.{slice_split_first, slice_split_none, length-slice_split}
 use Rattle.std.proofs.lemmas.List.{take_rest, at_drop_more, at_drop_all}
 use Rattle.std.proofs.lemmas.Iterator.Adapters.{option_map_id}
@@ -12,16 +12,18 @@ use Rattle.std.proofs.lemmas.List.Elements.{All-from_get_or, All-get_or}
 use Rattle.std.proofs.lemmas.Grind.{pow_more}
 use Rattle.std.proofs.Math.Nat.{pow-le-pow_right}
 use Rattle.giv_files.specs.declared.plain.CellRange.{CellRange}
-use Rattle.giv_files.specs.Plain.{CutAt, is_plain_number, spelled_number, cell_of, spaced_cell, cells_of, spaced_pieces, row_of, begins_with, rows_with, rows_of, plain_rows}
+use Rattle.giv_files.specs.Plain.{CutAt, is_plain_number, spelled_number, cell_of, spaced_cell, cells_of, spaced_pieces, row_of, begins_with, rows_with, rows_of, plain_rows, is_within}
 
 -- ---- pieces
 
+-- what a choice gave where it gave something
+some_if : {A : Type 0} (test : Bool) (x y : A) → cond test (Some x) None ≡ Some y → (test ≡ true) × (x ≡ y)
+some_if true x y e = (refl, cc)
+some_if false x y e = cc
+
 -- a place that a search found is the first one, and within the list
 found_at : (n l end : ℕ) → cond (ltb n l) (Some n) None ≡ Some end → (n ≡ end) × (n < l)
-found_at n l end e = elim (cases_lt n l) [
-  | inl h ↦ (let s : ltb n l ≡ true = lt-ltb n l h in let t = rw s at e in cc, h)
-  | inr h ↦ let s : ltb n l ≡ false = le-ltb n l h in let t = rw s at e in cc
-  ]
+found_at n l end e = let found = some_if (ltb n l) n end e in (found.1, ltb-true n l found.0)
 
 -- a search that found nothing passed the whole list
 found_none : (n l : ℕ) → cond (ltb n l) (Some n) None ≡ None → l ≤ n
@@ -236,3 +238,93 @@ row_long ranges i cells text all h so_far =
 pub text_begins : (ranges : List CellRange) (text : List ℕ) → ReadSoFar ranges [] text (plain_rows ranges text)
 unfolding plain_rows
 text_begins ranges text = option_map_id _
+
+-- ---- what rows hold
+
+-- a row has a number for each column, in the column's range
+abbrev pub RowFits : List CellRange → List ℕ → Type 0
+RowFits [] [] = Unit {0}
+RowFits [] (cell ∷ cells) = ⊥
+RowFits (range ∷ ranges) [] = ⊥
+RowFits (range ∷ ranges) (cell ∷ cells) = (is_within range cell ≡ true) × RowFits ranges cells
+
+-- each of some rows does
+abbrev pub RowsFit : List CellRange → List (List ℕ) → Type 0
+RowsFit ranges [] = Unit {0}
+RowsFit ranges (row ∷ rows) = RowFits ranges row × RowsFit ranges rows
+
+-- the parts of what two steps gave
+both_some : {A B C : Type 0} (f : A → B → C) (x : Option A) (y : Option B) (z : C) → option_and_then (λ a. option_map (f a) y) x ≡ Some z → (a : A) × (b : B) × (x ≡ Some a) × (y ≡ Some b) × (f a b ≡ z)
+both_some f None y z e = cc
+both_some f (Some a) None z e = cc
+both_some f (Some a) (Some b) z e = (a, b, refl, refl, cc)
+
+-- a cell is in its range
+cell_fits : (range : CellRange) (text : List ℕ) (cell : ℕ) → cell_of range text ≡ Some cell → is_within range cell ≡ true
+unfolding cell_of
+cell_fits range text cell e =
+    let found = some_if _ (spelled_number text) cell e in
+    let P : ℕ → Type 0 = λ n. is_within range n ≡ true in
+    subst P found.1 (and_parts _ _ found.0).1
+
+-- as behind a space
+spaced_fits : (range : CellRange) (text : List ℕ) (cell : ℕ) → spaced_cell range text ≡ Some cell → is_within range cell ≡ true
+unfolding spaced_cell
+spaced_fits range [] cell e = cc
+spaced_fits range (first ∷ text) cell e = elim (first == 32) as (λ b. cond b (cell_of range text) None ≡ Some cell → is_within range cell ≡ true) [
+  | true ↦ λ h. cell_fits range text cell h
+  | false ↦ λ h. cc
+  ] e
+
+-- the cells of a row are
+cells_fit : (ranges : List CellRange) (pieces : List (List ℕ)) (cells : List ℕ) → cells_of ranges pieces ≡ Some cells → RowFits ranges cells
+unfolding cells_of
+cells_fit [] [] cells e = let same : [] ≡ cells = cc in subst (RowFits []) same tt
+cells_fit [] (piece ∷ pieces) cells e = cc
+cells_fit (range ∷ ranges) [] cells e = cc
+cells_fit (range ∷ ranges) (piece ∷ pieces) cells e =
+    let parts = both_some ◌∷◌ (spaced_cell range piece) (cells_of ranges pieces) cells e in
+    subst (RowFits (range ∷ ranges)) parts.4 (spaced_fits range piece parts.0 parts.2, cells_fit ranges pieces parts.1 parts.3)
+
+-- a row fits its columns
+row_fits : (ranges : List CellRange) (line row : List ℕ) → row_of ranges line ≡ Some row → RowFits ranges row
+unfolding row_of
+row_fits ranges line row e = cells_fit ranges _ row e
+
+-- the rows of a text do
+rows_fit : (ranges : List CellRange) (pieces rows : List (List ℕ)) → rows_of ranges pieces ≡ Some rows → RowsFit ranges rows
+unfolding rows_of
+rows_fit ranges [] rows e = cc
+rows_fit ranges (piece ∷ []) rows e = subst (RowsFit ranges) (some_if (length piece == 0) [] rows e).1 tt
+rows_fit ranges (piece ∷ next ∷ pieces) rows e =
+    elim (begins_with 35 piece) as (λ b. cond b (rows_of ranges (next ∷ pieces)) (option_and_then (λ row. option_map (λ more. row ∷ more) (rows_of ranges (next ∷ pieces))) (row_of ranges piece)) ≡ Some rows → RowsFit ranges rows) [
+      | true ↦ λ h. rows_fit ranges (next ∷ pieces) rows h
+      | false ↦ λ h.
+          let parts = both_some ◌∷◌ (row_of ranges piece) (rows_of ranges (next ∷ pieces)) rows h in
+          subst (RowsFit ranges) parts.4 (row_fits ranges piece parts.0 parts.2, rows_fit ranges (next ∷ pieces) parts.1 parts.3)
+    ] e
+
+-- each row of a plain text has a number for each column, in the column's range
+pub plain_rows_fit : (ranges : List CellRange) (text : List ℕ) (rows : List (List ℕ)) → plain_rows ranges text ≡ Some rows → RowsFit ranges rows
+unfolding plain_rows
+plain_rows_fit ranges text rows e = rows_fit ranges _ rows e
+
+-- as at a place
+pub row_fits_at : (ranges : List CellRange) (rows : List (List ℕ)) (i : ℕ) → RowsFit ranges rows → i < length rows → RowFits ranges (get_or rows i [])
+row_fits_at ranges [] i fits h = absurd (omega arith)
+row_fits_at ranges (row ∷ rows) zero fits h = fits.0
+row_fits_at ranges (row ∷ rows) (suc i) fits h = row_fits_at ranges rows i fits.1 (omega arith)
+
+-- a row that fits has as many numbers as there are columns
+pub fitting_length : (ranges : List CellRange) (row : List ℕ) → RowFits ranges row → length row ≡ length ranges
+fitting_length [] [] fits = refl
+fitting_length [] (cell ∷ cells) fits = absurd fits
+fitting_length (range ∷ ranges) [] fits = absurd fits
+fitting_length (range ∷ ranges) (cell ∷ cells) fits = omega (arith, fitting_length ranges cells fits.1)
+
+-- and each is at most the greatest of its column
+pub fitting_cell : (ranges : List CellRange) (row : List ℕ) (i : ℕ) (range : CellRange) → RowFits ranges row → i < length ranges → get_or row i 0 ≤ (get_or ranges i range).greatest
+fitting_cell [] row i range fits h = absurd (omega arith)
+fitting_cell (first ∷ ranges) [] i range fits h = absurd fits
+fitting_cell (first ∷ ranges) (cell ∷ cells) zero range fits h = leb-true _ _ (and_parts _ _ fits.0).1
+fitting_cell (first ∷ ranges) (cell ∷ cells) (suc i) range fits h = fitting_cell ranges cells i range fits.1 (omega arith)

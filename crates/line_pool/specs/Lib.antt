@@ -1,1 +1,2 @@
 pub mod PlainCosts
+pub mod Sums

@@ -1,5 +1,5 @@
 -- The costs of the lines of a pool, from the plain texts of the edges and of the pool.
-use Rattle.std.specs.Prelude.{ℕ, ◌+◌, ◌==◌, Bool, true, ◌&&◌, not, if◌then◌else◌, List, [], ◌∷◌, ◌++◌, length, map, count_by, nat_le, nat_lt, is_some, slice_index, codes, decimal, Option, Some, None, unwrap_or}
+use Rattle.std.specs.Prelude.{ℕ, ◌+◌, ◌==◌, Bool, true, ◌&&◌, not, if◌then◌else◌, List, [], ◌∷◌, ◌++◌, length, fold, count_by, nat_le, nat_lt, is_some, slice_index, codes, decimal, Option, Some, None, unwrap_or}
 use Rattle.std.specs.List.{list_any, flat_map, sum_by}
 use Rattle.std.specs.Option.{option_and_then}
 use Rattle.giv_files.specs.declared.plain.CellRange.{CellRange}
@@ -61,9 +61,9 @@ length_of (edge ∷ edges) id = if edge_id edge == id then Some (edge_length edg
 abbrev pub has_new_id : List Row → Row → Bool
 has_new_id before edge = not (is_some (length_of before (edge_id edge)))
 
--- a row of the pool names an edge that is there
-abbrev pub names_edge : List Row → Row → Bool
-names_edge edges row = is_some (length_of edges (row_edge row))
+-- a row of the pool names an edge that is there, which then has a length
+abbrev pub names_edge : (ℕ → Option ℕ) → Row → Bool
+names_edge lengths row = is_some (lengths (row_edge row))
 
 -- no row before it gives the line the same edge
 abbrev pub has_new_edge : List Row → Row → Bool
@@ -77,9 +77,9 @@ rows_of_line rows line = count_by (λ row. row_line row == line) rows
 abbrev pub is_next : List Row → Row → Bool
 is_next before row = row_order row == rows_of_line before (row_line row) + 1
 
--- what each row of the pool has to meet, over edges
-abbrev pub fits_pool : List Row → List Row → Row → Bool
-fits_pool edges before row = names_edge edges row && has_new_edge before row && is_next before row
+-- what each row of the pool has to meet, over the lengths of edges
+abbrev pub fits_pool : (ℕ → Option ℕ) → List Row → Row → Bool
+fits_pool lengths before row = names_edge lengths row && has_new_edge before row && is_next before row
 
 -- a rising list of numbers with one more number
 unfoldable pub with_number : ℕ → List ℕ → List ℕ
@@ -87,17 +87,16 @@ with_number number [] = number ∷ []
 with_number number (first ∷ more) = if nat_lt number first then number ∷ first ∷ more else (if number == first then first ∷ more else first ∷ with_number number more)
 
 -- the different lines of a pool, rising
-unfoldable pub lines_of : List Row → List ℕ
-lines_of [] = []
-lines_of (row ∷ rows) = with_number (row_line row) (lines_of rows)
+abbrev pub lines_of : List Row → List ℕ
+lines_of pool = fold (λ lines row. with_number (row_line row) lines) [] pool
 
 -- edges and a pool that are within the limits and meet each rule
 abbrev pub is_readable : List Row → List Row → Bool
-is_readable edges pool = nat_le (length edges) 1000 && nat_le (length (lines_of pool)) 200 && each_after has_new_id edges && each_after (fits_pool edges) pool
+is_readable edges pool = nat_le (length edges) 1000 && nat_le (length (lines_of pool)) 200 && each_after has_new_id edges && each_after (fits_pool (length_of edges)) pool
 
 -- the length of a line: the sum of the lengths of its edges
-abbrev pub line_length : List Row → List Row → ℕ → ℕ
-line_length edges pool line = sum_by (λ row. if row_line row == line then unwrap_or (length_of edges (row_edge row)) 0 else 0) pool
+abbrev pub line_length : (ℕ → Option ℕ) → List Row → ℕ → ℕ
+line_length lengths pool line = sum_by (λ row. if row_line row == line then unwrap_or (lengths (row_edge row)) 0 else 0) pool
 
 -- what a line costs before its length counts
 abbrev pub fixed_cost : ℕ
@@ -111,8 +110,8 @@ abbrev pub header : List ℕ
 header = codes "# line-id; length; cost\n"
 
 -- the text of the costs: a header, and a row for each line, rising
-abbrev pub cost_text : List Row → List Row → List ℕ
-cost_text edges pool = header ++ flat_map (λ line. cost_row line (line_length edges pool line)) (lines_of pool)
+abbrev pub cost_text : (ℕ → Option ℕ) → List Row → List ℕ
+cost_text lengths pool = header ++ flat_map (λ line. cost_row line (line_length lengths pool line)) (lines_of pool)
 
 -- a text of costs, and of how many lines
 pub record Costs : Type 0 where
@@ -121,7 +120,7 @@ pub record Costs : Type 0 where
 
 -- the costs of the lines of a pool over edges, where they can be read
 unfoldable pub costs_over : List Row → List Row → Option Costs
-costs_over edges pool = if is_readable edges pool then Some (record { text = cost_text edges pool; lines = length (lines_of pool) }) else None
+costs_over edges pool = if is_readable edges pool then Some (record { text = cost_text (length_of edges) pool; lines = length (lines_of pool) }) else None
 
 -- the costs from the texts of the edges and of the pool, where they can be read
 unfoldable pub costs_of : List ℕ → List ℕ → Option Costs

@@ -1,0 +1,3 @@
+pub mod EachAfter
+pub mod LineSums
+pub mod Readable
