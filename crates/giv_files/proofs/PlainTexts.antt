@@ -30,7 +30,7 @@ found_none : (n l : ℕ) → cond (ltb n l) (Some n) None ≡ None → l ≤ n
 found_none n l e = elim (cases_lt n l) [
   | inl h ↦ let s : ltb n l ≡ true = lt-ltb n l h in let t = rw s at e in cc
   | inr h ↦ h
-  ]
+]
 
 -- a text is cut at the first of a byte
 pub cut_found : (at : ℕ) (text : List ℕ) (end : ℕ) → position (λ byte. byte == at) text ≡ Some end → CutAt at text (take end text) (take (length text - (end + 1)) (drop (end + 1) text))
@@ -274,7 +274,7 @@ spaced_fits range [] cell e = cc
 spaced_fits range (first ∷ text) cell e = elim (first == 32) as (λ b. cond b (cell_of range text) None ≡ Some cell → is_within range cell ≡ true) [
   | true ↦ λ h. cell_fits range text cell h
   | false ↦ λ h. cc
-  ] e
+] e
 
 -- the cells of a row are
 cells_fit : (ranges : List CellRange) (pieces : List (List ℕ)) (cells : List ℕ) → cells_of ranges pieces ≡ Some cells → RowFits ranges cells

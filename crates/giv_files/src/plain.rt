@@ -116,11 +116,7 @@ fn begins_with(text: &[u8], byte: u8) -> bool
 }
 
 // The numbers of a row, or nothing where the line is no row.
-fn read_row(
-    alloc: Global,
-    line: &[u8],
-    ranges: &[CellRange],
-) -> Result<Option<Vec<u32>>, NoMemory>
+fn read_row(alloc: Global, line: &[u8], ranges: &[CellRange]) -> Result<Option<Vec<u32>>, NoMemory>
     ensures { IfOk result (λ row. option_map (λ cells. cells.items) row ≡ row_of ranges.now line.now) }
 {
     let mut cells = Vec::new(alloc);
@@ -148,7 +144,7 @@ fn read_row(
 fn first_cell<'a>(text: &'a [u8], range: CellRange) -> Option<(u32, Option<&'a [u8]>)>
     ensures { (ranges : List CellRange) → cells_of (range ∷ ranges) (spaced_pieces (Some text.now))
         ≡ option_and_then (λ found. option_map (λ cells. found.0 ∷ cells)
-            (cells_of ranges (spaced_pieces (option_copied found.1)))) result }
+        (cells_of ranges (spaced_pieces (option_copied found.1)))) result }
 {
     match cut(text, b';') {
         None => Some((read_cell(text, range)?, None)),
@@ -215,4 +211,66 @@ fn spelled_number(text: &[u8]) -> u32
         number = number * 10 + u32::from(*byte - b'0');
     }
     number
+}
+
+#[cfg(test)]
+mod tests {
+    use super::*;
+    use std::test::Fail;
+
+    const RANGES: [CellRange; 2] = [
+        CellRange {
+            least: 1,
+            greatest: 999_999_999,
+        },
+        CellRange {
+            least: 0,
+            greatest: 50,
+        },
+    ];
+
+    // Each text, and how many rows it has where it is plain.
+    const TEXTS: [(&[u8], Option<usize>); 22] = [
+        (b"", Some(0)),
+        (b"1; 0\n", Some(1)),
+        (b"999999999; 50\n2; 10\n", Some(2)),
+        (b"# two rows; \r\n1; 0\n#\n2; 7\n", Some(2)),
+        (b"1; 0", None),
+        (b"1; 0\n#", None),
+        (b"1; 0\r\n", None),
+        (b"\n", None),
+        (b"1; 0\n\n", None),
+        (b"1\n", None),
+        (b"1; 0; 0\n", None),
+        (b"1; 0;\n", None),
+        (b"1; 0; \n", None),
+        (b"1;0\n", None),
+        (b"1;  0\n", None),
+        (b" 1; 0\n", None),
+        (b"1 ; 0\n", None),
+        (b"01; 0\n", None),
+        (b"1; 00\n", None),
+        (b"1000000000; 0\n", None),
+        (b"0; 0\n", None),
+        (b"1; 51\n", None),
+    ];
+
+    #[test]
+    fn reads_plain_texts_alone(rt: HostRuntime) -> Result<(), Fail> {
+        for (place, (text, want)) in TEXTS.iter().enumerate() {
+            let read = read_plain(rt.alloc(), text, &RANGES)?;
+            let count = read.as_ref().map(|rows| rows.len());
+            assert_eq!(rt; count, *want, "text {place}");
+        }
+        Ok(())
+    }
+
+    #[test]
+    fn gives_the_numbers_of_a_row(rt: HostRuntime) -> Result<(), Fail> {
+        let rows = read_plain(rt.alloc(), b"# x\n7; 0\n123456789; 42\n", &RANGES)?.ok_or("plain")?;
+        assert_eq!(rt; rows.len(), 2);
+        assert_eq!(rt; rows.row(0), [7, 0].as_slice());
+        assert_eq!(rt; rows.row(1), [123_456_789, 42].as_slice());
+        Ok(())
+    }
 }

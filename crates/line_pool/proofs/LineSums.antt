@@ -103,7 +103,7 @@ at_equal : {A : Type 0} (a b : ℕ) (f : ℕ → A) (y : A) → cond (a == b) (f
 at_equal a b f y = elim (cases_eq a b) [
   | inl same ↦ ap (λ x. cond (a == b) (f x) y) same
   | inr other ↦ let test : (a == b) ≡ false = ne_eqb a b other in rw test refl
-  ]
+]
 
 -- the sums of one row more
 pub sums_more : (lengths : ℕ → Option ℕ) (pool : List Row) (i : ℕ) (row : Row) (units : ℕ) (old new : BTreeMap ℕ LineSum) → i < length pool → row ≡ get_or pool i [] → lengths (row_edge row) ≡ Some units → SumsUp lengths (take i pool) old → AddsEdge old new (row_line row) units → SumsUp lengths (take (i + 1) pool) new
@@ -191,7 +191,7 @@ length_short [] short id = omega arith
 length_short (edge ∷ edges) short id = elim (edge_id edge == id) as (λ b. unwrap_or (cond b (Some (edge_length edge)) (length_of edges id)) 0 ≤ 10000) [
   | true ↦ short 0 (omega arith)
   | false ↦ length_short edges (λ i h. short (suc i) (omega arith)) id
-  ]
+]
 
 -- ---- the text
 
@@ -208,8 +208,8 @@ text_is lengths pool made sums =
     let f : ℕ → ℕ = λ line. line_length lengths pool line in
     let found = All-found nat_cmp_total made sums.ordered in
     let each : All (λ entry. entry.1.length ≡ f entry.0) made.entries = λ k d h.
-      let e = get_or made.entries k d in
-      ap (λ sum. sum.length) (ap (λ o. unwrap_or o no_edge) (sym (found k d h)) ∙ sums.sums e.0) in
+    let e = get_or made.entries k d in
+    ap (λ sum. sum.length) (ap (λ o. unwrap_or o no_edge) (sym (found k d h)) ∙ sums.sums e.0) in
     ap (λ rows. header ++ rows) (entry_rows_are f made.entries each ∙ ap (flat_map (λ line. cost_row line (f line))) sums.lines)
 
 -- there are as many sums as lines

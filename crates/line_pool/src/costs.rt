@@ -20,13 +20,18 @@ const ID: CellRange = CellRange {
     least: 1,
     greatest: 1_000_000_000,
 };
+
 const SMALL: CellRange = CellRange {
     least: 0,
     greatest: 10_000,
 };
+
 const EDGE_COLUMNS: [CellRange; 6] = [ID, ID, ID, SMALL, SMALL, SMALL];
+
 const POOL_COLUMNS: [CellRange; 3] = [ID, ID, ID];
+
 const MOST_EDGES: usize = 1_000;
+
 const MOST_LINES: usize = 200;
 
 /// The costs of lines as a text, and how many lines there are.
@@ -104,7 +109,7 @@ fn edge_lengths(alloc: Global, edges: &PlainRows) -> Result<Option<HashMap<u32, 
     requires { HasLengths edges.now }
     ensures { IfOk result (λ made. MatchOption made (each_after has_new_id edges.now ≡ false)
         (λ lengths. (each_after has_new_id edges.now ≡ true)
-            × ((id : ℕ) → get nat_eq lengths id ≡ length_of edges.now id))) }
+        × ((id : ℕ) → get nat_eq lengths id ≡ length_of edges.now id))) }
 {
     let mut lengths = HashMap::new(alloc);
     for i in 0..edges.len() {
@@ -126,7 +131,7 @@ fn line_sums(
     requires columns { HasColumns 3 pool.now }
     ensures { IfOk result (λ made. MatchOption made (each_after (fits_pool (get nat_eq lengths.now)) pool.now ≡ false)
         (λ sums. (each_after (fits_pool (get nat_eq lengths.now)) pool.now ≡ true)
-            × SumsUp (get nat_eq lengths.now) pool.now sums)) }
+        × SumsUp (get nat_eq lengths.now) pool.now sums)) }
 {
     let mut sums = BTreeMap::new(alloc);
     let mut pairs = HashSet::new(alloc);
@@ -169,4 +174,124 @@ fn push_row(text: &mut Vec<u8>, line: u32, length: u64) -> Result<(), NoMemory>
     text.extend_from_slice(buffer.format(u128::from(length) + 10).as_bytes())?;
     text.push(b'\n')?;
     Ok(())
+}
+
+#[cfg(test)]
+mod tests {
+    use super::*;
+    use plan_num::{Silent, Tally};
+    use std::alloc::AllocError;
+    use std::test::Fail;
+
+    const EDGES: &[u8] = b"# edges\n1; 1; 2; 2; 4; 5\n2; 2; 3; 3; 6; 6\n";
+
+    const POOL: &[u8] = b"# pool\n1; 1; 1\n1; 2; 2\n2; 1; 1\n";
+
+    const COSTS: &[u8] = b"# line-id; length; cost\n1; 5; 15\n2; 2; 12\n";
+
+    const NO_COSTS: &[u8] = b"# line-id; length; cost\n";
+
+    // Each two texts, and the text of the costs and how many lines there are, where they can be read.
+    const CASES: [(&[u8], &[u8], Option<(&[u8], u64)>); 20] = [
+        (EDGES, POOL, Some((COSTS, 2))),
+        (b"", b"", Some((NO_COSTS, 0))),
+        (EDGES, b"", Some((NO_COSTS, 0))),
+        // Lines rise in the costs, wherever their rows stand.
+        (
+            EDGES,
+            b"2; 1; 1\n# more\n1; 1; 2\n1; 2; 1\n",
+            Some((COSTS, 2)),
+        ),
+        // A row with too few cells, in either text.
+        (b"# edges\n1; 1; 2; 2; 4\n2; 2; 3; 3; 6; 6\n", POOL, None),
+        (EDGES, b"1; 1\n", None),
+        // An edge comes twice.
+        (b"1; 1; 2; 2; 4; 5\n1; 2; 3; 3; 6; 6\n", b"1; 1; 1\n", None),
+        // An edge that is not there.
+        (EDGES, b"1; 1; 3\n", None),
+        (b"", b"1; 1; 1\n", None),
+        // A line has an edge twice.
+        (EDGES, b"1; 1; 1\n1; 2; 1\n", None),
+        // Places that do not follow each other.
+        (EDGES, b"1; 2; 1\n", None),
+        (EDGES, b"1; 1; 1\n1; 3; 2\n", None),
+        (EDGES, b"1; 2; 1\n1; 1; 2\n", None),
+        // Texts that are not plain.
+        (EDGES, b"1; 1; 1", None),
+        (EDGES, b"1; 1; 1\r\n", None),
+        (EDGES, b"01; 1; 1\n", None),
+        (EDGES, b"1000000000; 1; 1\n", None),
+        (EDGES, b"1;  1; 1\n", None),
+        (EDGES, b"1; 1; 1\n\n", None),
+        // A length out of its range.
+        (b"1; 1; 2; 10001; 4; 5\n", b"", None),
+    ];
+
+    #[test]
+    fn costs_are_those_of_the_two_texts(rt: HostRuntime) -> Result<(), Fail> {
+        for (place, (edges, pool, want)) in CASES.iter().enumerate() {
+            let mut steps = Steps::new(Tally::new());
+            let costs = plain_cost(rt.alloc(), edges, pool, &mut steps);
+            assert_eq!(rt; steps.ledger().seen(), 1);
+            match (costs, want) {
+                (Ok(made), Some((text, lines))) => {
+                    assert_eq!(rt; made.text.as_bytes(), *text, "case {place}");
+                    assert_eq!(rt; made.lines, *lines, "case {place}");
+                }
+                (costs, want) => {
+                    assert!(rt; want.is_none(), "case {place}");
+                    assert!(rt;
+                        matches!(&costs, Err(PlainFault::Unreadable)),
+                        "case {place}"
+                    );
+                }
+            }
+        }
+        Ok(())
+    }
+
+    // Edges of length 1, and lines that each take the first edges.
+    fn large_texts(
+        alloc: Global,
+        edges: u32,
+        lines: u32,
+        line_edges: u32,
+    ) -> Result<(String, String), AllocError> {
+        let mut edge_rows = String::new(alloc);
+        for edge in 0..edges {
+            let row = format!(in alloc; "{}; 1; 2; 1; 0; 0\n", u64::from(edge) + 1)?;
+            edge_rows.push_str(&row)?;
+        }
+        let mut pool_rows = String::new(alloc);
+        for line in 0..lines {
+            for edge in 0..line_edges {
+                let (line, edge) = (u64::from(line) + 1, u64::from(edge) + 1);
+                let row = format!(in alloc; "{line}; {edge}; {edge}\n")?;
+                pool_rows.push_str(&row)?;
+            }
+        }
+        Ok((edge_rows, pool_rows))
+    }
+
+    #[test]
+    fn the_limits_are_the_last_that_pass(rt: HostRuntime) -> Result<(), Fail> {
+        for (edges, lines, line_edges, fits) in [
+            (1_000, 200, 1_000, true),
+            (1_001, 1, 1, false),
+            (1, 201, 1, false),
+        ] {
+            let (edges, pool) = large_texts(rt.alloc(), edges, lines, line_edges)?;
+            let mut steps = Steps::new(Silent);
+            let costs = plain_cost(rt.alloc(), edges.as_bytes(), pool.as_bytes(), &mut steps);
+            match costs {
+                Ok(made) => {
+                    assert!(rt; fits);
+                    assert_eq!(rt; made.lines, 200);
+                    assert!(rt; made.text.as_bytes().ends_with(b"\n200; 1000; 1010\n"));
+                }
+                Err(fault) => assert!(rt; !fits && fault == PlainFault::Unreadable),
+            }
+        }
+        Ok(())
+    }
 }

@@ -2,7 +2,7 @@ use Rattle.giv_files.proofs.PlainTexts.{row_begins, row_short, row_long, row_end
 use Rattle.giv_files.proofs.plain.read_row.Goals as goal
 
 pub loop-range-init : goal.loop-range-init
-loop-range-init c = record { told = rw c.new-cells.ensures.items (row_begins c.args.ranges.now c.args.line.now); }
+loop-range-init c = record { told = rw c.new-cells.ensures.items (row_begins c.args.ranges.now c.args.line.now) }
 
 pub returns-in-None : goal.returns-in-None
 returns-in-None c = row_short c.args.ranges.now c.loop-range.range-index c.loop-range.cells.items _ c.loop-range-test.true (rw c.in-None.is at c.loop-range.invariant.told)
