@@ -15,6 +15,10 @@ abbrev pub folder_after : List Write → Folder → Folder
 folder_after [] folder = folder
 folder_after (write ∷ writes) folder = folder_after writes (after_write write folder)
 
+-- the folder that writes leave where there were no files before
+abbrev pub folder_of : List Write → Folder
+folder_of writes = folder_after writes map.empty
+
 -- the name that a write changes
 abbrev pub write_name : Write → List ℕ
 write_name (Put name bytes) = name

@@ -3,6 +3,7 @@ ghost use Rattle.std.specs.Prelude.{◌≡◌};
 ghost use Rattle.plan_files.specs.declared.file_fault.FileFault.TheVariants as faults;
 
 use plan_num::NoMemory;
+use std::alloc::AllocFailed;
 use thiserror::Error;
 
 /// Why a call on a file failed.
@@ -20,6 +21,14 @@ impl From<NoMemory> for FileFault {
     ghost from_gives = { λ _ fault. fault ≡ faults.NoMemory };
 
     fn from(_refused: NoMemory) -> FileFault {
+        FileFault::NoMemory
+    }
+}
+
+impl<T: Drop> From<AllocFailed<T>> for FileFault {
+    ghost from_gives = { λ _ fault. fault ≡ faults.NoMemory };
+
+    fn from(_refused: AllocFailed<T>) -> FileFault {
         FileFault::NoMemory
     }
 }

@@ -1,4 +1,8 @@
 // Why a write to a sink failed.
+ghost use Rattle.std.specs.Prelude.{◌≡◌};
+ghost use Rattle.plan_files.specs.declared.sink_fault.SinkFault.TheVariants as faults;
+
+use std::alloc::AllocError;
 use thiserror::Error;
 
 /// Why a write to a sink failed.
@@ -10,4 +14,12 @@ pub enum SinkFault {
     /// Memory was refused.
     #[error("out of memory")]
     NoMemory,
+}
+
+impl From<AllocError> for SinkFault {
+    ghost from_gives = { λ _ fault. fault ≡ faults.NoMemory };
+
+    fn from(_refused: AllocError) -> SinkFault {
+        SinkFault::NoMemory
+    }
 }
