@@ -1,5 +1,6 @@
 pub mod Changes
 pub mod Counts
 pub mod Folder
+pub mod Kinds
 pub mod Others
 pub mod Sinks
