@@ -94,6 +94,7 @@ impl Files for SteadyFiles {
         }
     }
 
+    #[tactic(auto, using(crate::proofs::Writes::folder_after_push))]
     fn put(&mut self, name: &str, bytes: &[u8]) -> Result<(), FileFault> {
         let name = Name::copy(self.alloc, name)?;
         let text = Text::copy(self.alloc, bytes)?;
@@ -101,6 +102,7 @@ impl Files for SteadyFiles {
         Ok(())
     }
 
+    #[tactic(auto, using(crate::proofs::Writes::folder_after_push))]
     fn remove(&mut self, name: &str) -> Result<(), FileFault> {
         let name = Name::copy(self.alloc, name)?;
         self.writes.push(Write::Removal(name))?;

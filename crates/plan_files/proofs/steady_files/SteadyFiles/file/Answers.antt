@@ -1,15 +1,14 @@
-use Rattle.std.proofs.Common.{sym, ◌∙◌, arith}
+use Rattle.std.proofs.Common.{sym, arith}
 use Rattle.std.specs.Cmp.Lexicographic.{slice_cmp}
 use Rattle.std.specs.Ordering.{nat_cmp}
 use Rattle.std.specs.FinMap.{get-empty}
-use Rattle.plan_files.proofs.Writes.{get-next_write}
+use Rattle.plan_files.proofs.Writes.{get_next_write}
 use Rattle.plan_files.proofs.steady_files.SteadyFiles.file.Goals as goal
-use Rattle.plan_files.proofs.steady_files.SteadyFiles.file.Goals.{then-eq, else-eq}
 
 pub loop-write-init : goal.loop-write-init
 loop-write-init c = sym (get-empty (slice_cmp nat_cmp) c.args.name.now)
 
 pub loop-write-preserved : goal.loop-write-preserved
 loop-write-preserved c =
-    let step = get-next_write c.deref-write-items.result.now c.args.self.now c.loop-write.write-index c.write-item.result c.args.name.now (c.deref-write-items.ensures.value ∙ c.self.view_is) c.loop-write-test.true c.write-item.is in
-    elim c.if-eq.branch [ then-eq w ↦ grind (arith, step) | else-eq w ↦ grind (arith, step) ]
+    let step = get_next_write c.deref-write-items.result.now c.loop-write.write-index c.write-item.result c.args.name.now c.loop-write-test.true c.write-item.is in
+    grind (arith, step)

@@ -7,4 +7,4 @@ use Rattle.plan_files.proofs.steady_files.SteadyFiles.file.Given as goal
 
 abbrev pub invariant-loop-write : goal.invariant-loop-write
 invariant-loop-write l =
-    option_copied l.left ≡ map.get (folder_of (take l.write-index l.self)) l.name
+    option_copied l.left ≡ map.get (folder_of (take l.write-index l.write-items)) l.name
