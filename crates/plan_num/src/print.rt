@@ -8,7 +8,7 @@ use itoa::Buffer;
 use std::alloc::Global;
 
 // The values of the six digits after a point, in millionths.
-const PLACES: [u32; 6] = [100_000, 10_000, 1_000, 100, 10, 1];
+pub(crate) const PLACES: [u32; 6] = [100_000, 10_000, 1_000, 100, 10, 1];
 
 /// The text of a number of millionths: a minus for negatives, the whole part, and, where the fraction
 /// is not 0, a point and its digits without trailing zeros.
@@ -46,4 +46,27 @@ fn push_fraction(bytes: &mut Vec<u8>, millionths: u32) -> Result<(), NoMemory>
         rest %= place;
     }
     Ok(())
+}
+
+#[cfg(test)]
+mod tests {
+    use super::*;
+    use std::test::Fail;
+
+    #[test]
+    fn numbers_are_printed(rt: HostRuntime) -> Result<(), Fail> {
+        let numbers: [(i128, &[u8]); 6] = [
+            (1_500_000, b"1.5"),
+            (-250_000, b"-0.25"),
+            (27_000_000, b"27"),
+            (0, b"0"),
+            (-1, b"-0.000001"),
+            (1_000_000_000_000_000_000, b"1000000000000"),
+        ];
+        for (millionths, text) in numbers {
+            let printed = print_fixed(rt.alloc(), millionths)?;
+            assert_eq!(rt; printed.as_bytes(), text);
+        }
+        Ok(())
+    }
 }
