@@ -20,6 +20,10 @@ abbrev pub has_minus : List ℕ → Bool
 has_minus [] = false
 has_minus (byte ∷ bytes) = byte == 45
 
+-- a byte that a printed number may have: a digit, a minus or a point
+abbrev pub is_number_byte : ℕ → Bool
+is_number_byte byte = is_ascii_digit byte || is_point byte || byte == 45
+
 -- a field without the minus in front
 abbrev pub magnitude_of : List ℕ → List ℕ
 magnitude_of field = if has_minus field then drop 1 field else field

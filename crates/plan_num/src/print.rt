@@ -1,5 +1,6 @@
 // Numbers as text.
-ghost use Rattle.std.specs.Prelude.{◌≡◌, ◌^◌, ◌<◌, ◌++◌, pos, neg_ℤ, ◌≤ℤ◌, IfOk, OnOk};
+ghost use Rattle.std.specs.Prelude.{◌≡◌, ◌^◌, ◌<◌, ◌++◌, pos, neg_ℤ, ◌≤ℤ◌, IfOk, OnOk, Some};
+ghost use Rattle.plan_num.specs.Number.{fixed_of};
 ghost use Rattle.plan_num.specs.Print.{fixed_text, fraction_text};
 
 use crate::memory::NoMemory;
@@ -15,7 +16,21 @@ pub(crate) const PLACES: [u32; 6] = [100_000, 10_000, 1_000, 100, 10, 1];
 pub fn print_fixed(alloc: Global, millionths: i128) -> Result<Text, NoMemory>
     requires low { neg_ℤ (pos (10 ^ 37)) ≤ℤ millionths }
     requires high { millionths ≤ℤ pos (10 ^ 37) }
-    ensures { IfOk result (λ text. text ≡ fixed_text millionths) }
+    ensures text { IfOk result (λ text. text ≡ fixed_text millionths) }
+
+    // What is printed is read back, where it is a number that a field may spell.
+    ensures read_back { neg_ℤ (pos (10 ^ 18)) ≤ℤ millionths → millionths ≤ℤ pos (10 ^ 18) →
+        IfOk result (λ text. fixed_of text ≡ Some millionths) }
+{
+    let bytes = fixed_bytes(alloc, millionths)?;
+    Ok(Text::from_vec(bytes))
+}
+
+// The bytes of that text.
+fn fixed_bytes(alloc: Global, millionths: i128) -> Result<Vec<u8>, NoMemory>
+    requires low { neg_ℤ (pos (10 ^ 37)) ≤ℤ millionths }
+    requires high { millionths ≤ℤ pos (10 ^ 37) }
+    ensures { IfOk result (λ bytes. bytes.items ≡ fixed_text millionths) }
 {
     let mut bytes = Vec::new(alloc);
     if millionths < 0 {
@@ -25,7 +40,7 @@ pub fn print_fixed(alloc: Global, millionths: i128) -> Result<Text, NoMemory>
     let mut buffer = Buffer::new();
     bytes.extend_from_slice(buffer.format(magnitude / 1_000_000).as_bytes())?;
     push_fraction(&mut bytes, (magnitude % 1_000_000) as u32)?;
-    Ok(Text::from_vec(bytes))
+    Ok(bytes)
 }
 
 // Appends a point and the digits of a fraction, up to the last one that is not 0.
