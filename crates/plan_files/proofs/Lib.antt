@@ -1,1 +1,2 @@
+pub mod OtherFiles
 pub mod Writes

@@ -1,0 +1,35 @@
+-- How a run ends.
+use Rattle.std.specs.Prelude.{ℕ, Bool, true, false}
+use Rattle.lintim_cli.specs.declared.answers.Status.{Status}
+use Rattle.lintim_cli.specs.declared.answers.Status.TheVariants.{Done, Usage, BadInput, NoSolution, Spent, FileFault, SinkFault, NoMemory, Uncertified}
+
+-- the exit status of the program
+abbrev pub number_of : Status → ℕ
+number_of Done = 0
+number_of Usage = 2
+number_of BadInput = 3
+number_of NoSolution = 4
+number_of Spent = 5
+number_of FileFault = 6
+number_of SinkFault = 7
+number_of NoMemory = 8
+number_of Uncertified = 9
+
+-- the answers that a command has, by whether the words are one
+abbrev pub AnswersTo : Bool → Status → Type 0
+AnswersTo true Done = Unit {0}
+AnswersTo true BadInput = Unit {0}
+AnswersTo true FileFault = Unit {0}
+AnswersTo true SinkFault = Unit {0}
+AnswersTo true NoMemory = Unit {0}
+AnswersTo true _ = ⊥
+AnswersTo false Usage = Unit {0}
+AnswersTo false SinkFault = Unit {0}
+AnswersTo false NoMemory = Unit {0}
+AnswersTo false _ = ⊥
+
+-- a status that a report which was written whole can end with
+abbrev pub IsReport : Status → Type 0
+IsReport SinkFault = ⊥
+IsReport NoMemory = ⊥
+IsReport _ = Unit {0}

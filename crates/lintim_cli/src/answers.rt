@@ -1,0 +1,45 @@
+// What a run ends with.
+ghost use Rattle.std.specs.Prelude.{◌≡◌};
+ghost use Rattle.lintim_cli.specs.Answers.{number_of};
+
+/// How a run of the program ended.
+#[derive(Clone, Copy, Debug, PartialEq, Eq)]
+pub enum Status {
+    /// All stages were made.
+    Done,
+    /// The words are no command.
+    Usage,
+    /// An input cannot be used.
+    BadInput,
+    /// No solution exists.
+    NoSolution,
+    /// A budget was spent before there was a solution.
+    Spent,
+    /// A file could not be read or written.
+    FileFault,
+    /// The report could not be written.
+    SinkFault,
+    /// Memory was refused.
+    NoMemory,
+    /// A made file or a certificate does not pass.
+    Uncertified,
+}
+
+impl Status {
+    /// The exit status of the program.
+    pub fn number(self) -> u8
+        ensures { result ≡ number_of self }
+    {
+        match self {
+            Status::Done => 0,
+            Status::Usage => 2,
+            Status::BadInput => 3,
+            Status::NoSolution => 4,
+            Status::Spent => 5,
+            Status::FileFault => 6,
+            Status::SinkFault => 7,
+            Status::NoMemory => 8,
+            Status::Uncertified => 9,
+        }
+    }
+}

@@ -1,0 +1,47 @@
+//! The program `lintim`: runs a planning chain over the dataset in the folder where it is started.
+#![tactic(auto)]
+
+mod answers;
+mod make;
+mod report;
+mod top;
+
+pub use answers::Status;
+use plan_files::{FolderFiles, StdSink};
+use plan_num::{NoMemory, Silent, Steps};
+use std::env;
+use std::io::ErrorKind;
+use std::process::ExitCode;
+use std::rt::Env;
+pub use top::lintim;
+
+// The words of the command line after the program's name. Where they cannot be read there are none, and
+// the answer is the usage line.
+fn words<R: Env + AllocGlobal>(rt: &R) -> Result<Vec<String>, NoMemory> {
+    let mut words = Vec::new(rt.alloc());
+    match env::args(rt) {
+        Ok(args) => {
+            for word in args.skip(1) {
+                words.push(word)?;
+            }
+            Ok(words)
+        }
+        Err(error) if error.kind() == ErrorKind::OutOfMemory => Err(NoMemory),
+        Err(_) => Ok(words),
+    }
+}
+
+fn main(rt: HostRuntime) -> ExitCode {
+    let alloc = rt.alloc();
+    let Ok(words) = words(&rt) else {
+        return ExitCode::from(Status::NoMemory.number());
+    };
+    let mut files = FolderFiles::here(&rt, alloc);
+    let mut out = StdSink::new(&rt);
+    let mut steps = Steps::new(Silent);
+    let status = lintim(alloc, &words, &mut files, &mut out, &mut steps);
+    ExitCode::from(status.number())
+}
+
+#[cfg(test)]
+mod tests;
