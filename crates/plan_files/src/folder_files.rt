@@ -153,11 +153,19 @@ fn remove_file<R: rt::Files>(rt: &R, name: &str) -> Result<(), FileFault> {
 mod tests {
     use super::*;
     use crate::drive::{Call, drive};
+    use std::env::set_current_dir;
     use std::os::unix::fs::symlink;
     use std::test::Fail;
 
+    // The test's own folder, among what is made and never kept.
+    const FOLDER: &str = "out/folder_test";
+
     #[test]
     fn works_in_a_real_folder(rt: HostRuntime) -> Result<(), Fail> {
+        // what an earlier run left where it stopped half-way
+        let _ = fs::remove_dir_all(&rt, FOLDER);
+        fs::create_dir_all(&rt, FOLDER)?;
+        set_current_dir(&rt, FOLDER)?;
         let mut files = FolderFiles::here(&rt, rt.alloc());
         let rows = [
             (Call::Get("basis/Edge.giv", 9), "absent"),
@@ -200,6 +208,9 @@ mod tests {
             (Call::Put("basis/Edge.giv", "6"), "done"),
             (Call::Get("basis/Edge.giv", 9), "6"),
         ];
-        drive(&rt, rt.alloc(), &mut files, &kept)
+        drive(&rt, rt.alloc(), &mut files, &kept)?;
+        set_current_dir(&rt, "../..")?;
+        fs::remove_dir_all(&rt, FOLDER)?;
+        Ok(())
     }
 }
