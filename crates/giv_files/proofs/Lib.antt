@@ -1,1 +1,2 @@
+pub mod EachAfter
 pub mod PlainTexts

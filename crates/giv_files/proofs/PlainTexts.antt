@@ -1,9 +1,9 @@
 -- Plain texts: their pieces, their cells and their rows, one after the other.
-use Rattle.std.proofs.Common.{◌≡◌, ℕ, ◌+◌, ◌-◌, ◌*◌, ◌^◌, ◌<◌, ◌≤◌, ◌==◌, zero, suc, Bool, true, false, ◌&&◌, cond, List, [], ◌∷◌, ◌++◌, length, get_or, take, drop, length-drop, refl, ap, sym, subst, ◌∙◌, eqb, ltb, nat_le, inl, inr, append_assoc, append-nil, arith, Option, Some, None, position, not}
+use Rattle.std.proofs.Common.{◌≡◌, ℕ, ◌+◌, ◌-◌, ◌*◌, ◌^◌, ◌<◌, ◌≤◌, ◌==◌, zero, suc, Bool, true, false, cond, List, [], ◌∷◌, ◌++◌, length, get_or, take, drop, length-drop, refl, ap, sym, subst, ◌∙◌, ltb, inl, inr, append_assoc, append-nil, arith, Option, Some, None, position}
 use Rattle.std.specs.Option.{option_map, option_and_then}
-use Rattle.std.specs.List.{slice_split, list_all, position_or_len, onto_first}
+use Rattle.std.specs.List.{slice_split, onto_first}
 use Rattle.std.specs.Char.{is_ascii_digit}
-use Rattle.std.proofs.lemmas.Bool.{cases_lt, lt-ltb, le-ltb, and_parts, leb-true, ltb-true}
+use Rattle.std.proofs.lemmas.Bool.{cases_lt, lt-ltb, and_parts, leb-true, ltb-true}
 use Rattle.std.proofs.lemmas.List.Splits.{slice_split_first, slice_split_none, length-slice_split}
 use Rattle.std.proofs.lemmas.List.{take_rest, at_drop_more, at_drop_all}
 use Rattle.std.proofs.lemmas.Iterator.Adapters.{option_map_id}

@@ -1,3 +1,2 @@
-pub mod EachAfter
 pub mod LineSums
 pub mod Readable

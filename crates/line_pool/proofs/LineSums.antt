@@ -1,12 +1,11 @@
 -- Lengths of edges and sums of lines, one row after the other.
-use Rattle.std.proofs.Common.{◌≡◌, ℕ, suc, ◌+◌, ◌*◌, ◌<◌, ◌≤◌, ◌==◌, nat_eq, nat_lt, Bool, true, false, ◌&&◌, ◌||◌, cond, List, [], ◌∷◌, ◌++◌, length, get_or, take, length-take, refl, ap, add-zero, sym, ◌∙◌, inl, inr, arith, Option, Some, None, unwrap_or, is_some, not, subst}
+use Rattle.std.proofs.Common.{◌≡◌, ℕ, suc, ◌+◌, ◌*◌, ◌<◌, ◌≤◌, ◌==◌, nat_lt, Bool, true, false, ◌&&◌, ◌||◌, cond, List, [], ◌∷◌, ◌++◌, length, get_or, take, length-take, refl, ap, add-zero, sym, ◌∙◌, inl, inr, arith, Option, Some, None, unwrap_or, is_some, not, subst}
 use Rattle.std.specs.List.{list_any, flat_map, All}
 use Rattle.std.specs.Ordering.{nat_cmp, match_ordering}
 use Rattle.std.specs.declared.cmp.Ordering.TheVariants.{Less, Equal, Greater}
 use Rattle.std.specs.Cmp.{unsigned_tied, nat_cmp_total}
 use Rattle.std.specs.Map.{keys_of, lookup}
-use Rattle.std.specs.HashMap as hash
-use Rattle.std.specs.BTreeMap.{BTreeMap, get, keys, is_at, insert_entry, IsOrdered}
+use Rattle.std.specs.BTreeMap.{BTreeMap, get, is_at, insert_entry, IsOrdered}
 use Rattle.std.proofs.lemmas.Bool.{cases_eq, eq-eqb, ne_eqb, eqb-false, and_left, and_right, and_from}
 use Rattle.std.proofs.lemmas.List.{take_more}
 use Rattle.std.proofs.lemmas.List.Sums.{fold_push, sum_by_push, sum_by-cons, count_by-le-length}
@@ -14,7 +13,7 @@ use Rattle.std.proofs.lemmas.List.Folds.{list_any_more}
 use Rattle.std.proofs.lemmas.Map.Entries.{length-keys_of}
 use Rattle.std.proofs.lemmas.Map.Views.{All-found}
 use Rattle.line_pool.specs.declared.line_sum.LineSum.{LineSum}
-use Rattle.line_pool.specs.PlainCosts.{Row, edge_id, edge_length, row_line, row_edge, length_of, has_new_id, names_edge, has_new_edge, is_next, fits_pool, with_number, lines_of, rows_of_line, line_length, cost_row, header, cost_text}
+use Rattle.line_pool.specs.PlainCosts.{Row, edge_id, edge_length, row_line, row_order, row_edge, length_of, has_new_id, names_edge, has_new_edge, is_next, fits_pool, with_number, lines_of, rows_of_line, line_length, cost_row, header, cost_text}
 use Rattle.line_pool.specs.Sums.{no_edge, sum_of, with_edge, AddsEdge, SumsUp, entry_rows}
 
 -- ---- lengths of edges
@@ -95,7 +94,7 @@ counts_more lengths pool row length line known =
     rw (sum_by_push (λ row. cond (row_line row == line) 1 0) pool row, sum_by_push (λ row. cond (row_line row == line) (unwrap_or (lengths (row_edge row)) 0) 0) pool row, known)
     (elim (row_line row == line) as (λ b. cond b (with_edge (record { rows = rows_of_line pool line; length = line_length lengths pool line }) length) (record { rows = rows_of_line pool line; length = line_length lengths pool line }) ≡ record { rows = rows_of_line pool line + cond b 1 0; length = line_length lengths pool line + cond b length 0 }) [
       | true ↦ refl
-      | false ↦ rw (add-zero, add-zero) refl
+      | false ↦ simp add-zero
     ])
 
 -- where two numbers are equal, one can stand for the other
@@ -143,6 +142,14 @@ pub rows_bounded : (pool : List Row) (i line : ℕ) → i < length pool → rows
 rows_bounded pool i line h = omega (arith, count_by-le-length (λ row. row_line row == line) (take i pool), length-take i pool)
 
 -- ---- the rules of a row
+
+-- what a set of pairs says of a row's edge
+pub new_edge_is : (before : List Row) (row : Row) (held new answer : Bool) → held ≡ list_any (λ other. row_line other == row_line row && row_edge other == row_edge row) before → new ≡ not held → new ≡ answer → has_new_edge before row ≡ answer
+new_edge_is before row held new answer told is e = ap not (sym told) ∙ sym is ∙ e
+
+-- what the sum of its line says of its place
+pub next_is : (before : List Row) (row : Row) (count : ℕ) (next answer : Bool) → count ≡ rows_of_line before (row_line row) → next ≡ (row_order row == count + 1) → next ≡ answer → is_next before row ≡ answer
+next_is before row count next answer told is e = ap (λ rows. row_order row == rows + 1) (sym told) ∙ sym is ∙ e
 
 -- a row that names no edge
 pub unknown_edge : (lengths : ℕ → Option ℕ) (before : List Row) (row : Row) → lengths (row_edge row) ≡ None → fits_pool lengths before row ≡ false

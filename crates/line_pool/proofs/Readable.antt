@@ -1,10 +1,10 @@
 -- When the rows of two texts can be read.
-use Rattle.std.proofs.Common.{◌≡◌, ℕ, ◌≤◌, ◌<◌, lit<, ◌&&◌, Bool, true, false, nat_le, List, length, refl, ap, sym, ◌∙◌, Option, Some, None, cond, subst, get_or, []}
-use Rattle.std.specs.Option.{option_and_then}
+use Rattle.std.proofs.Common.{◌≡◌, ℕ, ◌≤◌, ◌<◌, lit<, true, false, List, length, refl, sym, Option, Some, None, subst, get_or, []}
 use Rattle.std.proofs.lemmas.Bool.{and_left, and_right, and_from, le-leb, lt-leb}
+use Rattle.giv_files.specs.EachAfter.{each_after}
 use Rattle.giv_files.specs.Plain.{plain_rows}
 use Rattle.giv_files.proofs.PlainTexts.{plain_rows_fit, row_fits_at, fitting_length, fitting_cell}
-use Rattle.line_pool.specs.PlainCosts.{Row, Costs, each_after, has_new_id, fits_pool, length_of, lines_of, is_readable, cost_text, edge_columns, pool_columns, small_range, costs_over, costs_of}
+use Rattle.line_pool.specs.PlainCosts.{Row, Costs, has_new_id, fits_pool, length_of, lines_of, is_readable, cost_text, edge_columns, pool_columns, small_range, costs_over, costs_of}
 use Rattle.line_pool.specs.Sums.{HasColumns, HasLengths}
 
 -- there are no costs where a rule is broken

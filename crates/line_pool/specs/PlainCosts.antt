@@ -1,8 +1,9 @@
 -- The costs of the lines of a pool, from the plain texts of the edges and of the pool.
-use Rattle.std.specs.Prelude.{ℕ, ◌+◌, ◌==◌, Bool, true, ◌&&◌, not, if◌then◌else◌, List, [], ◌∷◌, ◌++◌, length, fold, count_by, nat_le, nat_lt, is_some, slice_index, codes, decimal, Option, Some, None, unwrap_or}
+use Rattle.std.specs.Prelude.{ℕ, ◌+◌, ◌==◌, Bool, ◌&&◌, not, if◌then◌else◌, List, [], ◌∷◌, ◌++◌, length, fold, count_by, nat_le, nat_lt, is_some, slice_index, codes, decimal, Option, Some, None, unwrap_or}
 use Rattle.std.specs.List.{list_any, flat_map, sum_by}
 use Rattle.std.specs.Option.{option_and_then}
 use Rattle.giv_files.specs.declared.plain.CellRange.{CellRange}
+use Rattle.giv_files.specs.EachAfter.{each_after}
 use Rattle.giv_files.specs.Plain.{plain_rows}
 
 -- the numbers of one row
@@ -42,15 +43,6 @@ row_order row = slice_index row 1
 
 abbrev pub row_edge : Row → ℕ
 row_edge row = slice_index row 2
-
--- each row meets a rule with the rows before it
-abbrev pub each_from : (List Row → Row → Bool) → List Row → List Row → Bool
-each_from rule before [] = true
-each_from rule before (row ∷ rows) = rule before row && each_from rule (before ++ row ∷ []) rows
-
--- each row of a list meets a rule with the rows before it
-abbrev pub each_after : (List Row → Row → Bool) → List Row → Bool
-each_after rule rows = each_from rule [] rows
 
 -- the length of the edge of an id, where there is one
 unfoldable pub length_of : List Row → ℕ → Option ℕ

@@ -1,5 +1,5 @@
 -- What is summed up so far, line by line.
-use Rattle.std.specs.Prelude.{List, [], length, Option, slice_index_or, ℕ, ◌≡◌, ◌+◌, ◌*◌, ◌<◌, ◌≤◌, ◌^◌, ◌==◌, if◌then◌else◌, unwrap_or}
+use Rattle.std.specs.Prelude.{List, [], length, Option, slice_index_or, ℕ, ◌≡◌, ◌+◌, ◌<◌, ◌≤◌, ◌==◌, if◌then◌else◌, unwrap_or}
 use Rattle.std.specs.List.{flat_map}
 use Rattle.std.specs.Ordering.{nat_cmp}
 use Rattle.std.specs.BTreeMap.{BTreeMap, get, keys, IsOrdered}

@@ -1,4 +1,4 @@
-use Rattle.std.proofs.Common.{◌<◌, ◌≤◌, length, arith}
+use Rattle.std.proofs.Common.{arith}
 use Rattle.giv_files.proofs.PlainTexts.{plain_short, plain_digit, number_fits}
 use Rattle.giv_files.proofs.plain.spelled_number.Goals as goal
 

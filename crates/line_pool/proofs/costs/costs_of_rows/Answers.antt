@@ -1,6 +1,7 @@
-use Rattle.std.proofs.Common.{◌≡◌, ◌<◌, nat_eq, length, ap, sym, ◌∙◌, arith}
+use Rattle.std.proofs.Common.{◌≡◌, nat_eq, ap, sym, ◌∙◌, arith}
 use Rattle.std.specs.HashMap.{get}
-use Rattle.line_pool.specs.PlainCosts.{each_after, fits_pool, length_of, cost_text}
+use Rattle.giv_files.specs.EachAfter.{each_after}
+use Rattle.line_pool.specs.PlainCosts.{fits_pool, length_of, cost_text}
 use Rattle.line_pool.proofs.LineSums.{length_short, text_is, lines_counted}
 use Rattle.line_pool.proofs.Readable.{refused_ids, refused_pool, refused_edges, refused_lines, accepted}
 use Rattle.line_pool.proofs.costs.costs_of_rows.Goals as goal

@@ -3,7 +3,8 @@ use Rattle.std.proofs.Common.{◌≡◌, ℕ, ◌==◌, ◌&&◌, take, drop, na
 use Rattle.std.specs.List.{list_any}
 use Rattle.std.specs.HashMap.{get}
 use Rattle.std.specs.HashSet.{contains}
-use Rattle.line_pool.specs.PlainCosts.{each_from, each_after, fits_pool, row_line, row_edge}
+use Rattle.giv_files.specs.EachAfter.{each_from, each_after}
+use Rattle.line_pool.specs.PlainCosts.{fits_pool, row_line, row_edge}
 use Rattle.line_pool.specs.Sums.{SumsUp}
 use Rattle.line_pool.proofs.costs.line_sums.Given as goal
 
