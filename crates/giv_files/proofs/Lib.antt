@@ -1,2 +1,10 @@
+pub mod CellFacts
 pub mod EachAfter
+pub mod FieldFacts
+pub mod KeyPlaces
+pub mod Lines
 pub mod PlainTexts
+pub mod RowFacts
+pub mod RowsLeft
+pub mod SplitFacts
+pub mod TableRows

@@ -1,2 +1,9 @@
 pub mod EachAfter
+pub mod Keys
+pub mod Names
 pub mod Plain
+pub mod Reading
+pub mod Rows
+pub mod Settings
+pub mod Stages
+pub mod Tables

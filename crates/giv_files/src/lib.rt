@@ -1,6 +1,47 @@
-//! Tables of the planning chain, as texts and as numbers.
+//! Tables of the planning chain: which files there are, and how a table is read from a text and written as one.
 #![tactic(auto)]
 
+mod bundle;
+mod cells;
+mod column;
+mod counted;
+mod fields;
+mod file_id;
+mod key;
+mod key_kind;
+mod line;
+mod made;
+mod pieces;
 mod plain;
+mod read;
+mod read_fault;
+mod refusal;
+mod row_cells;
+mod row_why;
+mod setting;
+mod settings;
+mod settings_fit;
+mod stage;
+mod table;
+mod words;
 
+pub use bundle::Bundle;
+pub use column::ColumnKind;
+pub use counted::Counted;
+pub use file_id::FileId;
+pub use key::Key;
+pub use key_kind::KeyKind;
+pub use made::{Made, MadeFile, MadeList};
 pub use plain::{CellRange, PlainRows, read_plain};
+pub use read::read_table;
+pub use read_fault::{ReadFault, RowFault};
+pub use refusal::{Refusal, StageFault};
+pub use row_why::RowWhy;
+pub use setting::Setting;
+pub use settings::Settings;
+pub use stage::Stage;
+pub use table::Table;
+pub use words::WordTable;
+
+#[cfg(test)]
+mod tests;

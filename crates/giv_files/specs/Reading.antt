@@ -1,0 +1,90 @@
+-- The table that a text is, and its faults.
+use Rattle.std.specs.Prelude.{ℕ, ℤ, pos, ◌≡◌, ◌+◌, ◌==◌, ◌&&◌, nat_eq, int_le, if◌then◌else◌, Bool, List, [], ◌∷◌, ◌++◌, length, map, position, slice_get, Option, Some, None, option_map, Result, Ok, Err, ⊤}
+use Rattle.std.specs.List.{flat_map, starts_with}
+use Rattle.std.specs.Option.{ok_or}
+use Rattle.std.specs.Str.{bytes_eq}
+use Rattle.plan_num.specs.Number.{fixed_of, whole_of}
+use Rattle.giv_files.specs.declared.column.ColumnKind.{ColumnKind}
+use Rattle.giv_files.specs.declared.column.ColumnKind.TheVariants as kind
+use Rattle.giv_files.specs.declared.row_why.RowWhy.{RowWhy}
+use Rattle.giv_files.specs.declared.row_why.RowWhy.TheVariants as why
+use Rattle.giv_files.specs.declared.read_fault.RowFault.{RowFault}
+use Rattle.giv_files.specs.declared.read_fault.ReadFault.{ReadFault}
+use Rattle.giv_files.specs.declared.read_fault.ReadFault.TheVariants as fault
+use Rattle.giv_files.specs.Names.{table_words}
+use Rattle.giv_files.specs.Rows.{Row, rows}
+use Rattle.giv_files.specs.Tables.{TableRow}
+
+-- the place of a word in a table of words, compared byte for byte
+abbrev pub place_of : List (List ℕ) → List ℕ → Option ℕ
+place_of words field = position (λ word. bytes_eq word field) words
+
+-- a number that lies in a range, or why there is none
+abbrev pub in_range : ℤ → ℤ → ℕ → Option ℤ → Result ℤ RowWhy
+in_range min max column None = Err (why.NotNumber column)
+in_range min max column (Some number) = if int_le min number && int_le number max then Ok number else Err (why.OutOfRange column)
+
+-- the cell that a field makes in a column, or why it makes none
+unfoldable pub cell_of : ColumnKind → ℕ → List ℕ → Result ℤ RowWhy
+cell_of (kind.Whole min max) column field = in_range min max column (whole_of field)
+cell_of (kind.Fixed min max) column field = in_range min max column (fixed_of field)
+cell_of (kind.Word words) column field = ok_or (option_map pos (place_of (table_words words) field)) (why.UnknownWord column)
+cell_of kind.Skip column field = Ok (pos 0)
+
+-- what fields make, column by column, from a column on
+unfoldable pub cells_from : ℕ → List ColumnKind → List (List ℕ) → List (Result ℤ RowWhy)
+cells_from column (kind ∷ kinds) (field ∷ fields) = cell_of kind column field ∷ cells_from (column + 1) kinds fields
+cells_from column _ _ = []
+
+-- what was refused, and what was not
+unfoldable pub errors : {A E : Type 0} → List (Result A E) → List E
+errors [] = []
+errors (Ok value ∷ rest) = errors rest
+errors (Err error ∷ rest) = error ∷ errors rest
+
+unfoldable pub values : {A E : Type 0} → List (Result A E) → List A
+values [] = []
+values (Ok value ∷ rest) = value ∷ values rest
+values (Err error ∷ rest) = values rest
+
+-- each reason for which a row is refused, in order: its number of fields, or those of its columns
+unfoldable pub row_whys : List ColumnKind → Row → List RowWhy
+row_whys kinds row = if length row.fields == length kinds then errors (cells_from 1 kinds row.fields) else why.FieldCount (length row.fields) ∷ []
+
+-- what appending the cells of a row does
+abbrev pub CellsGive : ℕ → List (Result ℤ RowWhy) → List ℤ → List ℤ → Result (Unit {0}) ReadFault → Type 0
+CellsGive number made old new (Ok _) = (errors made ≡ []) × (new ≡ old ++ values made)
+CellsGive number made old new (Err (fault.Row first)) = slice_get (map (λ reason. record { row = number; why = reason }) (errors made)) 0 ≡ Some first
+CellsGive number made old new (Err fault.NoMemory) = ⊤
+
+-- the faults of a row
+abbrev pub row_faults : List ColumnKind → Row → List RowFault
+row_faults kinds row = map (λ reason. record { row = row.number; why = reason }) (row_whys kinds row)
+
+-- the row of a table that a row makes
+abbrev pub table_row : List ColumnKind → Row → TableRow
+table_row kinds row = record { number = row.number; cells = values (cells_from 1 kinds row.fields) }
+
+-- a text begins with the bytes of a byte order mark
+abbrev pub has_mark : List ℕ → Bool
+has_mark text = starts_with nat_eq text (239 ∷ 187 ∷ 191 ∷ [])
+
+-- every fault of a text as a table of these columns, in order
+unfoldable pub faults : List ColumnKind → List ℕ → List RowFault
+faults kinds text = if has_mark text then record { row = 1; why = why.ByteOrderMark } ∷ [] else flat_map (row_faults kinds) (rows text)
+
+-- the table of a text without a fault
+unfoldable pub table_of : List ColumnKind → List ℕ → List TableRow
+table_of kinds text = map (table_row kinds) (rows text)
+
+-- what reading gives: the table where there is no fault, and else the first of all faults; want of memory is free
+abbrev pub ReadGives : List RowFault → List TableRow → Result (List TableRow) ReadFault → Type 0
+ReadGives all table (Ok read) = (all ≡ []) × (read ≡ table)
+ReadGives all table (Err (fault.Row first)) = slice_get all 0 ≡ Some first
+ReadGives all table (Err fault.NoMemory) = ⊤
+
+-- what reading one line more into a table does
+abbrev pub LineGives : List ColumnKind → List Row → List TableRow → List TableRow → Result (Unit {0}) ReadFault → Type 0
+LineGives kinds told old new (Ok _) = (flat_map (row_faults kinds) told ≡ []) × (new ≡ old ++ map (table_row kinds) told)
+LineGives kinds told old new (Err (fault.Row first)) = slice_get (flat_map (row_faults kinds) told) 0 ≡ Some first
+LineGives kinds told old new (Err fault.NoMemory) = ⊤

@@ -1,0 +1,82 @@
+// The fields of a line.
+ghost use Rattle.std.specs.Prelude.{◌≡◌, ◌<◌, ◌≢◌, [], All, OnOk, length, slice_index_or};
+ghost use Rattle.csv.specs.Records.{fields_of};
+ghost use Rattle.giv_files.specs.Rows.{cleaned, pieces};
+
+use crate::line::{without_blanks, without_quotes};
+use crate::pieces::split_line;
+use csv::ByteRecord;
+use plan_num::NoMemory;
+use std::alloc::Global;
+use std::marker::Model;
+
+/// The fields of the line that was split last. Contracts see it as the list of them.
+#[derive(Drop)]
+pub(crate) struct Fields {
+    alloc: Global,
+    spaced: Vec<u8>,
+    row: ByteRecord,
+}
+
+impl Model for Fields {
+    ghost use Rattle.std.specs.Prelude.{List, ℕ};
+    ghost use Rattle.csv.specs.Records.{fields_of};
+    ghost use Rattle.giv_files.specs.Rows.{cleaned};
+
+    ghost Value = { List (List ℕ) };
+
+    ghost view = { λ f. cleaned (fields_of f.row) };
+}
+
+impl Fields {
+    /// Room for the fields of a line.
+    pub(crate) fn new(alloc: Global) -> Fields {
+        Fields {
+            alloc,
+            spaced: Vec::new(alloc),
+            row: ByteRecord::new(alloc),
+        }
+    }
+
+    /// Splits a line, in which no comment begins.
+    pub(crate) fn split(&mut self, line: &[u8]) -> Result<(), NoMemory>
+        requires { All (λ byte. byte ≢ 10) line.now }
+        ensures { OnOk result (self.new ≡ cleaned (pieces line.now)) }
+    {
+        split_line(self.alloc, line, &mut self.spaced, &mut self.row)
+    }
+
+    /// How many fields there are.
+    pub(crate) fn len(&self) -> usize
+        ensures { result ≡ length self.now }
+    {
+        cleaned_count(&self.row)
+    }
+
+    /// The field at a place.
+    pub(crate) fn get(&self, index: usize) -> &[u8]
+        requires { index < length self.now }
+        ensures { result.now ≡ slice_index_or self.now index [] }
+    {
+        without_quotes(without_blanks(piece(&self.row, index)))
+    }
+}
+
+// The piece at a place.
+fn piece(row: &ByteRecord, index: usize) -> &[u8]
+    ensures { result.now ≡ slice_index_or (fields_of row.now) index [] }
+{
+    row.get(index).unwrap_or(&[])
+}
+
+// How many fields there are, without a last one that is empty.
+fn cleaned_count(row: &ByteRecord) -> usize
+    ensures { result ≡ length (cleaned (fields_of row.now)) }
+{
+    let count = row.len();
+    if count >= 2 && without_blanks(piece(row, count - 1)).is_empty() {
+        count - 1
+    } else {
+        count
+    }
+}

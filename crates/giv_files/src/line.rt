@@ -1,0 +1,99 @@
+// Parts of a line, and of its fields.
+ghost use Rattle.std.specs.Prelude.{◌≡◌, ◌≢◌, ◌==◌, ◌<◌, ◌∷◌, All, IfSome, length, position, reverse, take_while};
+ghost use Rattle.std.specs.Option.{option_copied};
+ghost use Rattle.std.specs.List.{list_all};
+ghost use Rattle.std.specs.Str.Lines.{strip_carriage_return};
+ghost use Rattle.giv_files.specs.Rows.{is_blank, parts_left, parts_of, without_blanks, without_quotes, before_comment};
+
+/// The first part of a text, up to a line feed, and what comes behind it where there is one.
+pub(crate) fn first_part(text: &[u8]) -> (&[u8], Option<&[u8]>)
+    ensures parts { parts_of text.now ≡ result.0.now ∷ parts_left (option_copied result.1) }
+    ensures plain { All (λ byte. byte ≢ 10) result.0.now }
+    ensures shorter { IfSome result.1 (λ rest. length rest.now < length text.now) }
+{
+    match line_feed(text) {
+        None => (text, None),
+        Some(end) => (&text[..end], Some(&text[end + 1..])),
+    }
+}
+
+// The place of the first line feed.
+fn line_feed(text: &[u8]) -> Option<usize>
+    ensures { result ≡ position (λ byte. byte == 10) text.now }
+{
+    text.iter().position(|byte| *byte == b'\n')
+}
+
+/// The line without one carriage return at its end.
+pub(crate) fn without_return(line: &[u8]) -> &[u8]
+    ensures { result.now ≡ strip_carriage_return line.now }
+{
+    match line {
+        [front @ .., b'\r'] => front,
+        _ => line,
+    }
+}
+
+/// What stands before a comment.
+pub(crate) fn before_comment(line: &[u8]) -> &[u8]
+    ensures { result.now ≡ before_comment line.now }
+{
+    &line[..comment_place(line)]
+}
+
+// Where a comment begins, or the length of the line.
+fn comment_place(line: &[u8]) -> usize
+    ensures { result ≡ length (before_comment line.now) }
+{
+    line.iter().take_while(|byte| **byte != b'#').count()
+}
+
+// Whether the byte is a space or a tab.
+fn is_blank(byte: u8) -> bool
+    ensures { result ≡ is_blank byte }
+{
+    byte == b' ' || byte == b'\t'
+}
+
+/// Whether there are only spaces and tabs.
+pub(crate) fn is_all_blank(line: &[u8]) -> bool
+    ensures { result ≡ list_all is_blank line.now }
+{
+    line.iter().all(|byte| is_blank(*byte))
+}
+
+/// The field without the blanks round it.
+pub(crate) fn without_blanks(field: &[u8]) -> &[u8]
+    ensures { result.now ≡ without_blanks field.now }
+{
+    let front = &field[blanks_before(field)..];
+    &front[..front.len() - blanks_after(front)]
+}
+
+// How many blanks the field begins with.
+fn blanks_before(field: &[u8]) -> usize
+    ensures { result ≡ length (take_while is_blank field.now) }
+{
+    field.iter().take_while(|byte| is_blank(**byte)).count()
+}
+
+// How many blanks the field ends with.
+fn blanks_after(field: &[u8]) -> usize
+    ensures { result ≡ length (take_while is_blank (reverse field.now)) }
+{
+    field
+        .iter()
+        .rev()
+        .take_while(|byte| is_blank(**byte))
+        .count()
+}
+
+/// The field without one pair of quotes round it.
+pub(crate) fn without_quotes(field: &[u8]) -> &[u8]
+    ensures { result.now ≡ without_quotes field.now }
+{
+    match field {
+        [b'"', inside @ .., b'"'] => inside,
+        _ => field,
+    }
+}
