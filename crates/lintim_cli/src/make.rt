@@ -69,6 +69,7 @@ fn tell_costs(alloc: Global, costs: Option<&PlainCost>) -> Result<Outcome, NoMem
 }
 
 // Puts the costs, or removes the old ones where there are none.
+#[tactic(auto, using(plan_files::proofs::OtherFiles::put_keeps_others, plan_files::proofs::OtherFiles::remove_keeps_others))]
 fn write<F: Files>(files: &mut F, text: Option<&Text>) -> Result<(), FileFault>
     ensures ok { OnOk result (F.contents files.new ≡ option_map (after_write (cost_write (option_copied text.entry))) (F.contents files.old)) }
     ensures noted { OnOk result (F.writes files.new ≡ option_map (λ writes. writes ++ cost_write (option_copied text.entry) ∷ []) (F.writes files.old)) }

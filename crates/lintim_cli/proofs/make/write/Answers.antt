@@ -1,7 +1,6 @@
 use Rattle.plan_files.specs.declared.write.Write.TheVariants.{Put, Removal}
 use Rattle.lintim_cli.specs.Costs.{cost_name}
 use Rattle.lintim_cli.proofs.Written.{noted, put_torn, removed}
-use Rattle.plan_files.proofs.OtherFiles.{put_keeps_others, remove_keeps_others}
 use Rattle.lintim_cli.proofs.make.write.Goals as goal
 
 pub returns-in-Some-clause-noted : goal.returns-in-Some-clause-noted
@@ -15,9 +14,3 @@ returns-in-None-clause-ok g c = rw c.in-None.is (removed cost_name _ _ c.remove.
 
 pub returns-in-None-clause-noted : goal.returns-in-None-clause-noted
 returns-in-None-clause-noted g c = rw c.in-None.is (noted (Removal cost_name) _ _ c.remove.result c.remove.ensures.writes)
-
-pub returns-in-Some-clause-others : goal.returns-in-Some-clause-others
-returns-in-Some-clause-others g c = put_keeps_others cost_name _ _ _ c.put.result c.put.ensures.contents
-
-pub returns-in-None-clause-others : goal.returns-in-None-clause-others
-returns-in-None-clause-others g c = remove_keeps_others cost_name _ _ c.remove.result c.remove.ensures.contents
