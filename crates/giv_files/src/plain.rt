@@ -1,5 +1,5 @@
 // Plain texts: rows of whole numbers.
-ghost use Rattle.std.specs.Prelude.{◌≡◌, ◌+◌, ◌<◌, ◌≤◌, ◌++◌, ◌∷◌, [], List, ℕ, length, take, drop, IfOk, OnOk, MatchOption, slice_index_or, ◌==◌, true, false, position};
+ghost use Rattle.std.specs.Prelude.{◌≡◌, ◌<◌, ◌++◌, ◌∷◌, [], List, length, IfOk, OnOk, MatchOption, slice_index_or, ◌==◌, true, false, position};
 ghost use Rattle.std.specs.Char.{is_ascii_digit};
 ghost use Rattle.std.specs.List.{slice_split, list_all};
 ghost use Rattle.std.specs.Option.{option_map, option_and_then, option_copied};
@@ -166,8 +166,8 @@ fn after_space(text: &[u8]) -> Option<&[u8]>
     }
 }
 
-#[tactic(auto, using(std::proofs::lemmas::Bool::Decides::nat_tests), unfolding(crate::specs::Plain::cell_of))]
 // The number of a cell, or nothing where the text is no plain number in the range.
+#[tactic(auto, using(std::proofs::lemmas::Bool::Decides::nat_tests), unfolding(crate::specs::Plain::cell_of))]
 fn read_cell(text: &[u8], range: CellRange) -> Option<u32>
     ensures { result ≡ cell_of range text.now }
 {

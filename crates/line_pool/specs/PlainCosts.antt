@@ -10,6 +10,7 @@ use Rattle.giv_files.specs.Plain.{plain_rows}
 abbrev pub Row : Type 0
 Row = List ℕ
 
+-- the numbers from a least to a greatest one
 abbrev range : ℕ → ℕ → CellRange
 range least greatest = record { least = least; greatest = greatest }
 
@@ -29,18 +30,23 @@ edge_columns = id_range ∷ id_range ∷ id_range ∷ small_range ∷ small_rang
 abbrev pub pool_columns : List CellRange
 pool_columns = id_range ∷ id_range ∷ id_range ∷ []
 
+-- the id of an edge
 abbrev pub edge_id : Row → ℕ
 edge_id edge = slice_index edge 0
 
+-- its length
 abbrev pub edge_length : Row → ℕ
 edge_length edge = slice_index edge 3
 
+-- the line of a row of the pool
 abbrev pub row_line : Row → ℕ
 row_line row = slice_index row 0
 
+-- its place in the line
 abbrev pub row_order : Row → ℕ
 row_order row = slice_index row 1
 
+-- the edge there
 abbrev pub row_edge : Row → ℕ
 row_edge row = slice_index row 2
 

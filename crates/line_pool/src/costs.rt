@@ -1,12 +1,9 @@
 // The costs of lines.
-ghost use Rattle.std.specs.Prelude.{◌≡◌, ◌+◌, ◌*◌, ◌<◌, ◌≤◌, ◌++◌, ℕ, List, Some, None, Bool, true, false, length, unwrap_or, IfOk, OnOk, MatchOption, slice_index_or, nat_eq, []};
-ghost use Rattle.std.specs.Option.{option_map, IfSome};
-ghost use Rattle.std.specs.List.{flat_map};
+ghost use Rattle.std.specs.Prelude.{◌≡◌, ◌+◌, ◌≤◌, ◌++◌, ℕ, true, false, unwrap_or, IfOk, OnOk, MatchOption, nat_eq};
+ghost use Rattle.std.specs.Option.{option_map};
 ghost use Rattle.std.specs.HashMap.{get};
-ghost use Rattle.std.specs.BTreeMap.{keys};
 ghost use Rattle.giv_files.specs.EachAfter.{each_after};
-ghost use Rattle.line_pool.specs.declared.line_sum.LineSum.{LineSum};
-ghost use Rattle.line_pool.specs.PlainCosts.{Costs, costs_of, costs_over, has_new_id, fits_pool, length_of, lines_of, cost_row, header};
+ghost use Rattle.line_pool.specs.PlainCosts.{Costs, costs_of, costs_over, has_new_id, fits_pool, length_of, cost_row, header};
 ghost use Rattle.line_pool.specs.Sums.{SumsUp, entry_rows, HasLengths, HasColumns};
 
 use crate::line_sum::{LineSum, add_edge};
