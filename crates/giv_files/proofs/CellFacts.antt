@@ -26,7 +26,7 @@ unfolding cells_from
 cells_done kinds fields column i h = rw (drop_all i kinds h) refl
 
 -- a cell that is made is no error, and one that is not made is the first
-errors_ok : {A E : Type 0} (value : A) (rest : List (Result A E)) → errors (Ok value ∷ rest) ≡ errors rest
+pub errors_ok : {A E : Type 0} (value : A) (rest : List (Result A E)) → errors (Ok value ∷ rest) ≡ errors rest
 unfolding errors
 errors_ok value rest = refl
 
@@ -34,15 +34,15 @@ errors_err : {A E : Type 0} (error : E) (rest : List (Result A E)) → errors (E
 unfolding errors
 errors_err error rest = refl
 
-values_ok : {A E : Type 0} (value : A) (rest : List (Result A E)) → values (Ok value ∷ rest) ≡ value ∷ values rest
+pub values_ok : {A E : Type 0} (value : A) (rest : List (Result A E)) → values (Ok value ∷ rest) ≡ value ∷ values rest
 unfolding values
 values_ok value rest = refl
 
-errors_none : (A E : Type 0) → errors {A = A} {E = E} [] ≡ []
+pub errors_none : (A E : Type 0) → errors {A = A} {E = E} [] ≡ []
 unfolding errors
 errors_none A E = refl
 
-values_none : (A E : Type 0) → values {A = A} {E = E} [] ≡ []
+pub values_none : (A E : Type 0) → values {A = A} {E = E} [] ≡ []
 unfolding values
 values_none A E = refl
 

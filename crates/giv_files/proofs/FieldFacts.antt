@@ -80,7 +80,7 @@ pub get_cleaned : (parts : List (List ℕ)) (i : ℕ) → i < length (cleaned pa
 get_cleaned parts i h = get_if (ends_empty (map without_blanks parts)) parts i refl h
 
 -- a space before a line changes no field
-space_first : (field : List ℕ) → without_blanks (32 ∷ field) ≡ without_blanks field
+pub space_first : (field : List ℕ) → without_blanks (32 ∷ field) ≡ without_blanks field
 space_first field = rw (one-add (prefix_len is_blank field)) refl
 
 spaced_if : (t : Bool) (c : ℕ) (parts : List (List ℕ))

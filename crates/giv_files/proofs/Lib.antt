@@ -1,10 +1,14 @@
 pub mod CellFacts
+pub mod CellTexts
 pub mod EachAfter
 pub mod FieldFacts
 pub mod KeyPlaces
 pub mod Lines
+pub mod PlainBytes
 pub mod PlainTexts
 pub mod RowFacts
 pub mod RowsLeft
 pub mod SplitFacts
 pub mod TableRows
+pub mod WriteFacts
+pub mod WrittenBack

@@ -19,7 +19,7 @@ unfolding row_whys
 wrong_count kinds row ne = rw (ne_eqb (length row.fields) (length kinds) ne) refl
 
 -- any other for what its columns refuse
-whys_are : (kinds : List ColumnKind) (row : Row) → length row.fields ≡ length kinds → row_whys kinds row ≡ errors (cells_from 1 kinds row.fields)
+pub whys_are : (kinds : List ColumnKind) (row : Row) → length row.fields ≡ length kinds → row_whys kinds row ≡ errors (cells_from 1 kinds row.fields)
 unfolding row_whys
 whys_are kinds row e = rw (eq-eqb (length row.fields) (length kinds) e) refl
 

@@ -53,7 +53,7 @@ key_place key.VsVehicleCosts = 17
 key_place key.VsEmptyCosts = 18
 key_place key.DmWait = 19
 
--- the least and the greatest value of a kind
+-- the least value of a kind
 abbrev pub least : KeyKind → ℤ
 least (kind.Whole min max) = min
 least (kind.Fixed min max) = min
@@ -61,6 +61,7 @@ least kind.StageName = pos 0
 least kind.Source = pos 0
 least (kind.Wait max) = negsuc 1
 
+-- the greatest value of a kind
 abbrev pub greatest : KeyKind → ℤ
 greatest (kind.Whole min max) = max
 greatest (kind.Fixed min max) = max

@@ -1,3 +1,4 @@
+pub mod Columns
 pub mod EachAfter
 pub mod Keys
 pub mod Names
@@ -7,3 +8,4 @@ pub mod Rows
 pub mod Settings
 pub mod Stages
 pub mod Tables
+pub mod Writing

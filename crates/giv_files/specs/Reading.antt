@@ -36,12 +36,13 @@ unfoldable pub cells_from : ℕ → List ColumnKind → List (List ℕ) → List
 cells_from column (kind ∷ kinds) (field ∷ fields) = cell_of kind column field ∷ cells_from (column + 1) kinds fields
 cells_from column _ _ = []
 
--- what was refused, and what was not
+-- what was refused
 unfoldable pub errors : {A E : Type 0} → List (Result A E) → List E
 errors [] = []
 errors (Ok value ∷ rest) = errors rest
 errors (Err error ∷ rest) = error ∷ errors rest
 
+-- what was not refused
 unfoldable pub values : {A E : Type 0} → List (Result A E) → List A
 values [] = []
 values (Ok value ∷ rest) = value ∷ values rest

@@ -4,6 +4,7 @@
 mod bundle;
 mod cells;
 mod column;
+mod columns;
 mod counted;
 mod fields;
 mod file_id;
@@ -24,6 +25,7 @@ mod settings_fit;
 mod stage;
 mod table;
 mod words;
+mod write;
 
 pub use bundle::Bundle;
 pub use column::ColumnKind;
@@ -42,6 +44,11 @@ pub use settings::Settings;
 pub use stage::Stage;
 pub use table::Table;
 pub use words::WordTable;
+pub use write::write_table;
 
 #[cfg(test)]
+mod columns_tests;
+#[cfg(test)]
 mod tests;
+#[cfg(test)]
+mod write_tests;

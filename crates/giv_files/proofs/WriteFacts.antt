@@ -1,0 +1,79 @@
+-- The line of a row, cell by cell.
+use Rattle.std.proofs.Common.{◌≡◌, ℕ, ◌+◌, ◌<◌, ◌≤◌, zero, suc, List, [], ◌∷◌, ◌++◌, length, map, take, get_or, refl, ap, sym, ◌∙◌, arith, ℤ, append_assoc, append-nil, All, codes, Bor}
+use Rattle.std.specs.List.{flat_map}
+use Rattle.std.proofs.lemmas.List.{take_more, take_all, length-take-le, length-map, get_or-map}
+use Rattle.std.proofs.lemmas.Bool.{lt-ltb}
+use Rattle.std.proofs.lemmas.List.Elements.{All-get_or}
+use Rattle.std.proofs.lemmas.Grind.{flat_map-append}
+use Rattle.giv_files.specs.declared.column.ColumnKind.{ColumnKind}
+use Rattle.giv_files.specs.Tables.{TableRow, no_row}
+use Rattle.giv_files.specs.Writing.{cell_text, cell_texts, joined, separator, line_text, row_line, InColumn, InColumns}
+
+-- a cell is in the range of its column
+pub in_column : (kinds : List ColumnKind) (cells : List ℤ) (i : ℕ) (kind : ColumnKind) (cell : ℤ) → InColumns kinds cells → i < length kinds → InColumn (get_or kinds i kind) (get_or cells i cell)
+in_column [] cells i kind cell h lt = absurd (omega arith)
+in_column (k ∷ kinds) [] i kind cell h lt = absurd h
+in_column (k ∷ kinds) (c ∷ cells) zero kind cell h lt = h.0
+in_column (k ∷ kinds) (c ∷ cells) (suc i) kind cell h lt = in_column kinds cells i kind cell h.1 (omega arith)
+
+-- there are as many cells and texts as columns
+pub texts_length : (kinds : List ColumnKind) (cells : List ℤ) → InColumns kinds cells → length (cell_texts kinds cells) ≡ length kinds
+unfolding cell_texts
+texts_length [] [] h = refl
+texts_length [] (cell ∷ cells) h = absurd h
+texts_length (kind ∷ kinds) [] h = absurd h
+texts_length (kind ∷ kinds) (cell ∷ cells) h = ap suc (texts_length kinds cells h.1)
+
+-- the text of a column
+text_at : (kinds : List ColumnKind) (cells : List ℤ) (i : ℕ) (kind : ColumnKind) (cell : ℤ) → InColumns kinds cells → i < length kinds
+    → get_or (cell_texts kinds cells) i [] ≡ cell_text (get_or kinds i kind) (get_or cells i cell)
+unfolding cell_texts
+text_at [] cells i kind cell h lt = absurd (omega arith)
+text_at (k ∷ kinds) [] i kind cell h lt = absurd h
+text_at (k ∷ kinds) (c ∷ cells) zero kind cell h lt = refl
+text_at (k ∷ kinds) (c ∷ cells) (suc i) kind cell h lt = text_at kinds cells i kind cell h.1 (omega arith)
+
+-- one text more
+joined_push : (texts : List (List ℕ)) (text : List ℕ) → joined (texts ++ text ∷ []) ≡ joined texts ++ separator (length texts) ++ text
+unfolding joined
+joined_push [] text = append-nil text
+joined_push (first ∷ texts) text =
+    let others = flat_map (λ more. codes "; " ++ more) texts in
+    let between : separator (suc (length texts)) ≡ codes "; " = rw (lt-ltb 0 (suc (length texts)) (omega arith)) refl in
+    ap (λ (line : List ℕ). first ++ line) (flat_map-append (λ more. codes "; " ++ more) texts (text ∷ []))
+    ∙ rw (append-nil (codes "; " ++ text), between) (sym (append_assoc first others (codes "; " ++ text)) ∙ sym (append_assoc (first ++ others) (codes "; ") text))
+
+-- the text of one column more
+pub column_more : (kinds : List ColumnKind) (cells : List ℤ) (i : ℕ) (kind : ColumnKind) (cell : ℤ) (start old between new : List ℕ) → InColumns kinds cells → i < length kinds
+    → old ≡ start ++ joined (take i (cell_texts kinds cells)) → between ≡ old ++ separator i → new ≡ between ++ cell_text (get_or kinds i kind) (get_or cells i cell)
+    → new ≡ start ++ joined (take (i + 1) (cell_texts kinds cells))
+column_more kinds cells i kind cell start old between new h lt e f g =
+    let texts = cell_texts kinds cells in
+    let size = texts_length kinds cells h in
+    let within : i < length texts = omega arith in
+    let front = length-take-le i texts (omega arith) in
+    let next = ap joined (take_more texts i [] within) ∙ joined_push (take i texts) (get_or texts i []) ∙ rw (front, text_at kinds cells i kind cell h lt) refl in
+    g ∙ rw (f, e) (append_assoc (start ++ joined (take i texts)) (separator i) _ ∙ append_assoc start (joined (take i texts)) _ ∙ ap (λ (line : List ℕ). start ++ line) (sym (append_assoc (joined (take i texts)) (separator i) _) ∙ sym next))
+
+-- no text yet
+pub no_column : (start : List ℕ) → start ≡ start ++ joined []
+unfolding joined
+no_column start = sym (append-nil start)
+
+-- all texts and the end of the line
+pub line_done : (kinds : List ColumnKind) (row : TableRow) (i : ℕ) (start old new : List ℕ) → InColumns kinds row.cells → length kinds ≤ i
+    → old ≡ start ++ joined (take i (cell_texts kinds row.cells)) → new ≡ old ++ 10 ∷ [] → new ≡ start ++ line_text kinds row
+line_done kinds row i start old new h past e f =
+    let whole = take_all i (cell_texts kinds row.cells) (omega (arith, texts_length kinds row.cells h)) in
+    f ∙ rw (e, whole) (append_assoc start (joined (cell_texts kinds row.cells)) (10 ∷ []))
+
+-- the row at a place has its cells in the ranges of the columns
+pub row_in_columns : (kinds : List ColumnKind) (rows : List TableRow) (i : ℕ) → All (λ row. InColumns kinds row.cells) rows → i < length rows → InColumns kinds (row_line rows i).cells
+row_in_columns kinds rows i h lt = All-get_or (λ (row : TableRow). InColumns kinds row.cells) rows i no_row lt h
+
+-- a word by its place
+pub word_is : (words : List (Bor (List ℕ))) (table : List (List ℕ)) (place : ℕ) (other : Bor (List ℕ)) → map (λ word. word.now) words ≡ table → place < length table → other.now ≡ []
+    → (get_or words place other).now ≡ get_or table place []
+word_is words table place other e h none =
+    let within : place < length words = omega (arith, ap length e, length-map words (λ (word : Bor (List ℕ)). word.now)) in
+    sym (get_or-map (λ (word : Bor (List ℕ)). word.now) words place other [] within) ∙ ap (λ (all : List (List ℕ)). get_or all place []) e
