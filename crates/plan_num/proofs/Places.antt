@@ -1,5 +1,5 @@
 -- The places of a fraction, one after the other.
-use Rattle.std.proofs.Common.{◌≡◌, ℕ, ◌+◌, ◌*◌, ◌/◌, ◌%◌, ◌<◌, ◌==◌, zero, suc, List, [], ◌∷◌, ◌++◌, append_assoc, append-nil, ◌∙◌, sym, length, get_or, drop, true, false, eqb, refl, ap, arith, ne_eqb, add-one, drop-cons, if◌then◌else◌}
+use Rattle.std.proofs.Common.{◌≡◌, ℕ, ◌+◌, ◌*◌, ◌/◌, ◌%◌, ◌<◌, zero, suc, List, [], ◌∷◌, ◌++◌, append_assoc, append-nil, ◌∙◌, sym, length, get_or, drop, refl, ap, arith, ne_eqb, add-one, drop-cons}
 use Rattle.std.proofs.lemmas.Bool.Decides.{nat_tests}
 use Rattle.plan_num.specs.Print.{places, digits_at, fraction_text}
 

@@ -1,5 +1,5 @@
 -- A printed number is read back.
-use Rattle.std.proofs.Common.{◌≡◌, ◌≢◌, ℕ, ℤ, pos, neg_ℤ, negsuc, ◌+◌, ◌-◌, ◌*◌, ◌/◌, ◌%◌, ◌^◌, ◌<◌, ◌≤◌, ◌≤ℤ◌, ◌∙◌, ◌++◌, ◌&&◌, ◌||◌, zero, suc, Bool, true, false, List, [], ◌∷◌, length, take, drop, get_or, cond, eqb, ltb, leb, not, Option, Some, None, option_map, option_and_then, refl, ap, sym, append-nil, add-one, arith, rules, decimal, ne_eqb, ⊎_elim}
+use Rattle.std.proofs.Common.{◌≡◌, ℕ, ℤ, pos, neg_ℤ, negsuc, ◌+◌, ◌-◌, ◌*◌, ◌/◌, ◌%◌, ◌^◌, ◌<◌, ◌≤◌, ◌≤ℤ◌, ◌∙◌, ◌++◌, ◌||◌, suc, Bool, true, false, List, [], ◌∷◌, length, eqb, not, Some, option_map, option_and_then, refl, ap, append-nil, add-one, arith, rules, decimal, ne_eqb, ⊎_elim}
 use Rattle.std.specs.List.{before_first, after_first, position_or_len, list_all}
 use Rattle.std.specs.Char.{is_ascii_digit}
 use Rattle.std.specs.Fmt.{signed_decimal}
@@ -14,7 +14,7 @@ use Rattle.std.proofs.lemmas.Bool.{cases_lt, lt-ltb, le-ltb}
 use Rattle.std.proofs.lemmas.Bool.Decides.{nat_tests}
 use Rattle.std.specs.Cmp.Derive.{both_true}
 use Rattle.plan_num.specs.Print.{places, digits_at, fraction_text, magnitude_text, fixed_text}
-use Rattle.plan_num.specs.Number.{Spelling, is_point, has_point, has_minus, is_number_byte, magnitude_of, all_digits, is_numeral, is_magnitude, parts_of, spelling_of, value_of, value_at, all_zero, signed, is_beyond, fixed_from, whole_from, fixed_of, whole_of}
+use Rattle.plan_num.specs.Number.{is_point, has_point, has_minus, is_number_byte, all_digits, is_numeral, parts_of, spelling_of, value_of, value_at, signed, is_beyond, fixed_from, whole_from, fixed_of, whole_of}
 use Rattle.plan_num.proofs.Digits.{both_passed, digit_range}
 use Rattle.plan_num.proofs.Places.{digits_of_zero}
 
@@ -60,7 +60,7 @@ one_digit place rest h lt =
 digit_and_rest : (place rest more : ℕ) → 0 < place → more ≡ rest % place → (48 + rest / place - 48) * place + more ≡ rest
 digit_and_rest place rest more h e = let same : 48 + rest / place - 48 ≡ rest / place = omega arith in rw same (omega (arith, e, div-add-mod rest place))
 
-tens : AreTens 1000000 places
+pub tens : AreTens 1000000 places
 tens = (refl, omega arith, (refl, omega arith, (refl, omega arith, (refl, omega arith, (refl, omega arith, (refl, omega arith, refl))))))
 
 -- the digits that are printed behind a point are digits

@@ -1,5 +1,5 @@
 // Numbers as text.
-ghost use Rattle.std.specs.Prelude.{◌≡◌, ◌^◌, ◌<◌, ◌++◌, pos, neg_ℤ, ◌≤ℤ◌, IfOk, OnOk, Some};
+ghost use Rattle.std.specs.Prelude.{◌≡◌, ◌^◌, ◌<◌, ◌++◌, pos, neg_ℤ, ◌≤ℤ◌, IfOk, OnOk, Some, List, ℕ, length, ◌≤◌};
 ghost use Rattle.plan_num.specs.Number.{fixed_of};
 ghost use Rattle.plan_num.specs.Print.{fixed_text, fraction_text};
 
@@ -21,6 +21,10 @@ pub fn print_fixed(alloc: Global, millionths: i128) -> Result<Text, NoMemory>
     // What is printed is read back, where it is a number that a field may spell.
     ensures read_back { neg_ℤ (pos (10 ^ 18)) ≤ℤ millionths → millionths ≤ℤ pos (10 ^ 18) →
         IfOk result (λ text. fixed_of text ≡ Some millionths) }
+
+    // No field that spells the number is shorter.
+    ensures shortest { IfOk result (λ text. (field : List ℕ) → fixed_of field ≡ Some millionths →
+        length text ≤ length field) }
 {
     let bytes = fixed_bytes(alloc, millionths)?;
     Ok(Text::from_vec(bytes))
