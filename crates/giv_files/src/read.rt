@@ -27,7 +27,7 @@ pub fn read_table<const C: usize>(
     }
     let mut table = Table::new(alloc);
     let mut fields = Fields::new(alloc);
-    let mut number = 0;
+    let mut number: u64 = 0;
     let mut left = Some(bytes);
     'lines: while let Some(text) = left {
         let (part, rest) = first_part(text);
