@@ -118,3 +118,13 @@ pub nothing_left : (kinds : List ColumnKind) (number : ℕ) (left : Option (Bor 
 nothing_left kinds number left all table whole h faults there =
     let none = ap (λ (parts : List (List ℕ)). rows_left number parts) (no_parts left h) ∙ none_left number in
     (sym (rw none at faults), sym (append-nil table) ∙ rw none at there)
+
+-- the rows of a line go from what is left to what is there
+pub line_told : (old new told rest all : List Row) → new ≡ old ++ told → old ++ (told ++ rest) ≡ all → new ++ rest ≡ all
+line_told old new told rest all e h = rw (e, append_assoc old told rest) h
+
+-- where nothing is left all rows are there
+pub all_told : (number : ℕ) (left : Option (Bor (List ℕ))) (rows all : List Row) → ((text : Bor (List ℕ)) → left ≡ Some text → ⊥) → rows ++ rows_left number (parts_left (option_copied left)) ≡ all → rows ≡ all
+all_told number left rows all h there =
+    let none = ap (λ (parts : List (List ℕ)). rows_left number parts) (no_parts left h) ∙ none_left number in
+    sym (append-nil rows) ∙ rw none at there

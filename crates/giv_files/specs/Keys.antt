@@ -30,6 +30,35 @@ key_kind key.VsVehicleCosts = kind.Fixed (pos 0) (pos 1000000000000)
 key_kind key.VsEmptyCosts = kind.Fixed (pos 0) (pos 1000000000000)
 key_kind key.DmWait = kind.Wait (pos 10000)
 
+-- the value of a key that no file gives
+abbrev pub key_default : Key → ℤ
+key_default key.LastStage = pos 8
+key_default key.LoadSource = pos 0
+key_default key.GenPassengersPerVehicle = pos 70
+key_default key.LoadSpread = pos 3
+key_default key.LpoolCostsFixed = pos 10000000
+key_default key.LpoolCostsLength = pos 1000000
+key_default key.LpoolCostsEdges = pos 0
+key_default key.ConceptBudget = pos 5000
+key_default key.PeriodLength = pos 60
+key_default key.EanDefaultMinimalWaitingTime = pos 1
+key_default key.EanDefaultMaximalWaitingTime = pos 3
+key_default key.EanDefaultMinimalChangeTime = pos 3
+key_default key.EanDefaultMaximalChangeTime = pos 62
+key_default key.TimetableBudget = pos 100000
+key_default key.DmEarliestTime = pos 300
+key_default key.DmLatestTime = pos 1380
+key_default key.VsTurnOverTime = pos 5
+key_default key.VsVehicleCosts = pos 100000000
+key_default key.VsEmptyCosts = pos 1000000
+key_default key.DmWait = pos 3
+
+-- the keys in their order
+abbrev pub all_keys : List Key
+all_keys = key.LastStage ∷ key.LoadSource ∷ key.GenPassengersPerVehicle ∷ key.LoadSpread ∷ key.LpoolCostsFixed ∷ key.LpoolCostsLength ∷ key.LpoolCostsEdges
+    ∷ key.ConceptBudget ∷ key.PeriodLength ∷ key.EanDefaultMinimalWaitingTime ∷ key.EanDefaultMaximalWaitingTime ∷ key.EanDefaultMinimalChangeTime
+    ∷ key.EanDefaultMaximalChangeTime ∷ key.TimetableBudget ∷ key.DmEarliestTime ∷ key.DmLatestTime ∷ key.VsTurnOverTime ∷ key.VsVehicleCosts ∷ key.VsEmptyCosts ∷ key.DmWait ∷ []
+
 -- the place of a key in the order of keys
 abbrev pub key_place : Key → ℕ
 key_place key.LastStage = 0

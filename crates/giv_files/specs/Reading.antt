@@ -1,5 +1,5 @@
 -- The table that a text is, and its faults.
-use Rattle.std.specs.Prelude.{ℕ, ℤ, pos, ◌≡◌, ◌+◌, ◌==◌, ◌&&◌, nat_eq, int_le, if◌then◌else◌, Bool, List, [], ◌∷◌, ◌++◌, length, map, position, slice_get, Option, Some, None, option_map, Result, Ok, Err, ⊤}
+use Rattle.std.specs.Prelude.{ℕ, ℤ, pos, ◌≡◌, ◌+◌, ◌==◌, ◌&&◌, nat_eq, int_le, if◌then◌else◌, Bool, true, false, List, [], ◌∷◌, ◌++◌, length, map, position, slice_get, Option, Some, None, option_map, Result, Ok, Err, ⊤}
 use Rattle.std.specs.List.{flat_map, starts_with}
 use Rattle.std.specs.Option.{ok_or}
 use Rattle.std.specs.Str.{bytes_eq}
@@ -89,3 +89,9 @@ abbrev pub LineGives : List ColumnKind → List Row → List TableRow → List T
 LineGives kinds told old new (Ok _) = (flat_map (row_faults kinds) told ≡ []) × (new ≡ old ++ map (table_row kinds) told)
 LineGives kinds told old new (Err (fault.Row first)) = slice_get (flat_map (row_faults kinds) told) 0 ≡ Some first
 LineGives kinds told old new (Err fault.NoMemory) = ⊤
+
+-- what reading the rows of a text gives: them, or the one fault of a text that begins with a byte order mark
+abbrev pub RowsGive : List ℕ → Result (List Row) ReadFault → Type 0
+RowsGive text (Ok read) = (has_mark text ≡ false) × (read ≡ rows text)
+RowsGive text (Err (fault.Row first)) = (has_mark text ≡ true) × (first ≡ record { row = 1; why = why.ByteOrderMark })
+RowsGive text (Err fault.NoMemory) = ⊤

@@ -5,6 +5,10 @@ use Rattle.giv_files.specs.declared.file_id.FileId.TheVariants as file
 use Rattle.giv_files.specs.declared.stage.Stage.{Stage}
 use Rattle.giv_files.specs.declared.stage.Stage.TheVariants as stage
 
+-- the stages in the order in which they run
+abbrev pub all_stages : List Stage
+all_stages = stage.Load ∷ stage.Cost ∷ stage.Concept ∷ stage.Ean ∷ stage.Timetable ∷ stage.Rollout ∷ stage.Vehicles ∷ stage.Disposition ∷ stage.Statistic ∷ []
+
 -- the inputs of a stage, in order; where loads are given, LoadGiven stands in the place of Od
 abbrev pub stage_inputs : Stage → List FileId
 stage_inputs stage.Load = file.Stop ∷ file.Edge ∷ file.Od ∷ []

@@ -1,7 +1,7 @@
 // The keys of the settings.
 ghost use Rattle.std.specs.Prelude.{◌≡◌};
 ghost use Rattle.giv_files.specs.Names.{key_name};
-ghost use Rattle.giv_files.specs.Keys.{key_kind, key_place, allows, floor_key};
+ghost use Rattle.giv_files.specs.Keys.{key_kind, key_default, all_keys, key_place, allows, floor_key};
 
 use crate::key_kind::KeyKind;
 
@@ -107,6 +107,32 @@ impl Key {
         }
     }
 
+    /// Its value where no file gives one.
+    pub fn default_value(self) -> i64
+        ensures { result ≡ key_default self }
+    {
+        match self {
+            Key::LastStage => 8,
+            Key::LoadSource | Key::LpoolCostsEdges => 0,
+            Key::GenPassengersPerVehicle => 70,
+            Key::LoadSpread
+            | Key::EanDefaultMaximalWaitingTime
+            | Key::EanDefaultMinimalChangeTime
+            | Key::DmWait => 3,
+            Key::LpoolCostsFixed => 10_000_000,
+            Key::LpoolCostsLength | Key::VsEmptyCosts => 1_000_000,
+            Key::ConceptBudget => 5_000,
+            Key::PeriodLength => 60,
+            Key::EanDefaultMinimalWaitingTime => 1,
+            Key::EanDefaultMaximalChangeTime => 62,
+            Key::TimetableBudget => 100_000,
+            Key::DmEarliestTime => 300,
+            Key::DmLatestTime => 1_380,
+            Key::VsTurnOverTime => 5,
+            Key::VsVehicleCosts => 100_000_000,
+        }
+    }
+
     /// Whether its value may be this one, apart from the values of other keys.
     pub fn allows(self, value: i64) -> bool
         ensures { result ≡ allows self value }
@@ -130,6 +156,34 @@ impl Key {
             Key::DmLatestTime => Some(Key::DmEarliestTime),
             _ => None,
         }
+    }
+
+    /// All keys, in their order.
+    pub fn all() -> &'static [Key]
+        ensures { result.now ≡ all_keys }
+    {
+        &[
+            Key::LastStage,
+            Key::LoadSource,
+            Key::GenPassengersPerVehicle,
+            Key::LoadSpread,
+            Key::LpoolCostsFixed,
+            Key::LpoolCostsLength,
+            Key::LpoolCostsEdges,
+            Key::ConceptBudget,
+            Key::PeriodLength,
+            Key::EanDefaultMinimalWaitingTime,
+            Key::EanDefaultMaximalWaitingTime,
+            Key::EanDefaultMinimalChangeTime,
+            Key::EanDefaultMaximalChangeTime,
+            Key::TimetableBudget,
+            Key::DmEarliestTime,
+            Key::DmLatestTime,
+            Key::VsTurnOverTime,
+            Key::VsVehicleCosts,
+            Key::VsEmptyCosts,
+            Key::DmWait,
+        ]
     }
 
     /// Its place in the order of keys, from 0.

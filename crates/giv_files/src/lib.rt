@@ -24,6 +24,7 @@ mod settings;
 mod settings_fit;
 mod stage;
 mod table;
+mod text_rows;
 mod words;
 mod write;
 
@@ -43,6 +44,7 @@ pub use setting::Setting;
 pub use settings::Settings;
 pub use stage::Stage;
 pub use table::Table;
+pub use text_rows::{TextRow, TextRows, read_rows};
 pub use words::WordTable;
 pub use write::write_table;
 

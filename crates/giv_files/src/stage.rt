@@ -2,7 +2,7 @@
 ghost use Rattle.std.specs.Prelude.{◌≡◌};
 ghost use Rattle.giv_files.specs.Names.{stage_name};
 ghost use Rattle.giv_files.specs.Keys.{stage_keys};
-ghost use Rattle.giv_files.specs.Stages.{stage_inputs, stage_makes};
+ghost use Rattle.giv_files.specs.Stages.{all_stages, stage_inputs, stage_makes};
 
 use crate::file_id::FileId;
 use crate::key::Key;
@@ -41,6 +41,23 @@ impl Stage {
 }
 
 impl Stage {
+    /// All stages, in the order in which they run.
+    pub fn all() -> &'static [Stage]
+        ensures { result.now ≡ all_stages }
+    {
+        &[
+            Stage::Load,
+            Stage::Cost,
+            Stage::Concept,
+            Stage::Ean,
+            Stage::Timetable,
+            Stage::Rollout,
+            Stage::Vehicles,
+            Stage::Disposition,
+            Stage::Statistic,
+        ]
+    }
+
     /// The keys of its settings, in their order.
     pub fn keys(self) -> &'static [Key]
         ensures { result.now ≡ stage_keys self }
