@@ -1,13 +1,12 @@
-// A library with one function.
+//! The settings of a dataset, from its config file and the files that it includes.
 #![tactic(auto)]
 
-ghost use Rattle.std.specs.Prelude.{◌≡◌};
-ghost use Rattle.config_keys.specs.Echo.{echo_of};
+mod config_end;
+mod config_fault;
+mod expand;
+mod include;
+mod reading;
+mod word;
 
-// The `ensures` clause is the contract: what `echo` returns is `echo_of` of its argument, a definition
-// in `specs/Echo.antt`, which a caller's clause can cite too.
-pub fn echo(x: usize) -> usize
-    ensures { result ≡ echo_of x }
-{
-    x
-}
+pub use config_end::ConfigEnd;
+pub use config_fault::ConfigFault;

@@ -1,0 +1,151 @@
+-- Reading a file goes row by row, and into the files that it includes.
+use Rattle.std.proofs.Common.{◌≡◌, ℕ, zero, suc, ◌+◌, ◌-◌, ◌<◌, ◌≤◌, Bool, true, false, List, [], ◌∷◌, ◌++◌, length, take, drop, get_or, Option, Some, None, IfSome, Result, Ok, Err, string_bytes, refl, ap, sym, subst, ◌∙◌, arith, append-nil}
+use Rattle.std.proofs.Math.Numerals.{sub-one}
+use Rattle.std.specs.List.{flat_map}
+use Rattle.std.proofs.lemmas.List.{take_all, take_more, take-append-drop}
+use Rattle.std.proofs.lemmas.List.Concat.{flat_map-append}
+use Rattle.plan_files.specs.declared.store.Got.{Got}
+use Rattle.plan_files.specs.declared.store.Got.TheVariants.{Bytes}
+use Rattle.plan_files.specs.Folder.{Folder}
+use Rattle.giv_files.specs.Rows.{Row, rows}
+use Rattle.giv_files.specs.Reading.{has_mark}
+use Rattle.config_keys.specs.declared.config_fault.ConfigFault.{ConfigFault}
+use Rattle.config_keys.specs.declared.config_end.ConfigEnd.{ConfigEnd}
+use Rattle.config_keys.specs.declared.config_end.ConfigEnd.TheVariants.{Refused, FileFault, NoMemory}
+use Rattle.config_keys.specs.declared.expand.Included.{Included}
+use Rattle.config_keys.specs.declared.reading.Reading.{Reading}
+use Rattle.config_keys.specs.Items.{Item, Fault, row_item, row_brings, brought, got_items, below, expanded, text_items, first_fault, look_in}
+use Rattle.config_keys.specs.Said.{ReadOn, ReadGives}
+use Rattle.config_keys.specs.Parts.{RowsOf, Taken, Passed, TakeGives, FetchGives}
+use Rattle.config_keys.proofs.Steps.{read_none, read_more, gives_more, first_fault-stays}
+
+-- a file that is included has one level less below it
+below_one : (look : List ℕ → Got) (left : ℕ) (path text : List ℕ) → 0 < left → below look left path text ≡ expanded look (left - 1) path text
+unfolding below expanded
+below_one look zero path text h = absurd (omega arith)
+below_one look (suc left) path text h = rw sub-one refl
+
+-- a row that is refused
+pub row_refused : (contents : Option Folder) (left : ℕ) (file : List ℕ) (row : Row) (old mid new : Reading) (end : ConfigEnd) (result : Result (Unit {0}) ConfigEnd)
+    → TakeGives left (row_item left file row) old mid (Err end) → result ≡ Err end → IfSome contents (λ folder. ReadGives (row_brings (look_in folder) left file row) old new result)
+unfolding row_brings
+row_refused None left file row old mid new end result h e = tt
+row_refused (Some folder) left file row old mid new (Refused reason) result h e = rw e (first_fault-stays old.includes (row_item left file row ∷ []) (brought (look_in folder) (below (look_in folder) left) (row_item left file row)) reason h)
+row_refused (Some folder) left file row old mid new FileFault result h e = absurd h
+row_refused (Some folder) left file row old mid new NoMemory result h e = rw e tt
+
+-- a row that brings nothing more
+pub row_passed : (contents : Option Folder) (left : ℕ) (file : List ℕ) (row : Row) (old new : Reading) → Passed (row_item left file row) old new
+    → IfSome contents (λ folder. ReadOn (row_brings (look_in folder) left file row) old new)
+unfolding row_brings
+row_passed None left file row old new h = tt
+row_passed (Some folder) left file row old new h = rw (h.alone (look_in folder) (below (look_in folder) left)) h.read
+
+-- what is read of an included file comes behind its row
+row_follows : (folder : Folder) (left : ℕ) (file : List ℕ) (row : Row) (old mid new : Reading) (included : Included) (result : Result (Unit {0}) ConfigEnd) → Taken left (row_item left file row) old mid included
+    → ReadGives (got_items (below (look_in folder) left) included.optional (string_bytes included.path) (look_in folder (string_bytes included.path))) mid new result
+    → ReadGives (row_brings (look_in folder) left file row) old new result
+unfolding row_brings
+row_follows folder left file row old mid new included result h k =
+    gives_more (row_item left file row ∷ []) _ old mid new result h.read (rw (h.follows (look_in folder) (below (look_in folder) left)) k)
+
+unfound : (folder : Folder) (left : ℕ) (mid new : Reading) (included : Included) (end : ConfigEnd) → FetchGives included.optional (string_bytes included.path) (look_in folder (string_bytes included.path)) (Err end)
+    → ReadGives (got_items (below (look_in folder) left) included.optional (string_bytes included.path) (look_in folder (string_bytes included.path))) mid new (Err end)
+unfolding first_fault
+unfound folder left mid new included (Refused reason) got = rw (got (below (look_in folder) left)) refl
+unfound folder left mid new included FileFault got = tt
+unfound folder left mid new included NoMemory got = tt
+
+-- a file that cannot be included
+pub row_unfound : (contents after : Option Folder) (left : ℕ) (file : List ℕ) (row : Row) (old mid new : Reading) (included : Included) (path : List ℕ) (end : ConfigEnd) (result : Result (Unit {0}) ConfigEnd)
+    → after ≡ contents → path ≡ string_bytes included.path → Taken left (row_item left file row) old mid included
+    → IfSome after (λ folder. FetchGives included.optional path (look_in folder path) (Err end)) → result ≡ Err end
+    → IfSome contents (λ folder. ReadGives (row_brings (look_in folder) left file row) old new result)
+row_unfound None after left file row old mid new included path end result same p h k e = tt
+row_unfound (Some folder) after left file row old mid new included path end result same p h k e =
+    let found : FetchGives included.optional path (look_in folder path) (Err end) = rw same at k in
+    let got : FetchGives included.optional (string_bytes included.path) (look_in folder (string_bytes included.path)) (Err end) = subst (λ name. FetchGives included.optional name (look_in folder name) (Err end)) p found in
+    row_follows folder left file row old mid new included result h (rw e (unfound folder left mid new included end got))
+
+-- a file that is not there and may be passed over
+pub row_alone : (contents after : Option Folder) (left : ℕ) (file : List ℕ) (row : Row) (old mid : Reading) (included : Included) (path : List ℕ)
+    → after ≡ contents → path ≡ string_bytes included.path → Taken left (row_item left file row) old mid included
+    → IfSome after (λ folder. FetchGives included.optional path (look_in folder path) (Ok None))
+    → IfSome contents (λ folder. ReadOn (row_brings (look_in folder) left file row) old mid)
+row_alone None after left file row old mid included path same p h k = tt
+row_alone (Some folder) after left file row old mid included path same p h k =
+    let got : FetchGives included.optional (string_bytes included.path) (look_in folder (string_bytes included.path)) (Ok None) = rw (same, p) at k in
+    row_follows folder left file row old mid mid included (Ok tt) h (rw (got (below (look_in folder) left)) (read_none mid))
+
+-- a file that is included
+pub row_included : (contents after last : Option Folder) (left : ℕ) (file : List ℕ) (row : Row) (old mid new : Reading) (included : Included) (path inside text : List ℕ) (result : Result (Unit {0}) ConfigEnd)
+    → after ≡ contents → last ≡ contents → path ≡ string_bytes included.path → inside ≡ string_bytes included.path → Taken left (row_item left file row) old mid included
+    → IfSome after (λ folder. FetchGives included.optional path (look_in folder path) (Ok (Some text)))
+    → IfSome last (λ folder. ReadGives (expanded (look_in folder) (left - 1) inside text) mid new result)
+    → IfSome contents (λ folder. ReadGives (row_brings (look_in folder) left file row) old new result)
+row_included None after last left file row old mid new included path inside text result same also p q h k m = tt
+row_included (Some folder) after last left file row old mid new included path inside text result same also p q h k m =
+    let got : look_in folder (string_bytes included.path) ≡ Bytes text = rw (same, p) at k in
+    let read : ReadGives (expanded (look_in folder) (left - 1) (string_bytes included.path) text) mid new result = rw (also, q) at m in
+    row_follows folder left file row old mid new included result h (rw (got, below_one (look_in folder) left (string_bytes included.path) text h.room) read)
+
+-- a text without a mark says and brings what its rows do
+expanded_rows : (look : List ℕ → Got) (left : ℕ) (file text : List ℕ) → has_mark text ≡ false → expanded look left file text ≡ flat_map (row_brings look left file) (rows text)
+unfolding expanded row_brings
+expanded_rows look left file text e = rw e refl
+
+-- a text with a mark
+pub text_refused : (contents : Option Folder) (left : ℕ) (file text : List ℕ) (old new : Reading) (end : ConfigEnd) (result : Result (Unit {0}) ConfigEnd) → RowsOf file text (Err end) → result ≡ Err end
+    → IfSome contents (λ folder. ReadGives (expanded (look_in folder) left file text) old new result)
+unfolding expanded first_fault
+text_refused None left file text old new end result h e = tt
+text_refused (Some folder) left file text old new (Refused reason) result h e = rw (e, h.0, h.1) refl
+text_refused (Some folder) left file text old new FileFault result h e = absurd h
+text_refused (Some folder) left file text old new NoMemory result h e = rw e tt
+
+-- at first nothing has been read
+pub rows_none : (contents : Option Folder) (reading : Reading) → IfSome contents (λ folder. ReadOn [] reading reading)
+rows_none None reading = tt
+rows_none (Some folder) reading = read_none reading
+
+-- what one row more says and brings
+one_more : {X : Type 0} (f : X → List Item) (xs : List X) (i : ℕ) (x : X) → i < length xs → x ≡ get_or xs i x → flat_map f (take (i + 1) xs) ≡ flat_map f (take i xs) ++ f x
+one_more f xs i x h e = ap (flat_map f) (take_more xs i x h) ∙ flat_map-append f (take i xs) (get_or xs i x ∷ []) ∙ rw (← e, append-nil) refl
+
+-- one row more has been read
+pub rows_more : (contents after : Option Folder) (left : ℕ) (file : List ℕ) (rows : List Row) (i : ℕ) (row : Row) (old mid new : Reading) → i < length rows → row ≡ get_or rows i row → after ≡ contents
+    → IfSome contents (λ folder. ReadOn (flat_map (row_brings (look_in folder) left file) (take i rows)) old mid)
+    → IfSome after (λ folder. ReadOn (row_brings (look_in folder) left file row) mid new)
+    → IfSome contents (λ folder. ReadOn (flat_map (row_brings (look_in folder) left file) (take (i + 1) rows)) old new)
+rows_more None after left file rows i row old mid new h e same k m = tt
+rows_more (Some folder) after left file rows i row old mid new h e same k m =
+    let next : ReadOn (row_brings (look_in folder) left file row) mid new = rw same at m in
+    rw (one_more (row_brings (look_in folder) left file) rows i row h e) (read_more _ (row_brings (look_in folder) left file row) old mid new k next)
+
+refused_among : (xs ys : List Item) (old new : Reading) (end : ConfigEnd) → ReadGives xs old new (Err end) → ReadGives (xs ++ ys) old new (Err end)
+refused_among xs ys old new (Refused reason) h = first_fault-stays old.includes xs ys reason h
+refused_among xs ys old new FileFault h = tt
+refused_among xs ys old new NoMemory h = tt
+
+-- a row ends the reading of a text
+pub rows_refused : (contents after : Option Folder) (left : ℕ) (file text : List ℕ) (all : List Row) (i : ℕ) (row : Row) (old mid new : Reading) (end : ConfigEnd) (result : Result (Unit {0}) ConfigEnd) → i < length all → row ≡ get_or all i row → after ≡ contents
+    → has_mark text ≡ false → all ≡ rows text
+    → IfSome contents (λ folder. ReadOn (flat_map (row_brings (look_in folder) left file) (take i all)) old mid)
+    → IfSome after (λ folder. ReadGives (row_brings (look_in folder) left file row) mid new (Err end)) → result ≡ Err end
+    → IfSome contents (λ folder. ReadGives (expanded (look_in folder) left file text) old new result)
+rows_refused None after left file text all i row old mid new end result h e same plain told k m f = tt
+rows_refused (Some folder) after left file text all i row old mid new end result h e same plain told k m f =
+    let brings = row_brings (look_in folder) left file in
+    let next : ReadGives (brings row) mid new (Err end) = rw same at m in
+    let front = gives_more _ (brings row) old mid new (Err end) k next in
+    let whole : flat_map brings all ≡ (flat_map brings (take i all) ++ brings row) ++ flat_map brings (drop (i + 1) all) = ap (flat_map brings) (sym (take-append-drop (i + 1) all)) ∙ flat_map-append brings (take (i + 1) all) (drop (i + 1) all) ∙ ap (λ items. items ++ flat_map brings (drop (i + 1) all)) (one_more brings all i row h e) in
+    let items = expanded_rows (look_in folder) left file text plain ∙ ap (flat_map brings) (sym told) ∙ whole in
+    rw f (subst (λ some. ReadGives some old new (Err end)) (sym items) (refused_among _ (flat_map brings (drop (i + 1) all)) old new end front))
+
+-- all rows of a text have been read
+pub rows_all : (contents : Option Folder) (left : ℕ) (file text : List ℕ) (all : List Row) (i : ℕ) (old new : Reading) → length all ≤ i → has_mark text ≡ false → all ≡ rows text
+    → IfSome contents (λ folder. ReadOn (flat_map (row_brings (look_in folder) left file) (take i all)) old new)
+    → IfSome contents (λ folder. ReadOn (expanded (look_in folder) left file text) old new)
+rows_all None left file text all i old new h plain told k = tt
+rows_all (Some folder) left file text all i old new h plain told k =
+    rw (expanded_rows (look_in folder) left file text plain, ← told) (rw (take_all i all h) at k)

@@ -1,0 +1,102 @@
+-- Keys by their names.
+use Rattle.std.proofs.Common.{◌≡◌, ℕ, zero, suc, ◌<◌, Bool, true, false, cond, eqb, List, [], ◌∷◌, length, get_or, Option, Some, None, refl, ap, sym, ◌∙◌, arith, eq-eqb}
+use Rattle.std.specs.List.{find, position_or_len}
+use Rattle.std.specs.Str.{bytes_eq}
+use Rattle.std.proofs.lemmas.Slice.Eq.{bytes_eq-Decides}
+use Rattle.std.proofs.lemmas.Bool.{eqb-true}
+use Rattle.giv_files.specs.declared.key.Key.{Key}
+use Rattle.giv_files.specs.declared.key.Key.TheVariants as key
+use Rattle.giv_files.specs.Keys.{all_keys, key_place}
+use Rattle.giv_files.specs.Names.{key_name}
+use Rattle.giv_files.proofs.KeyPlaces.{same_key}
+use Rattle.config_keys.specs.Said.{is_named, key_named}
+
+-- a test that fails leads on
+not_first : {X : Type 0} (t : Bool) (x : X) (rest : Option X) → cond t (Some x) rest ≡ None → (t ≡ false) × (rest ≡ None)
+not_first true x rest e = cc
+not_first false x rest e = (refl, e)
+
+-- where none is found each fails
+pub find_none : {X : Type 0} (p : X → Bool) (xs : List X) (k : ℕ) (d : X) → find p xs ≡ None → k < length xs → p (get_or xs k d) ≡ false
+find_none p [] k d e h = absurd (omega arith)
+find_none p (x ∷ xs) zero d e h = (not_first (p x) x (find p xs) e).0
+find_none p (x ∷ xs) (suc k) d e h = find_none p xs k d (not_first (p x) x (find p xs) e).1 (omega arith)
+
+first_or_rest : {X : Type 0} (p : X → Bool) (x found : X) (rest : Option X) (t : Bool) → p x ≡ t → cond t (Some x) rest ≡ Some found → (rest ≡ Some found → p found ≡ true) → p found ≡ true
+first_or_rest p x found rest true e f g = let same : x ≡ found = cc in rw same at e
+first_or_rest p x found rest false e f g = g f
+
+-- what is found passes
+pub find_passes : {X : Type 0} (p : X → Bool) (xs : List X) (found : X) → find p xs ≡ Some found → p found ≡ true
+find_passes p [] found e = cc
+find_passes p (x ∷ xs) found e = first_or_rest p x found (find p xs) (p x) refl e (find_passes p xs found)
+
+-- each key stands at its place
+pub key_there : (k d : Key) → (get_or all_keys (key_place k) d ≡ k) × (key_place k < 20)
+key_there key.LastStage d = (refl, omega arith)
+key_there key.LoadSource d = (refl, omega arith)
+key_there key.GenPassengersPerVehicle d = (refl, omega arith)
+key_there key.LoadSpread d = (refl, omega arith)
+key_there key.LpoolCostsFixed d = (refl, omega arith)
+key_there key.LpoolCostsLength d = (refl, omega arith)
+key_there key.LpoolCostsEdges d = (refl, omega arith)
+key_there key.ConceptBudget d = (refl, omega arith)
+key_there key.PeriodLength d = (refl, omega arith)
+key_there key.EanDefaultMinimalWaitingTime d = (refl, omega arith)
+key_there key.EanDefaultMaximalWaitingTime d = (refl, omega arith)
+key_there key.EanDefaultMinimalChangeTime d = (refl, omega arith)
+key_there key.EanDefaultMaximalChangeTime d = (refl, omega arith)
+key_there key.TimetableBudget d = (refl, omega arith)
+key_there key.DmEarliestTime d = (refl, omega arith)
+key_there key.DmLatestTime d = (refl, omega arith)
+key_there key.VsTurnOverTime d = (refl, omega arith)
+key_there key.VsVehicleCosts d = (refl, omega arith)
+key_there key.VsEmptyCosts d = (refl, omega arith)
+key_there key.DmWait d = (refl, omega arith)
+
+-- the place of the first key that has a name
+place_named : List ℕ → ℕ
+place_named name = position_or_len (is_named name) all_keys
+
+named_place : (k : Key) → place_named (key_name k) ≡ key_place k
+unfolding place_named
+named_place key.LastStage = refl
+named_place key.LoadSource = refl
+named_place key.GenPassengersPerVehicle = refl
+named_place key.LoadSpread = refl
+named_place key.LpoolCostsFixed = refl
+named_place key.LpoolCostsLength = refl
+named_place key.LpoolCostsEdges = refl
+named_place key.ConceptBudget = refl
+named_place key.PeriodLength = refl
+named_place key.EanDefaultMinimalWaitingTime = refl
+named_place key.EanDefaultMaximalWaitingTime = refl
+named_place key.EanDefaultMinimalChangeTime = refl
+named_place key.EanDefaultMaximalChangeTime = refl
+named_place key.TimetableBudget = refl
+named_place key.DmEarliestTime = refl
+named_place key.DmLatestTime = refl
+named_place key.VsTurnOverTime = refl
+named_place key.VsVehicleCosts = refl
+named_place key.VsEmptyCosts = refl
+named_place key.DmWait = refl
+
+-- a name that no key has
+pub unnamed : (name : List ℕ) (k : Key) → key_named name ≡ None → is_named name k ≡ false
+unnamed name k e =
+    let there = key_there k k in
+    rw there.0 at (find_none (is_named name) all_keys (key_place k) k e there.1)
+
+same_test : (name : List ℕ) (found k : Key) (t u : Bool) → is_named name k ≡ t → eqb (key_place found) (key_place k) ≡ u → name ≡ key_name found → t ≡ u
+same_test name found k true true e f g = refl
+same_test name found k false false e f g = refl
+same_test name found k true false e f g =
+    let one = sym (named_place found) ∙ ap place_named (sym g ∙ (bytes_eq-Decides name (key_name k)).0 e) ∙ named_place k in
+    sym (eq-eqb _ _ one) ∙ f
+same_test name found k false true e f g =
+    let one = same_key found k (eqb-true _ _ f) in
+    sym e ∙ (bytes_eq-Decides name (key_name k)).1 (g ∙ ap key_name one)
+
+-- a name is that of the key that is found, and of no other
+pub named : (name : List ℕ) (found k : Key) → key_named name ≡ Some found → is_named name k ≡ eqb (key_place found) (key_place k)
+named name found k e = same_test name found k _ _ refl refl ((bytes_eq-Decides name (key_name found)).0 (find_passes (is_named name) all_keys found e))

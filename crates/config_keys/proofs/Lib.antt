@@ -1,0 +1,5 @@
+pub mod Expanding
+pub mod KeyNames
+pub mod NameFacts
+pub mod Steps
+pub mod Taking
