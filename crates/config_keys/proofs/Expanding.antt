@@ -14,7 +14,7 @@ use Rattle.config_keys.specs.declared.config_end.ConfigEnd.{ConfigEnd}
 use Rattle.config_keys.specs.declared.config_end.ConfigEnd.TheVariants.{Refused, FileFault, NoMemory}
 use Rattle.config_keys.specs.declared.expand.Included.{Included}
 use Rattle.config_keys.specs.declared.reading.Reading.{Reading}
-use Rattle.config_keys.specs.Items.{Item, Fault, row_item, row_brings, brought, got_items, below, expanded, text_items, first_fault, look_in}
+use Rattle.config_keys.specs.Items.{Item, Fault, row_item, row_brings, brought, got_items, below, expanded, text_items, first_fault, look_in, config_items, config_name, most_levels}
 use Rattle.config_keys.specs.Said.{ReadOn, ReadGives}
 use Rattle.config_keys.specs.Parts.{RowsOf, Taken, Passed, TakeGives, FetchGives}
 use Rattle.config_keys.proofs.Steps.{read_none, read_more, gives_more, first_fault-stays}
@@ -49,12 +49,12 @@ unfolding row_brings
 row_follows folder left file row old mid new included result h k =
     gives_more (row_item left file row ∷ []) _ old mid new result h.read (rw (h.follows (look_in folder) (below (look_in folder) left)) k)
 
-unfound : (folder : Folder) (left : ℕ) (mid new : Reading) (included : Included) (end : ConfigEnd) → FetchGives included.optional (string_bytes included.path) (look_in folder (string_bytes included.path)) (Err end)
-    → ReadGives (got_items (below (look_in folder) left) included.optional (string_bytes included.path) (look_in folder (string_bytes included.path))) mid new (Err end)
+-- a file that is not found ends the reading
+unfound : (inner : List ℕ → List ℕ → List Item) (optional : Bool) (path : List ℕ) (got : Got) (mid new : Reading) (end : ConfigEnd) → FetchGives optional path got (Err end) → ReadGives (got_items inner optional path got) mid new (Err end)
 unfolding first_fault
-unfound folder left mid new included (Refused reason) got = rw (got (below (look_in folder) left)) refl
-unfound folder left mid new included FileFault got = tt
-unfound folder left mid new included NoMemory got = tt
+unfound inner optional path got mid new (Refused reason) h = rw (h inner) refl
+unfound inner optional path got mid new FileFault h = tt
+unfound inner optional path got mid new NoMemory h = tt
 
 -- a file that cannot be included
 pub row_unfound : (contents after : Option Folder) (left : ℕ) (file : List ℕ) (row : Row) (old mid new : Reading) (included : Included) (path : List ℕ) (end : ConfigEnd) (result : Result (Unit {0}) ConfigEnd)
@@ -65,7 +65,7 @@ row_unfound None after left file row old mid new included path end result same p
 row_unfound (Some folder) after left file row old mid new included path end result same p h k e =
     let found : FetchGives included.optional path (look_in folder path) (Err end) = rw same at k in
     let got : FetchGives included.optional (string_bytes included.path) (look_in folder (string_bytes included.path)) (Err end) = subst (λ name. FetchGives included.optional name (look_in folder name) (Err end)) p found in
-    row_follows folder left file row old mid new included result h (rw e (unfound folder left mid new included end got))
+    row_follows folder left file row old mid new included result h (rw e (unfound (below (look_in folder) left) included.optional (string_bytes included.path) (look_in folder (string_bytes included.path)) mid new end got))
 
 -- a file that is not there and may be passed over
 pub row_alone : (contents after : Option Folder) (left : ℕ) (file : List ℕ) (row : Row) (old mid : Reading) (included : Included) (path : List ℕ)
@@ -149,3 +149,22 @@ pub rows_all : (contents : Option Folder) (left : ℕ) (file text : List ℕ) (a
 rows_all None left file text all i old new h plain told k = tt
 rows_all (Some folder) left file text all i old new h plain told k =
     rw (expanded_rows (look_in folder) left file text plain, ← told) (rw (take_all i all h) at k)
+
+-- a config file that cannot be read
+pub config_refused : (contents : Option Folder) (old new : Reading) (end : ConfigEnd) (result : Result (Unit {0}) ConfigEnd) → IfSome contents (λ folder. FetchGives true config_name (look_in folder config_name) (Err end)) → result ≡ Err end
+    → IfSome contents (λ folder. ReadGives (config_items (look_in folder)) old new result)
+config_refused None old new end result h e = tt
+config_refused (Some folder) old new end result h e = rw e (unfound (expanded (look_in folder) most_levels) true config_name (look_in folder config_name) old new end h)
+
+-- a config file that is not there
+pub config_absent : (contents : Option Folder) (reading : Reading) → IfSome contents (λ folder. FetchGives true config_name (look_in folder config_name) (Ok None))
+    → IfSome contents (λ folder. ReadOn (config_items (look_in folder)) reading reading)
+config_absent None reading h = tt
+config_absent (Some folder) reading h = rw (h (expanded (look_in folder) most_levels)) (read_none reading)
+
+-- a config file that is there
+pub config_read : (contents after : Option Folder) (old new : Reading) (text : List ℕ) (result : Result (Unit {0}) ConfigEnd) → after ≡ contents → IfSome contents (λ folder. FetchGives true config_name (look_in folder config_name) (Ok (Some text)))
+    → IfSome after (λ folder. ReadGives (expanded (look_in folder) most_levels config_name text) old new result)
+    → IfSome contents (λ folder. ReadGives (config_items (look_in folder)) old new result)
+config_read None after old new text result same h k = tt
+config_read (Some folder) after old new text result same h k = rw h (rw same at k)

@@ -24,9 +24,12 @@ abbrev pub kept_if : (ℤ → Bool) → Option ℤ → Option ℤ
 kept_if test None = None
 kept_if test (Some value) = if test value then Some value else None
 
--- the place of a stage's name among the stages
+-- the place of the stage that a field names
+abbrev pub stage_place : List ℕ → Option ℕ
+stage_place field = position (λ stage. bytes_eq field (stage_name stage)) all_stages
+
 abbrev pub stage_of : List ℕ → Option ℤ
-stage_of field = option_map pos (position (λ stage. bytes_eq (stage_name stage) field) all_stages)
+stage_of field = option_map pos (stage_place field)
 
 -- where loads come from
 abbrev pub source_of : List ℕ → Option ℤ

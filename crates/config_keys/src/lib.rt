@@ -6,6 +6,7 @@ mod config_fault;
 mod expand;
 mod include;
 mod reading;
+mod value;
 mod word;
 
 pub use config_end::ConfigEnd;
