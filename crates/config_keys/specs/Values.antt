@@ -84,11 +84,3 @@ settings_of items = option_map_or (λ reason. Err reason) (first_fault 0 items) 
 -- the settings of a dataset, by what is found under each name
 abbrev pub effective : (List ℕ → Got) → Result (List ℤ) ConfigFault
 effective look = settings_of (config_items look)
-
--- the value of a key among the values of all keys
-abbrev pub value_at : List ℤ → Key → ℤ
-value_at values key = get_or values (key_place key) (pos 0)
-
--- the settings of a stage: its keys in their order with their values
-abbrev pub part_of : List ℤ → Stage → List Setting
-part_of values stage = map (λ key. record { key = key; value = value_at values key }) (stage_keys stage)

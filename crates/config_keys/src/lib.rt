@@ -1,6 +1,7 @@
 //! The settings of a dataset, from its config file and the files that it includes.
 #![tactic(auto)]
 
+mod config;
 mod config_end;
 mod config_fault;
 mod expand;
@@ -9,5 +10,6 @@ mod reading;
 mod value;
 mod word;
 
+pub use config::Config;
 pub use config_end::ConfigEnd;
 pub use config_fault::ConfigFault;

@@ -1,0 +1,154 @@
+-- Values of keys that are settled, and what holds of them.
+use Rattle.std.proofs.Common.{◌≡◌, ℕ, ℤ, pos, ◌+◌, ◌<◌, ◌≤◌, Bool, true, false, cond, not, eqb, List, [], ◌∷◌, ◌++◌, length, map, take, drop, get_or, Option, Some, None, is_some, unwrap_or, Result, Ok, Err, refl, ap, sym, ◌∙◌, arith}
+use Rattle.std.specs.List.{find, list_all}
+use Rattle.std.specs.Option.{option_or, option_map_or, option_map}
+use Rattle.std.proofs.lemmas.Bool.{eqb-true}
+use Rattle.std.proofs.lemmas.List.{take_all, take_more, take-append-drop, get_or-map}
+use Rattle.std.proofs.lemmas.List.Folds.{find-append}
+use Rattle.giv_files.specs.declared.key.Key.{Key}
+use Rattle.giv_files.specs.declared.key.Key.TheVariants as key
+use Rattle.giv_files.specs.declared.setting.Setting.{Setting}
+use Rattle.giv_files.specs.declared.stage.Stage.{Stage}
+use Rattle.giv_files.specs.declared.stage.Stage.TheVariants as stage
+use Rattle.giv_files.specs.Keys.{all_keys, key_place, key_kind, key_default, allows, floor_key, stage_keys}
+use Rattle.giv_files.specs.Settings.{SettingsFit, is_allowed, is_crossed, not_below, value_of, floor_value}
+use Rattle.giv_files.proofs.KeyPlaces.{same_key}
+use Rattle.config_keys.specs.declared.config_fault.ConfigFault.TheVariants as fault
+use Rattle.config_keys.specs.Values.{kept_if, spelled_as, own_value, floor_in, good_value, first_bad, values_in, settled}
+use Rattle.config_keys.specs.Config.{value_at, floor_at, AreSettings, part_of}
+use Rattle.config_keys.proofs.KeyNames.{key_there, find_none}
+
+-- one more passes over
+pub none_more : {X : Type 0} (p : X → Bool) (xs : List X) (i : ℕ) (d : X) → i < length xs → find p (take i xs) ≡ None → p (get_or xs i d) ≡ false → find p (take (i + 1) xs) ≡ None
+none_more p xs i d h e f = rw (take_more xs i d h, find-append p (take i xs) (get_or xs i d ∷ []), e, f) refl
+
+-- the first that is found
+pub found_first : {X : Type 0} (p : X → Bool) (xs : List X) (i : ℕ) (d : X) → i < length xs → find p (take i xs) ≡ None → p (get_or xs i d) ≡ true → find p xs ≡ Some (get_or xs i d)
+found_first p xs i d h e f =
+    let front : find p (take (i + 1) xs) ≡ Some (get_or xs i d) = rw (take_more xs i d h, find-append p (take i xs) (get_or xs i d ∷ []), e, f) refl in
+    sym (ap (find p) (take-append-drop (i + 1) xs)) ∙ find-append p (take (i + 1) xs) (drop (i + 1) xs) ∙ rw front refl
+
+-- a key whose value is bad
+pub settled_bad : (said : Key → Option (List ℕ)) (keys : List Key) (i : ℕ) (d : Key) → keys ≡ all_keys → i < length keys → find (λ key. not (is_some (good_value said key))) (take i keys) ≡ None → good_value said (get_or keys i d) ≡ None
+    → settled said ≡ Err (fault.BadValue (get_or keys i d))
+unfolding settled
+settled_bad said keys i d e h none bad =
+    let found : first_bad said ≡ Some (get_or keys i d) = sym (ap (find (λ key. not (is_some (good_value said key)))) e) ∙ found_first (λ key. not (is_some (good_value said key))) keys i d h none (rw bad refl) in
+    rw found refl
+
+-- no key whose value is bad
+pub settled_good : (said : Key → Option (List ℕ)) (keys : List Key) (values : List ℤ) (i : ℕ) → keys ≡ all_keys → length keys ≤ i → find (λ key. not (is_some (good_value said key))) (take i keys) ≡ None
+    → values ≡ map (λ key. unwrap_or (good_value said key) (pos 0)) (take i keys) → (settled said ≡ Ok values) × (first_bad said ≡ None) × (values ≡ values_in said)
+unfolding settled
+settled_good said keys values i e h none told =
+    let whole = take_all i keys h ∙ e in
+    let good : first_bad said ≡ None = rw whole at none in
+    let are : values ≡ values_in said = rw whole at told in
+    (rw (good, are) refl, good, are)
+
+-- a value that is kept passes the test
+kept_some : (test : ℤ → Bool) (o : Option ℤ) (value : ℤ) → kept_if test o ≡ Some value → (o ≡ Some value) × (test value ≡ true)
+kept_some test None value e = cc
+kept_some test (Some other) value e = at_test (test other) refl e
+  where
+    at_test : (t : Bool) → test other ≡ t → cond t (Some other) None ≡ Some value → (Some other ≡ Some value) × (test value ≡ true)
+    at_test true f g = let same : other ≡ value = cc in (g, rw same at f)
+    at_test false f g = cc
+
+default_allowed : (k : Key) → allows k (key_default k) ≡ true
+default_allowed key.LastStage = refl
+default_allowed key.LoadSource = refl
+default_allowed key.GenPassengersPerVehicle = refl
+default_allowed key.LoadSpread = refl
+default_allowed key.LpoolCostsFixed = refl
+default_allowed key.LpoolCostsLength = refl
+default_allowed key.LpoolCostsEdges = refl
+default_allowed key.ConceptBudget = refl
+default_allowed key.PeriodLength = refl
+default_allowed key.EanDefaultMinimalWaitingTime = refl
+default_allowed key.EanDefaultMaximalWaitingTime = refl
+default_allowed key.EanDefaultMinimalChangeTime = refl
+default_allowed key.EanDefaultMaximalChangeTime = refl
+default_allowed key.TimetableBudget = refl
+default_allowed key.DmEarliestTime = refl
+default_allowed key.DmLatestTime = refl
+default_allowed key.VsTurnOverTime = refl
+default_allowed key.VsVehicleCosts = refl
+default_allowed key.VsEmptyCosts = refl
+default_allowed key.DmWait = refl
+
+-- a key's own value is allowed
+own_allowed : (k : Key) (said : Option (List ℕ)) (value : ℤ) → own_value k said ≡ Some value → allows k value ≡ true
+unfolding own_value
+own_allowed k None value e = let same : key_default k ≡ value = cc in rw same at (default_allowed k)
+own_allowed k (Some field) value e = (kept_some (allows k) (spelled_as (key_kind k) field) value e).1
+
+some_value : (o : Option ℤ) → not (is_some o) ≡ false → o ≡ Some (unwrap_or o (pos 0))
+some_value None e = cc
+some_value (Some value) e = refl
+
+module _ (said : Key → Option (List ℕ)) (good : first_bad said ≡ None) where
+  -- the value of each key is good, and is that of the list
+  good_there : (k : Key) → good_value said k ≡ Some (value_at (values_in said) k)
+  good_there k =
+      let there = key_there k k in
+      let some = some_value (good_value said k) (rw there.0 at (find_none (λ key. not (is_some (good_value said key))) all_keys (key_place k) k good there.1)) in
+      let at = get_or-map (λ key. unwrap_or (good_value said key) (pos 0)) all_keys (key_place k) k (pos 0) there.1 in
+      some ∙ ap Some (sym (at ∙ ap (λ (j : Key). unwrap_or (good_value said j) (pos 0)) there.0))
+
+  own_there : (k : Key) → (own_value k (said k) ≡ Some (value_at (values_in said) k)) × (not_below (floor_in said (floor_key k)) (value_at (values_in said) k) ≡ true)
+  unfolding good_value
+  own_there k = kept_some (not_below (floor_in said (floor_key k))) (own_value k (said k)) (value_at (values_in said) k) (good_there k)
+
+  floor_there : (k : Option Key) → floor_in said k ≡ floor_at (values_in said) k
+  floor_there None = refl
+  floor_there (Some k) = (own_there k).0
+
+  -- settled values are settings
+  pub are_settings : AreSettings (values_in said)
+  are_settings = record {
+    whole = refl;
+    allowed = λ k. own_allowed k (said k) (value_at (values_in said) k) (own_there k).0;
+    floors = λ k. rw (← floor_there (floor_key k)) (own_there k).1;
+  }
+
+-- what holds of each holds of all
+all_mapped : {X Y : Type 0} (p : Y → Bool) (f : X → Y) (xs : List X) → ((x : X) → p (f x) ≡ true) → list_all p (map f xs) ≡ true
+all_mapped p f [] h = refl
+all_mapped p f (x ∷ xs) h = rw (h x) (all_mapped p f xs h)
+
+setting_at : List ℤ → Key → Setting
+setting_at values k = record { key = k; value = value_at values k }
+
+-- a value that is not below another is not below it among some of the settings
+floor_among : (values : List ℤ) (value : ℤ) (floor : Key) (keys : List Key) → not_below (Some (value_at values floor)) value ≡ true
+    → not_below (value_of (map (λ key. record { key = key; value = value_at values key }) keys) floor) value ≡ true
+floor_among values value floor [] h = refl
+floor_among values value floor (k ∷ keys) h = at_key (eqb (key_place k) (key_place floor)) refl (floor_among values value floor keys h)
+  where
+    at_key : (t : Bool) → eqb (key_place k) (key_place floor) ≡ t
+        → not_below (value_of (map (λ key. record { key = key; value = value_at values key }) keys) floor) value ≡ true
+        → not_below (option_map (λ (setting : Setting). setting.value) (cond t (Some (record { key = k; value = value_at values k })) (find (λ (setting : Setting). eqb (key_place setting.key) (key_place floor)) (map (λ key. record { key = key; value = value_at values key }) keys)))) value ≡ true
+    at_key true e rest = let same : k ≡ floor = same_key k floor (eqb-true _ _ e) in rw same h
+    at_key false e rest = rest
+
+crossed_among : (values : List ℤ) (value : ℤ) (floor : Option Key) (keys : List Key) → not_below (floor_at values floor) value ≡ true
+    → not_below (floor_value (map (λ key. record { key = key; value = value_at values key }) keys) floor) value ≡ true
+crossed_among values value None keys h = refl
+crossed_among values value (Some floor) keys h = floor_among values value floor keys h
+
+keys_are : (values : List ℤ) (keys : List Key) → map (λ (setting : Setting). setting.key) (map (λ key. record { key = key; value = value_at values key }) keys) ≡ keys
+keys_are values [] = refl
+keys_are values (k ∷ keys) = ap (λ rest. k ∷ rest) (keys_are values keys)
+
+-- the settings of a stage fit it
+part_fits : (values : List ℤ) (stage : Stage) → AreSettings values → SettingsFit stage (part_of values stage)
+part_fits values stage h = record {
+  keys = keys_are values (stage_keys stage);
+  allowed = all_mapped is_allowed (λ key. record { key = key; value = value_at values key }) (stage_keys stage) (λ k. h.allowed k);
+  crossed = all_mapped (is_crossed (part_of values stage)) (λ key. record { key = key; value = value_at values key }) (stage_keys stage) (λ k. crossed_among values (value_at values k) (floor_key k) (stage_keys stage) (h.floors k));
+}
+
+pub whole_fits : (values : List ℤ) (stage : Stage) (keys : List Key) (settings : List Setting) (i : ℕ) → keys ≡ stage_keys stage → length keys ≤ i → settings ≡ map (λ key. record { key = key; value = value_at values key }) (take i keys)
+    → AreSettings values → SettingsFit stage settings
+whole_fits values stage keys settings i e h told are = let whole = take_all i keys h ∙ e in rw (told, whole) (part_fits values stage are)
