@@ -4,3 +4,4 @@ pub mod NameFacts
 pub mod Settling
 pub mod Steps
 pub mod Taking
+pub mod Whole
