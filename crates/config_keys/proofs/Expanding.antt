@@ -9,12 +9,11 @@ use Rattle.plan_files.specs.declared.store.Got.TheVariants.{Bytes}
 use Rattle.plan_files.specs.Folder.{Folder}
 use Rattle.giv_files.specs.Rows.{Row, rows}
 use Rattle.giv_files.specs.Reading.{has_mark}
-use Rattle.config_keys.specs.declared.config_fault.ConfigFault.{ConfigFault}
 use Rattle.config_keys.specs.declared.config_end.ConfigEnd.{ConfigEnd}
 use Rattle.config_keys.specs.declared.config_end.ConfigEnd.TheVariants.{Refused, FileFault, NoMemory}
 use Rattle.config_keys.specs.declared.expand.Included.{Included}
 use Rattle.config_keys.specs.declared.reading.Reading.{Reading}
-use Rattle.config_keys.specs.Items.{Item, Fault, row_item, row_brings, brought, got_items, below, expanded, text_items, first_fault, look_in, config_items, config_name, most_levels}
+use Rattle.config_keys.specs.Items.{Item, row_item, row_brings, brought, got_items, below, expanded, first_fault, look_in, config_items, config_name, most_levels}
 use Rattle.config_keys.specs.Said.{ReadOn, ReadGives}
 use Rattle.config_keys.specs.Parts.{RowsOf, Taken, Passed, TakeGives, FetchGives}
 use Rattle.config_keys.proofs.Steps.{read_none, read_more, gives_more, first_fault-stays}

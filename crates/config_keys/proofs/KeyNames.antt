@@ -1,7 +1,6 @@
 -- Keys by their names.
 use Rattle.std.proofs.Common.{◌≡◌, ℕ, zero, suc, ◌<◌, Bool, true, false, cond, eqb, List, [], ◌∷◌, length, get_or, Option, Some, None, refl, ap, sym, ◌∙◌, arith, eq-eqb}
 use Rattle.std.specs.List.{find, position_or_len}
-use Rattle.std.specs.Str.{bytes_eq}
 use Rattle.std.proofs.lemmas.Slice.Eq.{bytes_eq-Decides}
 use Rattle.std.proofs.lemmas.Bool.{eqb-true}
 use Rattle.giv_files.specs.declared.key.Key.{Key}

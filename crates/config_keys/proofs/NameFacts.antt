@@ -1,8 +1,8 @@
 -- Names of included files are text.
-use Rattle.std.proofs.Common.{◌≡◌, ℕ, ◌<◌, ◌≤◌, Bool, true, false, cond, List, length, get_or, ◌⊎◌, inl, inr, ⊎_elim, arith, Bor, Option, Some, None, Result, Ok, Err, MatchResult, MatchOption, ◌&&◌, not, refl, nat_eq, codes}
+use Rattle.std.proofs.Common.{◌≡◌, ℕ, ◌<◌, Bool, true, false, List, length, get_or, ⊎_elim, arith, Bor, Option, Result, Ok, Err, MatchResult, MatchOption, ◌&&◌, not, refl, nat_eq, codes}
 use Rattle.std.specs.List.{list_all, ends_with}
 use Rattle.std.specs.Result.{result_ok}
-use Rattle.std.specs.Str.{IsUtf8, IsAscii, IsValidUpTo}
+use Rattle.std.specs.Str.{IsUtf8}
 use Rattle.std.proofs.lemmas.Str.{IsUtf8-from_ascii}
 use Rattle.std.proofs.lemmas.List.{get_or_past}
 use Rattle.std.proofs.lemmas.List.Sums.{AllPass-from_list_all}

@@ -1,7 +1,7 @@
 -- Values of keys that are settled, and what holds of them.
-use Rattle.std.proofs.Common.{◌≡◌, ℕ, ℤ, pos, ◌+◌, ◌<◌, ◌≤◌, Bool, true, false, cond, not, eqb, List, [], ◌∷◌, ◌++◌, length, map, take, drop, get_or, Option, Some, None, is_some, unwrap_or, Result, Ok, Err, refl, ap, sym, ◌∙◌, arith}
+use Rattle.std.proofs.Common.{◌≡◌, ℕ, ℤ, pos, ◌+◌, ◌<◌, ◌≤◌, Bool, true, false, cond, not, eqb, List, [], ◌∷◌, length, map, take, drop, get_or, Option, Some, None, is_some, unwrap_or, Ok, Err, refl, ap, sym, ◌∙◌}
 use Rattle.std.specs.List.{find, list_all}
-use Rattle.std.specs.Option.{option_or, option_map_or, option_map}
+use Rattle.std.specs.Option.{option_map}
 use Rattle.std.proofs.lemmas.Bool.{eqb-true}
 use Rattle.std.proofs.lemmas.List.{take_all, take_more, take-append-drop, get_or-map}
 use Rattle.std.proofs.lemmas.List.Folds.{find-append}
@@ -9,7 +9,6 @@ use Rattle.giv_files.specs.declared.key.Key.{Key}
 use Rattle.giv_files.specs.declared.key.Key.TheVariants as key
 use Rattle.giv_files.specs.declared.setting.Setting.{Setting}
 use Rattle.giv_files.specs.declared.stage.Stage.{Stage}
-use Rattle.giv_files.specs.declared.stage.Stage.TheVariants as stage
 use Rattle.giv_files.specs.Keys.{all_keys, key_place, key_kind, key_default, allows, floor_key, stage_keys}
 use Rattle.giv_files.specs.Settings.{SettingsFit, is_allowed, is_crossed, not_below, value_of, floor_value}
 use Rattle.giv_files.proofs.KeyPlaces.{same_key}

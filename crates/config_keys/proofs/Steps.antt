@@ -10,7 +10,7 @@ use Rattle.config_keys.specs.declared.config_end.ConfigEnd.{ConfigEnd}
 use Rattle.config_keys.specs.declared.config_end.ConfigEnd.TheVariants.{Refused, FileFault, NoMemory}
 use Rattle.config_keys.specs.declared.reading.Reading.{Reading}
 use Rattle.config_keys.specs.Items.{Item, Setting, Include, Fault, first_fault, include_count, last_said}
-use Rattle.config_keys.specs.Said.{said_of, is_named, key_named, ReadOn, ReadGives}
+use Rattle.config_keys.specs.Said.{said_of, key_named, ReadOn, ReadGives}
 use Rattle.config_keys.proofs.KeyNames.{unnamed, named}
 
 -- a row with a name that no key has changes nothing

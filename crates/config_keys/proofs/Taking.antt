@@ -1,17 +1,16 @@
 -- What a row says, by what was found in it.
-use Rattle.std.proofs.Common.{◌≡◌, ◌≢◌, ℕ, ◌+◌, ◌<◌, ◌≤◌, Bool, true, false, cond, eqb, ltb, List, [], ◌∷◌, length, Option, Some, None, Result, Ok, Err, string_bytes, slice_index_or, refl, ap, sym, ◌∙◌, arith, eq-eqb}
+use Rattle.std.proofs.Common.{◌≡◌, ◌≢◌, ℕ, ◌+◌, ◌<◌, ◌≤◌, Bool, true, false, eqb, ltb, List, [], ◌∷◌, length, Option, Some, None, Result, Err, string_bytes, slice_index_or, refl, arith}
 use Rattle.std.proofs.lemmas.Bool.Decides.{nat_tests}
 use Rattle.giv_files.specs.declared.row_why.RowWhy.TheVariants as why
 use Rattle.giv_files.specs.Rows.{Row}
-use Rattle.config_keys.specs.declared.config_fault.ConfigFault.{ConfigFault}
 use Rattle.config_keys.specs.declared.config_fault.ConfigFault.TheVariants as fault
 use Rattle.config_keys.specs.declared.config_end.ConfigEnd.{ConfigEnd}
 use Rattle.config_keys.specs.declared.config_end.ConfigEnd.TheVariants.{Refused, FileFault, NoMemory}
 use Rattle.config_keys.specs.declared.expand.Included.{Included}
 use Rattle.config_keys.specs.declared.reading.Reading.{Reading}
 use Rattle.config_keys.specs.Includes.{is_inside, path_of}
-use Rattle.config_keys.specs.Items.{Item, Setting, Include, Fault, include_item, include_word, row_item, first_fault, include_count, last_said}
-use Rattle.config_keys.specs.Said.{said_of, ReadOn}
+use Rattle.config_keys.specs.Items.{Item, Setting, Include, include_item, include_word, row_item, first_fault, include_count, last_said}
+use Rattle.config_keys.specs.Said.{ReadOn}
 use Rattle.config_keys.specs.Parts.{Taken, Passed, TakeGives, IncludeGives}
 
 -- a name that is outside

@@ -1,5 +1,5 @@
 -- What was read of a dataset's config settles its settings.
-use Rattle.std.proofs.Common.{◌≡◌, ℕ, ℤ, List, Option, Some, None, IfSome, Result, Ok, Err, refl, ap, sym, ◌∙◌}
+use Rattle.std.proofs.Common.{◌≡◌, ℤ, List, Option, Some, None, IfSome, Result, Ok, Err, refl, ap, sym, ◌∙◌}
 use Rattle.plan_files.specs.Folder.{Folder}
 use Rattle.giv_files.specs.declared.key.Key.{Key}
 use Rattle.giv_files.specs.Names.{key_name}
@@ -8,7 +8,7 @@ use Rattle.config_keys.specs.declared.config_end.ConfigEnd.TheVariants.{Refused,
 use Rattle.config_keys.specs.declared.reading.Reading.{Reading}
 use Rattle.config_keys.specs.Config.{SettleGives}
 use Rattle.config_keys.specs.Effective.{ConfigGives}
-use Rattle.config_keys.specs.Items.{Item, look_in, config_items, last_said, first_fault}
+use Rattle.config_keys.specs.Items.{Item, look_in, config_items, last_said}
 use Rattle.config_keys.specs.Said.{said_of, ReadOn, ReadGives}
 use Rattle.config_keys.specs.Values.{said_in, settled, settings_of, effective}
 

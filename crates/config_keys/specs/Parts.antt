@@ -1,7 +1,7 @@
 -- What the parts of reading a config give.
 use Rattle.std.specs.Prelude.{ℕ, ◌≡◌, ◌<◌, Bool, true, false, List, [], ◌∷◌, Option, Some, None, Result, Ok, Err, ⊤, string_bytes}
 use Rattle.plan_files.specs.declared.store.Got.{Got}
-use Rattle.plan_files.specs.declared.store.Got.TheVariants.{Bytes, Absent}
+use Rattle.plan_files.specs.declared.store.Got.TheVariants.{Bytes}
 use Rattle.giv_files.specs.Rows.{Row, rows}
 use Rattle.giv_files.specs.Reading.{has_mark}
 use Rattle.giv_files.specs.declared.row_why.RowWhy.TheVariants as why
@@ -10,7 +10,7 @@ use Rattle.config_keys.specs.declared.config_end.ConfigEnd.{ConfigEnd}
 use Rattle.config_keys.specs.declared.config_end.ConfigEnd.TheVariants.{Refused, FileFault, NoMemory}
 use Rattle.config_keys.specs.declared.expand.Included.{Included}
 use Rattle.config_keys.specs.declared.reading.Reading.{Reading}
-use Rattle.config_keys.specs.Items.{Item, Include, Fault, first_fault, brought, got_items}
+use Rattle.config_keys.specs.Items.{Item, Fault, first_fault, brought, got_items}
 use Rattle.config_keys.specs.Said.{ReadOn}
 
 -- the rows of the text of a file, or the refusal of a byte order mark

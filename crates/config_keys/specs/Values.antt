@@ -1,5 +1,5 @@
 -- The value of each key, and which of them are not allowed.
-use Rattle.std.specs.Prelude.{ℕ, ℤ, pos, negsuc, ◌==◌, int_le, not, if◌then◌else◌, Bool, true, false, List, [], ◌∷◌, codes, map, position, get_or, Option, Some, None, Result, Ok, Err, is_some, unwrap_or, option_and_then}
+use Rattle.std.specs.Prelude.{ℕ, ℤ, pos, negsuc, int_le, not, if◌then◌else◌, Bool, List, codes, map, position, Option, Some, None, Result, Ok, Err, is_some, unwrap_or}
 use Rattle.std.specs.List.{find}
 use Rattle.std.specs.Option.{option_map, option_map_or}
 use Rattle.std.specs.Str.{bytes_eq}
@@ -8,10 +8,7 @@ use Rattle.plan_files.specs.declared.store.Got.{Got}
 use Rattle.giv_files.specs.declared.key.Key.{Key}
 use Rattle.giv_files.specs.declared.key_kind.KeyKind.{KeyKind}
 use Rattle.giv_files.specs.declared.key_kind.KeyKind.TheVariants as kind
-use Rattle.giv_files.specs.declared.setting.Setting.{Setting}
-use Rattle.giv_files.specs.declared.stage.Stage.{Stage}
-use Rattle.giv_files.specs.declared.stage.Stage.TheVariants as stage
-use Rattle.giv_files.specs.Keys.{all_keys, key_place, key_kind, key_default, allows, floor_key, stage_keys}
+use Rattle.giv_files.specs.Keys.{all_keys, key_kind, key_default, allows, floor_key}
 use Rattle.giv_files.specs.Names.{key_name, stage_name}
 use Rattle.giv_files.specs.Settings.{not_below}
 use Rattle.giv_files.specs.Stages.{all_stages}

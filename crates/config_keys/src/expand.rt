@@ -45,7 +45,14 @@ pub(crate) fn read_all<F: Files>(
 {
     match fetch(alloc, files, CONFIG_NAME, true)? {
         None => Ok(()),
-        Some(text) => read_text(alloc, files, reading, CONFIG_NAME, text.as_bytes(), MOST_LEVELS),
+        Some(text) => read_text(
+            alloc,
+            files,
+            reading,
+            CONFIG_NAME,
+            text.as_bytes(),
+            MOST_LEVELS,
+        ),
     }
 }
 

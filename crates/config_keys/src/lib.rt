@@ -15,3 +15,6 @@ pub use config::Config;
 pub use config_end::ConfigEnd;
 pub use config_fault::ConfigFault;
 pub use read::read_config;
+
+#[cfg(test)]
+mod tests;

@@ -1,4 +1,4 @@
-use Rattle.std.proofs.Common.{◌≡◌, Some, None, sym, ap, ◌∙◌, Err, Ok, refl, arith}
+use Rattle.std.proofs.Common.{ap, ◌∙◌, Err, refl}
 use Rattle.std.proofs.lemmas.Result.{err_from_is_err_and}
 use Rattle.config_keys.proofs.Expanding.{row_refused, row_passed, row_unfound, row_alone, row_included, text_refused, rows_none, rows_more, rows_refused, rows_all}
 use Rattle.config_keys.proofs.expand.+expand.Goals as goal
@@ -49,7 +49,7 @@ read_text-loop-row-preserved g t c = record {
   writes = c.in_ok-read_row.ensures.writes ∙ c.loop-row.invariant.writes;
   faults = c.in_ok-read_row.ensures.faults ∙ c.loop-row.invariant.faults;
   read = rows_more _ _ c.args.left c.args.name.now c.as_slice-row-items.result.now c.loop-row.row-index c.row-item.result c.args.reading.now c.loop-row.reading _
-    c.loop-row-test.true c.row-item.is c.loop-row.invariant.contents c.loop-row.invariant.read c.in_ok-read_row.ensures.read;
+      c.loop-row-test.true c.row-item.is c.loop-row.invariant.contents c.loop-row.invariant.read c.in_ok-read_row.ensures.read;
 }
 
 pub read_text-returns-clause-read : goal.read_text-returns-clause-read

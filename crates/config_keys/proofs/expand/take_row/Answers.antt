@@ -1,6 +1,6 @@
 use Rattle.std.proofs.Common.{sym, ap, ◌∙◌, Err}
 use Rattle.std.proofs.lemmas.Result.{err_from_is_err_and}
-use Rattle.config_keys.proofs.Taking.{odd_row, setting_row, include_row, take_refused, passed}
+use Rattle.config_keys.proofs.Taking.{odd_row, include_row, take_refused, passed}
 use Rattle.config_keys.proofs.expand.take_row.Goals as goal
 
 pub returns-then-len-ne2 : goal.returns-then-len-ne2

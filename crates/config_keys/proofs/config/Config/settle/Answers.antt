@@ -1,6 +1,5 @@
-use Rattle.std.proofs.Common.{sym, ◌∙◌}
+use Rattle.std.proofs.Common.{sym}
 use Rattle.giv_files.specs.declared.key.Key.TheVariants.{LastStage}
-use Rattle.config_keys.specs.Config.{AreSettings}
 use Rattle.config_keys.specs.Said.{said_of}
 use Rattle.config_keys.proofs.Settling.{settled_bad, settled_good, are_settings}
 use Rattle.config_keys.proofs.config.Config.settle.Goals as goal

@@ -1,4 +1,4 @@
-use Rattle.std.proofs.Common.{◌≡◌, sym, ◌∙◌, refl, arith}
+use Rattle.std.proofs.Common.{sym, refl}
 use Rattle.giv_files.specs.Keys.{key_place}
 use Rattle.config_keys.proofs.Steps.{took_unknown, took_known}
 use Rattle.config_keys.proofs.reading.Reading.take.Goals as goal
