@@ -1,5 +1,6 @@
 pub mod Columns
 pub mod EachAfter
+pub mod Inputs
 pub mod Keys
 pub mod Names
 pub mod Plain

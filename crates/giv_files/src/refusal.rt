@@ -6,6 +6,7 @@ use crate::counted::Counted;
 use crate::file_id::FileId;
 use crate::row_why::RowWhy;
 use plan_num::NoMemory;
+use std::alloc::{AllocError, AllocFailed};
 
 /// Why a stage has no result.
 #[derive(Clone, Copy, Debug, PartialEq, Eq)]
@@ -39,5 +40,21 @@ impl From<Refusal> for StageFault {
 
     fn from(refusal: Refusal) -> StageFault {
         StageFault::Refused(refusal)
+    }
+}
+
+impl From<AllocError> for StageFault {
+    ghost from_gives = { λ _ fault. fault ≡ stage_faults.NoMemory };
+
+    fn from(_refused: AllocError) -> StageFault {
+        StageFault::NoMemory
+    }
+}
+
+impl<T: Drop> From<AllocFailed<T>> for StageFault {
+    ghost from_gives = { λ _ fault. fault ≡ stage_faults.NoMemory };
+
+    fn from(_refused: AllocFailed<T>) -> StageFault {
+        StageFault::NoMemory
     }
 }

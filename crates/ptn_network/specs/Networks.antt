@@ -1,0 +1,64 @@
+-- Networks: stops, and edges between them.
+use Rattle.std.specs.Prelude.{◌≡◌, ℕ, ℤ, List, [], ◌∷◌, ◌++◌, map, position}
+use Rattle.std.specs.Option.{unwrap_or}
+use Rattle.std.specs.Ordering.{int_eq, int_cmp}
+use Rattle.std.specs.FinMap.{put}
+use Rattle.std.specs.Map.{keys_of, values_of}
+use Rattle.giv_files.specs.declared.refusal.Refusal.{Refusal}
+use Rattle.giv_files.specs.Inputs.{records_of, input_faults}
+use Rattle.ptn_network.specs.declared.edge.Edge.{Edge}
+use Rattle.ptn_network.specs.declared.row.EdgeRow.{EdgeRow}
+use Rattle.ptn_network.specs.Inputs.{stop_input, edge_input}
+
+-- the ids of stops, rising, and edges by id rising
+pub record NetworkParts : Type 0 where
+  pub stops : List ℤ
+  pub edges : List Edge
+
+-- entries by id rising: each is put where its id belongs
+unfoldable pub by_id : {X : Type 0} → List (ℤ × X) → List (ℤ × X)
+by_id [] = []
+by_id (entry ∷ entries) = put int_cmp entry.0 entry.1 (by_id entries)
+
+-- each entry has the id of its edge
+abbrev pub AreKeyed : List (ℤ × Edge) → Type 0
+AreKeyed entries = keys_of entries ≡ map (λ edge. edge.id) (values_of entries)
+
+-- ids, rising
+abbrev pub rising : List ℤ → List ℤ
+rising ids = keys_of (by_id (map (λ id. (id, tt {0})) ids))
+
+-- the index of the stop of an id
+abbrev pub index_in : List ℤ → ℤ → ℕ
+index_in stops id = unwrap_or (position (int_eq id) stops) 0
+
+-- the edge of a row, whose ends are then indexes of stops
+abbrev pub edge_of : List ℤ → EdgeRow → Edge
+edge_of stops row = record {
+  id = row.id;
+  left = index_in stops row.left;
+  right = index_in stops row.right;
+  length = row.length;
+  lower = row.lower;
+  upper = row.upper;
+}
+
+-- the edge of a row, with its id
+abbrev pub edge_entry : List ℤ → EdgeRow → ℤ × Edge
+edge_entry stops row = (row.id, edge_of stops row)
+
+-- the network of stops and of rows of edges
+abbrev pub network_over : List ℤ → List EdgeRow → NetworkParts
+network_over stops rows = record { stops = stops; edges = values_of (by_id (map (edge_entry stops) rows)) }
+
+-- the ids of the stops of a text, rising
+unfoldable pub stops_of : List ℕ → List ℤ
+stops_of stops_text = rising (records_of stop_input stops_text)
+
+-- the network of the texts of stops and of edges
+unfoldable pub network_of : List ℕ → List ℕ → NetworkParts
+network_of stops_text edges_text = network_over (stops_of stops_text) (records_of (edge_input (stops_of stops_text)) edges_text)
+
+-- every fault of the texts of stops and of edges, in order
+unfoldable pub network_faults : List ℕ → List ℕ → List Refusal
+network_faults stops_text edges_text = input_faults stop_input stops_text ++ input_faults (edge_input (stops_of stops_text)) edges_text

@@ -1,0 +1,86 @@
+// Networks.
+ghost use Rattle.std.specs.Prelude.{◌≡◌, ◌<◌, length, slice_get, position, Some, map};
+ghost use Rattle.std.specs.Ordering.{int_eq};
+ghost use Rattle.giv_files.specs.Inputs.{UnlessFault};
+ghost use Rattle.ptn_network.specs.Networks.{network_of, network_faults};
+
+use crate::edge::Edge;
+use crate::edges::read_edges;
+use crate::stops::read_stops;
+use giv_files::StageFault;
+use indexmap::{IndexMap, IndexSet};
+use std::alloc::Global;
+use std::marker::Model;
+
+/// Stops and edges, each by id rising. An index of a stop or of an edge is its place in that order.
+#[derive(Drop)]
+pub struct Network {
+    stops: IndexSet<i64>,
+    edges: IndexMap<i64, Edge>,
+}
+
+impl Model for Network {
+    ghost use Rattle.std.specs.Map.{values_of};
+    ghost use Rattle.ptn_network.specs.Networks.{NetworkParts, AreKeyed};
+
+    ghost Value = { NetworkParts };
+
+    ghost view = { λ n. record { stops = n.stops.keys; edges = values_of n.edges.entries } };
+
+    ghost invariant = { λ n. AreKeyed n.edges.entries };
+}
+
+impl Network {
+    /// The network of the texts of stops and of edges, or the first fault of the texts.
+    pub fn from_texts(alloc: Global, stops: &[u8], edges: &[u8]) -> Result<Network, StageFault>
+        ensures { UnlessFault (network_faults stops.now edges.now) (λ network. network ≡ network_of stops.now edges.now) result }
+    {
+        let stops = read_stops(alloc, stops)?;
+        let edges = read_edges(alloc, &stops, edges)?;
+        Ok(Network { stops, edges })
+    }
+
+    /// How many stops there are.
+    pub fn stop_count(&self) -> usize
+        ensures { result ≡ length self.now.stops }
+    {
+        self.stops.len()
+    }
+
+    /// How many edges there are.
+    pub fn edge_count(&self) -> usize
+        ensures { result ≡ length self.now.edges }
+    {
+        self.edges.len()
+    }
+
+    /// The id of the stop at an index.
+    pub fn stop_id(&self, stop: usize) -> i64
+        requires { stop < length self.now.stops }
+        ensures { slice_get self.now.stops stop ≡ Some result }
+    {
+        self.stops.as_slice()[stop]
+    }
+
+    /// The index of the stop of an id.
+    pub fn stop_index(&self, id: i64) -> Option<usize>
+        ensures { result ≡ position (int_eq id) self.now.stops }
+    {
+        self.stops.get_index_of(&id)
+    }
+
+    /// The index of the edge of an id.
+    pub fn edge_index(&self, id: i64) -> Option<usize>
+        ensures { result ≡ position (int_eq id) (map (λ edge. edge.id) self.now.edges) }
+    {
+        self.edges.get_index_of(&id)
+    }
+
+    /// The edge at an index.
+    pub fn edge(&self, index: usize) -> Edge
+        requires { index < length self.now.edges }
+        ensures { slice_get self.now.edges index ≡ Some result }
+    {
+        self.edges[index]
+    }
+}
