@@ -2,6 +2,7 @@ pub mod CellFacts
 pub mod CellTexts
 pub mod EachAfter
 pub mod FieldFacts
+pub mod Inputs
 pub mod KeyPlaces
 pub mod Lines
 pub mod PlainBytes

@@ -89,8 +89,12 @@ or_else (first ∷ more) others = first ∷ more
 unfoldable pub input_faults : {X : Type 0} → Input X → List ℕ → List Refusal
 input_faults input text = or_else (cell_faults input.file input.columns text) (table_faults input (table_of input.columns text))
 
--- what a call gives that looks for faults: where there is none a value with some property, and else the first of them; want of memory is free
+-- what is refused where there are some faults: the first of them; want of memory is free
+abbrev pub Refuses : List Refusal → StageFault → Type 0
+Refuses all (stage.Refused first) = slice_get all 0 ≡ Some first
+Refuses all stage.NoMemory = ⊤
+
+-- what a call gives that looks for faults: where there is none a value with some property, and else the first of them
 abbrev pub UnlessFault : {A : Type 0} → List Refusal → (A → Type 0) → Result A StageFault → Type 0
 UnlessFault all Fits (Ok made) = (all ≡ []) × Fits made
-UnlessFault all Fits (Err (stage.Refused first)) = slice_get all 0 ≡ Some first
-UnlessFault all Fits (Err stage.NoMemory) = ⊤
+UnlessFault all Fits (Err fault) = Refuses all fault

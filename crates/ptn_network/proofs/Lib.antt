@@ -1,1 +1,3 @@
-pub mod Tried
+mod ById
+mod Rows
+mod Tried

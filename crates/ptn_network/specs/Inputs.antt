@@ -7,7 +7,7 @@ use Rattle.giv_files.specs.declared.file_id.FileId.TheVariants as file
 use Rattle.giv_files.specs.declared.row_why.RowWhy.TheVariants as why
 use Rattle.giv_files.specs.Columns.{stop_columns, edge_columns}
 use Rattle.giv_files.specs.Inputs.{Input, RowRule, row_limit, own_id}
-use Rattle.ptn_network.specs.declared.row.EdgeRow.{EdgeRow}
+use Rattle.ptn_network.specs.declared.edge_row.EdgeRow.{EdgeRow}
 
 -- the id of the stop of a row
 abbrev pub stop_row : List ℤ → ℤ
@@ -55,9 +55,13 @@ some_length = record { is_broken = λ _ row. int_eq row.length (pos 0) || int_eq
 abbrev pub bounds_in_order : RowRule EdgeRow
 bounds_in_order = record { is_broken = λ _ row. int_lt row.upper row.lower; why = why.BoundsCrossed }
 
+-- the rules of an edge by itself, in their order
+abbrev pub own_rules : List (RowRule EdgeRow)
+own_rules = two_ends ∷ some_length ∷ bounds_in_order ∷ []
+
 -- the rules of an edge in their order, over the ids of the stops
 abbrev pub edge_rules : List ℤ → List (RowRule EdgeRow)
-edge_rules stops = own_id (λ row. row.id) ∷ known_ends stops ∷ two_ends ∷ some_length ∷ bounds_in_order ∷ []
+edge_rules stops = own_id (λ row. row.id) ∷ known_ends stops ∷ own_rules
 
 -- the file of edges over the ids of the stops
 abbrev pub edge_input : List ℤ → Input EdgeRow

@@ -7,7 +7,7 @@ use Rattle.std.specs.Map.{keys_of, values_of}
 use Rattle.giv_files.specs.declared.refusal.Refusal.{Refusal}
 use Rattle.giv_files.specs.Inputs.{records_of, input_faults}
 use Rattle.ptn_network.specs.declared.edge.Edge.{Edge}
-use Rattle.ptn_network.specs.declared.row.EdgeRow.{EdgeRow}
+use Rattle.ptn_network.specs.declared.edge_row.EdgeRow.{EdgeRow}
 use Rattle.ptn_network.specs.Inputs.{stop_input, edge_input}
 
 -- the ids of stops, rising, and edges by id rising
@@ -32,16 +32,20 @@ rising ids = keys_of (by_id (map (λ id. (id, tt {0})) ids))
 abbrev pub index_in : List ℤ → ℤ → ℕ
 index_in stops id = unwrap_or (position (int_eq id) stops) 0
 
--- the edge of a row, whose ends are then indexes of stops
-abbrev pub edge_of : List ℤ → EdgeRow → Edge
-edge_of stops row = record {
+-- the edge of a row between the stops of two indexes
+abbrev pub edge_between : ℕ → ℕ → EdgeRow → Edge
+edge_between left right row = record {
   id = row.id;
-  left = index_in stops row.left;
-  right = index_in stops row.right;
+  left = left;
+  right = right;
   length = row.length;
   lower = row.lower;
   upper = row.upper;
 }
+
+-- the edge of a row, whose ends are then indexes of stops
+abbrev pub edge_of : List ℤ → EdgeRow → Edge
+edge_of stops row = edge_between (index_in stops row.left) (index_in stops row.right) row
 
 -- the edge of a row, with its id
 abbrev pub edge_entry : List ℤ → EdgeRow → ℤ × Edge

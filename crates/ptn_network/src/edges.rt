@@ -4,13 +4,12 @@ ghost use Rattle.std.specs.List.{list_any};
 ghost use Rattle.std.specs.Ordering.{int_eq};
 ghost use Rattle.giv_files.specs.Inputs.{input_faults, records, records_of, row_faults, table_faults, broken_whys, UnlessFault};
 ghost use Rattle.indexmap.specs.IndexMap.{get};
-ghost use Rattle.ptn_network.specs.declared.row.EdgeRow.{EdgeRow};
+ghost use Rattle.ptn_network.specs.declared.edge_row.EdgeRow.{EdgeRow};
 ghost use Rattle.ptn_network.specs.Inputs.{edge_input, edge_rules};
 ghost use Rattle.ptn_network.specs.Networks.{by_id, edge_entry, edge_of};
 
 use crate::edge::Edge;
-use crate::edge_row::edge_row;
-use crate::row::EdgeRow;
+use crate::edge_row::EdgeRow;
 use giv_files::{Counted, FileId, Refusal, RowWhy, StageFault, Table, columns, read_input};
 use indexmap::{IndexMap, IndexSet};
 use std::alloc::Global;
@@ -61,7 +60,7 @@ fn edges_of_rows(
 {
     let mut edges = IndexMap::new(alloc);
     for i in 0..table.len() {
-        let row = edge_row(table, i);
+        let row = EdgeRow::read(table, i);
         match new_edge(stops, &edges, &row) {
             Ok(edge) => {
                 edges.insert(row.id, edge)?;
@@ -98,21 +97,8 @@ fn new_edge(
     let Some(right) = stops.get_index_of(&row.right) else {
         return Err(RowWhy::UnknownStop);
     };
-    if row.left == row.right {
-        return Err(RowWhy::LoopEdge);
+    match row.broken_rule() {
+        Some(why) => Err(why),
+        None => Ok(row.between(left, right)),
     }
-    if row.length == 0 || row.lower == 0 {
-        return Err(RowWhy::ZeroBound);
-    }
-    if row.upper < row.lower {
-        return Err(RowWhy::BoundsCrossed);
-    }
-    Ok(Edge {
-        id: row.id,
-        left,
-        right,
-        length: row.length,
-        lower: row.lower,
-        upper: row.upper,
-    })
 }

@@ -5,7 +5,6 @@ mod edge;
 mod edge_row;
 mod edges;
 mod network;
-mod row;
 mod stops;
 
 pub use edge::Edge;

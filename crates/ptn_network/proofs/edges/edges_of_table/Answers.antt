@@ -1,0 +1,17 @@
+use Rattle.std.proofs.Common.{refl, map, ap, sym, ◌∙◌, arith}
+use Rattle.std.specs.Map.{lookup}
+use Rattle.std.specs.Ordering.{int_eq}
+use Rattle.giv_files.specs.declared.counted.Counted.TheVariants as counted
+use Rattle.giv_files.proofs.Inputs.{no_faults}
+use Rattle.giv_files.specs.Inputs.{records}
+use Rattle.ptn_network.specs.Inputs.{edge_input}
+use Rattle.ptn_network.specs.Networks.{by_id, edge_entry}
+use Rattle.ptn_network.proofs.ById.{sorted_entries}
+use Rattle.ptn_network.proofs.edges.edges_of_table.Goals as goal
+
+pub returns : goal.returns
+returns c =
+    let read = c.in_ok-edges.ensures in
+    let sorted = c.in_ok-sort_keys.ensures in
+    (no_faults (edge_input c.args.stops.now.keys) c.args.table.now counted.Edges 1000 refl refl (omega arith) read.0,
+    sorted_entries c.sort_keys.new.self.entries c.in_ok-edges.edges.entries sorted.sorted sorted.unique sorted.reordered.2 ∙ ap by_id read.1)
