@@ -1,13 +1,13 @@
 -- The stops and edges of rows, one row after the other.
-use Rattle.std.proofs.Common.{◌≡◌, ℕ, ℤ, pos, ◌+◌, ◌<◌, Bool, true, false, not, ◌||◌, cond, List, [], ◌∷◌, ◌++◌, length, map, get_or, slice_get, take, refl, ap, subst, sym, ◌∙◌, Option, Some, None, is_some}
+use Rattle.std.proofs.Common.{◌≡◌, ℕ, ℤ, ◌+◌, ◌<◌, Bool, true, false, not, ◌||◌, cond, List, [], ◌∷◌, ◌++◌, length, map, get_or, slice_get, take, refl, ap, sym, ◌∙◌, Option, Some, None, is_some}
 use Rattle.std.specs.List.{list_any}
-use Rattle.std.specs.Map.{lookup, keys_of, values_of}
+use Rattle.std.specs.Map.{lookup}
 use Rattle.std.specs.Ordering.{int_eq}
 use Rattle.std.proofs.lemmas.List.{map_push}
 use Rattle.giv_files.specs.declared.row_why.RowWhy.{RowWhy}
 use Rattle.giv_files.specs.declared.row_why.RowWhy.TheVariants as why
 use Rattle.giv_files.specs.Tables.{TableRow, no_row, cell_at}
-use Rattle.giv_files.specs.Inputs.{records, broken_whys, own_id}
+use Rattle.giv_files.specs.Inputs.{records, broken_whys}
 use Rattle.giv_files.proofs.Inputs.{records_more}
 use Rattle.ptn_network.specs.declared.edge.Edge.{Edge}
 use Rattle.ptn_network.specs.declared.edge_row.EdgeRow.{EdgeRow}

@@ -1,13 +1,12 @@
 -- The definitions on a small dataset.
-use Rattle.std.proofs.Common.{◌≡◌, ℕ, List, [], ◌∷◌, refl, ap, ◌∙◌, pos, codes, Some, slice_get, ◌++◌}
+use Rattle.std.proofs.Common.{◌≡◌, ℕ, List, [], ◌∷◌, refl, pos, codes}
 use Rattle.giv_files.specs.declared.file_id.FileId.TheVariants as file
 use Rattle.giv_files.specs.declared.row_why.RowWhy.TheVariants as why
 use Rattle.giv_files.specs.declared.refusal.Refusal.TheVariants as refusal
-use Rattle.giv_files.specs.Inputs.{input_faults, records_of, row_faults}
+use Rattle.giv_files.specs.Inputs.{input_faults, row_faults}
 use Rattle.giv_files.specs.Reading.{faults, table_of, cells_from, cell_of, errors, values, row_whys}
 use Rattle.giv_files.specs.Rows.{rows, cleaned}
 use Rattle.plan_num.specs.Number.{spelling_of, value_of, value_at, fixed_of, whole_of}
-use Rattle.ptn_network.specs.Inputs.{stop_input, edge_input}
 use Rattle.ptn_network.specs.Networks.{by_id, stops_of, network_of, network_faults}
 
 abbrev pub stops : List ℕ

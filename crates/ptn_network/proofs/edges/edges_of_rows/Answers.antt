@@ -1,10 +1,11 @@
-use Rattle.std.proofs.Common.{◌≡◌, List, [], Some, slice_get, sym, subst, ap, ◌∙◌, arith, to_z, of_z, w64, take, get_or}
+use Rattle.std.proofs.Common.{◌≡◌, [], map, Some, slice_get, sym, subst, ap, ◌∙◌, arith, w64, take}
 use Rattle.std.specs.Ordering.{int_eq}
 use Rattle.std.proofs.lemmas.Int.{to_z-of_z}
 use Rattle.giv_files.specs.Inputs.{records, broken_whys}
 use Rattle.giv_files.specs.declared.file_id.FileId.TheVariants as file
 use Rattle.giv_files.specs.declared.refusal.Refusal.TheVariants as refusal
 use Rattle.giv_files.proofs.Inputs.{row_met, row_refused, rows_met, records_all}
+use Rattle.indexmap.specs.IndexMap.{insert_entry}
 use Rattle.indexmap.proofs.CallerLemmas.{insert_entry-new}
 use Rattle.ptn_network.specs.Inputs.{edge_input, edge_rules}
 use Rattle.ptn_network.specs.Networks.{edge_entry}
@@ -32,7 +33,12 @@ loop-i-preserved c =
     let row = c.read-row.result in
     let made = c.in-Ok.ensures before (id_there stops before c.loop-i.edges.entries row.id c.loop-i.invariant.edges) in
     let none = own_entry stops before row c.loop-i.edges.entries c.loop-i.invariant.edges made.0 in
-    ?
+    let own = to_z-of_z w64 row.id (record { sfits = omega (arith, c.read-row.type_inv) }) in
+    let put = c.in_ok-insert-in-Ok.ensures.entries ∙ ap (λ id. insert_entry int_eq c.loop-i.edges.entries id c.in-Ok.edge) own ∙ insert_entry-new int_eq c.loop-i.edges row.id c.in-Ok.edge none in
+    record {
+      sound = row_met input table i (omega arith) (subst (λ some. broken_whys (edge_rules stops) before some ≡ []) c.read-row.ensures made.0) c.loop-i.invariant.sound;
+      edges = edges_more stops table i row c.in-Ok.edge c.loop-i.edges.entries c.insert.new.self.entries (omega arith) c.read-row.ensures made.1 c.loop-i.invariant.edges put;
+    }
 
 pub returns : goal.returns
 returns c =
@@ -41,4 +47,4 @@ returns c =
     let stops = c.args.stops.now.keys in
     let input = edge_input stops in
     (rows_met input table i (omega arith) c.loop-i.invariant.sound,
-    c.loop-i.invariant.edges ∙ ap (λ rows. ?) (records_all input table i (omega arith)))
+    c.loop-i.invariant.edges ∙ ap (map (edge_entry stops)) (records_all input table i (omega arith)))

@@ -1,11 +1,8 @@
-use Rattle.std.proofs.Common.{refl, map, ap, sym, ◌∙◌, arith}
-use Rattle.std.specs.Map.{lookup}
-use Rattle.std.specs.Ordering.{int_eq}
+use Rattle.std.proofs.Common.{refl, ap, ◌∙◌, arith}
 use Rattle.giv_files.specs.declared.counted.Counted.TheVariants as counted
 use Rattle.giv_files.proofs.Inputs.{no_faults}
-use Rattle.giv_files.specs.Inputs.{records}
 use Rattle.ptn_network.specs.Inputs.{edge_input}
-use Rattle.ptn_network.specs.Networks.{by_id, edge_entry}
+use Rattle.ptn_network.specs.Networks.{by_id}
 use Rattle.ptn_network.proofs.ById.{sorted_entries}
 use Rattle.ptn_network.proofs.edges.edges_of_table.Goals as goal
 

@@ -1,4 +1,4 @@
-use Rattle.std.proofs.Common.{◌≡◌, List, ap, refl, sym, ◌∙◌, ℕ, ℤ}
+use Rattle.std.proofs.Common.{◌≡◌, ap, ◌∙◌}
 use Rattle.std.proofs.lemmas.Result.{err_from_is_err_and}
 use Rattle.giv_files.proofs.Inputs.{refused_cells, faults_of_table, UnlessFault-weaker}
 use Rattle.giv_files.specs.Inputs.{records}

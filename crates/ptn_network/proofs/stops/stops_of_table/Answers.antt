@@ -1,6 +1,4 @@
 use Rattle.std.proofs.Common.{refl, ap, ◌∙◌, arith}
-use Rattle.std.specs.List.{list_any}
-use Rattle.std.specs.Ordering.{int_eq}
 use Rattle.giv_files.specs.declared.counted.Counted.TheVariants as counted
 use Rattle.giv_files.proofs.Inputs.{no_faults}
 use Rattle.ptn_network.specs.Inputs.{stop_input}

@@ -1,21 +1,33 @@
-use Rattle.std.proofs.Common.{rules, ◌≡◌, ◌<◌, length, slice_get, position, Some, map, ℕ, ◌+◌, ◌-◌, ◌*◌, ◌≤◌, ◌/◌, ◌%◌, Bool, true, false, nat_eq, nat_lt, List, [], ◌∷◌, ◌++◌, slice_index_or, slice_set, bit_and, bit_or, Fits, w8, w32, w64, Bor, MutBor}
-use Rattle.std.specs.Ordering.{int_eq}
-use Rattle.giv_files.specs.Inputs.{UnlessFault}
-use Rattle.ptn_network.specs.Networks.{network_of, network_faults}
+use Rattle.std.proofs.Common.{sym, subst, ◌∙◌}
+use Rattle.std.proofs.lemmas.Result.{err_from_is_err_and}
+use Rattle.giv_files.specs.Inputs.{input_faults, Refuses}
+use Rattle.giv_files.proofs.Inputs.{refused_append}
+use Rattle.ptn_network.specs.Inputs.{stop_input}
+use Rattle.ptn_network.specs.Networks.{network_faults, AreKeyed}
+use Rattle.ptn_network.proofs.ById.{by_id_keyed}
+use Rattle.ptn_network.proofs.Rows.{entries_keyed}
+use Rattle.ptn_network.proofs.Texts.{edge_faults, network_is}
 use Rattle.ptn_network.proofs.network.Network.from_texts.Goals as goal
 
--- src/network.rt:38:21
 pub returns-in_err-stops : goal.returns-in_err-stops
-returns-in_err-stops c = ?
+unfolding network_faults
+returns-in_err-stops c =
+    let p = err_from_is_err_and c.from_residual.result c.from_residual.ensures.1 in
+    rw (p.1, p.2) (refused_append (input_faults stop_input c.args.stops.now) _ c.in_err-stops.field-0.0 c.in_err-stops.ensures)
 
--- src/network.rt:39:21
 pub returns-in_err-edges : goal.returns-in_err-edges
-returns-in_err-edges c = ?
+returns-in_err-edges c =
+    let p = err_from_is_err_and c.from_residual-in_err-edges.result c.from_residual-in_err-edges.ensures.1 in
+    let stops = c.in_ok-stops.ensures in
+    let faults = edge_faults c.args.stops.now c.args.edges.now c.in_ok-stops.stops.keys stops.1 stops.0 in
+    rw (p.1, p.2) (subst (λ all. Refuses all c.in_err-edges.field-0.0) faults c.in_err-edges.ensures)
 
--- src/network.rt:40:9
 pub invariant_of-result : goal.invariant_of-result
-invariant_of-result c = ?
+invariant_of-result c = subst AreKeyed (sym c.in_ok-edges.ensures.1) (by_id_keyed _ (entries_keyed c.in_ok-stops.stops.keys _))
 
--- src/network.rt:35:5
 pub returns : goal.returns
-returns c = ?
+returns c =
+    let stops = c.in_ok-stops.ensures in
+    let edges = c.in_ok-edges.ensures in
+    (sym (edge_faults c.args.stops.now c.args.edges.now c.in_ok-stops.stops.keys stops.1 stops.0) ∙ edges.0,
+    network_is c.args.stops.now c.args.edges.now c.in_ok-stops.stops.keys stops.1 c.in_ok-edges.edges.entries edges.1)

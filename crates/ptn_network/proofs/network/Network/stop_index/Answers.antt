@@ -1,7 +1,6 @@
 use Rattle.std.proofs.Common.{ap, position, w64}
 use Rattle.std.specs.Ordering.{int_eq}
 use Rattle.std.proofs.lemmas.Int.{to_z-of_z}
-use Rattle.ptn_network.proofs.ById.{sorted_ids}
 use Rattle.ptn_network.proofs.network.Network.stop_index.Goals as goal
 
 pub returns : goal.returns
