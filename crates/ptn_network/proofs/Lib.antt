@@ -1,4 +1,3 @@
 mod ById
 mod Rows
 mod Texts
-mod Tried

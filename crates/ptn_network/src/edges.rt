@@ -85,8 +85,8 @@ fn new_edge(
 ) -> Result<Edge, RowWhy>
     ensures { (before : List EdgeRow) → is_some (get int_eq edges.now row.now.id) ≡ list_any (λ other. int_eq row.now.id other.id) before
         → MatchResult result
-            (λ edge. (broken_whys (edge_rules stops.now.keys) before row.now ≡ []) × (edge ≡ edge_of stops.now.keys row.now))
-            (λ why. slice_get (broken_whys (edge_rules stops.now.keys) before row.now) 0 ≡ Some why) }
+        (λ edge. (broken_whys (edge_rules stops.now.keys) before row.now ≡ []) × (edge ≡ edge_of stops.now.keys row.now))
+        (λ why. slice_get (broken_whys (edge_rules stops.now.keys) before row.now) 0 ≡ Some why) }
 {
     if edges.contains_key(&row.id) {
         return Err(RowWhy::RepeatedId);

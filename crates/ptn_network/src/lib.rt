@@ -9,3 +9,6 @@ mod stops;
 
 pub use edge::Edge;
 pub use network::Network;
+
+#[cfg(test)]
+mod tests;

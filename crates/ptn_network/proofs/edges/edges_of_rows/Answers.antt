@@ -45,6 +45,7 @@ returns c =
     let table = c.args.table.now in
     let i = c.loop-i.i in
     let stops = c.args.stops.now.keys in
-    let input = edge_input stops in
-    (rows_met input table i (omega arith) c.loop-i.invariant.sound,
-    c.loop-i.invariant.edges ∙ ap (map (edge_entry stops)) (records_all input table i (omega arith)))
+    let input = edge_input stops in (
+      rows_met input table i (omega arith) c.loop-i.invariant.sound,
+      c.loop-i.invariant.edges ∙ ap (map (edge_entry stops)) (records_all input table i (omega arith)),
+    )

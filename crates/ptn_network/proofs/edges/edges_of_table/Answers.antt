@@ -9,6 +9,7 @@ use Rattle.ptn_network.proofs.edges.edges_of_table.Goals as goal
 pub returns : goal.returns
 returns c =
     let read = c.in_ok-edges.ensures in
-    let sorted = c.in_ok-sort_keys.ensures in
-    (no_faults (edge_input c.args.stops.now.keys) c.args.table.now counted.Edges 1000 refl refl (omega arith) read.0,
-    sorted_entries c.sort_keys.new.self.entries c.in_ok-edges.edges.entries sorted.sorted sorted.unique sorted.reordered.2 ∙ ap by_id read.1)
+    let sorted = c.in_ok-sort_keys.ensures in (
+      no_faults (edge_input c.args.stops.now.keys) c.args.table.now counted.Edges 1000 refl refl (omega arith) read.0,
+      sorted_entries c.sort_keys.new.self.entries c.in_ok-edges.edges.entries sorted.sorted sorted.unique sorted.reordered.2 ∙ ap by_id read.1,
+    )

@@ -9,6 +9,7 @@ use Rattle.ptn_network.proofs.stops.stops_of_table.Goals as goal
 pub returns : goal.returns
 returns c =
     let read = c.in_ok-stops.ensures in
-    let sorted = c.in_ok-sort.ensures in
-    (no_faults stop_input c.args.table.now counted.Stops 1000 refl refl (omega arith) read.0,
-    sorted_ids c.sort.new.self.keys c.in_ok-stops.stops.keys sorted.sorted sorted.unique sorted.reordered.2 ∙ ap rising read.1)
+    let sorted = c.in_ok-sort.ensures in (
+      no_faults stop_input c.args.table.now counted.Stops 1000 refl refl (omega arith) read.0,
+      sorted_ids c.sort.new.self.keys c.in_ok-stops.stops.keys sorted.sorted sorted.unique sorted.reordered.2 ∙ ap rising read.1,
+    )

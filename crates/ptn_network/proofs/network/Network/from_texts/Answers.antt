@@ -28,6 +28,7 @@ invariant_of-result c = subst AreKeyed (sym c.in_ok-edges.ensures.1) (by_id_keye
 pub returns : goal.returns
 returns c =
     let stops = c.in_ok-stops.ensures in
-    let edges = c.in_ok-edges.ensures in
-    (sym (edge_faults c.args.stops.now c.args.edges.now c.in_ok-stops.stops.keys stops.1 stops.0) ∙ edges.0,
-    network_is c.args.stops.now c.args.edges.now c.in_ok-stops.stops.keys stops.1 c.in_ok-edges.edges.entries edges.1)
+    let edges = c.in_ok-edges.ensures in (
+      sym (edge_faults c.args.stops.now c.args.edges.now c.in_ok-stops.stops.keys stops.1 stops.0) ∙ edges.0,
+      network_is c.args.stops.now c.args.edges.now c.in_ok-stops.stops.keys stops.1 c.in_ok-edges.edges.entries edges.1,
+    )
