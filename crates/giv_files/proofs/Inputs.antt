@@ -1,7 +1,9 @@
 -- The faults of an input, part by part.
-use Rattle.std.proofs.Common.{◌≡◌, ℕ, ◌+◌, ◌<◌, ◌≤◌, cond, List, [], ◌∷◌, ◌++◌, length, map, get_or, slice_get, take, drop, refl, ap, subst, sym, ◌∙◌, Some, Result, Ok, Err}
-use Rattle.std.proofs.lemmas.Bool.{lt-ltb, le-ltb}
+use Rattle.std.proofs.Common.{◌≡◌, ℕ, ◌+◌, ◌<◌, ◌≤◌, arith, Bool, true, false, cond, List, [], ◌∷◌, ◌++◌, length, map, get_or, slice_get, take, drop, refl, ap, subst, sym, ◌∙◌, Some, Result, Ok, Err}
+use Rattle.std.proofs.lemmas.Bool.{lt-ltb, le-ltb, ltb-false}
 use Rattle.std.proofs.lemmas.List.{at_drop_more, at_drop_all, take_more, take_all, map_push, length-map}
+use Rattle.std.proofs.lemmas.List.Elements.{All-cons}
+use Rattle.std.specs.List.{All}
 use Rattle.giv_files.specs.declared.counted.Counted.{Counted}
 use Rattle.giv_files.specs.declared.row_why.RowWhy.{RowWhy}
 use Rattle.giv_files.specs.declared.refusal.Refusal.{Refusal}
@@ -10,7 +12,9 @@ use Rattle.giv_files.specs.declared.refusal.StageFault.{StageFault}
 use Rattle.giv_files.specs.declared.refusal.StageFault.TheVariants as stage
 use Rattle.giv_files.specs.Tables.{TableRow, no_row}
 use Rattle.giv_files.specs.Reading.{table_of}
-use Rattle.giv_files.specs.Inputs.{Input, records, cell_faults, limit_faults, broken_whys, row_faults, whole_faults, table_faults, row_limit, or_else, input_faults, Refuses, UnlessFault}
+use Rattle.giv_files.specs.Writing.{InColumns}
+use Rattle.giv_files.proofs.Ranges.{front_none, back_none, unmapped, table_in_columns}
+use Rattle.giv_files.specs.Inputs.{Input, records, records_of, cell_faults, limit_faults, broken_whys, row_faults, whole_faults, table_faults, row_limit, or_else, input_faults, Refuses, UnlessFault}
 
 -- ---- lists of faults
 
@@ -115,3 +119,42 @@ module _ {X : Type 0} (input : Input X) (rows : List TableRow) (i : ℕ) where
   pub rows_met : length rows ≤ i → row_faults input (records input (take i rows)) (drop i rows) ≡ row_faults input [] rows → row_faults input [] rows ≡ []
   unfolding row_faults
   rows_met h so_far = sym so_far ∙ at_drop_all (row_faults input (records input (take i rows))) rows i h
+
+-- ---- texts without a fault
+
+or_else_none : (all others : List Refusal) → or_else all others ≡ [] → (all ≡ []) × (others ≡ [])
+or_else_none [] others e = (refl, e)
+or_else_none (x ∷ all) others e = cc
+
+module _ {X : Type 0} (input : Input X) where
+  -- a text without a fault has none in its cells, and none in its table
+  parts_sound : (text : List ℕ) → input_faults input text ≡ [] → (cell_faults input.file input.columns text ≡ []) × (table_faults input (table_of input.columns text) ≡ [])
+  unfolding input_faults
+  parts_sound text none = or_else_none _ _ none
+
+  -- it has no more rows than there may be
+  pub few_rows : (text : List ℕ) (what : Counted) (most : ℕ) → input.limits ≡ row_limit what most ∷ [] → input_faults input text ≡ [] → length (records_of input text) ≤ most
+  few_rows text what most limits none =
+      let all = records_of input text in
+      let passed : limit_faults input.limits all ≡ [] = front_none _ _ (front_none _ _ (parts_sound text none).1) in
+      let tested : limit_faults (row_limit what most ∷ []) all ≡ [] = ap (λ some. limit_faults some all) (sym limits) ∙ passed in
+      ltb-false most (length all) (not_passed _ _ tested)
+    where
+      not_passed : (b : Bool) (fault : Refusal) → cond b (fault ∷ []) [] ++ [] ≡ [] → b ≡ false
+      not_passed true fault e = cc
+      not_passed false fault e = refl
+
+  kept : (before : List X) (rows : List TableRow) → row_faults input before rows ≡ [] → All (λ row. (some : List X) × (broken_whys input.row_rules some (input.read row.cells) ≡ [])) rows
+  unfolding row_faults
+  kept before [] none = λ k d h. absurd (omega arith)
+  kept before (row ∷ rows) none =
+      All-cons (λ row. (some : List X) × (broken_whys input.row_rules some (input.read row.cells) ≡ [])) row rows
+      (before, unmapped _ _ (front_none _ _ none)) (kept (before ++ input.read row.cells ∷ []) rows (back_none _ _ none))
+
+  -- each row of it breaks no rule after some rows, and its cells are in the ranges of their columns
+  pub sound_rows : (text : List ℕ) → input_faults input text ≡ [] → All (λ row. (some : List X) × (broken_whys input.row_rules some (input.read row.cells) ≡ []) × InColumns input.columns row.cells) (table_of input.columns text)
+  sound_rows text none =
+      let parts = parts_sound text none in
+      let rows = kept [] (table_of input.columns text) (back_none _ _ (front_none _ _ parts.1)) in
+      let cells = table_in_columns input.columns text (unmapped _ _ parts.0) in
+      λ k d h. ((rows k d h).0, (rows k d h).1, cells k d h)

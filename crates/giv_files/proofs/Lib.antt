@@ -7,6 +7,7 @@ pub mod KeyPlaces
 pub mod Lines
 pub mod PlainBytes
 pub mod PlainTexts
+pub mod Ranges
 pub mod RowFacts
 pub mod RowsLeft
 pub mod SplitFacts

@@ -27,7 +27,8 @@ found q (e ∷ es) = ap (λ b. cond b (Some e.1) (find int_cmp q es)) (same_test
 
 -- ---- the order of ids
 
-by_id_sorted : {X : Type 0} (es : List (ℤ × X)) → T (is_sorted int_cmp (by_id es))
+-- entries by id are in the order of their ids
+pub by_id_sorted : {X : Type 0} (es : List (ℤ × X)) → T (is_sorted int_cmp (by_id es))
 unfolding by_id
 by_id_sorted [] = tt
 by_id_sorted (e ∷ es) = is_sorted-put int_cmp int_cmp_total e.0 e.1 (by_id es) (by_id_sorted es)

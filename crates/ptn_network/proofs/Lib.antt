@@ -1,3 +1,4 @@
 mod ById
 mod Rows
+mod Sound
 mod Texts

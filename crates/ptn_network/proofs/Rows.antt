@@ -54,7 +54,7 @@ nothing None e = refl
 nothing (Some x) e = cc
 
 -- a choice that gave no reason
-no_reason : (b : Bool) (reason : RowWhy) (more : List RowWhy) → cond b (reason ∷ []) [] ++ more ≡ [] → b ≡ false
+pub no_reason : (b : Bool) (reason : RowWhy) (more : List RowWhy) → cond b (reason ∷ []) [] ++ more ≡ [] → b ≡ false
 no_reason true reason more e = cc
 no_reason false reason more e = refl
 

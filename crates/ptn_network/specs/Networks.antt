@@ -1,5 +1,7 @@
 -- Networks: stops, and edges between them.
-use Rattle.std.specs.Prelude.{◌≡◌, ℕ, ℤ, List, [], ◌∷◌, ◌++◌, map, position}
+use Rattle.std.specs.Prelude.{◌≡◌, ◌≢◌, ℕ, ℤ, pos, ◌<◌, ◌≤◌, ◌≤ℤ◌, List, [], ◌∷◌, ◌++◌, length, map, position}
+use Rattle.std.specs.List.{All}
+use Rattle.std.specs.List.Sorted.{IsStrictlySortedBy}
 use Rattle.std.specs.Option.{unwrap_or}
 use Rattle.std.specs.Ordering.{int_eq, int_cmp}
 use Rattle.std.specs.FinMap.{put}
@@ -14,6 +16,25 @@ use Rattle.ptn_network.specs.Inputs.{stop_input, edge_input}
 pub record NetworkParts : Type 0 where
   pub stops : List ℤ
   pub edges : List Edge
+
+-- what holds of an edge over so many stops: it joins two of them, and has a length and minutes that are some and not too many
+pub record IsEdge (stops : ℕ) (edge : Edge) : Type 0 where
+  pub left : edge.left < stops
+  pub right : edge.right < stops
+  pub apart : edge.left ≢ edge.right
+  pub some_length : pos 1 ≤ℤ edge.length
+  pub short : edge.length ≤ℤ pos 10000000000
+  pub some_time : pos 1 ≤ℤ edge.lower
+  pub in_order : edge.lower ≤ℤ edge.upper
+  pub soon : edge.upper ≤ℤ pos 10000
+
+-- what holds of a network: ids rise, stops and edges are within their limits, and each edge is one over the stops
+pub record IsNetwork (network : NetworkParts) : Type 0 where
+  pub stops_rise : IsStrictlySortedBy int_cmp network.stops
+  pub edges_rise : IsStrictlySortedBy int_cmp (map (λ edge. edge.id) network.edges)
+  pub few_stops : length network.stops ≤ 1000
+  pub few_edges : length network.edges ≤ 1000
+  pub edges : All (IsEdge (length network.stops)) network.edges
 
 -- entries by id rising: each is put where its id belongs
 unfoldable pub by_id : {X : Type 0} → List (ℤ × X) → List (ℤ × X)

@@ -2,7 +2,7 @@
 ghost use Rattle.std.specs.Prelude.{◌≡◌, ◌<◌, length, slice_get, position, Some, map};
 ghost use Rattle.std.specs.Ordering.{int_eq};
 ghost use Rattle.giv_files.specs.Inputs.{UnlessFault};
-ghost use Rattle.ptn_network.specs.Networks.{network_of, network_faults};
+ghost use Rattle.ptn_network.specs.Networks.{network_of, network_faults, IsEdge, IsNetwork};
 
 use crate::edge::Edge;
 use crate::edges::read_edges;
@@ -21,13 +21,13 @@ pub struct Network {
 
 impl Model for Network {
     ghost use Rattle.std.specs.Map.{values_of};
-    ghost use Rattle.ptn_network.specs.Networks.{NetworkParts, AreKeyed};
+    ghost use Rattle.ptn_network.specs.Networks.{NetworkParts, AreKeyed, IsNetwork};
 
     ghost Value = { NetworkParts };
 
     ghost view = { λ n. record { stops = n.stops.keys; edges = values_of n.edges.entries } };
 
-    ghost invariant = { λ n. AreKeyed n.edges.entries };
+    ghost invariant = { λ n. AreKeyed n.edges.entries × IsNetwork (record { stops = n.stops.keys; edges = values_of n.edges.entries }) };
 }
 
 impl Network {
@@ -42,14 +42,16 @@ impl Network {
 
     /// How many stops there are.
     pub fn stop_count(&self) -> usize
-        ensures { result ≡ length self.now.stops }
+        ensures count { result ≡ length self.now.stops }
+        ensures network { IsNetwork self.now }
     {
         self.stops.len()
     }
 
     /// How many edges there are.
     pub fn edge_count(&self) -> usize
-        ensures { result ≡ length self.now.edges }
+        ensures count { result ≡ length self.now.edges }
+        ensures network { IsNetwork self.now }
     {
         self.edges.len()
     }
@@ -79,7 +81,8 @@ impl Network {
     /// The edge at an index.
     pub fn edge(&self, index: usize) -> Edge
         requires { index < length self.now.edges }
-        ensures { slice_get self.now.edges index ≡ Some result }
+        ensures place { slice_get self.now.edges index ≡ Some result }
+        ensures sound { IsEdge (length self.now.stops) result }
     {
         self.edges[index]
     }

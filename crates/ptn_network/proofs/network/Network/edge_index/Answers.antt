@@ -6,5 +6,5 @@ use Rattle.ptn_network.proofs.network.Network.edge_index.Goals as goal
 pub returns : goal.returns
 returns c =
     rw (c.get_index_of.ensures.index, to_z-of_z w64 c.args.id c.ranges.id) (
-    ap (position (int_eq c.args.id)) c.self.invariant
+    ap (position (int_eq c.args.id)) c.self.invariant.0
     ∙ ap (λ network. position (int_eq c.args.id) (map (λ edge. edge.id) network.edges)) c.self.view_is)

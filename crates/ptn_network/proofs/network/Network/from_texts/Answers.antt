@@ -3,9 +3,10 @@ use Rattle.std.proofs.lemmas.Result.{err_from_is_err_and}
 use Rattle.giv_files.specs.Inputs.{input_faults, Refuses}
 use Rattle.giv_files.proofs.Inputs.{refused_append}
 use Rattle.ptn_network.specs.Inputs.{stop_input}
-use Rattle.ptn_network.specs.Networks.{network_faults, AreKeyed}
+use Rattle.ptn_network.specs.Networks.{network_faults, AreKeyed, IsNetwork}
 use Rattle.ptn_network.proofs.ById.{by_id_keyed}
 use Rattle.ptn_network.proofs.Rows.{entries_keyed}
+use Rattle.ptn_network.proofs.Sound.{network_sound}
 use Rattle.ptn_network.proofs.Texts.{edge_faults, network_is}
 use Rattle.ptn_network.proofs.network.Network.from_texts.Goals as goal
 
@@ -23,7 +24,13 @@ returns-in_err-edges c =
     rw (p.1, p.2) (subst (λ all. Refuses all c.in_err-edges.field-0.0) faults c.in_err-edges.ensures)
 
 pub invariant_of-result : goal.invariant_of-result
-invariant_of-result c = subst AreKeyed (sym c.in_ok-edges.ensures.1) (by_id_keyed _ (entries_keyed c.in_ok-stops.stops.keys _))
+invariant_of-result c =
+    let stops = c.in_ok-stops.ensures in
+    let edges = c.in_ok-edges.ensures in
+    let none = sym (edge_faults c.args.stops.now c.args.edges.now c.in_ok-stops.stops.keys stops.1 stops.0) ∙ edges.0 in
+    let same = network_is c.args.stops.now c.args.edges.now c.in_ok-stops.stops.keys stops.1 c.in_ok-edges.edges.entries edges.1 in
+    (subst AreKeyed (sym edges.1) (by_id_keyed _ (entries_keyed c.in_ok-stops.stops.keys _)),
+    subst IsNetwork (sym same) (network_sound c.args.stops.now c.args.edges.now none))
 
 pub returns : goal.returns
 returns c =
