@@ -1,5 +1,5 @@
 // The settings of a dataset.
-ghost use Rattle.std.specs.Prelude.{◌≡◌, ◌≤◌, true, IfOk};
+ghost use Rattle.std.specs.Prelude.{◌≡◌, true, IfOk};
 ghost use Rattle.giv_files.specs.Keys.{allows, floor_key};
 ghost use Rattle.giv_files.specs.Settings.{SettingsFit, not_below};
 ghost use Rattle.config_keys.specs.Said.{said_of};

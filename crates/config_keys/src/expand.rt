@@ -1,6 +1,5 @@
 // Reading config files with their includes.
-ghost use Rattle.std.specs.Prelude.{◌≡◌, ◌≤◌, ◌<◌, ◌*◌, ◌+◌, [], IfSome, string_bytes, length};
-ghost use Rattle.plan_files.specs.Folder.{CountsFault};
+ghost use Rattle.std.specs.Prelude.{◌≡◌, IfSome};
 ghost use Rattle.config_keys.specs.Ends.{CountsEnd};
 ghost use Rattle.config_keys.specs.Items.{look_in, config_items, expanded, row_brings, row_item, include_word, include_item};
 ghost use Rattle.config_keys.specs.Said.{ReadGives};

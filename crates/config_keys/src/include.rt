@@ -1,5 +1,5 @@
 // Names of included files.
-ghost use Rattle.std.specs.Prelude.{◌≡◌, ◌++◌, false, true, codes, MatchOption, IfOk, string_bytes};
+ghost use Rattle.std.specs.Prelude.{◌≡◌, false, true, MatchOption, IfOk, string_bytes};
 ghost use Rattle.std.specs.List.{list_all};
 ghost use Rattle.config_keys.specs.Includes.{is_name_byte, has_two_points, is_inside, path_of};
 

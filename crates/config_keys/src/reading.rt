@@ -1,5 +1,5 @@
 // What has been read of a config.
-ghost use Rattle.std.specs.Prelude.{◌≡◌, ◌≤◌, ◌+◌, ◌<◌, ◌∷◌, [], ℕ, List, Option, None, Some, OnOk, IfOk, option_map};
+ghost use Rattle.std.specs.Prelude.{◌≡◌, ◌∷◌, [], OnOk};
 ghost use Rattle.std.specs.Option.{option_copied};
 ghost use Rattle.config_keys.specs.Items.{Setting};
 ghost use Rattle.config_keys.specs.Said.{said_of, is_named, key_named, ReadOn};

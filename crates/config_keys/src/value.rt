@@ -1,5 +1,5 @@
 // Values of keys, as fields spell them.
-ghost use Rattle.std.specs.Prelude.{◌≡◌, position, option_map, pos};
+ghost use Rattle.std.specs.Prelude.{◌≡◌};
 ghost use Rattle.std.specs.Option.{option_copied};
 ghost use Rattle.config_keys.specs.Values.{stage_place, stage_of, source_of, wait_of, spelled_as, own_value};
 

@@ -1,5 +1,5 @@
 // The rows of a text, with their fields as they are written.
-ghost use Rattle.std.specs.Prelude.{◌≡◌, ◌≢◌, ◌<◌, ◌∷◌, ◌++◌, [], All, IfOk, OnOk, OnErr, length, slice_index_or};
+ghost use Rattle.std.specs.Prelude.{◌≡◌, ◌≢◌, ◌<◌, ◌∷◌, ◌++◌, [], All, IfOk, OnOk, length, slice_index_or};
 ghost use Rattle.giv_files.specs.Rows.{row_of};
 ghost use Rattle.giv_files.specs.Reading.{RowsGive};
 
@@ -145,4 +145,36 @@ fn push_line(
     }
     fields.split(told)?;
     rows.push(number, fields)
+}
+
+#[cfg(test)]
+mod tests {
+    use super::*;
+    use std::test::Fail;
+
+    #[test]
+    fn rows_have_numbers_and_fields(rt: HostRuntime) -> Result<(), Fail> {
+        let text = b"1; 1;1 ;\r\n\r\n  # c\r\n2;2 ;\"3\"# x";
+        let rows = read_rows(rt.alloc(), text)?;
+        let expected: [(u64, [&[u8]; 3]); 2] = [(1, [b"1", b"1", b"1"]), (3, [b"2", b"2", b"3"])];
+        assert_eq!(rt; rows.as_slice().len(), expected.len());
+        for (row, (number, fields)) in rows.as_slice().iter().zip(&expected) {
+            assert_eq!(rt; row.number(), *number);
+            assert_eq!(rt; row.len(), fields.len());
+            for (index, field) in fields.iter().enumerate() {
+                assert_eq!(rt; row.field(index), *field);
+            }
+        }
+        let mark = read_rows(rt.alloc(), b"\xEF\xBB\xBF1;2\n");
+        assert!(rt;
+            matches!(
+                &mark,
+                Err(ReadFault::Row(RowFault {
+                    row: 1,
+                    why: RowWhy::ByteOrderMark
+                }))
+            )
+        );
+        Ok(())
+    }
 }

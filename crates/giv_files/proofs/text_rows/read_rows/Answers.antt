@@ -1,4 +1,4 @@
-use Rattle.std.proofs.Common.{◌≡◌, ◌≢◌, arith, sym, ◌∙◌}
+use Rattle.std.proofs.Common.{◌≢◌, arith, sym, ◌∙◌}
 use Rattle.giv_files.proofs.RowsLeft.{all_left, all_told, empty_step, numbered_step, parts_are, stripped, rest_smaller, line_told}
 use Rattle.giv_files.proofs.text_rows.read_rows.Goals as goal
 
