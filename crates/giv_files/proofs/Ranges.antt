@@ -1,5 +1,5 @@
 -- The cells that are read are in the ranges of their columns.
-use Rattle.std.proofs.Common.{◌≡◌, ℕ, ℤ, pos, ◌+◌, ◌<◌, ◌≤ℤ◌, arith, Bool, true, false, ◌&&◌, cond, List, [], ◌∷◌, ◌++◌, length, map, int_le, refl, ap, subst, sym, ◌∙◌, eqb, eqb-true, Option, Some, None, Result, Ok, Err}
+use Rattle.std.proofs.Common.{◌≡◌, ℕ, ℤ, pos, ◌+◌, ◌<◌, ◌≤ℤ◌, arith, true, false, ◌&&◌, cond, List, [], ◌∷◌, ◌++◌, length, map, int_le, refl, subst, eqb, eqb-true, Option, Some, None, Ok, Err}
 use Rattle.std.specs.List.{flat_map, All}
 use Rattle.std.specs.Option.{ok_or, option_map}
 use Rattle.std.specs.Int.Signed.{le_z_yes}
@@ -8,7 +8,6 @@ use Rattle.std.proofs.lemmas.List.Elements.{All-cons}
 use Rattle.std.proofs.lemmas.List.Quantifiers.{position-Some}
 use Rattle.giv_files.specs.declared.column.ColumnKind.{ColumnKind}
 use Rattle.giv_files.specs.declared.column.ColumnKind.TheVariants as kind
-use Rattle.giv_files.specs.declared.row_why.RowWhy.{RowWhy}
 use Rattle.giv_files.specs.declared.row_why.RowWhy.TheVariants as why
 use Rattle.giv_files.specs.Names.{table_words}
 use Rattle.giv_files.specs.Rows.{Row, rows}

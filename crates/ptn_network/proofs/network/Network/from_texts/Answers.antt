@@ -28,9 +28,10 @@ invariant_of-result c =
     let stops = c.in_ok-stops.ensures in
     let edges = c.in_ok-edges.ensures in
     let none = sym (edge_faults c.args.stops.now c.args.edges.now c.in_ok-stops.stops.keys stops.1 stops.0) ∙ edges.0 in
-    let same = network_is c.args.stops.now c.args.edges.now c.in_ok-stops.stops.keys stops.1 c.in_ok-edges.edges.entries edges.1 in
-    (subst AreKeyed (sym edges.1) (by_id_keyed _ (entries_keyed c.in_ok-stops.stops.keys _)),
-    subst IsNetwork (sym same) (network_sound c.args.stops.now c.args.edges.now none))
+    let same = network_is c.args.stops.now c.args.edges.now c.in_ok-stops.stops.keys stops.1 c.in_ok-edges.edges.entries edges.1 in (
+      subst AreKeyed (sym edges.1) (by_id_keyed _ (entries_keyed c.in_ok-stops.stops.keys _)),
+      subst IsNetwork (sym same) (network_sound c.args.stops.now c.args.edges.now none),
+    )
 
 pub returns : goal.returns
 returns c =
