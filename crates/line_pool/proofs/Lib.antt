@@ -1,2 +1,7 @@
+mod CostRows
 pub mod LineSums
 pub mod Readable
+mod PoolTables
+mod RowsOfLines
+mod Tried
+mod Walks

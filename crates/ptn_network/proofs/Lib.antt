@@ -1,4 +1,4 @@
-mod ById
+pub mod ById
 mod Rows
 mod Sound
 mod Texts

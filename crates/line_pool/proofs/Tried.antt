@@ -1,0 +1,66 @@
+-- The definitions on a small dataset.
+use Rattle.std.proofs.Common.{◌≡◌, ℕ, List, [], ◌∷◌, refl, ℤ, pos, codes, Option, Some, None, Ok}
+use Rattle.giv_files.specs.declared.counted.Counted.TheVariants as counted
+use Rattle.giv_files.specs.declared.file_id.FileId.TheVariants as file
+use Rattle.giv_files.specs.declared.key.Key.TheVariants as key
+use Rattle.giv_files.specs.declared.row_why.RowWhy.TheVariants as why
+use Rattle.giv_files.specs.declared.refusal.Refusal.{Refusal}
+use Rattle.giv_files.specs.declared.refusal.Refusal.TheVariants as refusal
+use Rattle.giv_files.specs.declared.setting.Setting.{Setting}
+use Rattle.giv_files.specs.declared.stage.Stage.TheVariants as stage
+use Rattle.giv_files.specs.Inputs.{input_faults, records_of, row_faults}
+use Rattle.giv_files.specs.Reading.{faults, table_of, cells_from, cell_of, errors, values, row_whys}
+use Rattle.giv_files.specs.Rows.{rows, cleaned}
+use Rattle.giv_files.specs.Settings.{BundleParts}
+use Rattle.giv_files.specs.Writing.{cell_text, cell_texts, joined, table_text}
+use Rattle.plan_num.specs.Number.{spelling_of, value_of, value_at, fixed_of, whole_of}
+use Rattle.std.specs.Fmt.{digits}
+use Rattle.ptn_network.specs.declared.edge.Edge.{Edge}
+use Rattle.ptn_network.specs.Networks.{NetworkParts, by_id, stops_of, network_of, network_faults}
+use Rattle.line_pool.specs.Pools.{LineParts, walk_from, walk_of, pool_of, pool_faults}
+use Rattle.line_pool.specs.CostStage.{costs_made, cost_stage}
+
+abbrev edge : ℕ → ℕ → ℕ → ℕ → Edge
+edge id left right length = record { id = pos id; left = left; right = right; length = pos length; lower = pos 4; upper = pos 5 }
+
+-- stops 0 to 2 in a row, the last two joined twice, and two stops apart
+abbrev network : NetworkParts
+network = record {
+  stops = pos 1 ∷ pos 2 ∷ pos 3 ∷ pos 4 ∷ pos 5 ∷ [];
+  edges = edge 1 0 1 2000000 ∷ edge 2 1 2 3000000 ∷ edge 3 3 4 1000000 ∷ edge 7 2 1 1500000 ∷ [];
+}
+
+-- a line over two edges, one over parallel edges, one of one edge, and one that starts at the right stop of its first edge
+lines : pool_of network (codes "# pool\n9; 1; 2\n3; 1; 1\n3; 2; 2\n9; 2; 7\n1; 1; 3\n4; 1; 2\n4; 2; 1\n") ≡ record { id = pos 1; edges = 2 ∷ []; stops = 3 ∷ 4 ∷ [] }
+    ∷ record { id = pos 3; edges = 0 ∷ 1 ∷ []; stops = 0 ∷ 1 ∷ 2 ∷ [] }
+    ∷ record { id = pos 4; edges = 1 ∷ 0 ∷ []; stops = 2 ∷ 1 ∷ 0 ∷ [] }
+    ∷ record { id = pos 9; edges = 1 ∷ 3 ∷ []; stops = 1 ∷ 2 ∷ 1 ∷ [] }
+    ∷ []
+unfolding pool_of by_id walk_from table_of cells_from cell_of values rows cleaned spelling_of value_of value_at fixed_of whole_of
+lines = refl
+
+fine : pool_faults network (codes "# pool\n9; 1; 2\n3; 1; 1\n3; 2; 2\n9; 2; 7\n1; 1; 3\n4; 1; 2\n4; 2; 1\n") ≡ []
+unfolding pool_faults input_faults row_faults faults by_id walk_from table_of cells_from cell_of values errors row_whys rows cleaned spelling_of value_of value_at fixed_of whole_of
+fine = refl
+
+-- rows that break each rule
+broken : pool_faults network (codes "1; 1; 1\n1; 3; 2\n2; 1; 8\n3; 1; 1\n3; 2; 1\n4; 1; 1\n4; 2; 3\n") ≡ refusal.BadRow file.Pool 2 why.OrderGap
+    ∷ refusal.BadRow file.Pool 3 why.UnknownEdge
+    ∷ refusal.BadRow file.Pool 5 why.RepeatedEdge
+    ∷ refusal.BadRow file.Pool 7 why.BrokenLine
+    ∷ []
+unfolding pool_faults input_faults row_faults faults by_id walk_from table_of cells_from cell_of values errors row_whys rows cleaned spelling_of value_of value_at fixed_of whole_of
+broken = refl
+
+-- ---- the stage
+
+abbrev bundle : BundleParts
+bundle = record {
+  stage = stage.Cost;
+  settings = record { key = key.LpoolCostsFixed; value = pos 10000000 } ∷ record { key = key.LpoolCostsLength; value = pos 1000000 } ∷ record { key = key.LpoolCostsEdges; value = pos 0 } ∷ [];
+  inputs = codes "1; A; A; 0; 0\n2; B; B; 0; 0\n3; C; C; 0; 0\n" ∷ codes "1; 1; 2; 2; 4; 5\n2; 2; 3; 3; 6; 6\n" ∷ codes "1; 1; 1\n1; 2; 2\n2; 1; 1\n" ∷ [];
+}
+
+costs : cost_stage bundle ≡ Ok record { files = record { file = file.PoolCost; text = codes "# line-id; length; cost\n1; 5; 15\n2; 2; 12\n" } ∷ []; report = codes "cost: 2 lines" }
+unfolding digits cost_stage pool_of pool_faults network_of network_faults stops_of input_faults row_faults faults by_id walk_from table_of cells_from cell_of values errors row_whys rows cleaned spelling_of value_of value_at fixed_of whole_of cell_text cell_texts joined table_text
+costs = refl

@@ -1,0 +1,103 @@
+use Rattle.std.proofs.Common.{◌≡◌, ◌<◌, ◌+◌, ◌&&◌, ◌++◌, ◌∷◌, cond, true, to_z, of_z, [], Some, ap, subst, sym, ◌∙◌, arith, w64, length, map, take, position, slice_get, ℤ, get_or, pos}
+use Rattle.std.specs.List.{list_any}
+use Rattle.std.specs.HashSet.{contains}
+use Rattle.std.specs.Ordering.{int_eq}
+use Rattle.std.proofs.lemmas.Int.{to_z-of_z}
+use Rattle.std.proofs.lemmas.List.{length-map, take_all}
+use Rattle.std.proofs.lemmas.List.Quantifiers.{position-Some}
+use Rattle.giv_files.specs.declared.file_id.FileId.TheVariants as file
+use Rattle.giv_files.specs.declared.refusal.Refusal.TheVariants as refusal
+use Rattle.giv_files.specs.Inputs.{records, broken_whys}
+use Rattle.giv_files.proofs.Inputs.{row_met, row_refused, rows_met, records_all, records_more}
+use Rattle.line_pool.specs.Pools.{pool_input, rows_of}
+use Rattle.line_pool.specs.LinesSoFar.{line_so_far}
+use Rattle.line_pool.proofs.RowsOfLines.{line_listed, line_at, new_told, lines_more, pair_noted, stands_within, edge_at}
+use Rattle.line_pool.proofs.line_rows.lines_of_rows.Goals as goal
+
+pub place_of-place-requires : goal.place_of-place-requires
+place_of-place-requires c =
+    let row = c.read-row.result in
+    ap (λ id. list_any (int_eq id) c.args.ids.now.keys) (to_z-of_z w64 row.line (record { sfits = omega (arith, c.read-row.type_inv) }))
+    ∙ c.requires.there row.line ∙ line_listed c.args.table.now c.loop-i.i row (omega arith) c.read-row.ensures
+
+pub index-requires : goal.index-requires
+index-requires c =
+    let ids = c.args.ids.now.keys in
+    let within = (position-Some _ ids c.place_of-place.result (pos 0) c.place_of-place.ensures).0 in
+    let size : length c.loop-i.lines.items ≡ length ids = ap length c.loop-i.invariant.lines ∙ length-map ids _ in
+    omega (arith, c.loop-i.lines.ok.0)
+
+pub edge-requires : goal.edge-requires
+edge-requires c =
+    let row = c.read-row.result in
+    let edges = c.args.network.now.edges in
+    let ids = c.args.ids.now.keys in
+    let before = records (pool_input edges) (take c.loop-i.i c.args.table.now) in
+    let own = to_z-of_z w64 row.line (record { sfits = omega (arith, c.read-row.type_inv) }) in
+    let same = to_z-of_z w64 row.edge (record { sfits = omega (arith, c.read-row.type_inv) }) in
+    let at = ap (λ id. position (int_eq id) ids) (sym own) ∙ c.place_of-place.ensures in
+    let told = c.index.ensures ∙ line_at ids c.loop-i.lines.items (line_so_far edges before) row.line c.place_of-place.result c.index.result.now c.loop-i.invariant.lines at in
+    let new = new_told before row _ _ (λ id edge. contains (λ x y. int_eq x.0 y.0 && int_eq x.1 y.1) c.loop-i.pairs (id, edge)) c.in_ok-is_new.is_new own same c.loop-i.invariant.pairs c.in_ok-is_new.ensures.added in
+    stands_within edges row.edge c.in-Ok.index (c.in-Ok.ensures before told new).1
+
+pub add_at-requires : goal.add_at-requires
+add_at-requires c =
+    let ids = c.args.ids.now.keys in
+    let within = (position-Some _ ids c.place_of-place.result (pos 0) c.place_of-place.ensures).0 in
+    let size : length c.loop-i.lines.items ≡ length ids = ap length c.loop-i.invariant.lines ∙ length-map ids _ in
+    omega (arith, c.loop-i.lines.ok.0)
+
+pub returns-in-Err : goal.returns-in-Err
+returns-in-Err c =
+    let row = c.read-row.result in
+    let table = c.args.table.now in
+    let i = c.loop-i.i in
+    let edges = c.args.network.now.edges in
+    let ids = c.args.ids.now.keys in
+    let input = pool_input edges in
+    let before = records input (take i table) in
+    let own = to_z-of_z w64 row.line (record { sfits = omega (arith, c.read-row.type_inv) }) in
+    let same = to_z-of_z w64 row.edge (record { sfits = omega (arith, c.read-row.type_inv) }) in
+    let at = ap (λ id. position (int_eq id) ids) (sym own) ∙ c.place_of-place.ensures in
+    let told = c.index.ensures ∙ line_at ids c.loop-i.lines.items (line_so_far edges before) row.line c.place_of-place.result c.index.result.now c.loop-i.invariant.lines at in
+    let new = new_told before row _ _ (λ id edge. contains (λ x y. int_eq x.0 y.0 && int_eq x.1 y.1) c.loop-i.pairs (id, edge)) c.in_ok-is_new.is_new own same c.loop-i.invariant.pairs c.in_ok-is_new.ensures.added in
+    let broken = c.in-Err.ensures before told new in
+    row_refused input table i c.in-Err.why (omega arith) (subst (λ some. slice_get (broken_whys input.row_rules before some) 0 ≡ Some c.in-Err.why) c.read-row.ensures broken) c.loop-i.invariant.sound
+    ∙ ap (λ number. Some (refusal.BadRow file.Pool number c.in-Err.why)) (sym c.number.ensures)
+
+pub loop-i-preserved : goal.loop-i-preserved
+loop-i-preserved c =
+    let row = c.read-row.result in
+    let table = c.args.table.now in
+    let i = c.loop-i.i in
+    let edges = c.args.network.now.edges in
+    let ids = c.args.ids.now.keys in
+    let input = pool_input edges in
+    let before = records input (take i table) in
+    let own = to_z-of_z w64 row.line (record { sfits = omega (arith, c.read-row.type_inv) }) in
+    let same = to_z-of_z w64 row.edge (record { sfits = omega (arith, c.read-row.type_inv) }) in
+    let at = ap (λ id. position (int_eq id) ids) (sym own) ∙ c.place_of-place.ensures in
+    let told = c.index.ensures ∙ line_at ids c.loop-i.lines.items (line_so_far edges before) row.line c.place_of-place.result c.index.result.now c.loop-i.invariant.lines at in
+    let new = new_told before row _ _ (λ id edge. contains (λ x y. int_eq x.0 y.0 && int_eq x.1 y.1) c.loop-i.pairs (id, edge)) c.in_ok-is_new.is_new own same c.loop-i.invariant.pairs c.in_ok-is_new.ensures.added in
+    let met = c.in-Ok.ensures before told new in
+    let edge = edge_at edges row.edge c.in-Ok.index c.edge.result met.1 c.edge.ensures.place in
+    let more : before ++ row ∷ [] ≡ records input (take (i + 1) table) = ap (λ some. before ++ some ∷ []) c.read-row.ensures ∙ sym (records_more input table i (omega arith)) in
+    record {
+      sound = row_met input table i (omega arith) (subst (λ some. broken_whys input.row_rules before some ≡ []) c.read-row.ensures met.0) c.loop-i.invariant.sound;
+      lines = lines_more edges before row ids c.place_of-place.result c.loop-i.lines.items c.add_at.new.lines.items c.in-Ok.index c.edge.result c.requires.distinct at c.loop-i.invariant.lines met.1 edge c.in_ok-add_at-in-Ok.ensures
+          ∙ ap (λ rows. map (line_so_far edges rows) ids) more;
+      pairs = λ id q.
+          let old = contains (λ x y. int_eq x.0 y.0 && int_eq x.1 y.1) c.loop-i.pairs (id, q) in
+          pair_noted before row id q old _ (c.in_ok-is_new.ensures.updates.0 (id, q) ∙ ap (λ some. cond (int_eq some id && int_eq (to_z w64 (of_z w64 row.edge)) q) true old) own ∙ ap (λ some. cond (int_eq row.line id && int_eq some q) true old) same) (c.loop-i.invariant.pairs id q)
+          ∙ ap (λ rows. list_any (λ other. int_eq q other.edge) (rows_of id rows)) more;
+    }
+
+pub returns : goal.returns
+returns c =
+    let table = c.args.table.now in
+    let i = c.loop-i.i in
+    let edges = c.args.network.now.edges in
+    let input = pool_input edges in (
+      rows_met input table i (omega arith) c.loop-i.invariant.sound,
+      c.loop-i.invariant.lines ∙ ap (λ rows. map (line_so_far edges rows) c.args.ids.now.keys) (records_all input table i (omega arith)),
+    )
