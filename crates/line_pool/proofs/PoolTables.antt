@@ -1,14 +1,11 @@
 -- The pool of a table, from the lines of its rows.
-use Rattle.std.proofs.Common.{◌≡◌, ℤ, ◌≤◌, ◌<◌, cond, List, [], ◌∷◌, ◌++◌, length, map, slice_get, ap, subst, sym, ◌∙◌, arith, Some}
-use Rattle.std.proofs.lemmas.Bool.{le-ltb, lt-ltb}
+use Rattle.std.proofs.Common.{◌≡◌, ℤ, ◌≤◌, cond, List, [], ◌∷◌, ◌++◌, length, map, ap, subst, ◌∙◌}
+use Rattle.std.proofs.lemmas.Bool.{le-ltb}
 use Rattle.std.proofs.lemmas.Simd.{map-map}
 use Rattle.giv_files.specs.declared.counted.Counted.TheVariants as counted
-use Rattle.giv_files.specs.declared.refusal.Refusal.{Refusal}
 use Rattle.giv_files.specs.declared.refusal.Refusal.TheVariants as refusal
-use Rattle.giv_files.specs.declared.refusal.StageFault.{StageFault}
 use Rattle.giv_files.specs.Tables.{TableRow}
-use Rattle.giv_files.specs.Inputs.{records, limit_faults, row_faults, whole_faults, table_faults, Refuses}
-use Rattle.giv_files.proofs.Inputs.{refused_append}
+use Rattle.giv_files.specs.Inputs.{records, limit_faults, row_faults, table_faults}
 use Rattle.ptn_network.specs.declared.edge.Edge.{Edge}
 use Rattle.ptn_network.specs.Networks.{rising}
 use Rattle.line_pool.specs.Pools.{LineParts, pool_input, line_of, lines_over}

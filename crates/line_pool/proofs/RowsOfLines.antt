@@ -1,5 +1,5 @@
 -- Lines and their rows, one row of a pool after the other.
-use Rattle.std.proofs.Common.{◌≡◌, ℕ, ℤ, pos, ◌+◌, ◌<◌, Bool, true, false, not, ◌||◌, ◌&&◌, cond, List, [], ◌∷◌, ◌++◌, length, map, get_or, set, take, slice_get, filter, position, refl, ap, subst, sym, ◌∙◌, arith, Option, Some, None, is_some, unwrap_or, inl, inr, ◌≢◌}
+use Rattle.std.proofs.Common.{◌≡◌, ℕ, ℤ, pos, ◌+◌, ◌<◌, Bool, true, false, not, ◌||◌, ◌&&◌, cond, List, [], ◌∷◌, ◌++◌, length, map, get_or, set, take, slice_get, position, refl, ap, subst, sym, ◌∙◌, arith, Option, Some, None, is_some, unwrap_or, inl, inr, ◌≢◌}
 use Rattle.std.specs.List.{list_any, find, filter_map, cons_option, position_or_len, IsDistinct}
 use Rattle.std.specs.Ordering.{int_eq}
 use Rattle.std.proofs.lemmas.Bool.Decides.{Decides-int_eq}

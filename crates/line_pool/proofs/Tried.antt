@@ -1,14 +1,11 @@
 -- The definitions on a small dataset.
-use Rattle.std.proofs.Common.{◌≡◌, ℕ, List, [], ◌∷◌, refl, ℤ, pos, codes, Option, Some, None, Ok}
-use Rattle.giv_files.specs.declared.counted.Counted.TheVariants as counted
+use Rattle.std.proofs.Common.{◌≡◌, ℕ, [], ◌∷◌, refl, pos, codes, Ok}
 use Rattle.giv_files.specs.declared.file_id.FileId.TheVariants as file
 use Rattle.giv_files.specs.declared.key.Key.TheVariants as key
 use Rattle.giv_files.specs.declared.row_why.RowWhy.TheVariants as why
-use Rattle.giv_files.specs.declared.refusal.Refusal.{Refusal}
 use Rattle.giv_files.specs.declared.refusal.Refusal.TheVariants as refusal
-use Rattle.giv_files.specs.declared.setting.Setting.{Setting}
 use Rattle.giv_files.specs.declared.stage.Stage.TheVariants as stage
-use Rattle.giv_files.specs.Inputs.{input_faults, records_of, row_faults}
+use Rattle.giv_files.specs.Inputs.{input_faults, row_faults}
 use Rattle.giv_files.specs.Reading.{faults, table_of, cells_from, cell_of, errors, values, row_whys}
 use Rattle.giv_files.specs.Rows.{rows, cleaned}
 use Rattle.giv_files.specs.Settings.{BundleParts}
@@ -17,8 +14,8 @@ use Rattle.plan_num.specs.Number.{spelling_of, value_of, value_at, fixed_of, who
 use Rattle.std.specs.Fmt.{digits}
 use Rattle.ptn_network.specs.declared.edge.Edge.{Edge}
 use Rattle.ptn_network.specs.Networks.{NetworkParts, by_id, stops_of, network_of, network_faults}
-use Rattle.line_pool.specs.Pools.{LineParts, walk_from, walk_of, pool_of, pool_faults}
-use Rattle.line_pool.specs.CostStage.{costs_made, cost_stage}
+use Rattle.line_pool.specs.Pools.{walk_from, pool_of, pool_faults}
+use Rattle.line_pool.specs.CostStage.{cost_stage}
 
 abbrev edge : ℕ → ℕ → ℕ → ℕ → Edge
 edge id left right length = record { id = pos id; left = left; right = right; length = pos length; lower = pos 4; upper = pos 5 }

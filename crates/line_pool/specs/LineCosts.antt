@@ -1,5 +1,5 @@
 -- What keeps the costs of lines within their columns.
-use Rattle.std.specs.Prelude.{ℕ, ℤ, pos, ◌≤◌, ◌<◌, ◌≤ℤ◌, List, length, All}
+use Rattle.std.specs.Prelude.{pos, ◌≤◌, ◌<◌, ◌≤ℤ◌, List, length, All}
 use Rattle.giv_files.specs.declared.key.Key.TheVariants as key
 use Rattle.giv_files.specs.declared.setting.Setting.{Setting}
 use Rattle.ptn_network.specs.declared.edge.Edge.{Edge}

@@ -1,4 +1,4 @@
-use Rattle.std.proofs.Common.{◌≡◌, ◌∙◌, ap, sym, position, map, w64, arith}
+use Rattle.std.proofs.Common.{◌∙◌, ap, sym, position, map, w64, arith}
 use Rattle.std.specs.Ordering.{int_eq}
 use Rattle.std.proofs.lemmas.Bool.{not-true, not-false}
 use Rattle.std.proofs.lemmas.Int.{to_z-of_z}
