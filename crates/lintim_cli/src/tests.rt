@@ -4,6 +4,7 @@ use crate::top::lintim;
 use plan_files::{Files, FolderFiles, Got, MemorySink, Sink, StdSink, SteadyFiles};
 use plan_num::{Steps, Tally};
 use std::alloc::{AllocError, Global};
+use std::fs;
 use std::test::Fail;
 
 const EDGES: &[u8] = b"# edges\n1; 1; 2; 2; 4; 5\n2; 2; 3; 3; 6; 6\n";
@@ -117,6 +118,7 @@ fn other_words_are_usage(rt: HostRuntime) -> Result<(), Fail> {
 #[test]
 fn a_real_folder_is_used(rt: HostRuntime) -> Result<(), Fail> {
     let alloc = rt.alloc();
+    let _ = fs::remove_dir_all(&rt, "basis");
     let make = words(alloc, "make")?;
     let mut steps = Steps::new(Tally::new());
     let mut files = FolderFiles::here(&rt, alloc);
@@ -140,15 +142,16 @@ fn a_real_folder_is_used(rt: HostRuntime) -> Result<(), Fail> {
         Got::Bytes(text) => assert_eq!(rt; text.as_bytes(), EDGES),
         Got::Absent | Got::TooLong => return Err(Fail::from("no edges")),
     }
+    fs::remove_dir_all(&rt, "basis")?;
     Ok(())
 }
 
-// A run over an empty folder reports to the standard output that its input cannot be read.
+// A run without files reports to the standard output that its input cannot be read.
 #[test]
 fn a_report_goes_to_the_standard_output(rt: HostRuntime) -> Result<(), Fail> {
     let alloc = rt.alloc();
     let make = words(alloc, "make")?;
-    let mut files = FolderFiles::here(&rt, alloc);
+    let mut files = SteadyFiles::new(alloc);
     let mut out = StdSink::new(&rt);
     let mut steps = Steps::new(Tally::new());
     let status = lintim(alloc, &make, &mut files, &mut out, &mut steps);
