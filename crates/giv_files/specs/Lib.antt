@@ -7,6 +7,7 @@ pub mod Plain
 pub mod Reading
 pub mod Rows
 pub mod Settings
+pub mod StageCalls
 pub mod Stages
 pub mod Tables
 pub mod Writing

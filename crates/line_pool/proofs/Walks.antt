@@ -4,8 +4,9 @@ use Rattle.std.proofs.lemmas.List.{append_assoc, at_drop_more, at_drop_all}
 use Rattle.std.proofs.lemmas.List.Folds.{fold_stays}
 use Rattle.std.proofs.lemmas.List.Sums.{fold_push}
 use Rattle.ptn_network.specs.declared.edge.Edge.{Edge}
-use Rattle.line_pool.specs.Pools.{across, walk_from, or_walk, walk_of}
-use Rattle.line_pool.specs.LinesSoFar.{end_from, ends_of, next_ends}
+use Rattle.ptn_network.specs.Walks.{across, end_from}
+use Rattle.line_pool.specs.Pools.{walk_from, or_walk, walk_of}
+use Rattle.line_pool.specs.LinesSoFar.{ends_of, next_ends}
 
 -- ---- the stops of a walk
 

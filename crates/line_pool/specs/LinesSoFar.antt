@@ -3,13 +3,10 @@ use Rattle.std.specs.Prelude.{ℕ, ℤ, ◌≡◌, ◌++◌, List, [], ◌∷◌
 use Rattle.std.specs.Ordering.{int_eq}
 use Rattle.giv_files.specs.Tables.{TableRow}
 use Rattle.ptn_network.specs.declared.edge.Edge.{Edge}
+use Rattle.ptn_network.specs.Walks.{across, end_from}
 use Rattle.line_pool.specs.declared.ends.Ends.{Ends}
 use Rattle.line_pool.specs.declared.pool_row.PoolRow.{PoolRow}
-use Rattle.line_pool.specs.Pools.{LineParts, across, pool_row, rows_of, edges_of, index_of, walk_of}
-
--- where the walk over edges from a stop ends, where they join end to end from there
-abbrev pub end_from : ℕ → List Edge → Option ℕ
-end_from stop edges = fold (λ end edge. option_and_then (across edge) end) (Some stop) edges
+use Rattle.line_pool.specs.Pools.{LineParts, pool_row, rows_of, edges_of, index_of, walk_of}
 
 -- where the walks from either stop of the first edge end; without an edge there is none
 abbrev pub ends_of : List Edge → Ends

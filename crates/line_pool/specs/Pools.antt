@@ -10,6 +10,7 @@ use Rattle.giv_files.specs.Columns.{pool_columns}
 use Rattle.giv_files.specs.Inputs.{Input, Limit, RowRule, records_of, input_faults}
 use Rattle.ptn_network.specs.declared.edge.Edge.{Edge}
 use Rattle.ptn_network.specs.Networks.{NetworkParts, rising}
+use Rattle.ptn_network.specs.Walks.{across}
 use Rattle.line_pool.specs.declared.pool_row.PoolRow.{PoolRow}
 
 -- the row of a pool: a line, a place in it, and the edge there
@@ -27,10 +28,6 @@ rows_of line rows = filter (λ row. int_eq line row.line) rows
 -- the edges of the rows of a line, in their order
 abbrev pub edges_of : List Edge → ℤ → List PoolRow → List Edge
 edges_of edges line rows = filter_map (λ row. edge_with edges row.edge) (rows_of line rows)
-
--- the stop at the other end of an edge, where a stop is one of its ends
-abbrev pub across : Edge → ℕ → Option ℕ
-across edge stop = if edge.left == stop then Some edge.right else (if edge.right == stop then Some edge.left else None)
 
 -- the stops of the walk over edges from a stop, where the edges join end to end from there
 unfoldable pub walk_from : ℕ → List Edge → Option (List ℕ)

@@ -1,6 +1,6 @@
 // Where the walks of a line end.
 ghost use Rattle.std.specs.Prelude.{◌≡◌, ◌||◌, is_some, option_and_then};
-ghost use Rattle.line_pool.specs.Pools.{across};
+ghost use Rattle.ptn_network.specs.Walks.{across};
 
 use ptn_network::Edge;
 
@@ -17,8 +17,8 @@ impl Ends {
         ensures { result ≡ record { left = across edge.now edge.now.left; right = across edge.now edge.now.right } }
     {
         Ends {
-            left: across(edge, edge.left),
-            right: across(edge, edge.right),
+            left: edge.across(edge.left),
+            right: edge.across(edge.right),
         }
     }
 
@@ -40,25 +40,12 @@ impl Ends {
     }
 }
 
-/// The stop at the other end of an edge, where a stop is one of its ends.
-pub(crate) fn across(edge: &Edge, stop: usize) -> Option<usize>
-    ensures { result ≡ across edge.now stop }
-{
-    if edge.left == stop {
-        Some(edge.right)
-    } else if edge.right == stop {
-        Some(edge.left)
-    } else {
-        None
-    }
-}
-
-// The same from the end of a walk, where there is one.
+// The stop at the other end of an edge from the end of a walk, where there is one.
 fn across_from(edge: &Edge, end: Option<usize>) -> Option<usize>
     ensures { result ≡ option_and_then (across edge.now) end }
 {
     match end {
-        Some(stop) => across(edge, stop),
+        Some(stop) => edge.across(stop),
         None => None,
     }
 }

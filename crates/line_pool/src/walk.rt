@@ -2,7 +2,6 @@
 ghost use Rattle.std.specs.Prelude.{◌≡◌, [], IfOk, unwrap_or, option_map};
 ghost use Rattle.line_pool.specs.Pools.{walk_from, walk_of};
 
-use crate::ends::across;
 use plan_num::NoMemory;
 use ptn_network::Edge;
 use std::alloc::Global;
@@ -30,7 +29,7 @@ fn stops_from(alloc: Global, start: usize, edges: &[Edge]) -> Result<Option<Vec<
     let mut stops = Vec::new(alloc);
     let mut end = start;
     for edge in edges {
-        match across(edge, end) {
+        match edge.across(end) {
             None => return Ok(None),
             Some(next) => {
                 stops.push(end)?;

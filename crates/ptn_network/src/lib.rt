@@ -4,11 +4,14 @@
 mod edge;
 mod edge_row;
 mod edges;
+mod least_sums;
 mod network;
+mod reach;
 mod stops;
 
 pub use edge::Edge;
 pub use network::Network;
+pub use reach::Reach;
 
 #[cfg(test)]
 mod tests;

@@ -1,0 +1,18 @@
+-- What the call of a stage gives, by the function that the stage is.
+use Rattle.std.specs.Prelude.{ℕ, ◌≡◌, ◌≤◌, ◌+◌, Result, Ok, Err, ⊤}
+use Rattle.giv_files.specs.declared.made.Made.{Made}
+use Rattle.giv_files.specs.declared.refusal.Refusal.{Refusal}
+use Rattle.giv_files.specs.declared.refusal.StageFault.{StageFault}
+use Rattle.giv_files.specs.declared.refusal.StageFault.TheVariants as fault
+
+-- what the call of a stage gives: what is made, or the refusal, exactly as the stage's function says; want of memory is free
+abbrev pub StageGives : Result Made Refusal → Result Made StageFault → Type 0
+StageGives function (Ok made) = function ≡ Ok made
+StageGives function (Err (fault.Refused reason)) = function ≡ Err reason
+StageGives function (Err fault.NoMemory) = ⊤
+
+-- the count of steps over the call of a stage: it rises by the stage's work, and by at most that where memory was refused
+abbrev pub TakesSteps : {T : Type 0} → ℕ → ℕ → ℕ → Result T StageFault → Type 0
+TakesSteps work before now (Ok _) = now ≡ before + work
+TakesSteps work before now (Err (fault.Refused reason)) = now ≡ before + work
+TakesSteps work before now (Err fault.NoMemory) = (before ≤ now) × (now ≤ before + work)
