@@ -1,5 +1,5 @@
 -- Settings of a stage, and whether they fit it.
-use Rattle.std.specs.Prelude.{ℕ, ℤ, ◌≡◌, ◌==◌, int_le, Bool, true, List, length, map, Option, Some, None}
+use Rattle.std.specs.Prelude.{ℕ, ℤ, pos, ◌≡◌, ◌==◌, int_le, unsigned_abs, unwrap_or, Bool, true, List, length, map, Option, Some, None}
 use Rattle.std.specs.List.{find, list_all}
 use Rattle.std.specs.Option.{option_map}
 use Rattle.giv_files.specs.declared.key.Key.{Key}
@@ -11,6 +11,10 @@ use Rattle.giv_files.specs.Stages.{stage_inputs}
 -- the value of the first setting with a key
 abbrev pub value_of : List Setting → Key → Option ℤ
 value_of settings key = option_map (λ setting. setting.value) (find (λ setting. key_place setting.key == key_place key) settings)
+
+-- the value of a key that is not below 0: 0 where the key is not there
+abbrev pub amount : List Setting → Key → ℕ
+amount settings key = unsigned_abs (unwrap_or (value_of settings key) (pos 0))
 
 -- a value is not below that of another key, where that is there
 abbrev pub not_below : Option ℤ → ℤ → Bool

@@ -1,9 +1,19 @@
 -- What the call of a stage gives, by the function that the stage is.
-use Rattle.std.specs.Prelude.{ℕ, ◌≡◌, ◌≤◌, ◌+◌, Result, Ok, Err, ⊤}
+use Rattle.std.specs.Prelude.{ℕ, ◌≡◌, ◌≤◌, ◌+◌, List, [], ◌∷◌, slice_index_or, Result, Ok, Err, ⊤}
 use Rattle.giv_files.specs.declared.made.Made.{Made}
 use Rattle.giv_files.specs.declared.refusal.Refusal.{Refusal}
 use Rattle.giv_files.specs.declared.refusal.StageFault.{StageFault}
 use Rattle.giv_files.specs.declared.refusal.StageFault.TheVariants as fault
+use Rattle.giv_files.specs.Settings.{BundleParts}
+
+-- the input text of a bundle at a place
+abbrev pub input_text : BundleParts → ℕ → List ℕ
+input_text bundle place = slice_index_or bundle.inputs place []
+
+-- the first of some faults, or else what is made
+abbrev pub unless_fault : List Refusal → Made → Result Made Refusal
+unless_fault [] made = Ok made
+unless_fault (first ∷ more) made = Err first
 
 -- what the call of a stage gives: what is made, or the refusal, exactly as the stage's function says; want of memory is free
 abbrev pub StageGives : Result Made Refusal → Result Made StageFault → Type 0

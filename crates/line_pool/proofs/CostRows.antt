@@ -11,11 +11,12 @@ use Rattle.giv_files.specs.declared.column.ColumnKind.TheVariants as kind
 use Rattle.giv_files.specs.declared.key.Key.TheVariants as key
 use Rattle.giv_files.specs.declared.setting.Setting.{Setting}
 use Rattle.giv_files.specs.Columns.{pool_cost_columns}
+use Rattle.giv_files.specs.Settings.{amount}
 use Rattle.giv_files.specs.Tables.{TableRow}
 use Rattle.giv_files.specs.Writing.{InColumns, CanWrite}
 use Rattle.ptn_network.specs.declared.edge.Edge.{Edge}
 use Rattle.line_pool.specs.Pools.{LineParts}
-use Rattle.line_pool.specs.CostStage.{amount, edge_length, line_length, line_cost, cost_row}
+use Rattle.line_pool.specs.CostStage.{length_at, line_length, line_cost, cost_row}
 use Rattle.line_pool.specs.LineCosts.{IsModest, AreModest}
 
 product : (a b c d : ℕ) → a ≤ c → b ≤ d → a * b ≤ c * d
@@ -46,7 +47,7 @@ module _ (settings : List Setting) (edges : List Edge) (costs : AreModest settin
   no_parts : LineParts
   no_parts = record { id = pos 0; edges = []; stops = [] }
 
-  module _ (lines : List LineParts) (i : ℕ) (id : ℤ) (some : List ℕ) (units cost : ℕ) (h : i < length lines) (has_id : option_map (λ line. line.id) (slice_get lines i) ≡ Some id) (has_edges : option_map (λ line. line.edges) (slice_get lines i) ≡ Some some) (sums : units ≡ sum (map (edge_length edges) some)) where
+  module _ (lines : List LineParts) (i : ℕ) (id : ℤ) (some : List ℕ) (units cost : ℕ) (h : i < length lines) (has_id : option_map (λ line. line.id) (slice_get lines i) ≡ Some id) (has_edges : option_map (λ line. line.edges) (slice_get lines i) ≡ Some some) (sums : units ≡ sum (map (length_at edges) some)) where
     line_is : (id ≡ (get_or lines i no_parts).id) × (some ≡ (get_or lines i no_parts).edges)
     line_is =
         let at = slice_get-get_or lines i no_parts h in
@@ -55,7 +56,7 @@ module _ (settings : List Setting) (edges : List Edge) (costs : AreModest settin
         (same_Some _ _ e, same_Some _ _ f)
 
     units_are : units ≡ line_length edges (get_or lines i no_parts)
-    units_are = sums ∙ ap (λ indexes. sum (map (edge_length edges) indexes)) line_is.1
+    units_are = sums ∙ ap (λ indexes. sum (map (length_at edges) indexes)) line_is.1
 
     -- the edges of the line are there, and it is not too long
     pub line_modest : All (IsModest edges) lines → All (λ index. index < length edges) some × (units ≤ 10000000000000) × (length some ≤ 1000)

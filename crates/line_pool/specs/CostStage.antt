@@ -1,30 +1,27 @@
 -- The cost of each line, and the stage that writes them.
-use Rattle.std.specs.Prelude.{ℕ, pos, ◌+◌, ◌*◌, ◌/◌, List, [], ◌∷◌, ◌++◌, length, map, sum, codes, decimal, slice_index_or, unsigned_abs, option_map, unwrap_or, slice_get, Result, Ok, Err}
+use Rattle.std.specs.Prelude.{ℕ, pos, ◌+◌, ◌*◌, ◌/◌, List, [], ◌∷◌, ◌++◌, length, map, sum, codes, decimal, option_map, unwrap_or, slice_get, Result, Ok, Err}
 use Rattle.giv_files.specs.declared.file_id.FileId.TheVariants as file
-use Rattle.giv_files.specs.declared.key.Key.{Key}
 use Rattle.giv_files.specs.declared.key.Key.TheVariants as key
 use Rattle.giv_files.specs.declared.made.Made.{Made}
 use Rattle.giv_files.specs.declared.refusal.Refusal.{Refusal}
 use Rattle.giv_files.specs.declared.setting.Setting.{Setting}
 use Rattle.giv_files.specs.Columns.{pool_cost_columns}
-use Rattle.giv_files.specs.Settings.{BundleParts, value_of}
+use Rattle.giv_files.specs.Settings.{BundleParts, amount}
+use Rattle.giv_files.specs.StageCalls.{input_text, unless_fault}
 use Rattle.giv_files.specs.Tables.{TableRow}
 use Rattle.giv_files.specs.Writing.{table_text}
 use Rattle.ptn_network.specs.declared.edge.Edge.{Edge}
 use Rattle.ptn_network.specs.Networks.{NetworkParts, network_of, network_faults}
+use Rattle.ptn_network.specs.Walks.{edge_length}
 use Rattle.line_pool.specs.Pools.{LineParts, pool_of, pool_faults}
 
--- the value of a key of a fitting bundle, which is not below 0 there
-abbrev pub amount : List Setting → Key → ℕ
-amount settings key = unsigned_abs (unwrap_or (value_of settings key) (pos 0))
-
--- the length of the edge of an index, in millionths
-abbrev pub edge_length : List Edge → ℕ → ℕ
-edge_length edges index = unwrap_or (option_map (λ edge. unsigned_abs edge.length) (slice_get edges index)) 0
+-- the length of the edge at an index, in millionths
+abbrev pub length_at : List Edge → ℕ → ℕ
+length_at edges index = unwrap_or (option_map edge_length (slice_get edges index)) 0
 
 -- the length of a line: the sum of the lengths of its edges
 abbrev pub line_length : List Edge → LineParts → ℕ
-line_length edges line = sum (map (edge_length edges) line.edges)
+line_length edges line = sum (map (length_at edges) line.edges)
 
 -- the cost of a line in millionths: a fixed part, a part by its length, rounded down to a millionth, and a part for each edge
 abbrev pub line_cost : List Setting → List Edge → LineParts → ℕ
@@ -45,22 +42,13 @@ costs_made settings edges lines = record {
   report = codes "cost: " ++ decimal (length lines) ++ codes " lines";
 }
 
--- the texts that the stage takes: stops, edges and the pool
-abbrev pub input_text : BundleParts → ℕ → List ℕ
-input_text bundle place = slice_index_or bundle.inputs place []
-
--- the network of a bundle
+-- the network of a bundle, whose inputs are the texts of stops, of edges and of the pool
 abbrev pub network_in : BundleParts → NetworkParts
 network_in bundle = network_of (input_text bundle 0) (input_text bundle 1)
 
 -- every fault of a bundle, in the order of its inputs
 abbrev pub cost_faults : BundleParts → List Refusal
 cost_faults bundle = network_faults (input_text bundle 0) (input_text bundle 1) ++ pool_faults (network_in bundle) (input_text bundle 2)
-
--- the first of some faults, or else what is made
-abbrev pub unless_fault : List Refusal → Made → Result Made Refusal
-unless_fault [] made = Ok made
-unless_fault (first ∷ more) made = Err first
 
 -- the stage: from settings and input texts to what is made, or the first fault
 unfoldable pub cost_stage : BundleParts → Result Made Refusal

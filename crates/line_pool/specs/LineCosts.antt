@@ -2,9 +2,10 @@
 use Rattle.std.specs.Prelude.{pos, ◌≤◌, ◌<◌, ◌≤ℤ◌, List, length, All}
 use Rattle.giv_files.specs.declared.key.Key.TheVariants as key
 use Rattle.giv_files.specs.declared.setting.Setting.{Setting}
+use Rattle.giv_files.specs.Settings.{amount}
 use Rattle.ptn_network.specs.declared.edge.Edge.{Edge}
 use Rattle.line_pool.specs.Pools.{LineParts}
-use Rattle.line_pool.specs.CostStage.{amount, line_length}
+use Rattle.line_pool.specs.CostStage.{line_length}
 
 -- a line whose id is one, whose edges are there and not too many, and which is not too long
 pub record IsModest (edges : List Edge) (line : LineParts) : Type 0 where

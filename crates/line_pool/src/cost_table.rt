@@ -1,7 +1,8 @@
 // The table of the costs of lines.
 ghost use Rattle.std.specs.Prelude.{◌≡◌, ◌+◌, ◌*◌, ◌/◌, ◌<◌, ◌≤◌, ◌++◌, length, map, sum, codes, decimal, All, IfOk};
 ghost use Rattle.giv_files.specs.declared.key.Key.TheVariants as key;
-ghost use Rattle.line_pool.specs.CostStage.{amount, edge_length, cost_row, costs_made};
+ghost use Rattle.giv_files.specs.Settings.{amount};
+ghost use Rattle.line_pool.specs.CostStage.{length_at, cost_row, costs_made};
 ghost use Rattle.line_pool.specs.LineCosts.{IsModest, AreModest};
 
 use crate::pool::Pool;
@@ -64,7 +65,7 @@ fn cost_table(
 // The sum of the lengths of edges.
 fn length_of(network: &Network, edges: &[usize]) -> u128
     requires { All (λ index. index < length network.now.edges) edges.now }
-    ensures { result ≡ sum (map (edge_length network.now.edges) edges.now) }
+    ensures { result ≡ sum (map (length_at network.now.edges) edges.now) }
 {
     let mut sum: u128 = 0;
     for index in edges {
