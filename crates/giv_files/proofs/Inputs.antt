@@ -128,7 +128,7 @@ or_else_none (x ∷ all) others e = cc
 
 module _ {X : Type 0} (input : Input X) where
   -- a text without a fault has none in its cells, and none in its table
-  parts_sound : (text : List ℕ) → input_faults input text ≡ [] → (cell_faults input.file input.columns text ≡ []) × (table_faults input (table_of input.columns text) ≡ [])
+  pub parts_sound : (text : List ℕ) → input_faults input text ≡ [] → (cell_faults input.file input.columns text ≡ []) × (table_faults input (table_of input.columns text) ≡ [])
   unfolding input_faults
   parts_sound text none = or_else_none _ _ none
 

@@ -10,7 +10,9 @@ pub mod PlainTexts
 pub mod Ranges
 pub mod RowFacts
 pub mod RowsLeft
+pub mod SettingFacts
 pub mod SplitFacts
+pub mod StageCalls
 pub mod TableRows
 pub mod WriteFacts
 pub mod WrittenBack

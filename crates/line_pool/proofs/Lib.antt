@@ -5,3 +5,5 @@ mod PoolTables
 mod RowsOfLines
 mod Tried
 mod Walks
+pub mod SoundLines
+pub mod CostCalls

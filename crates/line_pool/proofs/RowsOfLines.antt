@@ -37,7 +37,7 @@ found_at p xs place e = find_at p xs ∙ ap (slice_get xs) (cond_some _ (positio
 found_nowhere : {X : Type 0} (p : X → Bool) (xs : List X) → position p xs ≡ None → find p xs ≡ None
 found_nowhere p xs e = find_at p xs ∙ slice_get_past xs (position_or_len p xs) (ltb-false _ _ (nothing_chosen _ (position_or_len p xs) e))
 
-some_edge : Edge
+pub some_edge : Edge
 some_edge = record { id = pos 0; left = 0; right = 0; length = pos 0; lower = pos 0; upper = pos 0 }
 
 module _ (edges : List Edge) (id : ℤ) where
@@ -64,11 +64,11 @@ module _ (edges : List Edge) (id : ℤ) where
 -- ---- the rows of a line
 
 -- a row of another line
-rows_other : (before : List PoolRow) (row : PoolRow) (id : ℤ) → int_eq id row.line ≡ false → rows_of id (before ++ row ∷ []) ≡ rows_of id before
+pub rows_other : (before : List PoolRow) (row : PoolRow) (id : ℤ) → int_eq id row.line ≡ false → rows_of id (before ++ row ∷ []) ≡ rows_of id before
 rows_other before row id e = filter-append (λ row. int_eq id row.line) before (row ∷ []) ∙ ap (λ b. rows_of id before ++ cond b (row ∷ []) []) e ∙ append-nil (rows_of id before)
 
 -- a row of the line
-rows_own : (before : List PoolRow) (row : PoolRow) (id : ℤ) → int_eq id row.line ≡ true → rows_of id (before ++ row ∷ []) ≡ rows_of id before ++ row ∷ []
+pub rows_own : (before : List PoolRow) (row : PoolRow) (id : ℤ) → int_eq id row.line ≡ true → rows_of id (before ++ row ∷ []) ≡ rows_of id before ++ row ∷ []
 rows_own before row id e = filter-append (λ row. int_eq id row.line) before (row ∷ []) ∙ ap (λ b. rows_of id before ++ cond b (row ∷ []) []) e
 
 -- the edges of a line with a row more
@@ -122,7 +122,7 @@ module _ (edges : List Edge) (before : List PoolRow) (row : PoolRow) where
 
 -- ---- the rules of a row
 
-abbrev whys : Bool → Bool → Bool → Bool → List RowWhy
+abbrev pub whys : Bool → Bool → Bool → Bool → List RowWhy
 whys known next repeated joined =
     cond (not known) (why.UnknownEdge ∷ []) [] ++ (cond (not next) (why.OrderGap ∷ []) [] ++ (cond repeated (why.RepeatedEdge ∷ []) [] ++ (cond (not joined) (why.BrokenLine ∷ []) [] ++ [])))
 

@@ -1,5 +1,5 @@
 -- What is known of the lines of a pool after some of its rows.
-use Rattle.std.specs.Prelude.{ℕ, ℤ, ◌≡◌, ◌++◌, List, [], ◌∷◌, map, fold, position, Option, Some, None, option_and_then, unwrap_or}
+use Rattle.std.specs.Prelude.{ℕ, ℤ, ◌≡◌, ◌++◌, List, [], ◌∷◌, map, position, Some, None, option_and_then, unwrap_or}
 use Rattle.std.specs.Ordering.{int_eq}
 use Rattle.giv_files.specs.Tables.{TableRow}
 use Rattle.ptn_network.specs.declared.edge.Edge.{Edge}

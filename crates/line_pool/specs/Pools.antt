@@ -1,5 +1,5 @@
 -- The pool of lines over a network: its file, its rules, and each line as a walk.
-use Rattle.std.specs.Prelude.{ℕ, ℤ, pos, ◌+◌, ◌==◌, if◌then◌else◌, not, is_some, List, [], ◌∷◌, ◌++◌, length, map, filter, filter_map, get_or, position, Option, Some, None, option_map, option_and_then, unwrap_or}
+use Rattle.std.specs.Prelude.{ℕ, ℤ, pos, ◌+◌, not, is_some, List, [], ◌∷◌, ◌++◌, length, map, filter, filter_map, get_or, position, Option, Some, None, option_map, option_and_then, unwrap_or}
 use Rattle.std.specs.List.{list_any, find}
 use Rattle.std.specs.Ordering.{int_eq}
 use Rattle.giv_files.specs.declared.counted.Counted.TheVariants as counted

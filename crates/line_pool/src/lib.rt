@@ -10,11 +10,13 @@ mod line_sum;
 mod plain_fault;
 mod pool;
 mod pool_row;
+mod stage;
 mod walk;
 
 pub use costs::{PlainCost, plain_cost};
 pub use plain_fault::PlainFault;
 pub use pool::Pool;
+pub use stage::make_cost;
 
 #[cfg(test)]
 mod pool_tests;

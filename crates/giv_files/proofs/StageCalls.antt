@@ -1,0 +1,19 @@
+-- What the call of a stage gives, from the faults of its inputs and from what is made.
+use Rattle.std.proofs.Common.{◌≡◌, List, [], ◌∷◌, ap, sym, ◌∙◌, Ok, Err}
+use Rattle.std.proofs.lemmas.Option.{same_Some}
+use Rattle.giv_files.specs.declared.made.Made.{Made}
+use Rattle.giv_files.specs.declared.refusal.Refusal.{Refusal}
+use Rattle.giv_files.specs.declared.refusal.StageFault.{StageFault}
+use Rattle.giv_files.specs.declared.refusal.StageFault.TheVariants as stage
+use Rattle.giv_files.specs.Inputs.{Refuses}
+use Rattle.giv_files.specs.StageCalls.{unless_fault, StageGives}
+
+-- a fault that refuses the inputs is what the stage gives
+pub stage_refused : (faults : List Refusal) (made : Made) (fault : StageFault) → Refuses faults fault → StageGives (unless_fault faults made) (Err fault)
+stage_refused [] made (stage.Refused reason) h = cc
+stage_refused (first ∷ more) made (stage.Refused reason) h = ap (λ r. Err r) (same_Some _ _ h)
+stage_refused faults made stage.NoMemory h = tt
+
+-- without a fault the stage gives what is made
+pub stage_made : (faults : List Refusal) (made result : Made) → faults ≡ [] → result ≡ made → StageGives (unless_fault faults made) (Ok result)
+stage_made faults made result none is = ap (λ all. unless_fault all made) none ∙ ap (λ m. Ok m) (sym is)

@@ -1,0 +1,49 @@
+-- The stage of costs, from what each of its inputs gives.
+use Rattle.std.proofs.Common.{◌≡◌, List, [], ◌++◌, ap, refl, subst, sym, ◌∙◌, Ok, Err}
+use Rattle.giv_files.specs.declared.key.Key.TheVariants as key
+use Rattle.giv_files.specs.declared.made.Made.{Made}
+use Rattle.giv_files.specs.declared.refusal.StageFault.{StageFault}
+use Rattle.giv_files.specs.Inputs.{Refuses}
+use Rattle.giv_files.specs.Settings.{BundleParts, Fits}
+use Rattle.giv_files.specs.StageCalls.{input_text, StageGives}
+use Rattle.giv_files.proofs.Inputs.{refused_append}
+use Rattle.giv_files.proofs.SettingFacts.{amount_within}
+use Rattle.giv_files.proofs.StageCalls.{stage_refused, stage_made}
+use Rattle.ptn_network.specs.Networks.{NetworkParts, network_of, network_faults}
+use Rattle.line_pool.specs.CostStage.{costs_made, cost_faults, cost_stage}
+use Rattle.line_pool.specs.LineCosts.{AreModest}
+use Rattle.line_pool.specs.Pools.{LineParts, pool_of, pool_faults}
+
+-- the settings of a bundle that fits are within their ranges
+pub settings_modest : (bundle : BundleParts) → Fits bundle → AreModest bundle.settings
+settings_modest bundle fits =
+    let allowed = fits.settings.allowed in
+    record {
+      fixed = amount_within bundle.settings key.LpoolCostsFixed _ allowed refl refl;
+      by_length = amount_within bundle.settings key.LpoolCostsLength _ allowed refl refl;
+      by_edge = amount_within bundle.settings key.LpoolCostsEdges _ allowed refl refl;
+    }
+
+module _ (bundle : BundleParts) where
+  -- texts that give no network
+  pub network_refused : (fault : StageFault) → Refuses (network_faults (input_text bundle 0) (input_text bundle 1)) fault → StageGives (cost_stage bundle) (Err fault)
+  unfolding cost_stage
+  network_refused fault h = stage_refused (cost_faults bundle) _ fault (refused_append (network_faults (input_text bundle 0) (input_text bundle 1)) _ fault h)
+
+  module _ (network : NetworkParts) (none : network_faults (input_text bundle 0) (input_text bundle 1) ≡ []) (is : network ≡ network_of (input_text bundle 0) (input_text bundle 1)) where
+    later : pool_faults network (input_text bundle 2) ≡ cost_faults bundle
+    later =
+        ap (λ some. pool_faults some (input_text bundle 2)) is
+        ∙ ap (λ first. first ++ pool_faults (network_of (input_text bundle 0) (input_text bundle 1)) (input_text bundle 2)) (sym none)
+
+    -- a text that gives no pool
+    pub pool_refused : (fault : StageFault) → Refuses (pool_faults network (input_text bundle 2)) fault → StageGives (cost_stage bundle) (Err fault)
+    unfolding cost_stage
+    pool_refused fault h = stage_refused (cost_faults bundle) _ fault (subst (λ all. Refuses all fault) later h)
+
+    -- texts without a fault
+    pub costs_given : (pool : List LineParts) (made : Made) → pool_faults network (input_text bundle 2) ≡ [] → pool ≡ pool_of network (input_text bundle 2) → made ≡ costs_made bundle.settings network.edges pool → StageGives (cost_stage bundle) (Ok made)
+    unfolding cost_stage
+    costs_given pool made faultless read given =
+        stage_made (cost_faults bundle) _ made (sym later ∙ faultless)
+        (given ∙ ap (costs_made bundle.settings network.edges) read ∙ ap (λ some. costs_made bundle.settings some.edges (pool_of some (input_text bundle 2))) is)
