@@ -1,12 +1,10 @@
 pub mod CellFacts
 pub mod CellTexts
-pub mod EachAfter
 pub mod FieldFacts
 pub mod Inputs
 pub mod KeyPlaces
 pub mod Lines
 pub mod PlainBytes
-pub mod PlainTexts
 pub mod Ranges
 pub mod RowFacts
 pub mod RowsLeft

@@ -1,9 +1,7 @@
 pub mod Columns
-pub mod EachAfter
 pub mod Inputs
 pub mod Keys
 pub mod Names
-pub mod Plain
 pub mod Reading
 pub mod Rows
 pub mod Settings

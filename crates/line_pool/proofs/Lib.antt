@@ -1,9 +1,7 @@
+mod CostCalls
 mod CostRows
-pub mod LineSums
-pub mod Readable
 mod PoolTables
 mod RowsOfLines
+pub mod SoundLines
 mod Tried
 mod Walks
-pub mod SoundLines
-pub mod CostCalls

@@ -2,19 +2,14 @@
 #![tactic(auto)]
 
 mod cost_table;
-mod costs;
 mod ends;
 mod line_rows;
 mod line_so_far;
-mod line_sum;
-mod plain_fault;
 mod pool;
 mod pool_row;
 mod stage;
 mod walk;
 
-pub use costs::{PlainCost, plain_cost};
-pub use plain_fault::PlainFault;
 pub use pool::Pool;
 pub use stage::make_cost;
 
