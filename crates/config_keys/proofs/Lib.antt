@@ -1,5 +1,6 @@
 pub mod Expanding
 pub mod KeyNames
+pub mod Looks
 pub mod NameFacts
 pub mod Settling
 pub mod Steps

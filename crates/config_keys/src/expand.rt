@@ -17,8 +17,8 @@ use std::alloc::Global;
 
 const CONFIG_NAME: &str = "basis/Config.cnf";
 
-// The most bytes of a file that people write: 64 MiB.
-const FILE_LIMIT: u64 = 64 << 20;
+/// The most bytes of a file that people write: 64 MiB.
+pub const FILE_LIMIT: u64 = 64 << 20;
 
 const MOST_LEVELS: u8 = 8;
 

@@ -14,6 +14,7 @@ mod word;
 pub use config::Config;
 pub use config_end::ConfigEnd;
 pub use config_fault::ConfigFault;
+pub use expand::FILE_LIMIT;
 pub use read::read_config;
 
 #[cfg(test)]

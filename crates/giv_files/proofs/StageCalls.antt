@@ -17,3 +17,8 @@ stage_refused faults made stage.NoMemory h = tt
 -- without a fault the stage gives what is made
 pub stage_made : (faults : List Refusal) (made result : Made) → faults ≡ [] → result ≡ made → StageGives (unless_fault faults made) (Ok result)
 stage_made faults made result none is = ap (λ all. unless_fault all made) none ∙ ap (λ m. Ok m) (sym is)
+
+-- what a stage makes where it refuses nothing
+pub made_unless : (faults : List Refusal) (made result : Made) → unless_fault faults made ≡ Ok result → made ≡ result
+made_unless [] made result e = cc
+made_unless (first ∷ more) made result e = absurd (cc)

@@ -61,6 +61,13 @@ impl MadeList {
     {
         &self.files[index]
     }
+
+    /// The files themselves. It takes no memory.
+    pub fn into_vec(self) -> Vec<MadeFile>
+        ensures { result.items ≡ self }
+    {
+        self.files
+    }
 }
 
 /// The files that a stage made, and its line in the report without the line's end.

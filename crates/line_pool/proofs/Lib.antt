@@ -1,4 +1,5 @@
 mod CostCalls
+pub mod CostMakes
 mod CostRows
 mod PoolTables
 mod RowsOfLines

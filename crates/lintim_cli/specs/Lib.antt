@@ -1,5 +1,3 @@
 pub mod Answers
-pub mod Costs
-pub mod Made
 pub mod Reports
 pub mod Top

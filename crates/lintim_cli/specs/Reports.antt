@@ -1,16 +1,9 @@
 -- The texts of reports, and what writing one leaves.
-use Rattle.std.specs.Prelude.{ℕ, ◌≡◌, ◌⊎◌, List, ◌++◌, take, codes, decimal, Option}
+use Rattle.std.specs.Prelude.{ℕ, ◌≡◌, ◌⊎◌, List, ◌++◌, take, codes, Option}
 use Rattle.std.specs.Option.{option_map}
 use Rattle.plan_files.specs.Counts.{Raised}
 use Rattle.lintim_cli.specs.declared.answers.Status.{Status}
 use Rattle.lintim_cli.specs.declared.answers.Status.TheVariants.{FileFault, SinkFault, NoMemory}
-
--- the report of costs that were made
-abbrev pub costs_report : ℕ → List ℕ
-costs_report lines = codes "cost: " ++ decimal lines ++ codes " lines\ndone\n"
-
-abbrev pub refused_report : List ℕ
-refused_report = codes "refused: unreadable\n"
 
 abbrev pub usage_report : List ℕ
 usage_report = codes "usage: lintim make\n"

@@ -1,6 +1,8 @@
 // What a run ends with.
 ghost use Rattle.std.specs.Prelude.{◌≡◌};
-ghost use Rattle.lintim_cli.specs.Answers.{number_of};
+ghost use Rattle.lintim_cli.specs.Answers.{number_of, status_of};
+
+use stage_driver::RunEnd;
 
 /// How a run of the program ended.
 #[derive(Clone, Copy, Debug, PartialEq, Eq)]
@@ -40,6 +42,19 @@ impl Status {
             Status::SinkFault => 7,
             Status::NoMemory => 8,
             Status::Uncertified => 9,
+        }
+    }
+}
+
+impl From<RunEnd> for Status {
+    ghost from_gives = { λ end status. status ≡ status_of end };
+
+    fn from(end: RunEnd) -> Status {
+        match end {
+            RunEnd::Done => Status::Done,
+            RunEnd::BadInput => Status::BadInput,
+            RunEnd::NoSolution => Status::NoSolution,
+            RunEnd::Spent => Status::Spent,
         }
     }
 }

@@ -2,7 +2,6 @@
 #![tactic(auto)]
 
 mod answers;
-mod make;
 mod report;
 mod top;
 

@@ -1,27 +1,9 @@
 // Reports, and how they are written.
-ghost use Rattle.std.specs.Prelude.{◌≡◌, IfOk};
-ghost use Rattle.lintim_cli.specs.Reports.{costs_report, refused_report, Reported, FaultReported};
+ghost use Rattle.lintim_cli.specs.Reports.{Reported, FaultReported};
 ghost use Rattle.lintim_cli.specs.Answers.{IsReport};
 
 use crate::answers::Status;
 use plan_files::{Sink, SinkFault};
-use plan_num::{NoMemory, Text};
-use std::alloc::Global;
-
-// The report of costs that were made.
-pub(crate) fn costs(alloc: Global, lines: u64) -> Result<Text, NoMemory>
-    ensures { IfOk result (λ text. text ≡ costs_report lines) }
-{
-    let text = format!(in alloc; "cost: {lines} lines\ndone\n")?;
-    Text::copy(alloc, text.as_bytes())
-}
-
-// The report of input that cannot be read.
-pub(crate) fn refused(alloc: Global) -> Result<Text, NoMemory>
-    ensures { IfOk result (λ text. text ≡ refused_report) }
-{
-    Text::copy(alloc, b"refused: unreadable\n")
-}
 
 // Writes a report by one call, and answers the status that it ends with.
 pub(crate) fn tell<K: Sink>(out: &mut K, report: &[u8], status: Status) -> Status

@@ -7,17 +7,22 @@ use std::alloc::{AllocError, Global};
 use std::fs;
 use std::test::Fail;
 
+const CONFIG: &[u8] = b"load_source; file\nperiod_length; 20\n";
+
+const STOPS: &[u8] = b"# stops\n1; A; A; 0; 0\n2; B; B; 0; 0\n3; C; C; 0; 0\n";
+
 const EDGES: &[u8] = b"# edges\n1; 1; 2; 2; 4; 5\n2; 2; 3; 3; 6; 6\n";
 
 const POOL: &[u8] = b"# pool\n1; 1; 1\n1; 2; 2\n2; 1; 1\n";
 
 const COSTS: &[u8] = b"# line-id; length; cost\n1; 5; 15\n2; 2; 12\n";
 
-const UNREADABLE: &[u8] = b"refused: unreadable\n";
-
-// A run over two files, and what it has to answer, write, report and count.
+// A run over the files of a dataset, where some of them are others or are not there, and what it has to answer, write,
+// report and count.
 #[derive(Clone, Copy)]
 struct Case {
+    config: Option<&'static [u8]>,
+    stops: Option<&'static [u8]>,
     edges: Option<&'static [u8]>,
     pool: Option<&'static [u8]>,
     status: Status,
@@ -26,71 +31,160 @@ struct Case {
     steps: u64,
 }
 
+// The run over the dataset as it is.
+const MADE: Case = Case {
+    config: Some(CONFIG),
+    stops: Some(STOPS),
+    edges: Some(EDGES),
+    pool: Some(POOL),
+    status: Status::Done,
+    costs: Some(COSTS),
+    report: b"cost: 2 lines\ndone\n",
+    steps: 1,
+};
+
+// A run that is refused by its stage.
+const REFUSED: Case = Case {
+    status: Status::BadInput,
+    costs: None,
+    ..MADE
+};
+
 fn words(alloc: Global, word: &str) -> Result<Vec<String>, AllocError> {
     let mut words = Vec::new(alloc);
     words.push(String::from_str(alloc, word)?)?;
     Ok(words)
 }
 
+// Runs over the files of a case.
+fn run(rt: &HostRuntime, case: &Case) -> Result<(), Fail> {
+    let alloc = rt.alloc();
+    let mut files = SteadyFiles::new(alloc);
+    files.put("basis/Pool-Cost.giv", b"old")?;
+    files.put("other.txt", b"kept")?;
+    let given = [
+        ("basis/Config.cnf", case.config),
+        ("basis/Stop.giv", case.stops),
+        ("basis/Edge.giv", case.edges),
+        ("basis/Pool.giv", case.pool),
+    ];
+    for (name, text) in &given {
+        if let Some(text) = text {
+            files.put(name, text)?;
+        }
+    }
+    let mut out = MemorySink::new(alloc);
+    let mut steps = Steps::new(Tally::new());
+    let make = words(alloc, "make")?;
+    let status = lintim(alloc, &make, &mut files, &mut out, &mut steps);
+    assert_eq!(rt; out.bytes(), case.report);
+    assert_eq!(rt; status, case.status);
+    assert_eq!(rt; steps.ledger().seen(), case.steps);
+    let costs = files
+        .file("basis/Pool-Cost.giv")
+        .map(|text| text.as_bytes());
+    assert_eq!(rt; costs.is_some(), case.costs.is_some());
+    assert_eq!(rt; costs.unwrap_or(b""), case.costs.unwrap_or(b""));
+    let other = files.file("other.txt").ok_or("no other file")?;
+    assert_eq!(rt; other.as_bytes(), b"kept".as_slice());
+    Ok(())
+}
+
+// Costs are made under the settings of the dataset, and old ones are put in the place of, or removed.
 #[test]
 fn costs_are_made_or_removed(rt: HostRuntime) -> Result<(), Fail> {
-    let alloc = rt.alloc();
-    let made = Case {
-        edges: Some(EDGES),
-        pool: Some(POOL),
-        status: Status::Done,
-        costs: Some(COSTS),
-        report: b"cost: 2 lines\ndone\n",
-        steps: 1,
-    };
-    let short_row = Case {
-        edges: Some(b"# edges\n1; 1; 2; 2; 4\n2; 2; 3; 3; 6; 6\n"),
-        pool: Some(POOL),
-        status: Status::BadInput,
-        costs: None,
-        report: UNREADABLE,
-        steps: 1,
-    };
-    let no_pool = Case {
-        edges: Some(EDGES),
-        pool: None,
-        status: Status::BadInput,
-        costs: None,
-        report: UNREADABLE,
-        steps: 0,
-    };
-    let empty = Case {
-        edges: Some(b""),
-        pool: Some(b""),
-        status: Status::Done,
-        costs: Some(b"# line-id; length; cost\n"),
-        report: b"cost: 0 lines\ndone\n",
-        steps: 1,
-    };
-    let make = words(alloc, "make")?;
-    for case in [made, short_row, no_pool, empty] {
-        let mut files = SteadyFiles::new(alloc);
-        files.put("basis/Pool-Cost.giv", b"old")?;
-        files.put("other.txt", b"kept")?;
-        if let Some(edges) = case.edges {
-            files.put("basis/Edge.giv", edges)?;
-        }
-        if let Some(pool) = case.pool {
-            files.put("basis/Pool.giv", pool)?;
-        }
-        let mut out = MemorySink::new(alloc);
-        let mut steps = Steps::new(Tally::new());
-        let status = lintim(alloc, &make, &mut files, &mut out, &mut steps);
-        assert_eq!(rt; status, case.status);
-        assert_eq!(rt; out.bytes(), case.report);
-        assert_eq!(rt; steps.ledger().seen(), case.steps);
-        let costs = files
-            .file("basis/Pool-Cost.giv")
-            .map(|text| text.as_bytes());
-        assert_eq!(rt; costs.is_some(), case.costs.is_some());
-        assert_eq!(rt; costs.unwrap_or(b""), case.costs.unwrap_or(b""));
-        let other = files.file("other.txt").ok_or("no other file")?;
-        assert_eq!(rt; other.as_bytes(), b"kept".as_slice());
+    let cases = [
+        MADE,
+        Case {
+            config: Some(b"lpool_costs_length; 0.5\nlpool_costs_edges; 2\n"),
+            costs: Some(b"# line-id; length; cost\n1; 5; 16.5\n2; 2; 13\n"),
+            ..MADE
+        },
+        Case {
+            config: None,
+            stops: Some(b""),
+            edges: Some(b""),
+            pool: Some(b""),
+            costs: Some(b"# line-id; length; cost\n"),
+            report: b"cost: 0 lines\ndone\n",
+            ..MADE
+        },
+        Case {
+            config: Some(b"last_stage; load\n"),
+            costs: None,
+            report: b"done\n",
+            steps: 0,
+            ..MADE
+        },
+    ];
+    for case in &cases {
+        run(&rt, case)?;
+    }
+    Ok(())
+}
+
+// What people wrote is refused by file, row and rule, or by key.
+#[test]
+fn bad_input_is_refused(rt: HostRuntime) -> Result<(), Fail> {
+    let cases = [
+        Case {
+            config: Some(b"last_stage; costs\n"),
+            report: b"refused: value of last_stage\n",
+            steps: 0,
+            ..REFUSED
+        },
+        Case {
+            config: Some(b"include; ../x.cnf\n"),
+            report: b"refused: basis/Config.cnf row 1: include outside the dataset\n",
+            steps: 0,
+            ..REFUSED
+        },
+        Case {
+            config: Some(b"include; x.cnf\n"),
+            report: b"refused: basis/x.cnf is missing\n",
+            steps: 0,
+            ..REFUSED
+        },
+        Case {
+            pool: None,
+            report: b"refused: basis/Pool.giv is missing\n",
+            steps: 0,
+            ..REFUSED
+        },
+        Case {
+            stops: None,
+            pool: None,
+            report: b"refused: basis/Stop.giv is missing\n",
+            steps: 0,
+            ..REFUSED
+        },
+        Case {
+            edges: Some(b"# edges\n1; 1; 2; 2; 4\n2; 2; 3; 3; 6; 6\n"),
+            report: b"refused: basis/Edge.giv row 2: wrong number of fields\n",
+            ..REFUSED
+        },
+        Case {
+            edges: Some(b"# edges\n1; 1; 2; 2; 4; 5\n2; 2; 3; 3; 6; 6\n2; 1; 9; 1; 1; 1\n"),
+            report: b"refused: basis/Edge.giv row 4: repeated id\n",
+            ..REFUSED
+        },
+        Case {
+            pool: Some(b"# pool\n1; 1; 1\n1; 3; 2\n"),
+            report: b"refused: basis/Pool.giv row 3: order gap\n",
+            ..REFUSED
+        },
+        Case {
+            stops: Some(
+                b"1; A; A; 0; 0\n2; B; B; 0; 0\n3; C; C; 0; 0\n4; D; D; 0; 0\n5; E; E; 0; 0\n",
+            ),
+            edges: Some(b"# edges\n1; 1; 2; 2; 4; 5\n2; 2; 3; 3; 6; 6\n3; 4; 5; 1; 1; 1\n"),
+            pool: Some(b"# pool\n1; 1; 1\n1; 2; 3\n"),
+            report: b"refused: basis/Pool.giv row 3: broken line\n",
+            ..REFUSED
+        },
+    ];
+    for case in &cases {
+        run(&rt, case)?;
     }
     Ok(())
 }
@@ -122,6 +216,7 @@ fn a_real_folder_is_used(rt: HostRuntime) -> Result<(), Fail> {
     let make = words(alloc, "make")?;
     let mut steps = Steps::new(Tally::new());
     let mut files = FolderFiles::here(&rt, alloc);
+    files.put("basis/Stop.giv", STOPS)?;
     files.put("basis/Edge.giv", EDGES)?;
     files.put("basis/Pool.giv", POOL)?;
     let mut out = MemorySink::new(alloc);
@@ -146,7 +241,7 @@ fn a_real_folder_is_used(rt: HostRuntime) -> Result<(), Fail> {
     Ok(())
 }
 
-// A run without files reports to the standard output that its input cannot be read.
+// A run without files reports to the standard output what it misses.
 #[test]
 fn a_report_goes_to_the_standard_output(rt: HostRuntime) -> Result<(), Fail> {
     let alloc = rt.alloc();

@@ -1,2 +1,4 @@
+pub mod Applying
 pub mod OtherFiles
 pub mod Writes
+pub mod Written

@@ -5,6 +5,8 @@ use Rattle.std.specs.Cmp.Lexicographic.{pointwise, slice_cmp, texts_ties}
 use Rattle.std.specs.Ordering.{nat_cmp, eq_by_cmp}
 use Rattle.std.proofs.lemmas.Cmp.{nat_list_cmp_total, eq_by_cmp_equiv}
 use Rattle.std.specs.FinMap as map
+use Rattle.std.specs.Str.{bytes_eq}
+use Rattle.std.proofs.lemmas.Map.Text.{is_eq-slice_cmp}
 use Rattle.plan_files.specs.declared.write.Write.{Write}
 use Rattle.plan_files.specs.declared.write.Write.TheVariants.{Put, Removal}
 use Rattle.plan_files.specs.Folder.{Folder}
@@ -25,6 +27,16 @@ get_after_write (Put other bytes) folder name =
     map.get-insert nat_list_cmp_total folder other bytes name ∙ ap (λ b. cond b (left_by (Put other bytes)) (map.get folder name)) (same_name name other)
 get_after_write (Removal other) folder name =
     map.get-remove nat_list_cmp_total folder other name ∙ ap (λ b. cond b (left_by (Removal other)) (map.get folder name)) (same_name name other)
+
+-- the same, as names are compared
+pub get_written : (write : Write) (folder : Folder) (name : List ℕ) → map.get (after_write write folder) name ≡ cond (bytes_eq name (write_name write)) (left_by write) (map.get folder name)
+get_written (Put other bytes) folder name = map.get-insert nat_list_cmp_total folder other bytes name ∙ ap (λ b. cond b (left_by (Put other bytes)) (map.get folder name)) (is_eq-slice_cmp name other)
+get_written (Removal other) folder name = map.get-remove nat_list_cmp_total folder other name ∙ ap (λ b. cond b (left_by (Removal other)) (map.get folder name)) (is_eq-slice_cmp name other)
+
+-- writes, and then others
+pub folder_after_both : (writes more : List Write) (folder : Folder) → folder_after (writes ++ more) folder ≡ folder_after more (folder_after writes folder)
+folder_after_both [] more folder = refl
+folder_after_both (write ∷ writes) more folder = folder_after_both writes more (after_write write folder)
 
 -- one write more
 pub get_next_write : (writes : List Write) (i : ℕ) (write : Write) (name : List ℕ) → i < length writes → write ≡ get_or writes i write → map.get (folder_of (take (i + 1) writes)) name ≡ cond (pointwise nat_eq (write_name write) name) (left_by write) (map.get (folder_of (take i writes)) name)

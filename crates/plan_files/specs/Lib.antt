@@ -1,3 +1,4 @@
+pub mod Applied
 pub mod Changes
 pub mod Counts
 pub mod Folder

@@ -1,6 +1,7 @@
 //! Files and sinks as the planning chain sees them: what each call answers and leaves, with counts of faults.
 #![tactic(auto)]
 
+mod apply;
 #[cfg(test)]
 mod drive;
 mod faults;
@@ -15,6 +16,7 @@ mod steady_files;
 mod store;
 mod write;
 
+pub use apply::apply_all;
 pub use file_fault::FileFault;
 pub use folder_files::FolderFiles;
 pub use memory_sink::MemorySink;

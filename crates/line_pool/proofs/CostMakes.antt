@@ -1,0 +1,14 @@
+-- Which files the stage of costs makes.
+use Rattle.std.proofs.Common.{◌≡◌, List, map, Ok, refl, ap, sym, ◌∙◌}
+use Rattle.giv_files.specs.declared.made.Made.{Made}
+use Rattle.giv_files.specs.declared.made.MadeFile.{MadeFile}
+use Rattle.giv_files.specs.declared.stage.Stage.TheVariants as stage
+use Rattle.giv_files.specs.Settings.{BundleParts}
+use Rattle.giv_files.specs.Stages.{stage_makes}
+use Rattle.giv_files.proofs.StageCalls.{made_unless}
+use Rattle.line_pool.specs.CostStage.{cost_stage}
+
+-- they are those that the stage is to make
+pub cost_stage_makes : (bundle : BundleParts) (made : Made) → cost_stage bundle ≡ Ok made → map (λ (file : MadeFile). file.file) made.files ≡ stage_makes stage.Cost
+unfolding cost_stage
+cost_stage_makes bundle made is = sym (ap (λ (made : Made). map (λ (file : MadeFile). file.file) made.files) (made_unless _ _ made is))

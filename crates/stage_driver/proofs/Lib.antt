@@ -1,0 +1,11 @@
+pub mod HandAlone
+pub mod Named
+pub mod Gathering
+pub mod Going
+pub mod HandKept
+pub mod Left
+pub mod Pieces
+pub mod Removing
+pub mod Running
+pub mod Starting
+pub mod Visiting

@@ -1,0 +1,30 @@
+use Rattle.std.proofs.Common.{◌≡◌, ap, sym, ◌∙◌, refl, ◌++◌, ◌∷◌, [], ◌+◌, length, length-append}
+use Rattle.giv_files.specs.declared.file_id.FileId.TheVariants.{Stop}
+use Rattle.giv_files.specs.Settings.{BundleParts}
+use Rattle.stage_driver.specs.Chain.{bundle_for}
+use Rattle.stage_driver.proofs.Gathering.{told_more, told_all}
+use Rattle.stage_driver.proofs.gather.gather.Goals as goal
+
+pub loop-file-preserved : goal.loop-file-preserved
+loop-file-preserved g c =
+    let k = c.in_ok-push_input.ensures.ok in
+    let inputs = c.loop-file.bundle.inputs in
+    record {
+      contents = c.in_ok-text.ensures.contents ∙ c.loop-file.invariant.contents;
+      writes = c.in_ok-text.ensures.writes ∙ c.loop-file.invariant.writes;
+      faults = c.in_ok-text.ensures.faults ∙ c.loop-file.invariant.faults;
+      stage = ap (λ (bundle : BundleParts). bundle.stage) k ∙ c.loop-file.invariant.stage;
+      settings = ap (λ (bundle : BundleParts). bundle.settings) k ∙ c.loop-file.invariant.settings;
+      count = ap (λ (bundle : BundleParts). length bundle.inputs) k ∙ length-append inputs (c.as_bytes.result.now ∷ []) ∙ ap (λ n. n + 1) c.loop-file.invariant.count;
+      texts = told_more _ _ c.args.config.now c.args.made.now c.inputs-file-items.result.now c.loop-file.file-index Stop inputs c.push_input.new.self.inputs c.in_ok-text.text
+          c.loop-file-test.true c.loop-file.invariant.contents (rw c.chosen.ensures at c.in_ok-text.ensures.text)
+          (ap (λ (bundle : BundleParts). bundle.inputs) k ∙ ap (λ text. inputs ++ text ∷ []) c.as_bytes.ensures) c.loop-file.invariant.texts;
+    }
+
+pub returns-clause-bundle : goal.returns-clause-bundle
+returns-clause-bundle g c =
+    let k = c.new-bundle.ensures in
+    let stage = c.loop-file.invariant.stage ∙ ap (λ (bundle : BundleParts). bundle.stage) k in
+    let settings = c.loop-file.invariant.settings ∙ ap (λ (bundle : BundleParts). bundle.settings) k ∙ c.in_ok-settings.ensures.settings in
+    let is : c.loop-file.bundle ≡ bundle_for c.args.config.now c.args.stage c.loop-file.bundle.inputs = λ i. record { stage = stage i; settings = settings i; inputs = c.loop-file.bundle.inputs } in
+    told_all _ c.args.config.now c.args.made.now c.inputs-file-items.result.now _ c.loop-file.file-index c.args.stage c.loop-file.bundle c.loop-file-test.false c.inputs-file-items.ensures is c.loop-file.invariant.texts

@@ -1,0 +1,31 @@
+use Rattle.std.proofs.Common.{Err, ap, ◌∙◌}
+use Rattle.std.proofs.lemmas.Result.{err_from_is_err_and}
+use Rattle.stage_driver.proofs.Running.{outcome_is, left_is, unfinished_is, untouched, work_told, work_bound, hand_is, hand_untouched}
+use Rattle.stage_driver.proofs.run.run_chain.Goals as goal
+
+pub returns-clause-outcome : goal.returns-clause-outcome
+returns-clause-outcome g c = outcome_is _ c.run_to_end.new.progress c.in_ok-stop.stop c.args.steps.now c.run_to_end.new.steps _ c.in_ok-stop.ensures.end c.finish.ensures.report c.finish.ensures.end
+
+pub returns-clause-left : goal.returns-clause-left
+returns-clause-left g c = left_is _ _ _ _ _ _ c.run_to_end.new.progress c.in_ok-stop.stop c.args.steps.now c.run_to_end.new.steps _ c.in_ok-stop.ensures.contents c.in_ok-stop.ensures.writes c.in_ok-stop.ensures.end c.finish.ensures.left
+
+pub returns-clause-unfinished : goal.returns-clause-unfinished
+returns-clause-unfinished g c = unfinished_is _ _ _ _ _ _ c.run_to_end.new.progress c.in_ok-stop.stop c.args.steps.now c.run_to_end.new.steps _ c.in_ok-stop.ensures.contents c.in_ok-stop.ensures.writes c.in_ok-stop.ensures.end c.finish.ensures.unfinished
+
+pub returns-clause-work : goal.returns-clause-work
+returns-clause-work g c = work_told _ c.run_to_end.new.progress c.in_ok-stop.stop c.args.steps.now c.run_to_end.new.steps _ c.in_ok-stop.ensures.end
+
+pub returns-clause-no_more : goal.returns-clause-no_more
+returns-clause-no_more g c = work_bound _ c.run_to_end.new.progress c.args.steps.now c.run_to_end.new.steps c.run_to_end.result c.run_to_end.ensures.end
+
+pub returns-clause-hand : goal.returns-clause-hand
+returns-clause-hand g c = hand_is _ _ _ _ _ c.run_to_end.new.progress c.in_ok-stop.stop c.args.steps.now c.run_to_end.new.steps _ c.in_ok-stop.ensures.contents c.in_ok-stop.ensures.end c.finish.ensures.left c.finish.ensures.unfinished
+
+pub returns-in_err-stop-clause-unfinished : goal.returns-in_err-stop-clause-unfinished
+returns-in_err-stop-clause-unfinished g c = untouched _ _ _ _ _ c.in_err-stop.ensures.contents c.in_err-stop.ensures.writes
+
+pub returns-in_err-stop-clause-no_more : goal.returns-in_err-stop-clause-no_more
+returns-in_err-stop-clause-no_more g c = work_bound _ c.run_to_end.new.progress c.args.steps.now c.run_to_end.new.steps c.run_to_end.result c.run_to_end.ensures.end
+
+pub returns-in_err-stop-clause-hand : goal.returns-in_err-stop-clause-hand
+returns-in_err-stop-clause-hand g c = hand_untouched _ _ c.in_err-stop.ensures.contents

@@ -1,0 +1,88 @@
+-- What the stages that are built make of hand files.
+use Rattle.std.specs.Prelude.{ℕ, ℤ, ◌+◌, List, [], ◌∷◌, ◌++◌, Option, Some, None, Result, Ok, Err}
+use Rattle.std.specs.List.{flat_map}
+use Rattle.std.specs.Option.{option_map}
+use Rattle.plan_files.specs.Folder.{Folder}
+use Rattle.giv_files.specs.declared.made.Made.{Made}
+use Rattle.giv_files.specs.declared.made.MadeFile.{MadeFile}
+use Rattle.giv_files.specs.declared.refusal.Refusal.{Refusal}
+use Rattle.giv_files.specs.declared.refusal.Refusal.TheVariants as refusal
+use Rattle.giv_files.specs.declared.stage.Stage.{Stage}
+use Rattle.giv_files.specs.declared.stage.Stage.TheVariants as stage
+use Rattle.giv_files.specs.Settings.{BundleParts}
+use Rattle.config_keys.specs.declared.config_fault.ConfigFault.{ConfigFault}
+use Rattle.config_keys.specs.Items.{look_in}
+use Rattle.config_keys.specs.Values.{effective}
+use Rattle.line_pool.specs.CostStage.{cost_stage}
+use Rattle.stage_driver.specs.declared.outcome.RunEnd.{RunEnd}
+use Rattle.stage_driver.specs.declared.stop.Stop.{Stop}
+use Rattle.stage_driver.specs.declared.stop.Stop.TheVariants as stop
+use Rattle.stage_driver.specs.Chain.{Visit, Halt, Trace, chain_from, to_run}
+use Rattle.stage_driver.specs.Reports.{stage_lines, last_line, end_of}
+
+-- the stages that are built, in the order in which they run
+abbrev pub built : List Stage
+built = stage.Cost ∷ []
+
+-- what each stage makes of what it is given; one that is not built makes nothing, and no chain has it
+unfoldable pub stage_function : Stage → BundleParts → Result Made Refusal
+stage_function stage.Cost bundle = cost_stage bundle
+stage_function _ bundle = Err refusal.NoSolution
+
+-- the same, by the stage of the bundle
+abbrev pub run_stage : BundleParts → Result Made Refusal
+run_stage bundle = stage_function bundle.stage bundle
+
+-- how many steps a stage takes over what it is given
+abbrev pub stage_work : BundleParts → ℕ
+stage_work bundle = 1
+
+-- what the chain over hand files does, under settings or a fault of them
+abbrev pub trace_under : Result (List ℤ) ConfigFault → Folder → Trace
+trace_under (Err reason) hand = record { visits = []; halt = Some (record { stop = stop.BadConfig reason; given = None }) }
+trace_under (Ok values) hand = chain_from run_stage values hand [] (to_run values built)
+
+-- what the chain over hand files does from scratch
+unfoldable pub trace_of : Folder → Trace
+trace_of hand = trace_under (effective (look_in hand)) hand
+
+-- the files that were made, in order
+abbrev pub files_of : List Visit → List MadeFile
+files_of visits = flat_map (λ visit. visit.made.files) visits
+
+-- the steps of the stages that were made
+abbrev pub visits_work : List Visit → ℕ
+visits_work [] = 0
+visits_work (visit ∷ visits) = stage_work visit.bundle + visits_work visits
+
+-- the steps of the stage that ends a chain early, where it had its inputs
+abbrev pub given_work : Option BundleParts → ℕ
+given_work None = 0
+given_work (Some bundle) = stage_work bundle
+
+abbrev pub halt_work : Option Halt → ℕ
+halt_work None = 0
+halt_work (Some halt) = given_work halt.given
+
+-- why a chain ends early
+abbrev pub stop_of : Option Halt → Option Stop
+stop_of halt = option_map (λ halt. halt.stop) halt
+
+-- what is made of hand files: the files, the report, how it ends, and how many steps it takes
+pub record Chain : Type 0 where
+  pub files : List MadeFile
+  pub report : List ℕ
+  pub end : RunEnd
+  pub work : ℕ
+
+abbrev pub told_by : Trace → Chain
+told_by trace = record {
+  files = files_of trace.visits;
+  report = stage_lines trace.visits ++ last_line (stop_of trace.halt);
+  end = end_of (stop_of trace.halt);
+  work = visits_work trace.visits + halt_work trace.halt;
+}
+
+-- what the chain makes of hand files from scratch
+unfoldable pub made : Folder → Chain
+made hand = told_by (trace_of hand)

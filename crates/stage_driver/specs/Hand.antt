@@ -1,0 +1,31 @@
+-- Which files of a dataset people write, and which the program makes.
+use Rattle.std.specs.Prelude.{ℕ, not, ◌||◌, Bool, List, ◌++◌, map, codes}
+use Rattle.std.specs.List.{list_any, flat_map}
+use Rattle.std.specs.Str.{bytes_eq}
+use Rattle.std.specs.FinMap as files
+use Rattle.plan_files.specs.Folder.{Folder}
+use Rattle.giv_files.specs.declared.file_id.FileId.{FileId}
+use Rattle.giv_files.specs.declared.file_id.FileId.TheVariants as file
+use Rattle.giv_files.specs.declared.stage.Stage.{Stage}
+use Rattle.giv_files.specs.Names.{file_name, stage_name}
+use Rattle.giv_files.specs.Stages.{all_stages, stage_makes}
+
+-- a name is among others
+abbrev pub is_among : List ℕ → List (List ℕ) → Bool
+is_among name names = list_any (bytes_eq name) names
+
+-- the names of the files that some stages make
+abbrev pub names_made_by : List Stage → List (List ℕ)
+names_made_by stages = map file_name (flat_map stage_makes stages)
+
+-- the name of the file in which a stage keeps its last result
+abbrev pub keep_name : Stage → List ℕ
+keep_name stage = codes "keep/" ++ stage_name stage ++ codes ".keep"
+
+-- people write a file: no stage makes it, and no stage keeps its last result in it
+unfoldable pub is_hand : List ℕ → Bool
+is_hand name = not (is_among name (names_made_by all_stages) || is_among name (map keep_name all_stages))
+
+-- the files of a folder that people write
+unfoldable pub hand_of : Folder → Folder
+hand_of folder = files.retain_keys folder is_hand

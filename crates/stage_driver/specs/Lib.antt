@@ -1,0 +1,7 @@
+pub mod Built
+pub mod Chain
+pub mod Ends
+pub mod Hand
+pub mod Progress
+pub mod Reports
+pub mod Runs

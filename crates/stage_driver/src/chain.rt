@@ -1,0 +1,87 @@
+// The stages of a chain, one after the other.
+ghost use Rattle.std.specs.Prelude.{◌≡◌, ◌≤◌, [], IfSome};
+ghost use Rattle.config_keys.specs.Items.{look_in};
+ghost use Rattle.config_keys.specs.Values.{effective};
+ghost use Rattle.stage_driver.specs.Built.{built, run_stage, trace_of};
+ghost use Rattle.stage_driver.specs.Chain.{chain_from, to_run, visit_of};
+ghost use Rattle.stage_driver.specs.Ends.{CountsEnd};
+ghost use Rattle.stage_driver.specs.Progress.{ChainGives, VisitGives, nothing};
+
+use crate::chain_end::ChainEnd;
+use crate::gather::gather;
+use crate::progress::Progress;
+use crate::stages::{built, make_stage, place_of};
+use crate::stop::Stop;
+use config_keys::{Config, read_config};
+use giv_files::{Stage, StageFault};
+use plan_files::Files;
+use plan_num::{Ledger, Steps};
+use std::alloc::Global;
+
+/// Runs the stages that are built over the files of a dataset, up to the last one that its settings name or to
+/// where the chain ends early.
+pub(crate) fn run_built<F: Files, L: Ledger>(
+    alloc: Global,
+    files: &mut F,
+    steps: &mut Steps<L>,
+    progress: &mut Progress,
+) -> Result<(), ChainEnd>
+    requires { progress.old ≡ nothing }
+    ensures chain { IfSome (F.contents files.old) (λ folder. ChainGives (trace_of folder) progress.new steps.old steps.new result) }
+    ensures contents { F.contents files.new ≡ F.contents files.old }
+    ensures writes { F.writes files.new ≡ F.writes files.old }
+    ensures faults { CountsEnd (F.faults files.old) (F.faults files.new) result }
+    ensures no_less { steps.old ≤ steps.new }
+{
+    let config = read_config(alloc, files)?;
+    run_stages(alloc, files, &config, steps, progress)
+}
+
+// Runs the stages under the settings of the dataset.
+fn run_stages<F: Files, L: Ledger>(
+    alloc: Global,
+    files: &mut F,
+    config: &Config,
+    steps: &mut Steps<L>,
+    progress: &mut Progress,
+) -> Result<(), ChainEnd>
+    requires { progress.old ≡ nothing }
+    ensures chain { IfSome (F.contents files.old) (λ folder. ChainGives (chain_from run_stage config.now folder [] (to_run config.now built)) progress.new steps.old steps.new result) }
+    ensures contents { F.contents files.new ≡ F.contents files.old }
+    ensures writes { F.writes files.new ≡ F.writes files.old }
+    ensures faults { CountsEnd (F.faults files.old) (F.faults files.new) result }
+    ensures no_less { steps.old ≤ steps.new }
+{
+    for stage in built() {
+        if place_of(*stage) <= place_of(config.last_stage()) {
+            visit(alloc, files, config, *stage, steps, progress)?;
+        }
+    }
+    Ok(())
+}
+
+// Runs one stage.
+fn visit<F: Files, L: Ledger>(
+    alloc: Global,
+    files: &mut F,
+    config: &Config,
+    stage: Stage,
+    steps: &mut Steps<L>,
+    progress: &mut Progress,
+) -> Result<(), ChainEnd>
+    ensures visit { IfSome (F.contents files.old) (λ folder. VisitGives (visit_of run_stage config.now folder progress.old.files stage) progress.old progress.new steps.old steps.new result) }
+    ensures contents { F.contents files.new ≡ F.contents files.old }
+    ensures writes { F.writes files.new ≡ F.writes files.old }
+    ensures faults { CountsEnd (F.faults files.old) (F.faults files.new) result }
+    ensures no_less { steps.old ≤ steps.new }
+{
+    let bundle = gather(alloc, files, config, stage, progress.files())?;
+    match make_stage(alloc, &bundle, steps) {
+        Ok(made) => {
+            progress.add(made)?;
+            Ok(())
+        }
+        Err(StageFault::Refused(refusal)) => Err(ChainEnd::Stopped(Stop::Refused(stage, refusal))),
+        Err(StageFault::NoMemory) => Err(ChainEnd::NoMemory),
+    }
+}

@@ -1,0 +1,100 @@
+// What a stage is given.
+ghost use Rattle.std.specs.Prelude.{◌≡◌, ℕ, IfSome, IfOk};
+ghost use Rattle.config_keys.specs.Items.{look_in};
+ghost use Rattle.giv_files.specs.Names.{file_name};
+ghost use Rattle.giv_files.specs.Settings.{Fits};
+ghost use Rattle.giv_files.specs.Stages.{stage_inputs};
+ghost use Rattle.stage_driver.specs.Chain.{bundle_told, input_text, made_text, needed_text, optional_text, texts_of};
+ghost use Rattle.stage_driver.specs.Ends.{CountsEnd, Gives};
+
+use crate::chain_end::ChainEnd;
+use crate::origin::{Origin, chosen, origin_of};
+use crate::stop::Stop;
+use config_keys::{Config, FILE_LIMIT};
+use giv_files::{Bundle, FileId, MadeFile, Stage};
+use plan_files::{Files, Got};
+use plan_num::Text;
+use std::alloc::Global;
+
+/// A stage with its settings and its inputs, or why an input is not there.
+pub(crate) fn gather<F: Files>(
+    alloc: Global,
+    files: &mut F,
+    config: &Config,
+    stage: Stage,
+    made: &[MadeFile],
+) -> Result<Bundle, ChainEnd>
+    ensures bundle { IfSome (F.contents files.old) (λ folder. Gives (bundle_told config.now stage (texts_of config.now folder made.now (stage_inputs stage))) result) }
+    ensures fits { IfOk result (λ bundle. Fits bundle) }
+    ensures contents { F.contents files.new ≡ F.contents files.old }
+    ensures writes { F.writes files.new ≡ F.writes files.old }
+    ensures faults { CountsEnd (F.faults files.old) (F.faults files.new) result }
+{
+    let settings = config.stage_settings(alloc, stage)?;
+    let mut bundle = Bundle::new(alloc, stage, settings);
+    for file in stage.inputs() {
+        let text = input(alloc, files, chosen(config, *file), made)?;
+        bundle.push_input(text.as_bytes())?;
+    }
+    Ok(bundle)
+}
+
+// The text of an input.
+fn input<F: Files>(
+    alloc: Global,
+    files: &mut F,
+    file: FileId,
+    made: &[MadeFile],
+) -> Result<Text, ChainEnd>
+    ensures text { IfSome (F.contents files.old) (λ folder. Gives (input_text folder made.now file) result) }
+    ensures contents { F.contents files.new ≡ F.contents files.old }
+    ensures writes { F.writes files.new ≡ F.writes files.old }
+    ensures faults { CountsEnd (F.faults files.old) (F.faults files.new) result }
+{
+    match origin_of(file) {
+        Origin::Needed => needed(alloc, files, file),
+        Origin::Optional => optional(alloc, files, file),
+        Origin::Earlier => made_text(alloc, made, file),
+    }
+}
+
+// The text of a hand file that has to be there.
+fn needed<F: Files>(alloc: Global, files: &mut F, file: FileId) -> Result<Text, ChainEnd>
+    ensures text { IfSome (F.contents files.old) (λ folder. Gives (needed_text file (look_in folder (file_name file))) result) }
+    ensures contents { F.contents files.new ≡ F.contents files.old }
+    ensures writes { F.writes files.new ≡ F.writes files.old }
+    ensures faults { CountsEnd (F.faults files.old) (F.faults files.new) result }
+{
+    match files.get(alloc, file.name(), FILE_LIMIT)? {
+        Got::Bytes(text) => Ok(text),
+        Got::Absent => Err(ChainEnd::Stopped(Stop::Missing(file))),
+        Got::TooLong => Err(ChainEnd::Stopped(Stop::TooLong(file))),
+    }
+}
+
+// The text of a hand file that need not be there.
+fn optional<F: Files>(alloc: Global, files: &mut F, file: FileId) -> Result<Text, ChainEnd>
+    ensures text { IfSome (F.contents files.old) (λ folder. Gives (optional_text file (look_in folder (file_name file))) result) }
+    ensures contents { F.contents files.new ≡ F.contents files.old }
+    ensures writes { F.writes files.new ≡ F.writes files.old }
+    ensures faults { CountsEnd (F.faults files.old) (F.faults files.new) result }
+{
+    match files.get(alloc, file.name(), FILE_LIMIT)? {
+        Got::Bytes(text) => Ok(text),
+        Got::Absent => Ok(Text::from_vec(Vec::new(alloc))),
+        Got::TooLong => Err(ChainEnd::Stopped(Stop::TooLong(file))),
+    }
+}
+
+// The text of a file that a stage before made.
+fn made_text(alloc: Global, made: &[MadeFile], file: FileId) -> Result<Text, ChainEnd>
+    ensures text { Gives (made_text made.now file) result }
+    ensures calm { (faults : ℕ) → CountsEnd faults faults result }
+{
+    for other in made {
+        if other.file.name() == file.name() {
+            return Ok(Text::copy(alloc, other.text.as_bytes())?);
+        }
+    }
+    Err(ChainEnd::Stopped(Stop::Missing(file)))
+}

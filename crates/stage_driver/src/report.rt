@@ -1,0 +1,173 @@
+// The lines of a report.
+ghost use Rattle.std.specs.Prelude.{◌≡◌, ◌++◌, OnOk, IfOk};
+ghost use Rattle.std.specs.Option.{option_copied};
+ghost use Rattle.stage_driver.specs.Reports.{row_text, missing_text, too_long_text, config_text, refusal_text, stop_text, last_line, end_of, end_of_refusal};
+
+use crate::outcome::{Outcome, RunEnd};
+use crate::stop::Stop;
+use config_keys::ConfigFault;
+use giv_files::{Refusal, Stage};
+use plan_num::{NoMemory, Text};
+use std::alloc::Global;
+
+/// The outcome of a run, whose last line is put behind the lines of its stages.
+#[tactic(auto, using(std::proofs::lemmas::List::append_assoc))]
+pub(crate) fn outcome(
+    alloc: Global,
+    lines: Vec<u8>,
+    stop: Option<Stop>,
+) -> Result<Outcome, NoMemory>
+    ensures report { IfOk result (λ outcome. outcome.report ≡ lines.items ++ last_line stop) }
+    ensures end { IfOk result (λ outcome. outcome.end ≡ end_of stop) }
+{
+    let mut report = lines;
+    match &stop {
+        None => report.extend_from_slice(b"done")?,
+        Some(stop) => push_stop(alloc, &mut report, stop)?,
+    }
+    report.push(b'\n')?;
+    Ok(Outcome {
+        end: end_of(stop.as_ref()),
+        report: Text::from_vec(report),
+    })
+}
+
+// How a run ends.
+fn end_of(stop: Option<&Stop>) -> RunEnd
+    ensures { result ≡ end_of (option_copied stop.entry) }
+{
+    match stop {
+        None => RunEnd::Done,
+        Some(Stop::Refused(_, refusal)) => end_of_refusal(refusal),
+        Some(Stop::BadConfig(_) | Stop::Missing(_) | Stop::TooLong(_)) => RunEnd::BadInput,
+    }
+}
+
+// How a run ends by what a stage refuses.
+fn end_of_refusal(refusal: &Refusal) -> RunEnd
+    ensures { result ≡ end_of_refusal refusal.now }
+{
+    match refusal {
+        Refusal::BadRow { .. } | Refusal::TooMany { .. } => RunEnd::BadInput,
+        Refusal::NoSolution => RunEnd::NoSolution,
+        Refusal::Spent { .. } => RunEnd::Spent,
+    }
+}
+
+// Why a chain ends early.
+#[tactic(auto, unfolding(crate::specs::Reports::stop_text))]
+fn push_stop(alloc: Global, report: &mut Vec<u8>, stop: &Stop) -> Result<(), NoMemory>
+    ensures { OnOk result (report.new.items ≡ report.old.items ++ stop_text stop.now) }
+{
+    match stop {
+        Stop::BadConfig(fault) => push_config(alloc, report, fault),
+        Stop::Missing(file) => push_missing(report, file.name().as_bytes()),
+        Stop::TooLong(file) => push_too_long(report, file.name().as_bytes()),
+        Stop::Refused(stage, refusal) => push_refusal(alloc, report, *stage, refusal),
+    }
+}
+
+// Why settings are refused.
+#[tactic(auto, using(std::proofs::lemmas::List::append_assoc))]
+fn push_config(alloc: Global, report: &mut Vec<u8>, fault: &ConfigFault) -> Result<(), NoMemory>
+    ensures { OnOk result (report.new.items ≡ report.old.items ++ config_text fault.now) }
+{
+    match fault {
+        ConfigFault::BadRow { name, row, why } => {
+            let why = format!(in alloc; "{why}")?;
+            push_row(alloc, report, name.as_bytes(), *row, why.as_str())
+        }
+        ConfigFault::MissingInclude { name } => push_missing(report, name.as_bytes()),
+        ConfigFault::IncludeOutside { name, row } => push_row(
+            alloc,
+            report,
+            name.as_bytes(),
+            *row,
+            "include outside the dataset",
+        ),
+        ConfigFault::TooDeep { name, row } => {
+            push_row(alloc, report, name.as_bytes(), *row, "includes too deep")
+        }
+        ConfigFault::TooManyIncludes { name, row } => {
+            push_row(alloc, report, name.as_bytes(), *row, "too many includes")
+        }
+        ConfigFault::TooLong { name } => push_too_long(report, name.as_bytes()),
+        ConfigFault::BadValue { key } => {
+            report.extend_from_slice(b"refused: value of ")?;
+            report.extend_from_slice(key.name().as_bytes())?;
+            Ok(())
+        }
+    }
+}
+
+// What a stage refuses.
+#[tactic(auto, using(std::proofs::lemmas::List::append_assoc))]
+fn push_refusal(
+    alloc: Global,
+    report: &mut Vec<u8>,
+    stage: Stage,
+    refusal: &Refusal,
+) -> Result<(), NoMemory>
+    ensures { OnOk result (report.new.items ≡ report.old.items ++ refusal_text stage refusal.now) }
+{
+    match refusal {
+        Refusal::BadRow { file, row, why } => {
+            let why = format!(in alloc; "{why}")?;
+            push_row(alloc, report, file.name().as_bytes(), *row, why.as_str())
+        }
+        Refusal::TooMany { what, count } => {
+            let text = format!(in alloc; "refused: too many {what}: {count}")?;
+            report.extend_from_slice(text.as_bytes())?;
+            Ok(())
+        }
+        Refusal::NoSolution => {
+            report.extend_from_slice(b"no solution: ")?;
+            report.extend_from_slice(stage.name().as_bytes())?;
+            Ok(())
+        }
+        Refusal::Spent { entries } => {
+            let name = stage.name();
+            let text = format!(in alloc; "spent: {name} after {entries} entries")?;
+            report.extend_from_slice(text.as_bytes())?;
+            Ok(())
+        }
+    }
+}
+
+// A row of a file is refused.
+#[tactic(auto, using(std::proofs::lemmas::List::append_assoc))]
+fn push_row(
+    alloc: Global,
+    report: &mut Vec<u8>,
+    name: &[u8],
+    row: u64,
+    why: &str,
+) -> Result<(), NoMemory>
+    ensures { OnOk result (report.new.items ≡ report.old.items ++ row_text name.now row why.now) }
+{
+    let tail = format!(in alloc; " row {row}: {why}")?;
+    report.extend_from_slice(b"refused: ")?;
+    report.extend_from_slice(name)?;
+    report.extend_from_slice(tail.as_bytes())?;
+    Ok(())
+}
+
+// A file is not there.
+fn push_missing(report: &mut Vec<u8>, name: &[u8]) -> Result<(), NoMemory>
+    ensures { OnOk result (report.new.items ≡ report.old.items ++ missing_text name.now) }
+{
+    report.extend_from_slice(b"refused: ")?;
+    report.extend_from_slice(name)?;
+    report.extend_from_slice(b" is missing")?;
+    Ok(())
+}
+
+// A file is too long.
+fn push_too_long(report: &mut Vec<u8>, name: &[u8]) -> Result<(), NoMemory>
+    ensures { OnOk result (report.new.items ≡ report.old.items ++ too_long_text name.now) }
+{
+    report.extend_from_slice(b"refused: ")?;
+    report.extend_from_slice(name)?;
+    report.extend_from_slice(b" is too long")?;
+    Ok(())
+}

@@ -1,0 +1,86 @@
+// A run of the chain over the files of a dataset.
+ghost use Rattle.std.specs.Prelude.{◌≡◌, ◌≤◌, ◌+◌, ◌++◌, IfSome, IfOk, OnOk, OnErr, Some};
+ghost use Rattle.plan_files.specs.Applied.{AreApplied};
+ghost use Rattle.stage_driver.specs.Built.{made, trace_of};
+ghost use Rattle.stage_driver.specs.Ends.{CountsFault};
+ghost use Rattle.stage_driver.specs.Hand.{hand_of};
+ghost use Rattle.stage_driver.specs.Progress.{EndGives, nothing};
+ghost use Rattle.stage_driver.specs.Reports.{last_line, end_of};
+ghost use Rattle.stage_driver.specs.Runs.{AreNotAll, IsOutcome, IsLeft, SameHand, writes_for, writes_of};
+
+use crate::chain::run_built;
+use crate::chain_end::ChainEnd;
+use crate::outcome::{ChainFault, Mode, Outcome};
+use crate::progress::Progress;
+use crate::report::outcome;
+use crate::stop::Stop;
+use crate::writes::writes_for;
+use plan_files::{Files, apply_all};
+use plan_num::{Ledger, Steps};
+use std::alloc::Global;
+
+/// Runs the stages that are built over the files of a dataset. The folder then has the made files that its hand files
+/// determine and no others of these stages, and every other file is as before.
+pub fn run_chain<F: Files, L: Ledger>(
+    alloc: Global,
+    files: &mut F,
+    mode: Mode,
+    steps: &mut Steps<L>,
+) -> Result<Outcome, ChainFault>
+    ensures outcome { IfSome (F.contents files.old) (λ folder. IfOk result (IsOutcome (hand_of folder))) }
+    ensures left { IfSome (F.contents files.old) (λ folder. OnOk result (IsLeft folder (F.contents files.new) (F.writes files.old) (F.writes files.new))) }
+    ensures work { IfSome (F.contents files.old) (λ folder. OnOk result (steps.new ≡ steps.old + (made (hand_of folder)).work)) }
+    ensures unfinished { IfSome (F.contents files.old) (λ folder. OnErr result (AreNotAll (writes_of folder) (Some folder) (F.contents files.new) (F.writes files.old) (F.writes files.new))) }
+    ensures no_more { IfSome (F.contents files.old) (λ folder. steps.new ≤ steps.old + (made (hand_of folder)).work) }
+    ensures no_less { steps.old ≤ steps.new }
+    ensures hand { SameHand (F.contents files.old) (F.contents files.new) }
+    ensures faults { CountsFault (F.faults files.old) (F.faults files.new) result }
+{
+    // Nothing is kept yet, so both modes do the same.
+    let _ = mode;
+    let mut progress = Progress::new(alloc);
+    let stop = run_to_end(alloc, files, steps, &mut progress)?;
+    finish(alloc, files, progress, stop)
+}
+
+// Runs the stages, and tells why the chain ended early, if it did.
+fn run_to_end<F: Files, L: Ledger>(
+    alloc: Global,
+    files: &mut F,
+    steps: &mut Steps<L>,
+    progress: &mut Progress,
+) -> Result<Option<Stop>, ChainFault>
+    requires { progress.old ≡ nothing }
+    ensures end { IfSome (F.contents files.old) (λ folder. EndGives (trace_of folder) progress.new steps.old steps.new result) }
+    ensures contents { F.contents files.new ≡ F.contents files.old }
+    ensures writes { F.writes files.new ≡ F.writes files.old }
+    ensures faults { CountsFault (F.faults files.old) (F.faults files.new) result }
+    ensures no_less { steps.old ≤ steps.new }
+{
+    match run_built(alloc, files, steps, progress) {
+        Ok(()) => Ok(None),
+        Err(ChainEnd::Stopped(stop)) => Ok(Some(stop)),
+        Err(ChainEnd::FileFault) => Err(ChainFault::FileFault),
+        Err(ChainEnd::NoMemory) => Err(ChainFault::NoMemory),
+    }
+}
+
+// Tells how a run ended, and makes its writes.
+fn finish<F: Files>(
+    alloc: Global,
+    files: &mut F,
+    progress: Progress,
+    stop: Option<Stop>,
+) -> Result<Outcome, ChainFault>
+    ensures report { IfOk result (λ outcome. outcome.report ≡ progress.report ++ last_line stop) }
+    ensures end { IfOk result (λ outcome. outcome.end ≡ end_of stop) }
+    ensures left { OnOk result (AreApplied (writes_for progress.files) (F.contents files.old) (F.contents files.new) (F.writes files.old) (F.writes files.new)) }
+    ensures unfinished { OnErr result (AreNotAll (writes_for progress.files) (F.contents files.old) (F.contents files.new) (F.writes files.old) (F.writes files.new)) }
+    ensures faults { CountsFault (F.faults files.old) (F.faults files.new) result }
+{
+    let (made, lines) = progress.into_parts();
+    let outcome = outcome(alloc, lines, stop)?;
+    let writes = writes_for(alloc, made)?;
+    apply_all(files, &writes)?;
+    Ok(outcome)
+}

@@ -1,0 +1,53 @@
+// The stages that are built.
+ghost use Rattle.std.specs.Prelude.{◌≡◌, ◌≤◌};
+ghost use Rattle.giv_files.specs.Settings.{Fits};
+ghost use Rattle.giv_files.specs.StageCalls.{StageGives, TakesSteps};
+ghost use Rattle.config_keys.specs.Config.{last_stage_of};
+ghost use Rattle.stage_driver.specs.Chain.{stage_place};
+ghost use Rattle.stage_driver.specs.Built.{built, run_stage, stage_work};
+
+use giv_files::{Bundle, Made, Refusal, Stage, StageFault};
+use line_pool::make_cost;
+use plan_num::{Ledger, Steps};
+use std::alloc::Global;
+
+/// The stages that are built, in the order in which they run.
+pub(crate) fn built() -> &'static [Stage]
+    ensures { result.now ≡ built }
+{
+    &[Stage::Cost]
+}
+
+/// Makes what the stage of a bundle makes of it.
+#[tactic(auto, unfolding(crate::specs::Built::stage_function))]
+pub(crate) fn make_stage<L: Ledger>(
+    alloc: Global,
+    bundle: &Bundle,
+    steps: &mut Steps<L>,
+) -> Result<Made, StageFault>
+    requires { Fits bundle.now }
+    ensures made { StageGives (run_stage bundle.now) result }
+    ensures steps { TakesSteps (stage_work bundle.now) steps.old steps.new result }
+{
+    match bundle.stage() {
+        Stage::Cost => make_cost(alloc, bundle, steps),
+        Stage::Load
+        | Stage::Concept
+        | Stage::Ean
+        | Stage::Timetable
+        | Stage::Rollout
+        | Stage::Vehicles
+        | Stage::Disposition
+        | Stage::Statistic => {
+            steps.tick();
+            Err(StageFault::Refused(Refusal::NoSolution))
+        }
+    }
+}
+
+/// The place of a stage in the order of stages.
+pub(crate) fn place_of(stage: Stage) -> usize
+    ensures { result ≡ stage_place stage }
+{
+    stage as usize
+}
