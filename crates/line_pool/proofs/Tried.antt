@@ -1,7 +1,8 @@
 -- The definitions on a small dataset.
-use Rattle.std.proofs.Common.{◌≡◌, ℕ, [], ◌∷◌, refl, pos, codes, Ok}
+use Rattle.std.proofs.Common.{◌≡◌, ℕ, List, [], ◌∷◌, refl, pos, codes, Ok, Err}
 use Rattle.giv_files.specs.declared.file_id.FileId.TheVariants as file
 use Rattle.giv_files.specs.declared.key.Key.TheVariants as key
+use Rattle.giv_files.specs.declared.made.Made.{Made}
 use Rattle.giv_files.specs.declared.row_why.RowWhy.TheVariants as why
 use Rattle.giv_files.specs.declared.refusal.Refusal.TheVariants as refusal
 use Rattle.giv_files.specs.declared.stage.Stage.TheVariants as stage
@@ -11,6 +12,7 @@ use Rattle.giv_files.specs.Rows.{rows, cleaned}
 use Rattle.giv_files.specs.Settings.{BundleParts}
 use Rattle.giv_files.specs.Writing.{cell_text, cell_texts, joined, table_text}
 use Rattle.plan_num.specs.Number.{spelling_of, value_of, value_at, fixed_of, whole_of}
+use Rattle.plan_num.specs.Print.{digits_at}
 use Rattle.std.specs.Fmt.{digits}
 use Rattle.ptn_network.specs.declared.edge.Edge.{Edge}
 use Rattle.ptn_network.specs.Networks.{NetworkParts, by_id, stops_of, network_of, network_faults}
@@ -51,13 +53,31 @@ broken = refl
 
 -- ---- the stage
 
-abbrev bundle : BundleParts
-bundle = record {
+-- two edges in a row, with the values of the three keys and the text of a pool
+abbrev bundle : ℕ → ℕ → ℕ → List ℕ → BundleParts
+bundle fixed by_length by_edge pool = record {
   stage = stage.Cost;
-  settings = record { key = key.LpoolCostsFixed; value = pos 10000000 } ∷ record { key = key.LpoolCostsLength; value = pos 1000000 } ∷ record { key = key.LpoolCostsEdges; value = pos 0 } ∷ [];
-  inputs = codes "1; A; A; 0; 0\n2; B; B; 0; 0\n3; C; C; 0; 0\n" ∷ codes "1; 1; 2; 2; 4; 5\n2; 2; 3; 3; 6; 6\n" ∷ codes "1; 1; 1\n1; 2; 2\n2; 1; 1\n" ∷ [];
+  settings = record { key = key.LpoolCostsFixed; value = pos fixed } ∷ record { key = key.LpoolCostsLength; value = pos by_length } ∷ record { key = key.LpoolCostsEdges; value = pos by_edge } ∷ [];
+  inputs = codes "1; A; A; 0; 0\n2; B; B; 0; 0\n3; C; C; 0; 0\n" ∷ codes "1; 1; 2; 2; 4; 5\n2; 2; 3; 3; 6; 6\n" ∷ pool ∷ [];
 }
 
-costs : cost_stage bundle ≡ Ok record { files = record { file = file.PoolCost; text = codes "# line-id; length; cost\n1; 5; 15\n2; 2; 12\n" } ∷ []; report = codes "cost: 2 lines" }
+-- what is made where the table is a text
+abbrev made : List ℕ → List ℕ → Made
+made table report = record { files = record { file = file.PoolCost; text = table } ∷ []; report = report }
+
+costs : cost_stage (bundle 10000000 1000000 0 (codes "1; 1; 1\n1; 2; 2\n2; 1; 1\n")) ≡ Ok (made (codes "# line-id; length; cost\n1; 5; 15\n2; 2; 12\n") (codes "cost: 2 lines"))
 unfolding digits cost_stage pool_of pool_faults network_of network_faults stops_of input_faults row_faults faults by_id walk_from table_of cells_from cell_of values errors row_whys rows cleaned spelling_of value_of value_at fixed_of whole_of cell_text cell_texts joined table_text
 costs = refl
+
+half : cost_stage (bundle 10000000 500000 2000000 (codes "1; 1; 1\n1; 2; 2\n2; 1; 1\n")) ≡ Ok (made (codes "# line-id; length; cost\n1; 5; 16.5\n2; 2; 13\n") (codes "cost: 2 lines"))
+unfolding digits digits_at cost_stage pool_of pool_faults network_of network_faults stops_of input_faults row_faults faults by_id walk_from table_of cells_from cell_of values errors row_whys rows cleaned spelling_of value_of value_at fixed_of whole_of cell_text cell_texts joined table_text
+half = refl
+
+empty : cost_stage (bundle 10000000 1000000 0 []) ≡ Ok (made (codes "# line-id; length; cost\n") (codes "cost: 0 lines"))
+unfolding digits cost_stage pool_of pool_faults network_of network_faults stops_of input_faults row_faults faults by_id walk_from table_of cells_from cell_of values errors row_whys rows cleaned spelling_of value_of value_at fixed_of whole_of cell_text cell_texts joined table_text
+empty = refl
+
+-- rows count with the comments before them
+gap : cost_stage (bundle 10000000 1000000 0 (codes "# pool\n1; 1; 1\n1; 3; 2\n")) ≡ Err (refusal.BadRow file.Pool 3 why.OrderGap)
+unfolding digits cost_stage pool_of pool_faults network_of network_faults stops_of input_faults row_faults faults by_id walk_from table_of cells_from cell_of values errors row_whys rows cleaned spelling_of value_of value_at fixed_of whole_of cell_text cell_texts joined table_text
+gap = refl

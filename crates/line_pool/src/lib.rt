@@ -15,3 +15,5 @@ pub use stage::make_cost;
 
 #[cfg(test)]
 mod pool_tests;
+#[cfg(test)]
+mod stage_tests;
