@@ -1,3 +1,4 @@
 pub mod Inputs
+pub mod Labels
 pub mod Networks
 pub mod Walks

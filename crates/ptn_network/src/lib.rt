@@ -4,10 +4,12 @@
 mod edge;
 mod edge_row;
 mod edges;
+mod label;
 mod least_sums;
 mod network;
 mod reach;
 mod stops;
+mod weight;
 
 pub use edge::Edge;
 pub use network::Network;
@@ -15,3 +17,5 @@ pub use reach::Reach;
 
 #[cfg(test)]
 mod tests;
+#[cfg(test)]
+mod tests_least;

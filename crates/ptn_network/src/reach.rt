@@ -7,7 +7,7 @@ use std::marker::Model;
 /// minutes. Contracts see it as their list. A stop to which no walk goes has none.
 #[derive(Debug, Drop)]
 pub struct Reach {
-    sums: Vec<Option<i64>>,
+    pub(crate) sums: Vec<Option<i64>>,
 }
 
 impl Model for Reach {

@@ -1,0 +1,202 @@
+-- Rows of given loads, one after the other.
+use Rattle.std.proofs.Common.{◌≡◌, ◌≢◌, ℕ, ℤ, pos, ◌<◌, int_lt, Bool, true, false, not, ◌||◌, cond, List, [], ◌∷◌, ◌++◌, length, map, get_or, set, slice_get, refl, ap, subst, sym, ◌∙◌, arith, Option, Some, None, option_map, is_some, unwrap_or, position, inl, inr, get_or-set_other, get_or-set_same}
+use Rattle.std.specs.List.{list_any, find}
+use Rattle.std.specs.List.Sorted.{IsStrictlySortedBy}
+use Rattle.std.specs.Option.{option_or}
+use Rattle.std.specs.Cmp.{eq_by_cmp_equiv}
+use Rattle.std.specs.Ordering.{int_eq, int_cmp, is_eq}
+use Rattle.std.specs.declared.cmp.Ordering.TheVariants.{Less}
+use Rattle.std.proofs.lemmas.Bool.{cases_eq, cases_Bool, cases_order}
+use Rattle.std.proofs.lemmas.Bool.Decides.{Decides-int_eq}
+use Rattle.std.proofs.lemmas.Cmp.{int_cmp_total}
+use Rattle.std.proofs.lemmas.List.{length-map, get_or-map, length-set, same_lists}
+use Rattle.std.proofs.lemmas.List.Folds.{find-append}
+use Rattle.std.proofs.lemmas.List.Quantifiers.{position-Some}
+use Rattle.std.proofs.lemmas.Map.Keys.{Less-from_sorted}
+use Rattle.std.proofs.lemmas.Option.{slice_get-get_or, same_Some}
+use Rattle.std.proofs.lemmas.Simd.{map-map}
+use Rattle.giv_files.specs.declared.row_why.RowWhy.TheVariants as why
+use Rattle.giv_files.specs.declared.file_id.FileId.TheVariants as file
+use Rattle.giv_files.specs.declared.refusal.Refusal.TheVariants as refusal
+use Rattle.giv_files.specs.Inputs.{records, broken_whys, row_faults, table_faults}
+use Rattle.giv_files.specs.Tables.{TableRow}
+use Rattle.ptn_network.specs.declared.edge.Edge.{Edge}
+use Rattle.demand_load.specs.declared.edge_load.EdgeLoad.{EdgeLoad}
+use Rattle.demand_load.specs.declared.given_load.GivenLoad.{GivenLoad}
+use Rattle.demand_load.specs.GivenLoads.{given_input, given_for, given_loads, no_load, StandsAt}
+use Rattle.demand_load.proofs.DemandRows.{any_is}
+use Rattle.demand_load.proofs.PathSteps.{no_edge}
+
+any_mapped : {X Y : Type 0} (p : Y → Bool) (f : X → Y) (xs : List X) → list_any p (map f xs) ≡ list_any (λ x. p (f x)) xs
+any_mapped p f [] = refl
+any_mapped p f (x ∷ xs) = ap (λ b. p (f x) || b) (any_mapped p f xs)
+
+any_found : {X Y : Type 0} (p : X → Bool) (f : X → Y) (xs : List X) → is_some (option_map f (find p xs)) ≡ list_any p xs
+any_found p f [] = refl
+any_found p f (x ∷ xs) = elim (p x) as (λ b. is_some (option_map f (cond b (Some x) (find p xs))) ≡ (b || list_any p xs)) [ true ↦ refl | false ↦ any_found p f xs ]
+
+same_ids : (x y : ℤ) → int_eq x y ≡ true → x ≡ y
+same_ids x y e = (Decides-int_eq x y).0 e
+
+-- ---- the edge of a row
+
+module _ (edges : List Edge) (id : ℤ) where
+  any_edge : list_any (λ edge. int_eq id edge.id) edges ≡ is_some (position (int_eq id) (map (λ edge. edge.id) edges))
+  any_edge = sym (any_mapped (int_eq id) (λ (edge : Edge). edge.id) edges) ∙ any_is (int_eq id) (map (λ edge. edge.id) edges)
+
+  pub no_such_edge : position (int_eq id) (map (λ edge. edge.id) edges) ≡ None → list_any (λ edge. int_eq id edge.id) edges ≡ false
+  no_such_edge none = any_edge ∙ ap is_some none
+
+  pub such_edge : (index : ℕ) → position (int_eq id) (map (λ edge. edge.id) edges) ≡ Some index → list_any (λ edge. int_eq id edge.id) edges ≡ true
+  such_edge index at = any_edge ∙ ap is_some at
+
+  pub stands_at : (index : ℕ) → position (int_eq id) (map (λ edge. edge.id) edges) ≡ Some index → StandsAt edges id index
+  stands_at index at =
+      let p = position-Some (int_eq id) (map (λ edge. edge.id) edges) index (pos 0) at in
+      let within : index < length edges = omega (arith, length-map edges (λ (edge : Edge). edge.id)) in
+      let same : id ≡ (get_or edges index no_edge).id = same_ids _ _ p.1 ∙ get_or-map (λ (edge : Edge). edge.id) edges index no_edge (pos 0) within in
+      record { within = within; own = ap (option_map (λ edge. edge.id)) (slice_get-get_or edges index no_edge within) ∙ ap Some (sym same) }
+
+  own_id_at : (index : ℕ) → StandsAt edges id index → (get_or edges index no_edge).id ≡ id
+  own_id_at index at = same_Some _ _ (sym (ap (option_map (λ edge. edge.id)) (slice_get-get_or edges index no_edge at.within)) ∙ at.own)
+
+-- ---- the rules of a row
+
+module _ (edges : List Edge) (before : List GivenLoad) (row : GivenLoad) where
+  pub unknown : list_any (λ edge. int_eq row.edge edge.id) edges ≡ false → slice_get (broken_whys (given_input edges).row_rules before row) 0 ≡ Some why.UnknownEdge
+  unknown none = rw none refl
+
+  pub repeated : list_any (λ edge. int_eq row.edge edge.id) edges ≡ true → list_any (λ other. int_eq row.edge other.edge) before ≡ true → slice_get (broken_whys (given_input edges).row_rules before row) 0 ≡ Some why.RepeatedId
+  repeated there twice = rw (there, twice) refl
+
+  pub crossed : list_any (λ edge. int_eq row.edge edge.id) edges ≡ true → list_any (λ other. int_eq row.edge other.edge) before ≡ false → int_lt row.load.most row.load.least ≡ true → slice_get (broken_whys (given_input edges).row_rules before row) 0 ≡ Some why.BoundsCrossed
+  crossed there new cross = rw (there, new, cross) refl
+
+  pub fits : list_any (λ edge. int_eq row.edge edge.id) edges ≡ true → list_any (λ other. int_eq row.edge other.edge) before ≡ false → int_lt row.load.most row.load.least ≡ false → broken_whys (given_input edges).row_rules before row ≡ []
+  fits there new order = rw (there, new, order) refl
+
+  -- a row that breaks no rule is the first of its edge
+  pub own_row : broken_whys (given_input edges).row_rules before row ≡ [] → (list_any (λ other. int_eq row.edge other.edge) before ≡ false) × (int_lt row.load.most row.load.least ≡ false)
+  own_row none = kept (list_any (λ edge. int_eq row.edge edge.id) edges) (list_any (λ other. int_eq row.edge other.edge) before) (int_lt row.load.most row.load.least) none
+    where
+      kept : (known repeated cross : Bool) → cond (not known) (why.UnknownEdge ∷ []) [] ++ (cond repeated (why.RepeatedId ∷ []) [] ++ (cond cross (why.BoundsCrossed ∷ []) [] ++ [])) ≡ [] → (repeated ≡ false) × (cross ≡ false)
+      kept false repeated cross e = cc
+      kept true true cross e = cc
+      kept true false true e = cc
+      kept true false false e = (refl, refl)
+
+  module _ (given : List (Option EdgeLoad)) (index : ℕ) (are : given ≡ map (given_for before) edges) (at : StandsAt edges row.edge index) where
+    pub place_within : index < length given
+    place_within = omega (arith, ap length are, length-map edges (given_for before), at.within)
+
+    -- a load is given where a row before has the same edge
+    pub is_given : is_some (get_or given index None) ≡ list_any (λ other. int_eq row.edge other.edge) before
+    is_given =
+        ap (λ (some : List (Option EdgeLoad)). is_some (get_or some index None)) are
+        ∙ ap is_some (get_or-map (given_for before) edges index no_edge None at.within)
+        ∙ any_found (λ other. int_eq (get_or edges index no_edge).id other.edge) (λ other. other.load) before
+        ∙ ap (λ id. list_any (λ other. int_eq id other.edge) before) (own_id_at edges row.edge index at)
+
+-- ---- one row more
+
+module _ (before : List GivenLoad) (row : GivenLoad) (edge : Edge) where
+  found_more : given_for (before ++ row ∷ []) edge ≡ option_map (λ row. row.load) (option_or (find (λ other. int_eq edge.id other.edge) before) (cond (int_eq edge.id row.edge) (Some row) None))
+  found_more = ap (option_map (λ row. row.load)) (find-append (λ other. int_eq edge.id other.edge) before (row ∷ []))
+
+  nothing : (found : Option GivenLoad) → is_some (option_map (λ row. row.load) found) ≡ false → found ≡ None
+  nothing None e = refl
+  nothing (Some x) e = cc
+
+  no_more : (found : Option GivenLoad) → option_or found None ≡ found
+  no_more None = refl
+  no_more (Some x) = refl
+
+  -- the load of its edge
+  given_now : edge.id ≡ row.edge → list_any (λ other. int_eq row.edge other.edge) before ≡ false → given_for (before ++ row ∷ []) edge ≡ Some row.load
+  given_now own new =
+      let first : find (λ other. int_eq edge.id other.edge) before ≡ None = nothing _ (any_found (λ other. int_eq edge.id other.edge) (λ other. other.load) before ∙ ap (λ id. list_any (λ other. int_eq id other.edge) before) own ∙ new) in
+      let here : int_eq edge.id row.edge ≡ true = (Decides-int_eq edge.id row.edge).1 own in
+      found_more ∙ ap (λ found. option_map (λ row. row.load) (option_or found (cond (int_eq edge.id row.edge) (Some row) None))) first ∙ ap (λ b. option_map (λ row. row.load) (cond b (Some row) None)) here
+
+  -- and of no other
+  given_before : edge.id ≢ row.edge → given_for (before ++ row ∷ []) edge ≡ given_for before edge
+  given_before other =
+      let apart : int_eq edge.id row.edge ≡ false = elim (cases_Bool (int_eq edge.id row.edge)) [ inl same ↦ absurd (other (same_ids _ _ same)) | inr differs ↦ differs ] in
+      found_more ∙ ap (λ b. option_map (λ row. row.load) (option_or (find (λ other. int_eq edge.id other.edge) before) (cond b (Some row) None))) apart
+      ∙ ap (option_map (λ row. row.load)) (no_more (find (λ other. int_eq edge.id other.edge) before))
+
+not_less : (x : ℤ) → int_cmp x x ≡ Less → ⊥
+not_less x e =
+    let same : is_eq (int_cmp x x) ≡ true = (eq_by_cmp_equiv int_cmp_total).refl x in
+    let other : is_eq (int_cmp x x) ≡ false = ap is_eq e in
+    cc
+
+-- of two places of rising ids each has its own
+ids_apart : (edges : List Edge) (i j : ℕ) → IsStrictlySortedBy int_cmp (map (λ edge. edge.id) edges) → i < length edges → j < length edges → i ≢ j → (get_or edges i no_edge).id ≢ (get_or edges j no_edge).id
+ids_apart edges i j rise h k apart same =
+    elim (cases_order i j) [
+      | inl e ↦ apart e
+      | inr (inl lt) ↦ never i j h k lt same
+      | inr (inr gt) ↦ never j i k h gt (sym same)
+    ]
+  where
+    never : (a b : ℕ) → a < length edges → b < length edges → a < b → (get_or edges a no_edge).id ≡ (get_or edges b no_edge).id → ⊥
+    never a b p q lt e =
+        let ids = map (λ (edge : Edge). edge.id) edges in
+        let less : int_cmp (get_or ids a (pos 0)) (get_or ids b (pos 0)) ≡ Less = Less-from_sorted int_cmp ids a b (pos 0) rise lt (omega (arith, length-map edges (λ (edge : Edge). edge.id))) in
+        let here = get_or-map (λ (edge : Edge). edge.id) edges a no_edge (pos 0) p in
+        let there = get_or-map (λ (edge : Edge). edge.id) edges b no_edge (pos 0) q in
+        let tied : int_cmp (get_or ids a (pos 0)) (get_or ids a (pos 0)) ≡ Less = ap (int_cmp (get_or ids a (pos 0))) (here ∙ e ∙ sym there) ∙ less in
+        not_less (get_or ids a (pos 0)) tied
+
+-- the given loads with that of one row more
+pub given_more : (edges : List Edge) (before : List GivenLoad) (row : GivenLoad) (given : List (Option EdgeLoad)) (index : ℕ) → IsStrictlySortedBy int_cmp (map (λ edge. edge.id) edges) → given ≡ map (given_for before) edges → StandsAt edges row.edge index → list_any (λ other. int_eq row.edge other.edge) before ≡ false
+    → set given index (Some row.load) ≡ map (given_for (before ++ row ∷ [])) edges
+given_more edges before row given index rise are at new =
+    let size : length given ≡ length edges = ap length are ∙ length-map edges (given_for before) in
+    let long : length (set given index (Some row.load)) ≡ length edges = length-set given index (Some row.load) ∙ size in
+    same_lists _ _ (long ∙ sym (length-map edges (given_for (before ++ row ∷ [])))) (λ k d h.
+    let within : k < length edges = omega arith in
+    let now : get_or (map (given_for (before ++ row ∷ [])) edges) k d ≡ given_for (before ++ row ∷ []) (get_or edges k no_edge) = get_or-map (given_for (before ++ row ∷ [])) edges k no_edge d within in
+    elim (cases_eq k index) [
+      | inl e ↦
+          subst (λ n. get_or (set given index (Some row.load)) n d ≡ given_for (before ++ row ∷ []) (get_or edges n no_edge)) (sym e)
+          (get_or-set_same given index (Some row.load) d (omega (arith, at.within)) ∙ sym (given_now before row (get_or edges index no_edge) (own_id_at edges row.edge index at) new))
+          ∙ sym now
+      | inr apart ↦
+          get_or-set_other given index k (Some row.load) d apart
+          ∙ ap (λ (some : List (Option EdgeLoad)). get_or some k d) are ∙ get_or-map (given_for before) edges k no_edge d within
+          ∙ sym (given_before before row (get_or edges k no_edge) (λ same. ids_apart edges k index rise within at.within apart (same ∙ sym (own_id_at edges row.edge index at))))
+          ∙ sym now
+    ])
+
+-- ---- the whole table
+
+module _ (edges : List Edge) (rows : List TableRow) (given : List (Option EdgeLoad)) (are : given ≡ map (given_for (records (given_input edges) rows)) edges) where
+  abbrev pub missing : Bool
+  missing = list_any (λ edge. not (is_some (given_for (records (given_input edges) rows) edge))) edges
+
+  -- an edge has no row where a load is not given
+  pub is_missing : list_any (λ load. not (is_some load)) given ≡ missing
+  is_missing = ap (list_any (λ load. not (is_some load))) are ∙ any_mapped (λ load. not (is_some load)) (given_for (records (given_input edges) rows)) edges
+
+  -- then the table is refused by that, where no row breaks a rule
+  pub edge_missing : row_faults (given_input edges) [] rows ≡ [] → list_any (λ load. not (is_some load)) given ≡ true → slice_get (table_faults (given_input edges) rows) 0 ≡ Some (refusal.BadRow file.LoadGiven 0 why.MissingEdge)
+  edge_missing none e = rw (none, sym is_missing ∙ e) refl
+
+  -- and else has no fault
+  pub no_faults : row_faults (given_input edges) [] rows ≡ [] → list_any (λ load. not (is_some load)) given ≡ false → table_faults (given_input edges) rows ≡ []
+  no_faults none e = rw (none, sym is_missing ∙ e) refl
+
+  -- the loads of all edges
+  pub all_loads : (loads : List EdgeLoad) → loads ≡ map (λ load. unwrap_or load no_load) given → loads ≡ given_loads edges (records (given_input edges) rows)
+  all_loads loads is = is ∙ ap (map (λ load. unwrap_or load no_load)) are ∙ map-map (λ load. unwrap_or load no_load) (given_for (records (given_input edges) rows)) edges
+
+-- loads are not all given where none are handed on
+pub not_all : (missing : Bool) (all : List EdgeLoad) → None ≡ cond missing None (Some all) → missing ≡ true
+not_all true all e = refl
+not_all false all e = cc
+
+pub all_are : (missing : Bool) (all loads : List EdgeLoad) → Some loads ≡ cond missing None (Some all) → (missing ≡ false) × (loads ≡ all)
+all_are true all loads e = cc
+all_are false all loads e = (refl, same_Some loads all e)

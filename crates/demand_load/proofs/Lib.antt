@@ -1,0 +1,10 @@
+mod Bearing
+mod DemandRows
+mod GivenRows
+mod LastEdges
+mod LoadCalls
+mod LoadRows
+mod PathEdges
+mod PathSteps
+mod SoundLoads
+mod Tried

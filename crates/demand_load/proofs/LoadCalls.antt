@@ -1,0 +1,141 @@
+-- The stage of loads, from what each of its inputs gives.
+use Rattle.std.proofs.Common.{◌≡◌, ◌≢◌, ℕ, ℤ, pos, ◌≤◌, ◌≤ℤ◌, eqb, cond, true, false, List, [], ◌∷◌, ◌++◌, length, map, unsigned_abs, unwrap_or, option_map, ap, refl, subst, sym, ◌∙◌, arith, Ok, Err, Some}
+use Rattle.std.specs.Int.Signed.{le_z_yes}
+use Rattle.std.specs.List.{find}
+use Rattle.std.proofs.lemmas.Bool.{and_parts, ne_eqb, eq-eqb}
+use Rattle.std.proofs.lemmas.Float.{T_from_true}
+use Rattle.std.proofs.lemmas.Int.{ints}
+use Rattle.std.proofs.lemmas.List.{length-map}
+use Rattle.std.proofs.lemmas.List.FromFn.{length-map-range_with_len}
+use Rattle.giv_files.specs.declared.key.Key.{Key}
+use Rattle.giv_files.specs.declared.key.Key.TheVariants as key
+use Rattle.giv_files.specs.declared.made.Made.{Made}
+use Rattle.giv_files.specs.declared.refusal.Refusal.{Refusal}
+use Rattle.giv_files.specs.declared.refusal.StageFault.{StageFault}
+use Rattle.giv_files.specs.declared.refusal.StageFault.TheVariants as fault
+use Rattle.giv_files.specs.declared.setting.Setting.{Setting}
+use Rattle.giv_files.specs.declared.stage.Stage.TheVariants as stage
+use Rattle.giv_files.specs.Inputs.{Refuses, or_else, input_faults, records_of}
+use Rattle.giv_files.specs.Keys.{key_place, stage_keys}
+use Rattle.giv_files.specs.Settings.{BundleParts, Fits, value_of, amount}
+use Rattle.giv_files.specs.StageCalls.{input_text, StageGives}
+use Rattle.giv_files.proofs.Inputs.{refused_append}
+use Rattle.giv_files.proofs.SettingFacts.{value_allowed, abs_within, amount_within}
+use Rattle.giv_files.proofs.StageCalls.{stage_refused, stage_made}
+use Rattle.ptn_network.specs.Networks.{NetworkParts, network_of, network_faults}
+use Rattle.demand_load.specs.declared.edge_load.EdgeLoad.{EdgeLoad}
+use Rattle.demand_load.specs.Demand.{demand_input, demand_loads, load_of}
+use Rattle.demand_load.specs.GivenLoads.{given_input, given_loads, given_for, no_load}
+use Rattle.demand_load.specs.LoadStage.{takes_demand, bounded, loads_by, text_faults, frequency_faults, load_faults, loads_in, load_stage}
+use Rattle.demand_load.specs.LoadTables.{loads_made, HasSpread}
+
+-- ---- settings
+
+-- the second setting of the stage is how many passengers a vehicle takes
+passengers : (settings : List Setting) → map (λ setting. setting.key) settings ≡ stage_keys stage.Load → (value : ℤ) × (value_of settings key.GenPassengersPerVehicle ≡ Some value)
+passengers [] keys = cc
+passengers (first ∷ []) keys = cc
+passengers (first ∷ second ∷ more) keys =
+    let source : first.key ≡ key.LoadSource = cc in
+    let own : second.key ≡ key.GenPassengersPerVehicle = cc in (
+      second.value,
+      ap (λ (k : Key). option_map (λ setting. setting.value) (cond (eqb (key_place k) 2) (Some first) (find (λ setting. eqb (key_place setting.key) 2) (second ∷ more)))) source
+          ∙ ap (λ (k : Key). option_map (λ setting. setting.value) (cond (eqb (key_place k) 2) (Some second) (find (λ setting. eqb (key_place setting.key) 2) more))) own,
+    )
+
+at_least : (value : ℤ) → pos 1 ≤ℤ value → 1 ≤ unsigned_abs value
+at_least value low = omega (arith, ints)
+
+-- the settings of a bundle that fits are within their ranges
+pub settings_fit : (bundle : BundleParts) → bundle.stage ≡ stage.Load → Fits bundle → HasSpread bundle.settings
+settings_fit bundle is fits =
+    let allowed = fits.settings.allowed in
+    let given = passengers bundle.settings (subst (λ of. map (λ setting. setting.key) bundle.settings ≡ stage_keys of) is fits.settings.keys) in
+    let within = and_parts _ _ (value_allowed bundle.settings key.GenPassengersPerVehicle given.0 allowed given.1) in
+    let low : pos 1 ≤ℤ given.0 = le_z_yes (T_from_true _ within.0) in
+    let high : given.0 ≤ℤ pos 100000 = le_z_yes (T_from_true _ within.1) in
+    let same : amount bundle.settings key.GenPassengersPerVehicle ≡ unsigned_abs given.0 = ap (λ o. unsigned_abs (unwrap_or o (pos 0))) given.1 in
+    record {
+      some = subst (λ n. 1 ≤ n) (sym same) (at_least given.0 low);
+      few = subst (λ n. n ≤ 100000) (sym same) (abs_within given.0 100000 (omega (arith, ints)) high);
+      spread = amount_within bundle.settings key.LoadSpread _ allowed refl refl;
+    }
+
+-- ---- the source of loads
+
+module _ (settings : List Setting) (network : NetworkParts) (text : List ℕ) where
+  module _ (given : amount settings key.LoadSource ≢ 0) where
+    other : takes_demand settings ≡ false
+    other = ne_eqb (amount settings key.LoadSource) 0 given
+
+    pub given_faults : input_faults (given_input network.edges) text ≡ text_faults settings network text
+    unfolding text_faults
+    given_faults = sym (ap (λ b. cond b (input_faults (demand_input network) text) (input_faults (given_input network.edges) text)) other)
+
+    pub loads_given : given_loads network.edges (records_of (given_input network.edges) text) ≡ loads_by settings network text
+    unfolding loads_by
+    loads_given = sym (ap (λ b. cond b (map (bounded settings) (demand_loads network (records_of (demand_input network) text))) (given_loads network.edges (records_of (given_input network.edges) text))) other)
+
+  module _ (none : amount settings key.LoadSource ≡ 0) where
+    own : takes_demand settings ≡ true
+    own = eq-eqb (amount settings key.LoadSource) 0 none
+
+    pub demand_faults : input_faults (demand_input network) text ≡ text_faults settings network text
+    unfolding text_faults
+    demand_faults = sym (ap (λ b. cond b (input_faults (demand_input network) text) (input_faults (given_input network.edges) text)) own)
+
+    pub loads_of_demand : map (bounded settings) (demand_loads network (records_of (demand_input network) text)) ≡ loads_by settings network text
+    unfolding loads_by
+    loads_of_demand = sym (ap (λ b. cond b (map (bounded settings) (demand_loads network (records_of (demand_input network) text))) (given_loads network.edges (records_of (given_input network.edges) text))) own)
+
+  -- each edge has a load
+  pub loads_count : length (loads_by settings network text) ≡ length network.edges
+  unfolding loads_by
+  loads_count =
+      elim (takes_demand settings) as (λ b. length (cond b (map (bounded settings) (demand_loads network (records_of (demand_input network) text))) (given_loads network.edges (records_of (given_input network.edges) text))) ≡ length network.edges) [
+        | true ↦ length-map (demand_loads network (records_of (demand_input network) text)) (bounded settings) ∙ length-map-range_with_len (load_of network (records_of (demand_input network) text)) 0 (length network.edges)
+        | false ↦ length-map network.edges (λ edge. unwrap_or (given_for (records_of (given_input network.edges) text) edge) no_load)
+      ]
+
+-- ---- the stage
+
+refused_first : (all others : List Refusal) (reason : StageFault) → Refuses all reason → Refuses (or_else all others) reason
+refused_first [] others (fault.Refused first) h = cc
+refused_first (x ∷ all) others (fault.Refused first) h = h
+refused_first all others fault.NoMemory h = tt
+
+module _ (bundle : BundleParts) where
+  -- texts that give no network
+  pub network_refused : (reason : StageFault) → Refuses (network_faults (input_text bundle 0) (input_text bundle 1)) reason → StageGives (load_stage bundle) (Err reason)
+  unfolding load_stage
+  network_refused reason h = stage_refused (or_else (load_faults bundle) _) _ reason (refused_first (load_faults bundle) _ reason (refused_append (network_faults (input_text bundle 0) (input_text bundle 1)) _ reason h))
+
+  module _ (network : NetworkParts) (none : network_faults (input_text bundle 0) (input_text bundle 1) ≡ []) (is : network ≡ network_of (input_text bundle 0) (input_text bundle 1)) where
+    later : text_faults bundle.settings network (input_text bundle 2) ≡ load_faults bundle
+    later =
+        ap (λ some. text_faults bundle.settings some (input_text bundle 2)) is
+        ∙ ap (λ first. first ++ text_faults bundle.settings (network_of (input_text bundle 0) (input_text bundle 1)) (input_text bundle 2)) (sym none)
+
+    -- a text that gives no loads
+    pub text_refused : (reason : StageFault) → Refuses (text_faults bundle.settings network (input_text bundle 2)) reason → StageGives (load_stage bundle) (Err reason)
+    unfolding load_stage
+    text_refused reason h = stage_refused (or_else (load_faults bundle) _) _ reason (refused_first (load_faults bundle) _ reason (subst (λ all. Refuses all reason) later h))
+
+    module _ (loads : List EdgeLoad) (faultless : text_faults bundle.settings network (input_text bundle 2) ≡ []) (read : loads ≡ loads_by bundle.settings network (input_text bundle 2)) where
+      loads_are : loads ≡ loads_in bundle
+      loads_are = read ∙ ap (λ some. loads_by bundle.settings some (input_text bundle 2)) is
+
+      all_faults : frequency_faults loads ≡ or_else (load_faults bundle) (frequency_faults (loads_in bundle))
+      all_faults = ap frequency_faults loads_are ∙ ap (λ first. or_else first (frequency_faults (loads_in bundle))) (sym faultless ∙ later)
+
+      -- a frequency that is too great
+      pub frequency_refused : (reason : StageFault) → Refuses (frequency_faults loads) reason → StageGives (load_stage bundle) (Err reason)
+      unfolding load_stage
+      frequency_refused reason h = stage_refused (or_else (load_faults bundle) (frequency_faults (loads_in bundle))) _ reason (subst (λ all. Refuses all reason) all_faults h)
+
+      -- texts without a fault
+      pub stage_given : (made : Made) → frequency_faults loads ≡ [] → made ≡ loads_made network.edges loads → StageGives (load_stage bundle) (Ok made)
+      unfolding load_stage
+      stage_given made rare given =
+          stage_made (or_else (load_faults bundle) (frequency_faults (loads_in bundle))) _ made (sym all_faults ∙ rare)
+          (given ∙ ap (loads_made network.edges) loads_are ∙ ap (λ some. loads_made some.edges (loads_in bundle)) is)

@@ -1,0 +1,5 @@
+pub mod Demand
+pub mod GivenLoads
+pub mod LoadStage
+pub mod LoadTables
+pub mod Paths

@@ -1,0 +1,68 @@
+// The bounds of the frequency of an edge by its load.
+ghost use Rattle.std.specs.Prelude.{◌≡◌, ◌<◌, ◌≤◌, ◌*◌, map, All, IfOk, ⊤};
+ghost use Rattle.giv_files.specs.declared.key.Key.TheVariants as key;
+ghost use Rattle.giv_files.specs.Inputs.{UnlessFault};
+ghost use Rattle.giv_files.specs.Settings.{amount};
+ghost use Rattle.demand_load.specs.LoadStage.{bounded, places, frequency_faults};
+ghost use Rattle.demand_load.specs.LoadTables.{HasSpread};
+
+use crate::edge_load::EdgeLoad;
+use giv_files::{Counted, Key, Refusal, Settings, StageFault};
+use plan_num::NoMemory;
+use std::alloc::Global;
+
+const MOST_FREQUENT: i64 = 1_000;
+
+/// Loads with their bounds of frequency.
+pub(crate) fn bounds_of(
+    alloc: Global,
+    settings: &Settings,
+    loads: &[u64],
+) -> Result<Vec<EdgeLoad>, NoMemory>
+    requires settings { HasSpread settings.now }
+    requires loads { All (λ load. load ≤ 100000000000000000) loads.now }
+    ensures { IfOk result (λ bounds. bounds.items ≡ map (bounded settings.now) loads.now) }
+{
+    let mut bounds = Vec::new(alloc);
+    for load in loads {
+        bounds.push(bounded(settings, *load))?;
+    }
+    Ok(bounds)
+}
+
+// A load with its bounds of frequency.
+fn bounded(settings: &Settings, load: u64) -> EdgeLoad
+    requires settings { HasSpread settings.now }
+    requires load { load ≤ 100000000000000000 }
+    ensures { result ≡ bounded settings.now load }
+{
+    let places = amount(settings, Key::GenPassengersPerVehicle) * 1_000_000;
+    let least = load.div_ceil(places);
+    EdgeLoad {
+        load: load as i64,
+        least: least as i64,
+        most: (least + amount(settings, Key::LoadSpread)) as i64,
+    }
+}
+
+/// The value of a key.
+pub(crate) fn amount(settings: &Settings, key: Key) -> u64
+    ensures { result ≡ amount settings.now key }
+{
+    settings.value(key).unwrap_or(0).unsigned_abs()
+}
+
+/// Refuses the first maximal frequency that is too great.
+pub(crate) fn check_frequencies(loads: &[EdgeLoad]) -> Result<(), StageFault>
+    ensures { UnlessFault (frequency_faults loads.now) (λ _. ⊤) result }
+{
+    for load in loads {
+        if load.most > MOST_FREQUENT {
+            return Err(StageFault::Refused(Refusal::TooMany {
+                what: Counted::Frequency,
+                count: load.most.unsigned_abs(),
+            }));
+        }
+    }
+    Ok(())
+}

@@ -1,0 +1,15 @@
+//! The stage of loads: how many customers go over each edge, and how often it is to be driven.
+#![tactic(auto)]
+
+mod demand;
+mod demand_row;
+mod edge_load;
+mod frequency;
+mod given;
+mod given_load;
+mod known_paths;
+mod load_table;
+mod paths;
+mod stage;
+
+pub use stage::make_load;

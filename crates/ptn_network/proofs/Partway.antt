@@ -1,0 +1,249 @@
+-- What holds of the labels of a network while the nearest stop is settled again and again.
+use Rattle.std.proofs.Common.{◌≡◌, ◌≢◌, ℕ, ◌+◌, ◌-◌, ◌*◌, Vec, ◌<◌, ◌≤◌, Bool, true, false, cond, eqb, List, [], ◌∷◌, ◌++◌, length, map, sum, take, fold, get_or, set, replicate, refl, ap, sym, subst, ◌∙◌, Option, Some, None, option_map, All, Contains, ◌⊎◌, inl, inr, arith}
+use Rattle.std.specs.Vec.{with_items}
+use Rattle.std.proofs.lemmas.Bool.{cases_lt}
+use Rattle.std.proofs.lemmas.Int.{ints}
+use Rattle.std.proofs.lemmas.List.{length-set, length-replicate, length_push, with_items_is, get_or-replicate, get_or_past}
+use Rattle.std.proofs.lemmas.List.Elements.{All-map, All-weaker, All-contains}
+use Rattle.std.proofs.lemmas.List.Sums.{sum_by-set, count_by-le-length}
+use Rattle.ptn_network.specs.declared.edge.Edge.{Edge}
+use Rattle.ptn_network.specs.declared.label.Label.{Label}
+use Rattle.ptn_network.specs.declared.label.Label.TheVariants.{Unseen, Reached, Settled}
+use Rattle.ptn_network.specs.declared.weight.Weight.{Weight}
+use Rattle.ptn_network.specs.declared.weight.Weight.TheVariants as kind
+use Rattle.ptn_network.specs.Networks.{NetworkParts, IsEdge, IsNetwork}
+use Rattle.ptn_network.specs.Walks.{across, IsWalk, walk_sum, IsLeastSum, walks_within, least_of, least_sum}
+use Rattle.ptn_network.specs.Labels.{weight_of, sum_of, label_at, reached, reach_over, settle, IsNearest, AreDone}
+use Rattle.ptn_network.proofs.Walks.{IsUpTo, begins, no_edge, edge_last, staying_end, walk_sum-cons, walk_sum-push, walk_sum-small, within_all, within_there, least_of_is, Contains-map}
+use Rattle.ptn_network.proofs.Labels.{some_same, reached_same, settled_same, sum_cases, reached_cases, settled_before, lowers, SettledUpTo, settled_up_to, at_set, is_settled, settled_count, over, over_size, over_count, keeps, meets}
+
+-- a walk of at most so many edges that has a sum
+pub record Comes (edges : List Edge) (weight : Edge → ℕ) (from to most sum : ℕ) : Type 0 where
+  pub walk : List Edge
+  pub is : IsWalk edges from to walk
+  pub sums : walk_sum weight walk ≡ sum
+  pub short : length walk ≤ most
+
+-- a walk has each sum; no settled stop is farther than one that is not; and from settled stops the walks went on
+pub record ArePartway (edges : List Edge) (weight : Edge → ℕ) (from stops : ℕ) (labels : List Label) : Type 0 where
+  pub size : length labels ≡ stops
+  pub comes : (to sum : ℕ) → sum_of (label_at labels to) ≡ Some sum → Comes edges weight from to (settled_count labels) sum
+  pub begun : IsUpTo 0 (sum_of (label_at labels from))
+  pub ordered : (near far least sum : ℕ) → label_at labels near ≡ Settled least → label_at labels far ≡ Reached sum → least ≤ sum
+  pub closed : (stop sum next : ℕ) (edge : Edge) → label_at labels stop ≡ Settled sum → Contains edges edge → across edge stop ≡ Some next → IsUpTo (sum + weight edge) (sum_of (label_at labels next))
+
+-- ends of edges are stops
+ends_within : (stops : ℕ) (edge : Edge) (stop next : ℕ) → IsEdge stops edge → across edge stop ≡ Some next → next < stops
+ends_within stops edge stop next is over = go (eqb edge.left stop) (eqb edge.right stop) over
+  where
+    go : (a b : Bool) → cond a (Some edge.right) (cond b (Some edge.left) None) ≡ Some next → next < stops
+    go true b e = omega (arith, some_same edge.right next e, is.right)
+    go false true e = omega (arith, some_same edge.left next e, is.left)
+    go false false e = cc
+
+-- ---- a stop more
+
+module _ (edges : List Edge) (weight : Edge → ℕ) (from stops : ℕ) (labels : List Label) (stop sum : ℕ) (sound : All (IsEdge stops) edges) (so_far : ArePartway edges weight from stops labels) (nearest : IsNearest labels (length labels) stop sum) where
+  abbrev own : List Label
+  own = set labels stop (Settled sum)
+
+  abbrev after : List Label
+  after = fold (reach_over weight stop sum) own edges
+
+  size_after : length after ≡ stops
+  size_after = over_size weight stop sum own edges ∙ length-set labels stop (Settled sum) ∙ so_far.size
+
+  pub count_after : settled_count after ≡ settled_count labels + 1
+  count_after =
+      let one : Label → ℕ = λ label. cond (is_settled label) 1 0 in
+      let counted = sum_by-set one labels stop (Settled sum) Unseen nearest.early in
+      let open_before : one (label_at labels stop) ≡ 0 = ap one nearest.there in
+      omega (arith, over_count weight stop sum own edges, counted, open_before)
+
+  weaker : (to most other : ℕ) → Comes edges weight from to most other → most ≤ settled_count after → Comes edges weight from to (settled_count after) other
+  weaker to most other comes le = record { walk = comes.walk; is = comes.is; sums = comes.sums; short = omega (arith, comes.short) }
+
+  to_stop : Comes edges weight from stop (settled_count labels) sum
+  to_stop = so_far.comes stop sum (ap sum_of nearest.there)
+
+  goes_on : (edge : Edge) (to : ℕ) → Contains edges edge → across edge stop ≡ Some to → Comes edges weight from to (settled_count after) (sum + weight edge)
+  goes_on edge to there over = record {
+    walk = to_stop.walk ++ edge ∷ [];
+    is = edge_last edges from stop to to_stop.walk edge to_stop.is there over;
+    sums = walk_sum-push weight to_stop.walk edge ∙ ap (λ n. n + weight edge) to_stop.sums;
+    short = omega (arith, length_push to_stop.walk edge, count_after, to_stop.short);
+  }
+
+  comes_after : (to least : ℕ) → sum_of (label_at after to) ≡ Some least → Comes edges weight from to (settled_count after) least
+  comes_after to least is =
+      let Holds : Label → Type 0 = λ label. (least : ℕ) → sum_of label ≡ Some least → Comes edges weight from to (settled_count after) least in
+      keeps weight stop sum Holds to own edges
+      (λ edge there over label before least is. elim (sum_cases (sum + weight edge) least label is) as (λ h. Comes edges weight from to (settled_count after) least) [
+        | inl h ↦ subst (Comes edges weight from to (settled_count after)) h (goes_on edge to there over)
+        | inr h ↦ before least h
+      ])
+      (at_set Holds labels stop (Settled sum) to nearest.early
+      (λ same least is. subst (λ some. Comes edges weight from some (settled_count after) least) (sym same) (subst (Comes edges weight from stop (settled_count after)) (some_same sum least is) (weaker stop (settled_count labels) sum to_stop (omega (arith, count_after)))))
+      (λ apart least is. weaker to (settled_count labels) least (so_far.comes to least is) (omega (arith, count_after))))
+      least is
+
+  -- a sum that a label does not exceed, it does not exceed after
+  up_to_after : (to number : ℕ) → IsUpTo number (sum_of (label_at labels to)) → IsUpTo number (sum_of (label_at after to))
+  up_to_after to number before =
+      let Holds : Label → Type 0 = λ label. IsUpTo number (sum_of label) in
+      keeps weight stop sum Holds to own edges (λ edge there over label h. lowers (sum + weight edge) number label h)
+      (at_set Holds labels stop (Settled sum) to nearest.early
+      (λ same. subst Holds (ap (label_at labels) same ∙ nearest.there) before)
+      (λ apart. before))
+
+  -- a stop that is settled after was settled before, or is the one that was settled now
+  settled_after : (other least : ℕ) → label_at after other ≡ Settled least → (label_at own other ≡ Settled least)
+  settled_after other least is =
+      keeps weight stop sum (λ label. (least : ℕ) → label ≡ Settled least → label_at own other ≡ Settled least) other own edges
+      (λ edge there over label before least is. before least (settled_before (sum + weight edge) least label is)) (λ least is. is) least is
+
+  -- it is not farther than the one that was settled now
+  near_after : (other least : ℕ) → label_at after other ≡ Settled least → least ≤ sum
+  near_after other least is =
+      at_set (λ label. (least : ℕ) → label ≡ Settled least → least ≤ sum) labels stop (Settled sum) other nearest.early
+      (λ same least is. omega (arith, settled_same sum least is))
+      (λ apart least is. so_far.ordered other stop least sum is nearest.there)
+      least (settled_after other least is)
+
+  within : (other far : ℕ) → label_at labels other ≡ Reached far → other < length labels
+  within other far is = elim (cases_lt other (length labels)) as (λ h. other < length labels) [
+    | inl h ↦ h
+    | inr h ↦ let unseen = get_or_past labels other Unseen h in cc
+  ]
+
+  far_after : (other far : ℕ) → label_at after other ≡ Reached far → sum ≤ far
+  far_after other far is =
+      let Holds : Label → Type 0 = λ label. (far : ℕ) → label ≡ Reached far → sum ≤ far in
+      keeps weight stop sum Holds other own edges
+      (λ edge there over label before far is. elim (reached_cases (sum + weight edge) far label is) as (λ h. sum ≤ far) [
+        | inl h ↦ omega arith
+        | inr h ↦ before far h
+      ])
+      (at_set Holds labels stop (Settled sum) other nearest.early (λ same far is. cc) (λ apart far is. nearest.least other far (within other far is) is))
+      far is
+
+  closed_after : (other least next : ℕ) (edge : Edge) → label_at after other ≡ Settled least → Contains edges edge → across edge other ≡ Some next → IsUpTo (least + weight edge) (sum_of (label_at after next))
+  closed_after other least next edge is there over =
+      at_set (λ label. label ≡ Settled least → IsUpTo (least + weight edge) (sum_of (label_at after next))) labels stop (Settled sum) other nearest.early
+      (λ same is.
+      subst (λ n. IsUpTo (n + weight edge) (sum_of (label_at after next))) (settled_same sum least is)
+      (meets weight stop sum own edges edge next (omega (arith, length-set labels stop (Settled sum), so_far.size, ends_within stops edge other next (All-contains (IsEdge stops) edges edge sound there) over)) there (subst (λ some. across edge some ≡ Some next) same over) (settled_up next)))
+      (λ apart is. up_to_after next (least + weight edge) (so_far.closed other least next edge is there over))
+      (settled_after other least is)
+    where
+      settled_up : (next : ℕ) → SettledUpTo sum (label_at own next)
+      settled_up next =
+          at_set (SettledUpTo sum) labels stop (Settled sum) next nearest.early
+          (λ same. omega arith)
+          (λ apart. settled_up_to sum (label_at labels next) (λ least is. so_far.ordered next stop least sum is nearest.there))
+
+  partway_after : ArePartway edges weight from stops after
+  partway_after = record {
+    size = size_after;
+    comes = comes_after;
+    begun = up_to_after from 0 so_far.begun;
+    ordered = λ near far least sum is other. omega (arith, near_after near least is, far_after far sum other);
+    closed = closed_after;
+  }
+
+  -- settling the nearest stop keeps what holds, and one stop more is settled
+  pub partway_more : (ArePartway edges weight from stops (settle weight edges stop sum labels)) × (settled_count (settle weight edges stop sum labels) ≡ settled_count labels + 1)
+  unfolding settle
+  partway_more = (partway_after, count_after)
+
+-- how many stops are left
+abbrev pub left_count : List Label → ℕ
+left_count labels = length labels - settled_count labels
+
+-- one round, in a vector
+pub round_more : {Z : Type 0} (network : NetworkParts) (weight : Weight) (from : ℕ) (vec : Vec Label Z) (seen passed left : List Label) (stop sum : ℕ) → IsNetwork network → ArePartway network.edges (weight_of weight) from (length network.stops) vec.items → seen ≡ vec.items → IsNearest seen (length seen) stop sum → passed ≡ vec.items → left ≡ settle (weight_of weight) network.edges stop sum passed → (ArePartway network.edges (weight_of weight) from (length network.stops) (with_items vec left).items) × (left_count (with_items vec left).items < left_count vec.items)
+round_more network weight from vec seen passed left stop sum sound so_far same_seen near same_passed same_left =
+    let labels = vec.items in
+    let after = settle (weight_of weight) network.edges stop sum labels in
+    let nearest = subst (λ some. IsNearest some (length some) stop sum) same_seen near in
+    let more = partway_more network.edges (weight_of weight) from (length network.stops) labels stop sum sound.edges so_far nearest in
+    let is : left ≡ after = same_left ∙ ap (settle (weight_of weight) network.edges stop sum) same_passed in
+    let kept : (with_items vec left).items ≡ after = with_items_is vec left (omega (arith, ap length is, more.0.size, so_far.size, vec.ok)) ∙ is in
+    let fewer : left_count after < left_count labels = omega (arith, more.1, more.0.size, so_far.size, count_by-le-length is_settled after) in (
+      subst (ArePartway network.edges (weight_of weight) from (length network.stops)) (sym kept) more.0,
+      subst (λ some. left_count some < left_count labels) (sym kept) fewer,
+    )
+
+-- ---- the last labels
+
+-- what an edge counts is not much
+weight_small : (weight : Weight) (stops : ℕ) (edge : Edge) → IsEdge stops edge → weight_of weight edge ≤ 10000000000
+weight_small kind.Length stops edge is = omega (arith, ints, is.some_length, is.short)
+weight_small kind.Time stops edge is = omega (arith, ints, is.some_time, is.in_order, is.soon)
+
+module _ (network : NetworkParts) (weight : Weight) (from : ℕ) (labels : List Label) (sound : IsNetwork network) (so_far : ArePartway network.edges (weight_of weight) from (length network.stops) labels) where
+  few_settled : settled_count labels ≤ length network.stops
+  few_settled = omega (arith, count_by-le-length is_settled labels, so_far.size)
+
+  -- sums of labels are not large
+  pub sum_small : (to sum : ℕ) → sum_of (label_at labels to) ≡ Some sum → sum ≤ 10000000000000
+  sum_small to sum is =
+      let comes = so_far.comes to sum is in
+      let small = All-weaker (IsEdge (length network.stops)) (λ edge. weight_of weight edge ≤ 10000000000) (weight_small weight (length network.stops)) network.edges sound.edges in
+      omega (arith, walk_sum-small (weight_of weight) network.edges 10000000000 comes.walk small comes.is.there, comes.sums, comes.short, few_settled, sound.few_stops)
+
+  module _ (none : (other far : ℕ) → other < length labels → label_at labels other ≡ Reached far → ⊥) where
+    -- a label whose sum is not above a number is settled, with such a sum
+    settled_now : (stop number : ℕ) → IsUpTo number (sum_of (label_at labels stop)) → (least : ℕ) × (label_at labels stop ≡ Settled least) × (least ≤ number)
+    settled_now stop number up_to = go (label_at labels stop) refl up_to
+      where
+        go : (label : Label) → label_at labels stop ≡ label → IsUpTo number (sum_of label) → (least : ℕ) × (label_at labels stop ≡ Settled least) × (least ≤ number)
+        go Unseen is h = absurd h
+        go (Settled least) is h = (least, is, h)
+        go (Reached far) is h = elim (cases_lt stop (length labels)) as (λ c. (least : ℕ) × (label_at labels stop ≡ Settled least) × (least ≤ number)) [
+          | inl c ↦ absurd (none stop far c is)
+          | inr c ↦ let unseen = get_or_past labels stop Unseen c in absurd (let ends : Unseen ≡ Reached far = sym unseen ∙ is in cc)
+        ]
+
+    weaker_up : (small large : ℕ) (o : Option ℕ) → small ≤ large → IsUpTo small o → IsUpTo large o
+    weaker_up small large None le h = h
+    weaker_up small large (Some least) le h = omega arith
+
+    -- no walk that goes on from a stop has a lesser sum than the label of its end
+    below_walks : (walk : List Edge) (stop to number : ℕ) → IsUpTo number (sum_of (label_at labels stop)) → IsWalk network.edges stop to walk → IsUpTo (number + walk_sum (weight_of weight) walk) (sum_of (label_at labels to))
+    below_walks [] stop to number up_to is = weaker_up number (number + walk_sum (weight_of weight) []) (sum_of (label_at labels to)) (omega arith) (subst (λ some. IsUpTo number (sum_of (label_at labels some))) (staying_end network.edges stop to is) up_to)
+    below_walks (edge ∷ walk) stop to number up_to is =
+        let start = begins network.edges stop to edge walk is in
+        let settled = settled_now stop number up_to in
+        let next = so_far.closed stop settled.0 start.next edge settled.1 start.there start.over in
+        let rest = below_walks walk start.next to (settled.0 + weight_of weight edge) next start.on in
+        weaker_up (settled.0 + weight_of weight edge + walk_sum (weight_of weight) walk) (number + walk_sum (weight_of weight) (edge ∷ walk)) (sum_of (label_at labels to)) (omega (arith, settled.2, walk_sum-cons (weight_of weight) edge walk)) rest
+
+    below_all : (to : ℕ) (walk : List Edge) → IsWalk network.edges from to walk → IsUpTo (walk_sum (weight_of weight) walk) (sum_of (label_at labels to))
+    below_all to walk is = weaker_up (0 + walk_sum (weight_of weight) walk) (walk_sum (weight_of weight) walk) (sum_of (label_at labels to)) (omega arith) (below_walks walk from to 0 so_far.begun is)
+
+    least_now : (to : ℕ) → IsLeastSum network.edges (weight_of weight) from to (sum_of (label_at labels to))
+    least_now to = go (sum_of (label_at labels to)) refl
+      where
+        go : (sum : Option ℕ) → sum_of (label_at labels to) ≡ sum → IsLeastSum network.edges (weight_of weight) from to sum
+        go None is = λ walk on. subst (IsUpTo (walk_sum (weight_of weight) walk)) is (below_all to walk on)
+        go (Some least) is =
+            let comes = so_far.comes to least is in
+            ((comes.walk, comes.is, comes.sums), λ walk on. subst (IsUpTo (walk_sum (weight_of weight) walk)) is (below_all to walk on))
+
+    same_now : (to : ℕ) → sum_of (label_at labels to) ≡ least_sum network (weight_of weight) from to
+    unfolding least_sum
+    same_now to =
+        let walks = walks_within network.edges (length network.stops) from to in
+        let sums = map (walk_sum (weight_of weight)) walks in
+        let now = sum_of (label_at labels to) in
+        least_of_is sums now
+        (All-map (λ number. IsUpTo number now) (walk_sum (weight_of weight)) walks (All-weaker (IsWalk network.edges from to) (λ walk. IsUpTo (walk_sum (weight_of weight) walk) now) (below_all to) walks (within_all network.edges (length network.stops) from to)))
+        (λ number is.
+        let comes = so_far.comes to number is in
+        subst (Contains sums) comes.sums
+        (Contains-map (walk_sum (weight_of weight)) walks comes.walk (within_there network.edges (length network.stops) from to comes.walk (omega (arith, comes.short, few_settled)) comes.is)))
+
+    -- where no stop is reached that is not settled
+    pub partway_all : AreDone network (weight_of weight) from labels
+    partway_all = record { size = so_far.size; least = least_now; same = same_now; small = sum_small }

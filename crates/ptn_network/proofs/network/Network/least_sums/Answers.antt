@@ -1,0 +1,9 @@
+use Rattle.ptn_network.specs.Labels.{weight_of}
+use Rattle.ptn_network.proofs.Sums.{sums_same, sums_least}
+use Rattle.ptn_network.proofs.network.Network.least_sums.Goals as goal
+
+pub returns-clause-sums : goal.returns-clause-sums
+returns-clause-sums c = sums_same c.args.self.now (weight_of c.args.weight) c.args.from c.in_ok-labels.labels.items c.in_ok-labels.ensures _ c.in_ok-sums.sums.items c.deref.ensures.value c.in_ok-sums.ensures
+
+pub returns-clause-least : goal.returns-clause-least
+returns-clause-least c = sums_least c.args.self.now (weight_of c.args.weight) c.args.from c.in_ok-labels.labels.items c.in_ok-labels.ensures _ c.in_ok-sums.sums.items c.deref.ensures.value c.in_ok-sums.ensures
