@@ -3,6 +3,7 @@ mod DemandRows
 mod GivenRows
 mod LastEdges
 mod LoadCalls
+pub mod LoadMakes
 mod LoadRows
 mod PathEdges
 mod PathSteps

@@ -5,6 +5,7 @@ use plan_files::{Files, FolderFiles, Got, MemorySink, Sink, StdSink, SteadyFiles
 use plan_num::{Steps, Tally};
 use std::alloc::{AllocError, Global};
 use std::fs;
+use std::process::Abort;
 use std::test::Fail;
 
 const CONFIG: &[u8] = b"load_source; file\nperiod_length; 20\n";
@@ -15,7 +16,14 @@ const EDGES: &[u8] = b"# edges\n1; 1; 2; 2; 4; 5\n2; 2; 3; 3; 6; 6\n";
 
 const POOL: &[u8] = b"# pool\n1; 1; 1\n1; 2; 2\n2; 1; 1\n";
 
+const GIVEN: &[u8] = b"# loads\n1; 100; 2; 3\n2; 40; 1; 3\n";
+
+const LOADS: &[u8] =
+    b"# edge-id; load; minimal-frequency; maximal-frequency\n1; 100; 2; 3\n2; 40; 1; 3\n";
+
 const COSTS: &[u8] = b"# line-id; length; cost\n1; 5; 15\n2; 2; 12\n";
+
+const NO_COSTS: &[u8] = b"# line-id; length; cost\n";
 
 // A run over the files of a dataset, where some of them are others or are not there, and what it has to answer, write,
 // report and count.
@@ -25,7 +33,10 @@ struct Case {
     stops: Option<&'static [u8]>,
     edges: Option<&'static [u8]>,
     pool: Option<&'static [u8]>,
+    given: Option<&'static [u8]>,
+    demand: Option<&'static [u8]>,
     status: Status,
+    loads: Option<&'static [u8]>,
     costs: Option<&'static [u8]>,
     report: &'static [u8],
     steps: u64,
@@ -37,16 +48,44 @@ const MADE: Case = Case {
     stops: Some(STOPS),
     edges: Some(EDGES),
     pool: Some(POOL),
+    given: Some(GIVEN),
+    demand: None,
     status: Status::Done,
+    loads: Some(LOADS),
     costs: Some(COSTS),
-    report: b"cost: 2 lines\ndone\n",
-    steps: 1,
+    report: b"load: 2 edges\ncost: 2 lines\ndone\n",
+    steps: 2,
 };
 
-// A run that is refused by its stage.
+// A run whose first stage is refused.
 const REFUSED: Case = Case {
     status: Status::BadInput,
+    loads: None,
     costs: None,
+    steps: 1,
+    ..MADE
+};
+
+// A run whose second stage is refused.
+const REFUSED_LATER: Case = Case {
+    status: Status::BadInput,
+    costs: None,
+    ..MADE
+};
+
+// Four stops in a square: two ways of two edges from the first to the last.
+const SQUARE: Case = Case {
+    config: None,
+    stops: Some(b"1; A; A; 0; 0\n2; B; B; 0; 0\n3; C; C; 0; 0\n4; D; D; 0; 0\n"),
+    edges: Some(b"1; 1; 2; 1; 3; 4\n2; 2; 4; 1; 3; 4\n3; 1; 3; 1; 3; 4\n4; 3; 4; 1; 3; 4\n"),
+    pool: Some(b""),
+    given: None,
+    demand: Some(b"1; 4; 150\n"),
+    loads: Some(
+        b"# edge-id; load; minimal-frequency; maximal-frequency\n1; 150; 3; 6\n2; 150; 3; 6\n3; 0; 0; 3\n4; 0; 0; 3\n",
+    ),
+    costs: Some(NO_COSTS),
+    report: b"load: 4 edges\ncost: 0 lines\ndone\n",
     ..MADE
 };
 
@@ -57,9 +96,10 @@ fn words(alloc: Global, word: &str) -> Result<Vec<String>, AllocError> {
 }
 
 // Runs over the files of a case.
-fn run(rt: &HostRuntime, case: &Case) -> Result<(), Fail> {
+fn run(rt: &(impl AllocGlobal + Abort), case: &Case) -> Result<(), Fail> {
     let alloc = rt.alloc();
     let mut files = SteadyFiles::new(alloc);
+    files.put("line-planning/Load.giv", b"old")?;
     files.put("basis/Pool-Cost.giv", b"old")?;
     files.put("other.txt", b"kept")?;
     let given = [
@@ -67,6 +107,8 @@ fn run(rt: &HostRuntime, case: &Case) -> Result<(), Fail> {
         ("basis/Stop.giv", case.stops),
         ("basis/Edge.giv", case.edges),
         ("basis/Pool.giv", case.pool),
+        ("basis/Load.giv", case.given),
+        ("basis/OD.giv", case.demand),
     ];
     for (name, text) in &given {
         if let Some(text) = text {
@@ -80,41 +122,69 @@ fn run(rt: &HostRuntime, case: &Case) -> Result<(), Fail> {
     assert_eq!(rt; out.bytes(), case.report);
     assert_eq!(rt; status, case.status);
     assert_eq!(rt; steps.ledger().seen(), case.steps);
-    let costs = files
-        .file("basis/Pool-Cost.giv")
-        .map(|text| text.as_bytes());
-    assert_eq!(rt; costs.is_some(), case.costs.is_some());
-    assert_eq!(rt; costs.unwrap_or(b""), case.costs.unwrap_or(b""));
-    let other = files.file("other.txt").ok_or("no other file")?;
-    assert_eq!(rt; other.as_bytes(), b"kept".as_slice());
+    holds(rt, &files, "line-planning/Load.giv", case.loads);
+    holds(rt, &files, "basis/Pool-Cost.giv", case.costs);
+    holds(rt, &files, "other.txt", Some(b"kept"));
     Ok(())
 }
 
-// Costs are made under the settings of the dataset, and old ones are put in the place of, or removed.
+// A file has a text, or is not there.
+fn holds(rt: &impl Abort, files: &SteadyFiles, name: &str, text: Option<&[u8]>) {
+    let found = files.file(name).map(|found| found.as_bytes());
+    assert_eq!(rt; found.is_some(), text.is_some());
+    assert_eq!(rt; found.unwrap_or(b""), text.unwrap_or(b""));
+}
+
+// Each stage is made under the settings of the dataset, and its old file is replaced or removed.
 #[test]
-fn costs_are_made_or_removed(rt: HostRuntime) -> Result<(), Fail> {
+fn stages_are_made(rt: HostRuntime) -> Result<(), Fail> {
     let cases = [
         MADE,
         Case {
-            config: Some(b"lpool_costs_length; 0.5\nlpool_costs_edges; 2\n"),
+            config: Some(b"load_source; file\nlpool_costs_length; 0.5\nlpool_costs_edges; 2\n"),
             costs: Some(b"# line-id; length; cost\n1; 5; 16.5\n2; 2; 13\n"),
             ..MADE
         },
         Case {
-            config: None,
+            config: Some(b"load_source; file\n"),
             stops: Some(b""),
             edges: Some(b""),
             pool: Some(b""),
-            costs: Some(b"# line-id; length; cost\n"),
-            report: b"cost: 0 lines\ndone\n",
+            given: Some(b""),
+            loads: Some(b"# edge-id; load; minimal-frequency; maximal-frequency\n"),
+            costs: Some(NO_COSTS),
+            report: b"load: 0 edges\ncost: 0 lines\ndone\n",
             ..MADE
         },
         Case {
-            config: Some(b"last_stage; load\n"),
+            config: Some(b"load_source; file\nlast_stage; load\n"),
             costs: None,
-            report: b"done\n",
-            steps: 0,
+            report: b"load: 2 edges\ndone\n",
+            steps: 1,
             ..MADE
+        },
+        Case {
+            config: Some(b"load_source; od\n"),
+            demand: Some(b"# no demand\n"),
+            loads: Some(
+                b"# edge-id; load; minimal-frequency; maximal-frequency\n1; 0; 0; 3\n2; 0; 0; 3\n",
+            ),
+            ..MADE
+        },
+        SQUARE,
+        Case {
+            demand: Some(b"1; 4; 150.5\n"),
+            loads: Some(
+                b"# edge-id; load; minimal-frequency; maximal-frequency\n1; 150.5; 3; 6\n2; 150.5; 3; 6\n3; 0; 0; 3\n4; 0; 0; 3\n",
+            ),
+            ..SQUARE
+        },
+        Case {
+            edges: Some(b""),
+            demand: Some(b"1; 2; 0\n"),
+            loads: Some(b"# edge-id; load; minimal-frequency; maximal-frequency\n"),
+            report: b"load: 0 edges\ncost: 0 lines\ndone\n",
+            ..SQUARE
         },
     ];
     for case in &cases {
@@ -123,7 +193,7 @@ fn costs_are_made_or_removed(rt: HostRuntime) -> Result<(), Fail> {
     Ok(())
 }
 
-// What people wrote is refused by file, row and rule, or by key.
+// What people wrote is refused by file, row and rule, by its count, or by key.
 #[test]
 fn bad_input_is_refused(rt: HostRuntime) -> Result<(), Fail> {
     let cases = [
@@ -146,15 +216,8 @@ fn bad_input_is_refused(rt: HostRuntime) -> Result<(), Fail> {
             ..REFUSED
         },
         Case {
-            pool: None,
-            report: b"refused: basis/Pool.giv is missing\n",
-            steps: 0,
-            ..REFUSED
-        },
-        Case {
-            stops: None,
-            pool: None,
-            report: b"refused: basis/Stop.giv is missing\n",
+            config: None,
+            report: b"refused: basis/OD.giv is missing\n",
             steps: 0,
             ..REFUSED
         },
@@ -169,18 +232,47 @@ fn bad_input_is_refused(rt: HostRuntime) -> Result<(), Fail> {
             ..REFUSED
         },
         Case {
+            edges: Some(b""),
+            demand: Some(b"1; 2; 1\n"),
+            report: b"refused: basis/OD.giv row 1: no path\n",
+            status: Status::BadInput,
+            loads: None,
+            costs: None,
+            steps: 1,
+            ..SQUARE
+        },
+        Case {
+            demand: Some(b"1; 4; 70000\n"),
+            report: b"refused: too many frequency: 1003\n",
+            status: Status::BadInput,
+            loads: None,
+            costs: None,
+            steps: 1,
+            ..SQUARE
+        },
+        Case {
+            pool: None,
+            report: b"load: 2 edges\nrefused: basis/Pool.giv is missing\n",
+            steps: 1,
+            ..REFUSED_LATER
+        },
+        Case {
             pool: Some(b"# pool\n1; 1; 1\n1; 3; 2\n"),
-            report: b"refused: basis/Pool.giv row 3: order gap\n",
-            ..REFUSED
+            report: b"load: 2 edges\nrefused: basis/Pool.giv row 3: order gap\n",
+            ..REFUSED_LATER
         },
         Case {
             stops: Some(
                 b"1; A; A; 0; 0\n2; B; B; 0; 0\n3; C; C; 0; 0\n4; D; D; 0; 0\n5; E; E; 0; 0\n",
             ),
             edges: Some(b"# edges\n1; 1; 2; 2; 4; 5\n2; 2; 3; 3; 6; 6\n3; 4; 5; 1; 1; 1\n"),
+            given: Some(b"# loads\n1; 100; 2; 3\n2; 40; 1; 3\n3; 0; 0; 3\n"),
             pool: Some(b"# pool\n1; 1; 1\n1; 2; 3\n"),
-            report: b"refused: basis/Pool.giv row 3: broken line\n",
-            ..REFUSED
+            loads: Some(
+                b"# edge-id; load; minimal-frequency; maximal-frequency\n1; 100; 2; 3\n2; 40; 1; 3\n3; 0; 0; 3\n",
+            ),
+            report: b"load: 3 edges\nrefused: basis/Pool.giv row 3: broken line\n",
+            ..REFUSED_LATER
         },
     ];
     for case in &cases {
@@ -216,6 +308,8 @@ fn a_real_folder_is_used(rt: HostRuntime) -> Result<(), Fail> {
     let make = words(alloc, "make")?;
     let mut steps = Steps::new(Tally::new());
     let mut files = FolderFiles::here(&rt, alloc);
+    files.put("basis/Config.cnf", CONFIG)?;
+    files.put("basis/Load.giv", GIVEN)?;
     files.put("basis/Stop.giv", STOPS)?;
     files.put("basis/Edge.giv", EDGES)?;
     files.put("basis/Pool.giv", POOL)?;

@@ -23,6 +23,7 @@ use Rattle.config_keys.specs.declared.config_fault.ConfigFault.{ConfigFault}
 use Rattle.config_keys.specs.Items.{look_in}
 use Rattle.config_keys.specs.Values.{effective}
 use Rattle.line_pool.specs.CostStage.{cost_stage}
+use Rattle.demand_load.proofs.LoadMakes.{load_stage_makes}
 use Rattle.line_pool.proofs.CostMakes.{cost_stage_makes}
 use Rattle.stage_driver.specs.declared.stop.Stop.{Stop}
 use Rattle.stage_driver.specs.Hand.{is_among, is_hand, hand_of, names_made_by}
@@ -43,6 +44,7 @@ both_not files more h k =
 -- a stage makes no hand file
 function_not : (stage : Stage) (bundle : BundleParts) (made : Made) → stage_function stage bundle ≡ Ok made → NotHand made.files
 unfolding stage_function is_hand
+function_not stage.Load bundle made is = ap (list_all (λ file. not (is_hand (file_name file)))) (load_stage_makes bundle made is)
 function_not stage.Cost bundle made is = ap (list_all (λ file. not (is_hand (file_name file)))) (cost_stage_makes bundle made is)
 function_not _ bundle made is = absurd (cc)
 

@@ -13,6 +13,7 @@ use Rattle.giv_files.specs.Settings.{BundleParts}
 use Rattle.config_keys.specs.declared.config_fault.ConfigFault.{ConfigFault}
 use Rattle.config_keys.specs.Items.{look_in}
 use Rattle.config_keys.specs.Values.{effective}
+use Rattle.demand_load.specs.LoadStage.{load_stage}
 use Rattle.line_pool.specs.CostStage.{cost_stage}
 use Rattle.stage_driver.specs.declared.outcome.RunEnd.{RunEnd}
 use Rattle.stage_driver.specs.declared.stop.Stop.{Stop}
@@ -22,10 +23,11 @@ use Rattle.stage_driver.specs.Reports.{stage_lines, last_line, end_of}
 
 -- the stages that are built, in the order in which they run
 abbrev pub built : List Stage
-built = stage.Cost ∷ []
+built = stage.Load ∷ stage.Cost ∷ []
 
 -- what each stage makes of what it is given; one that is not built makes nothing, and no chain has it
 unfoldable pub stage_function : Stage → BundleParts → Result Made Refusal
+stage_function stage.Load bundle = load_stage bundle
 stage_function stage.Cost bundle = cost_stage bundle
 stage_function _ bundle = Err refusal.NoSolution
 

@@ -6,6 +6,7 @@ ghost use Rattle.config_keys.specs.Config.{last_stage_of};
 ghost use Rattle.stage_driver.specs.Chain.{stage_place};
 ghost use Rattle.stage_driver.specs.Built.{built, run_stage, stage_work};
 
+use demand_load::make_load;
 use giv_files::{Bundle, Made, Refusal, Stage, StageFault};
 use line_pool::make_cost;
 use plan_num::{Ledger, Steps};
@@ -15,7 +16,7 @@ use std::alloc::Global;
 pub(crate) fn built() -> &'static [Stage]
     ensures { result.now ≡ built }
 {
-    &[Stage::Cost]
+    &[Stage::Load, Stage::Cost]
 }
 
 /// Makes what the stage of a bundle makes of it.
@@ -30,9 +31,9 @@ pub(crate) fn make_stage<L: Ledger>(
     ensures steps { TakesSteps (stage_work bundle.now) steps.old steps.new result }
 {
     match bundle.stage() {
+        Stage::Load => make_load(alloc, bundle, steps),
         Stage::Cost => make_cost(alloc, bundle, steps),
-        Stage::Load
-        | Stage::Concept
+        Stage::Concept
         | Stage::Ean
         | Stage::Timetable
         | Stage::Rollout
