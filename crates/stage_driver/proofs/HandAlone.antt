@@ -19,7 +19,7 @@ use Rattle.config_keys.specs.Values.{effective}
 use Rattle.config_keys.proofs.Looks.{effective_same}
 use Rattle.stage_driver.specs.declared.stop.Stop.{Stop}
 use Rattle.stage_driver.specs.Hand.{is_hand, hand_of}
-use Rattle.stage_driver.specs.Chain.{Visit, needed_text, optional_text, origin_of, text_from, input_text, chosen, with_text, texts_of, bundle_told, tried, go_on, visit_of, chain_from, to_run}
+use Rattle.stage_driver.specs.Chain.{Visit, hand_text, origin_of, text_from, input_text, chosen, with_text, texts_of, bundle_told, tried, go_on, visit_of, chain_from, to_run}
 use Rattle.stage_driver.specs.Built.{built, run_stage, trace_under, trace_of}
 
 -- under the name of a hand file the hand files have what the folder has
@@ -46,21 +46,18 @@ settings_same : (folder : Folder) → effective (look_in (hand_of folder)) ≡ e
 settings_same folder = effective_same (look_in (hand_of folder)) (look_in folder) (λ name inside. look_same folder (path_of name) (path_is_hand name inside)) (look_same folder config_name config_is_hand)
 
 module _ (folder : Folder) where
-  needed_same : (file : FileId) → is_hand (file_name file) ≡ true → needed_text file (look_in (hand_of folder) (file_name file)) ≡ needed_text file (look_in folder (file_name file))
-  needed_same file is = ap (needed_text file) (look_same folder (file_name file) is)
-
-  optional_same : (file : FileId) → is_hand (file_name file) ≡ true → optional_text file (look_in (hand_of folder) (file_name file)) ≡ optional_text file (look_in folder (file_name file))
-  optional_same file is = ap (optional_text file) (look_same folder (file_name file) is)
+  found_same : (optional : Bool) (file : FileId) → is_hand (file_name file) ≡ true → hand_text optional file (look_in (hand_of folder) (file_name file)) ≡ hand_text optional file (look_in folder (file_name file))
+  found_same optional file is = ap (hand_text optional file) (look_same folder (file_name file) is)
 
   input_same : (made : List MadeFile) (file : FileId) → input_text (hand_of folder) made file ≡ input_text folder made file
   unfolding is_hand
-  input_same made file.Stop = needed_same file.Stop refl
-  input_same made file.Edge = needed_same file.Edge refl
-  input_same made file.LoadGiven = needed_same file.LoadGiven refl
-  input_same made file.Od = needed_same file.Od refl
-  input_same made file.Pool = needed_same file.Pool refl
-  input_same made file.EventDelays = optional_same file.EventDelays refl
-  input_same made file.ActivityDelays = optional_same file.ActivityDelays refl
+  input_same made file.Stop = found_same false file.Stop refl
+  input_same made file.Edge = found_same false file.Edge refl
+  input_same made file.LoadGiven = found_same false file.LoadGiven refl
+  input_same made file.Od = found_same false file.Od refl
+  input_same made file.Pool = found_same false file.Pool refl
+  input_same made file.EventDelays = found_same true file.EventDelays refl
+  input_same made file.ActivityDelays = found_same true file.ActivityDelays refl
   input_same made _ = refl
 
   texts_same : (values : List ℤ) (made : List MadeFile) (inputs : List FileId) → texts_of values (hand_of folder) made inputs ≡ texts_of values folder made inputs

@@ -1,5 +1,5 @@
 -- A chain of stages over hand files: each stage takes hand files, and files that stages before it made.
-use Rattle.std.specs.Prelude.{ℕ, ℤ, pos, if◌then◌else◌, Bool, List, [], ◌∷◌, ◌++◌, filter, nat_le, Option, Some, None, Result, Ok, Err}
+use Rattle.std.specs.Prelude.{ℕ, ℤ, pos, if◌then◌else◌, Bool, true, false, List, [], ◌∷◌, ◌++◌, filter, nat_le, Option, Some, None, Result, Ok, Err}
 use Rattle.std.specs.Ordering.{int_eq}
 use Rattle.std.specs.Str.{bytes_eq}
 use Rattle.plan_files.specs.declared.store.Got.{Got}
@@ -34,17 +34,11 @@ origin_of file.EventDelays = origin.Optional
 origin_of file.ActivityDelays = origin.Optional
 origin_of _ = origin.Earlier
 
--- the text of a hand file that has to be there
-abbrev pub needed_text : FileId → Got → Result (List ℕ) Stop
-needed_text file (Bytes text) = Ok text
-needed_text file Absent = Err (stop.Missing file)
-needed_text file Long = Err (stop.TooLong file)
-
--- the text of a hand file that need not be there
-abbrev pub optional_text : FileId → Got → Result (List ℕ) Stop
-optional_text file (Bytes text) = Ok text
-optional_text file Absent = Ok []
-optional_text file Long = Err (stop.TooLong file)
+-- the text of a hand file, which may be left out or not
+abbrev pub hand_text : Bool → FileId → Got → Result (List ℕ) Stop
+hand_text optional file (Bytes text) = Ok text
+hand_text optional file Absent = if optional then Ok [] else Err (stop.Missing file)
+hand_text optional file Long = Err (stop.TooLong file)
 
 -- two files are one
 abbrev pub is_file : FileId → FileId → Bool
@@ -57,8 +51,8 @@ made_text (made ∷ more) file = if is_file made.file file then Ok made.text els
 
 -- the text of an input, or why there is none
 abbrev pub text_from : Origin → Folder → List MadeFile → FileId → Result (List ℕ) Stop
-text_from origin.Needed hand made file = needed_text file (look_in hand (file_name file))
-text_from origin.Optional hand made file = optional_text file (look_in hand (file_name file))
+text_from origin.Needed hand made file = hand_text false file (look_in hand (file_name file))
+text_from origin.Optional hand made file = hand_text true file (look_in hand (file_name file))
 text_from origin.Earlier hand made file = made_text made file
 
 abbrev pub input_text : Folder → List MadeFile → FileId → Result (List ℕ) Stop

@@ -4,7 +4,7 @@ ghost use Rattle.config_keys.specs.Items.{look_in};
 ghost use Rattle.giv_files.specs.Names.{file_name};
 ghost use Rattle.giv_files.specs.Settings.{Fits};
 ghost use Rattle.giv_files.specs.Stages.{stage_inputs};
-ghost use Rattle.stage_driver.specs.Chain.{bundle_told, input_text, made_text, needed_text, optional_text, texts_of};
+ghost use Rattle.stage_driver.specs.Chain.{bundle_told, hand_text, input_text, made_text, texts_of};
 ghost use Rattle.stage_driver.specs.Ends.{CountsEnd, Gives};
 
 use crate::chain_end::ChainEnd;
@@ -52,36 +52,28 @@ fn input<F: Files>(
     ensures faults { CountsEnd (F.faults files.old) (F.faults files.new) result }
 {
     match origin_of(file) {
-        Origin::Needed => needed(alloc, files, file),
-        Origin::Optional => optional(alloc, files, file),
+        Origin::Needed => hand_text(alloc, files, file, false),
+        Origin::Optional => hand_text(alloc, files, file, true),
         Origin::Earlier => made_text(alloc, made, file),
     }
 }
 
-// The text of a hand file that has to be there.
-fn needed<F: Files>(alloc: Global, files: &mut F, file: FileId) -> Result<Text, ChainEnd>
-    ensures text { IfSome (F.contents files.old) (λ folder. Gives (needed_text file (look_in folder (file_name file))) result) }
+// The text of a hand file, which may be left out or not.
+fn hand_text<F: Files>(
+    alloc: Global,
+    files: &mut F,
+    file: FileId,
+    optional: bool,
+) -> Result<Text, ChainEnd>
+    ensures text { IfSome (F.contents files.old) (λ folder. Gives (hand_text optional file (look_in folder (file_name file))) result) }
     ensures contents { F.contents files.new ≡ F.contents files.old }
     ensures writes { F.writes files.new ≡ F.writes files.old }
     ensures faults { CountsEnd (F.faults files.old) (F.faults files.new) result }
 {
     match files.get(alloc, file.name(), FILE_LIMIT)? {
         Got::Bytes(text) => Ok(text),
+        Got::Absent if optional => Ok(Text::from_vec(Vec::new(alloc))),
         Got::Absent => Err(ChainEnd::Stopped(Stop::Missing(file))),
-        Got::TooLong => Err(ChainEnd::Stopped(Stop::TooLong(file))),
-    }
-}
-
-// The text of a hand file that need not be there.
-fn optional<F: Files>(alloc: Global, files: &mut F, file: FileId) -> Result<Text, ChainEnd>
-    ensures text { IfSome (F.contents files.old) (λ folder. Gives (optional_text file (look_in folder (file_name file))) result) }
-    ensures contents { F.contents files.new ≡ F.contents files.old }
-    ensures writes { F.writes files.new ≡ F.writes files.old }
-    ensures faults { CountsEnd (F.faults files.old) (F.faults files.new) result }
-{
-    match files.get(alloc, file.name(), FILE_LIMIT)? {
-        Got::Bytes(text) => Ok(text),
-        Got::Absent => Ok(Text::from_vec(Vec::new(alloc))),
         Got::TooLong => Err(ChainEnd::Stopped(Stop::TooLong(file))),
     }
 }
