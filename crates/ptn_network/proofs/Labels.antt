@@ -1,17 +1,17 @@
 -- Labels of stops: what settling the nearest stop keeps.
-use Rattle.std.proofs.Common.{◌≡◌, ◌≢◌, ℕ, ◌+◌, ◌*◌, ◌<◌, ◌≤◌, min, Bool, true, false, cond, eqb, List, [], ◌∷◌, ◌++◌, length, take, fold, get_or, set, replicate, slice_get, refl, ap, sym, subst, ◌∙◌, Option, Some, None, All, Contains, ◌⊎◌, inl, inr, arith}
+use Rattle.std.proofs.Common.{◌≡◌, ◌≢◌, ℕ, ◌+◌, ◌<◌, ◌≤◌, min, Bool, true, false, cond, eqb, List, [], ◌∷◌, length, take, fold, set, slice_get, refl, ap, sym, subst, ◌∙◌, Option, Some, None, Contains, ◌⊎◌, inl, inr, arith}
 use Rattle.std.specs.List.{count_by}
 use Rattle.std.proofs.lemmas.Bool.{cases_lt}
 use Rattle.std.proofs.lemmas.Bool.Decides.{nat_tests}
-use Rattle.std.proofs.lemmas.List.{length-set, length-replicate, length_push, get_or-set_same, get_or-set_other, get_or-replicate, get_or_past, set_past}
-use Rattle.std.proofs.lemmas.List.Sums.{fold_more, sum_by-set, count_by-le-length}
+use Rattle.std.proofs.lemmas.List.{length-set, get_or-set_same, get_or-set_other, set_past}
+use Rattle.std.proofs.lemmas.List.Sums.{fold_more, sum_by-set}
 use Rattle.std.proofs.lemmas.Option.{slice_get_within, get_or_from_slice_get}
 use Rattle.ptn_network.specs.declared.edge.Edge.{Edge}
 use Rattle.ptn_network.specs.declared.label.Label.{Label}
 use Rattle.ptn_network.specs.declared.label.Label.TheVariants.{Unseen, Reached, Settled}
 use Rattle.ptn_network.specs.Walks.{across}
 use Rattle.ptn_network.specs.Labels.{sum_of, label_at, reached, reach, reach_over}
-use Rattle.ptn_network.proofs.Walks.{IsUpTo, Contains-tail, Contains-rec}
+use Rattle.ptn_network.proofs.Walks.{IsUpTo, Contains-cons, Contains-rec}
 
 -- one edge more
 pub over_more : (weight : Edge → ℕ) (stop sum : ℕ) (edges : List Edge) (i : ℕ) (edge : Edge) (next : Option ℕ) (initial labels after : List Label) → slice_get edges i ≡ Some edge → next ≡ across edge stop → labels ≡ fold (reach_over weight stop sum) initial (take i edges) → after ≡ reach (sum + weight edge) labels next → after ≡ fold (reach_over weight stop sum) initial (take (i + 1) edges)
@@ -154,7 +154,7 @@ module _ (weight : Edge → ℕ) (stop sum : ℕ) where
     pub keeps : (labels : List Label) (edges : List Edge) → ((edge : Edge) → Contains edges edge → across edge stop ≡ Some to → (label : Label) → P label → P (reached (sum + weight edge) label)) → P (label_at labels to) → P (label_at (fold over labels edges) to)
     keeps labels [] step now = now
     keeps labels (edge ∷ edges) step now =
-        keeps (over labels edge) edges (λ other there. step other (Contains-tail edge other edges there))
+        keeps (over labels edge) edges (λ other there. step other (Contains-cons edge other edges there))
         (reach_keeps (sum + weight edge) labels (across edge stop) (step edge (0, omega arith, refl)) now)
 
   -- a walk that goes on over one of the edges comes to the stop across it

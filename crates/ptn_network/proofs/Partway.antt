@@ -1,9 +1,9 @@
 -- What holds of the labels of a network while the nearest stop is settled again and again.
-use Rattle.std.proofs.Common.{◌≡◌, ◌≢◌, ℕ, ◌+◌, ◌-◌, ◌*◌, Vec, ◌<◌, ◌≤◌, Bool, true, false, cond, eqb, List, [], ◌∷◌, ◌++◌, length, map, sum, take, fold, get_or, set, replicate, refl, ap, sym, subst, ◌∙◌, Option, Some, None, option_map, All, Contains, ◌⊎◌, inl, inr, arith}
+use Rattle.std.proofs.Common.{◌≡◌, ℕ, ◌+◌, ◌-◌, Vec, ◌<◌, ◌≤◌, Bool, true, false, cond, eqb, List, [], ◌∷◌, ◌++◌, length, map, sum, fold, set, refl, ap, sym, subst, ◌∙◌, Option, Some, None, All, Contains, inl, inr, arith}
 use Rattle.std.specs.Vec.{with_items}
 use Rattle.std.proofs.lemmas.Bool.{cases_lt}
 use Rattle.std.proofs.lemmas.Int.{ints}
-use Rattle.std.proofs.lemmas.List.{length-set, length-replicate, length_push, with_items_is, get_or-replicate, get_or_past}
+use Rattle.std.proofs.lemmas.List.{length-set, length_push, with_items_is, get_or_past}
 use Rattle.std.proofs.lemmas.List.Elements.{All-map, All-weaker, All-contains}
 use Rattle.std.proofs.lemmas.List.Sums.{sum_by-set, count_by-le-length}
 use Rattle.ptn_network.specs.declared.edge.Edge.{Edge}
@@ -12,10 +12,10 @@ use Rattle.ptn_network.specs.declared.label.Label.TheVariants.{Unseen, Reached, 
 use Rattle.ptn_network.specs.declared.weight.Weight.{Weight}
 use Rattle.ptn_network.specs.declared.weight.Weight.TheVariants as kind
 use Rattle.ptn_network.specs.Networks.{NetworkParts, IsEdge, IsNetwork}
-use Rattle.ptn_network.specs.Walks.{across, IsWalk, walk_sum, IsLeastSum, walks_within, least_of, least_sum}
-use Rattle.ptn_network.specs.Labels.{weight_of, sum_of, label_at, reached, reach_over, settle, IsNearest, AreDone}
-use Rattle.ptn_network.proofs.Walks.{IsUpTo, begins, no_edge, edge_last, staying_end, walk_sum-cons, walk_sum-push, walk_sum-small, within_all, within_there, least_of_is, Contains-map}
-use Rattle.ptn_network.proofs.Labels.{some_same, reached_same, settled_same, sum_cases, reached_cases, settled_before, lowers, SettledUpTo, settled_up_to, at_set, is_settled, settled_count, over, over_size, over_count, keeps, meets}
+use Rattle.ptn_network.specs.Walks.{across, IsWalk, walk_sum, IsLeastSum, walks_within, least_sum}
+use Rattle.ptn_network.specs.Labels.{weight_of, sum_of, label_at, reach_over, settle, IsNearest, AreDone}
+use Rattle.ptn_network.proofs.Walks.{IsUpTo, begins, edge_last, staying_end, walk_sum-cons, walk_sum-push, walk_sum-small, within_all, within_there, least_of_is, Contains-map}
+use Rattle.ptn_network.proofs.Labels.{some_same, settled_same, sum_cases, reached_cases, settled_before, lowers, SettledUpTo, settled_up_to, at_set, is_settled, settled_count, over, over_size, over_count, keeps, meets}
 
 -- a walk of at most so many edges that has a sum
 pub record Comes (edges : List Edge) (weight : Edge → ℕ) (from to most sum : ℕ) : Type 0 where

@@ -1,4 +1,4 @@
-use Rattle.std.proofs.Common.{◌≡◌, Some, None, ap, sym, ◌∙◌, arith, fold}
+use Rattle.std.proofs.Common.{Some, None, ap, sym, ◌∙◌, arith, fold}
 use Rattle.std.proofs.lemmas.List.{take_all}
 use Rattle.ptn_network.specs.Labels.{weight_of, reach_over, settle}
 use Rattle.ptn_network.proofs.Labels.{over_more}
