@@ -1,7 +1,7 @@
 -- Values of keys that are settled, and what holds of them.
-use Rattle.std.proofs.Common.{◌≡◌, ℕ, ℤ, pos, ◌+◌, ◌<◌, ◌≤◌, Bool, true, false, cond, not, eqb, List, [], ◌∷◌, length, map, take, drop, get_or, Option, Some, None, is_some, unwrap_or, Ok, Err, refl, ap, sym, ◌∙◌}
+use Rattle.std.proofs.Common.{◌≡◌, ℕ, ℤ, pos, ◌+◌, ◌<◌, ◌≤◌, Bool, true, false, cond, not, eqb, List, [], ◌∷◌, length, map, take, drop, get_or, Option, Some, None, is_some, unwrap_or, Ok, Err, refl, ap, sym, subst, ◌∙◌}
 use Rattle.std.specs.List.{find, list_all}
-use Rattle.std.specs.Option.{option_map}
+use Rattle.std.specs.Option.{option_map, option_map_or}
 use Rattle.std.proofs.lemmas.Bool.{eqb-true}
 use Rattle.std.proofs.lemmas.List.{take_all, take_more, take-append-drop, get_or-map}
 use Rattle.std.proofs.lemmas.List.Folds.{find-append}
@@ -12,8 +12,11 @@ use Rattle.giv_files.specs.declared.stage.Stage.{Stage}
 use Rattle.giv_files.specs.Keys.{all_keys, key_place, key_kind, key_default, allows, floor_key, stage_keys}
 use Rattle.giv_files.specs.Settings.{SettingsFit, is_allowed, is_crossed, not_below, value_of, floor_value}
 use Rattle.giv_files.proofs.KeyPlaces.{same_key}
+use Rattle.plan_files.specs.declared.store.Got.{Got}
+use Rattle.config_keys.specs.declared.config_fault.ConfigFault.{ConfigFault}
 use Rattle.config_keys.specs.declared.config_fault.ConfigFault.TheVariants as fault
-use Rattle.config_keys.specs.Values.{kept_if, spelled_as, own_value, floor_in, good_value, first_bad, values_in, settled}
+use Rattle.config_keys.specs.Items.{config_items, first_fault}
+use Rattle.config_keys.specs.Values.{effective, settings_of, said_in, kept_if, spelled_as, own_value, floor_in, good_value, first_bad, values_in, settled}
 use Rattle.config_keys.specs.Config.{value_at, floor_at, AreSettings, part_of}
 use Rattle.config_keys.proofs.KeyNames.{key_there, find_none}
 
@@ -141,7 +144,7 @@ keys_are values [] = refl
 keys_are values (k ∷ keys) = ap (λ rest. k ∷ rest) (keys_are values keys)
 
 -- the settings of a stage fit it
-part_fits : (values : List ℤ) (stage : Stage) → AreSettings values → SettingsFit stage (part_of values stage)
+pub part_fits : (values : List ℤ) (stage : Stage) → AreSettings values → SettingsFit stage (part_of values stage)
 part_fits values stage h = record {
   keys = keys_are values (stage_keys stage);
   allowed = all_mapped is_allowed (λ key. record { key = key; value = value_at values key }) (stage_keys stage) (λ k. h.allowed k);
@@ -151,3 +154,17 @@ part_fits values stage h = record {
 pub whole_fits : (values : List ℤ) (stage : Stage) (keys : List Key) (settings : List Setting) (i : ℕ) → keys ≡ stage_keys stage → length keys ≤ i → settings ≡ map (λ key. record { key = key; value = value_at values key }) (take i keys)
     → AreSettings values → SettingsFit stage settings
 whole_fits values stage keys settings i e h told are = let whole = take_all i keys h ∙ e in rw (told, whole) (part_fits values stage are)
+
+-- ---- the settings of a dataset that are not refused
+
+without_fault : (said : Key → Option (List ℕ)) (fault : Option ConfigFault) (values : List ℤ) → option_map_or (λ reason. Err reason) fault (settled said) ≡ Ok values → settled said ≡ Ok values
+without_fault said None values e = e
+without_fault said (Some reason) values e = absurd (cc)
+
+without_bad : (said : Key → Option (List ℕ)) (bad : Option Key) (values : List ℤ) → first_bad said ≡ bad → option_map_or (λ key. Err (fault.BadValue key)) bad (Ok (values_in said)) ≡ Ok values → AreSettings values
+without_bad said None values good e = let same : values_in said ≡ values = cc in subst AreSettings same (are_settings said good)
+without_bad said (Some key) values good e = absurd (cc)
+
+pub effective_settings : (look : List ℕ → Got) (values : List ℤ) → effective look ≡ Ok values → AreSettings values
+unfolding settings_of settled
+effective_settings look values e = let said = said_in (config_items look) in without_bad said (first_bad said) values refl (without_fault said (first_fault 0 (config_items look)) values e)

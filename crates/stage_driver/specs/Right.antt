@@ -1,0 +1,26 @@
+-- What the stages of a chain made is right.
+use Rattle.std.specs.Prelude.{List, [], ◌∷◌}
+use Rattle.giv_files.specs.declared.made.Made.{Made}
+use Rattle.giv_files.specs.declared.stage.Stage.{Stage}
+use Rattle.giv_files.specs.declared.stage.Stage.TheVariants as stage
+use Rattle.giv_files.specs.Settings.{BundleParts}
+use Rattle.demand_load.specs.LoadStage.{LoadsAreRight}
+use Rattle.line_pool.specs.CostStage.{CostsAreRight}
+use Rattle.plan_files.specs.Folder.{Folder}
+use Rattle.stage_driver.specs.Built.{trace_of}
+use Rattle.stage_driver.specs.Chain.{Visit}
+
+-- The files that a stage made, read again, satisfy its model over what it was given. A stage that is not built makes nothing.
+abbrev pub IsRightAs : Stage → BundleParts → Made → Type 0
+IsRightAs stage.Load bundle made = LoadsAreRight bundle made
+IsRightAs stage.Cost bundle made = CostsAreRight bundle made
+IsRightAs _ bundle made = ⊥
+
+-- each of some stages made what is right
+abbrev pub AreRight : List Visit → Type 0
+AreRight [] = Unit {0}
+AreRight (visit ∷ visits) = IsRightAs visit.bundle.stage visit.bundle visit.made × AreRight visits
+
+-- each stage that the chain over hand files made did
+unfoldable pub MadeRight : Folder → Type 0
+MadeRight hand = AreRight (trace_of hand).visits
