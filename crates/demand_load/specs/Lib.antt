@@ -3,3 +3,4 @@ pub mod GivenLoads
 pub mod LoadStage
 pub mod LoadTables
 pub mod Paths
+pub mod RightLoads

@@ -1,11 +1,12 @@
 // The stage that writes how often each edge is to be driven.
-ghost use Rattle.std.specs.Prelude.{◌≡◌, length};
+ghost use Rattle.std.specs.Prelude.{◌≡◌, length, IfOk};
 ghost use Rattle.giv_files.specs.declared.stage.Stage.TheVariants as stages;
 ghost use Rattle.giv_files.specs.Inputs.{or_else, UnlessFault};
 ghost use Rattle.giv_files.specs.Settings.{Fits};
 ghost use Rattle.giv_files.specs.StageCalls.{StageGives, TakesSteps};
 ghost use Rattle.demand_load.specs.LoadStage.{load_stage, loads_by, text_faults};
 ghost use Rattle.demand_load.specs.LoadTables.{HasSpread};
+ghost use Rattle.demand_load.specs.RightLoads.{LoadsAreRight};
 
 use crate::demand::read_demand;
 use crate::edge_load::EdgeLoad;
@@ -27,6 +28,7 @@ pub fn make_load<L: Ledger>(
     requires stage { bundle.now.stage ≡ stages.Load }
     requires fits { Fits bundle.now }
     ensures made { StageGives (load_stage bundle.now) result }
+    ensures right { IfOk result (λ made. LoadsAreRight bundle.now made) }
     ensures steps { TakesSteps 1 steps.old steps.new result }
 {
     steps.tick();

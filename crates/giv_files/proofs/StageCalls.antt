@@ -1,5 +1,5 @@
 -- What the call of a stage gives, from the faults of its inputs and from what is made.
-use Rattle.std.proofs.Common.{◌≡◌, List, [], ◌∷◌, ap, sym, ◌∙◌, Ok, Err}
+use Rattle.std.proofs.Common.{◌≡◌, List, [], ◌∷◌, refl, ap, sym, ◌∙◌, Ok, Err}
 use Rattle.std.proofs.lemmas.Option.{same_Some}
 use Rattle.giv_files.specs.declared.made.Made.{Made}
 use Rattle.giv_files.specs.declared.refusal.Refusal.{Refusal}
@@ -22,3 +22,8 @@ stage_made faults made result none is = ap (λ all. unless_fault all made) none 
 pub made_unless : (faults : List Refusal) (made result : Made) → unless_fault faults made ≡ Ok result → made ≡ result
 made_unless [] made result e = cc
 made_unless (first ∷ more) made result e = absurd (cc)
+
+-- and then nothing is at fault
+pub none_unless : (faults : List Refusal) (made result : Made) → unless_fault faults made ≡ Ok result → faults ≡ []
+none_unless [] made result e = refl
+none_unless (first ∷ more) made result e = absurd (cc)

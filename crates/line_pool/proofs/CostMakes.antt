@@ -1,5 +1,5 @@
 -- Which files the stage of costs makes.
-use Rattle.std.proofs.Common.{◌≡◌, List, map, Ok, refl, ap, sym, ◌∙◌}
+use Rattle.std.proofs.Common.{◌≡◌, map, Ok, ap, sym}
 use Rattle.giv_files.specs.declared.made.Made.{Made}
 use Rattle.giv_files.specs.declared.made.MadeFile.{MadeFile}
 use Rattle.giv_files.specs.declared.stage.Stage.TheVariants as stage

@@ -1,9 +1,10 @@
 // The stage that writes what the lines of a pool cost.
-ghost use Rattle.std.specs.Prelude.{◌≡◌};
+ghost use Rattle.std.specs.Prelude.{◌≡◌, IfOk};
 ghost use Rattle.giv_files.specs.declared.stage.Stage.TheVariants as stages;
 ghost use Rattle.giv_files.specs.Settings.{Fits};
 ghost use Rattle.giv_files.specs.StageCalls.{StageGives, TakesSteps};
 ghost use Rattle.line_pool.specs.CostStage.{cost_stage};
+ghost use Rattle.line_pool.specs.RightCosts.{CostsAreRight};
 
 use crate::cost_table::costs_of_pool;
 use crate::pool::Pool;
@@ -21,6 +22,7 @@ pub fn make_cost<L: Ledger>(
     requires stage { bundle.now.stage ≡ stages.Cost }
     requires fits { Fits bundle.now }
     ensures made { StageGives (cost_stage bundle.now) result }
+    ensures right { IfOk result (λ made. CostsAreRight bundle.now made) }
     ensures steps { TakesSteps 1 steps.old steps.new result }
 {
     steps.tick();

@@ -2,7 +2,7 @@ pub mod ById
 pub mod Labels
 mod Partway
 mod Rows
-mod Sound
+pub mod Sound
 mod Sums
 mod Texts
 pub mod Walks

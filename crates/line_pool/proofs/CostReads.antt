@@ -1,0 +1,43 @@
+-- The costs that are made, read again, are right.
+use Rattle.std.proofs.Common.{◌≡◌, refl, ap, sym, arith, Ok, Err, Result}
+use Rattle.std.specs.Prelude.{IfOk}
+use Rattle.giv_files.specs.declared.made.Made.{Made}
+use Rattle.giv_files.specs.declared.refusal.StageFault.{StageFault}
+use Rattle.giv_files.specs.declared.stage.Stage.TheVariants as stage
+use Rattle.giv_files.specs.Columns.{pool_cost_columns}
+use Rattle.giv_files.specs.Settings.{BundleParts, Fits}
+use Rattle.giv_files.specs.StageCalls.{input_text, StageGives}
+use Rattle.giv_files.specs.Writing.{table_text}
+use Rattle.giv_files.proofs.Ranges.{front_none, back_none}
+use Rattle.giv_files.proofs.StageCalls.{made_unless, none_unless}
+use Rattle.giv_files.proofs.WrittenBack.{written_back}
+use Rattle.ptn_network.specs.Networks.{network_faults}
+use Rattle.ptn_network.proofs.Sound.{network_sound}
+use Rattle.line_pool.specs.CostStage.{cost_header, cost_stage, network_in}
+use Rattle.line_pool.specs.Pools.{pool_faults}
+use Rattle.line_pool.specs.RightCosts.{lines_in, cost_rows, CostsAreRight}
+use Rattle.line_pool.proofs.CostCalls.{settings_modest}
+use Rattle.line_pool.proofs.CostRows.{rows_in_columns, columns_written, plain_header}
+use Rattle.line_pool.proofs.SoundLines.{pool_sound}
+
+-- what the stage makes of inputs without a fault
+pub costs_are_right : (bundle : BundleParts) (made : Made) → bundle.stage ≡ stage.Cost → Fits bundle → cost_stage bundle ≡ Ok made → CostsAreRight bundle made
+unfolding cost_stage
+costs_are_right bundle made _ fits is =
+    let none = none_unless _ _ made is in
+    let network = network_sound (input_text bundle 0) (input_text bundle 1) (front_none _ _ none) in
+    let later = back_none (network_faults (input_text bundle 0) (input_text bundle 1)) (pool_faults (network_in bundle) (input_text bundle 2)) none in
+    let lines = pool_sound (network_in bundle) (input_text bundle 2) network later in
+    record {
+      text = table_text cost_header pool_cost_columns (cost_rows bundle);
+      files = ap (λ (made : Made). made.files) (sym (made_unless _ _ made is));
+      reads =
+          written_back cost_header pool_cost_columns (cost_rows bundle) (omega arith) columns_written
+          (rows_in_columns bundle.settings (network_in bundle).edges (settings_modest bundle fits) (lines_in bundle) lines)
+          (refl, plain_header cost_header refl);
+    }
+
+-- what a call gives that meets the stage
+pub right_given : (bundle : BundleParts) (result : Result Made StageFault) → bundle.stage ≡ stage.Cost → Fits bundle → StageGives (cost_stage bundle) result → IfOk result (λ made. CostsAreRight bundle made)
+right_given bundle (Ok made) own fits given = costs_are_right bundle made own fits given
+right_given bundle (Err fault) own fits given = tt
