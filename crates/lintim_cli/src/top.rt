@@ -3,6 +3,7 @@ ghost use Rattle.std.specs.Prelude.{◌≡◌, ◌≢◌, ◌≤◌, ◌<◌, �
 ghost use Rattle.plan_files.specs.Counts.{Rose};
 ghost use Rattle.stage_driver.specs.Built.{made};
 ghost use Rattle.stage_driver.specs.Hand.{hand_of};
+ghost use Rattle.stage_driver.specs.Right.{MadeRight};
 ghost use Rattle.stage_driver.specs.Runs.{AreNotAll, SameHand, writes_of};
 ghost use Rattle.lintim_cli.specs.Answers.{AnswersTo};
 ghost use Rattle.lintim_cli.specs.Reports.{Reported, usage_report};
@@ -49,6 +50,9 @@ pub fn lintim<F: Files, K: Sink, L: Ledger>(
         ¬ Rose (F.faults files.old) (F.faults files.new) → ¬ Rose (K.faults out.old) (K.faults out.new) → result ≢ Status.NoMemory →
         WhileCalm folder result (K.written out.old) (K.written out.new)
         × Finished folder (F.contents files.new) (F.writes files.old) (F.writes files.new) steps.old steps.new) }
+
+    // Each file that the stages make, read again, satisfies its stage's model over what the stage was given.
+    ensures right { is_make words.now ≡ true → IfSome (F.contents files.old) (λ folder. MadeRight (hand_of folder)) }
 
     // The files that people write, and all others that no stage makes or keeps, are as before, whatever the answer.
     ensures hand { SameHand (F.contents files.old) (F.contents files.new) }

@@ -1,9 +1,10 @@
-pub mod HandAlone
-pub mod Named
 pub mod Gathering
 pub mod Going
+pub mod HandAlone
 pub mod HandKept
 pub mod Left
+pub mod MadeRight
+pub mod Named
 pub mod Pieces
 pub mod Removing
 pub mod Running

@@ -14,8 +14,8 @@ use Rattle.config_keys.specs.Config.{AreSettings}
 use Rattle.config_keys.specs.Items.{look_in}
 use Rattle.config_keys.specs.Values.{effective}
 use Rattle.config_keys.proofs.Settling.{part_fits, effective_settings}
-use Rattle.demand_load.proofs.LoadsRight.{loads_are_right}
-use Rattle.line_pool.proofs.CostsRight.{costs_are_right}
+use Rattle.demand_load.proofs.LoadReads.{loads_are_right}
+use Rattle.line_pool.proofs.CostReads.{costs_are_right}
 use Rattle.stage_driver.specs.declared.stop.Stop.{Stop}
 use Rattle.stage_driver.specs.Hand.{hand_of}
 use Rattle.stage_driver.specs.Chain.{Visit, Halt, input_text, chosen, with_text, texts_of, bundle_for, bundle_told, solved, tried, go_on, visit_of, chain_from, to_run}

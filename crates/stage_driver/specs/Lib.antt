@@ -4,4 +4,5 @@ pub mod Ends
 pub mod Hand
 pub mod Progress
 pub mod Reports
+pub mod Right
 pub mod Runs

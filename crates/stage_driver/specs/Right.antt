@@ -4,8 +4,8 @@ use Rattle.giv_files.specs.declared.made.Made.{Made}
 use Rattle.giv_files.specs.declared.stage.Stage.{Stage}
 use Rattle.giv_files.specs.declared.stage.Stage.TheVariants as stage
 use Rattle.giv_files.specs.Settings.{BundleParts}
-use Rattle.demand_load.specs.LoadStage.{LoadsAreRight}
-use Rattle.line_pool.specs.CostStage.{CostsAreRight}
+use Rattle.demand_load.specs.RightLoads.{LoadsAreRight}
+use Rattle.line_pool.specs.RightCosts.{CostsAreRight}
 use Rattle.plan_files.specs.Folder.{Folder}
 use Rattle.stage_driver.specs.Built.{trace_of}
 use Rattle.stage_driver.specs.Chain.{Visit}

@@ -1,5 +1,6 @@
 use Rattle.std.proofs.Common.{Err, ap, ◌∙◌}
 use Rattle.std.proofs.lemmas.Result.{err_from_is_err_and}
+use Rattle.stage_driver.proofs.MadeRight.{told_right}
 use Rattle.stage_driver.proofs.Running.{outcome_is, left_is, unfinished_is, untouched, work_told, work_bound, hand_is, hand_untouched}
 use Rattle.stage_driver.proofs.run.run_chain.Goals as goal
 
@@ -29,3 +30,9 @@ returns-in_err-stop-clause-no_more g c = work_bound _ c.run_to_end.new.progress 
 
 pub returns-in_err-stop-clause-hand : goal.returns-in_err-stop-clause-hand
 returns-in_err-stop-clause-hand g c = hand_untouched _ _ c.in_err-stop.ensures.contents
+
+pub returns-clause-right : goal.returns-clause-right
+returns-clause-right g c = told_right _
+
+pub returns-in_err-stop-clause-right : goal.returns-in_err-stop-clause-right
+returns-in_err-stop-clause-right g c = told_right _
