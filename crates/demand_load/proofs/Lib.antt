@@ -6,5 +6,6 @@ mod LoadCalls
 mod LoadRows
 mod PathEdges
 mod PathSteps
+mod ShortestPaths
 mod SoundLoads
 mod Tried
