@@ -23,7 +23,7 @@ last_edge edges lengths to = position (ends_least lengths to) edges
 abbrev pub stop_before : List Edge → ℕ → ℕ → ℕ
 stop_before edges index to = unwrap_or (option_and_then (λ edge. across edge to) (slice_get edges index)) to
 
--- the indexes of the last edges, so many at most, of the path between two stops: the last of them, and before it those of the path to where it comes from
+-- the indexes of the edges of the path between two stops, the last so many of them: the last one, and before it those of the path to where it comes from
 unfoldable pub path_within : List Edge → (ℕ → Option ℕ) → ℕ → ℕ → ℕ → List ℕ
 path_within edges lengths zero from to = []
 path_within edges lengths (suc more) from to =

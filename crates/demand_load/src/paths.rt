@@ -1,8 +1,7 @@
 // Paths along least lengths.
-ghost use Rattle.std.specs.Prelude.{◌≡◌, ◌<◌, ◌+◌, ◌==◌, is_some, true, length, map, reverse, slice_index_or, slice_set, vec_len, option_map, pos, unsigned_abs, None, IfOk};
+ghost use Rattle.std.specs.Prelude.{◌≡◌, ◌<◌, ◌+◌, is_some, true, length, map, reverse, slice_index_or, slice_set, vec_len, option_map, unsigned_abs, None, IfOk};
 ghost use Rattle.std.specs.List.{range_with_len};
 ghost use Rattle.ptn_network.specs.Networks.{IsNetwork};
-ghost use Rattle.ptn_network.specs.Walks.{least_sums, edge_length};
 ghost use Rattle.demand_load.specs.Paths.{are_equal, ends_least, last_edge, last_with, length_to, path, stop_before, ArePaths, IsShortest};
 
 use plan_num::NoMemory;
