@@ -8,5 +8,6 @@ pub mod LoadReads
 mod LoadRows
 mod PathEdges
 mod PathSteps
+mod ShortestPaths
 mod SoundLoads
 mod Tried

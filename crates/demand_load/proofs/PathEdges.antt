@@ -18,14 +18,14 @@ use Rattle.demand_load.proofs.PathSteps.{no_edge, none_there, none_before, last_
 -- ---- one step
 
 -- an edge as the last one of a least walk to a stop: where it comes from, and the least lengths
-record IsStep (lengths : ℕ → Option ℕ) (to : ℕ) (edge : Edge) : Type 0 where
-  before : ℕ
-  far : ℕ
-  near : ℕ
-  goes : across edge to ≡ Some before
-  reached : lengths to ≡ Some far
-  came : lengths before ≡ Some near
-  added : far ≡ near + edge_length edge
+pub record IsStep (lengths : ℕ → Option ℕ) (to : ℕ) (edge : Edge) : Type 0 where
+  pub before : ℕ
+  pub far : ℕ
+  pub near : ℕ
+  pub goes : across edge to ≡ Some before
+  pub reached : lengths to ≡ Some far
+  pub came : lengths before ≡ Some near
+  pub added : far ≡ near + edge_length edge
 
 is_step : (lengths : ℕ → Option ℕ) (to : ℕ) (edge : Edge) → ends_least lengths to edge ≡ true → IsStep lengths to edge
 is_step lengths to edge e =
@@ -45,7 +45,7 @@ is_step lengths to edge e =
     nothing (Some x) h = cc
 
 -- the two ends of an edge that is crossed
-ends_are : (edge : Edge) (to before : ℕ) → across edge to ≡ Some before → ((edge.left ≡ to) × (edge.right ≡ before)) ⊎ ((edge.right ≡ to) × (edge.left ≡ before))
+pub ends_are : (edge : Edge) (to before : ℕ) → across edge to ≡ Some before → ((edge.left ≡ to) × (edge.right ≡ before)) ⊎ ((edge.right ≡ to) × (edge.left ≡ before))
 ends_are edge to before e =
     elim (eqb edge.left to) as (λ b. eqb edge.left to ≡ b → cond b (Some edge.right) (cond (eqb edge.right to) (Some edge.left) None) ≡ Some before → ((edge.left ≡ to) × (edge.right ≡ before)) ⊎ ((edge.right ≡ to) × (edge.left ≡ before))) [
       | true ↦ λ at h. inl (eqb-true edge.left to at, same_Some _ _ h)
@@ -55,7 +55,7 @@ ends_are edge to before e =
       ] refl h
     ] refl e
 
-some_length : (n : ℕ) (edge : Edge) → IsEdge n edge → 0 < edge_length edge
+pub some_length : (n : ℕ) (edge : Edge) → IsEdge n edge → 0 < edge_length edge
 some_length n edge sound = let long : pos 1 ≤ℤ edge.length = sound.some_length in omega (arith, ints)
 
 -- no edge goes on and comes back
@@ -91,12 +91,12 @@ module _ (edges : List Edge) (lengths : ℕ → Option ℕ) (n from : ℕ) (soun
     step : IsStep lengths stop (get_or edges index no_edge)
     within : step.far ≤ length
 
-  last_is_step : (at index : ℕ) → last_edge edges lengths at ≡ Some index → (index < length edges) × IsStep lengths at (get_or edges index no_edge)
+  pub last_is_step : (at index : ℕ) → last_edge edges lengths at ≡ Some index → (index < length edges) × IsStep lengths at (get_or edges index no_edge)
   last_is_step at index is =
       let p = position-Some (ends_least lengths at) edges index no_edge is in
       (p.0, is_step lengths at (get_or edges index no_edge) p.1)
 
-  comes_from : (at index : ℕ) (here : index < length edges) (step : IsStep lengths at (get_or edges index no_edge)) → stop_before edges index at ≡ step.before
+  pub comes_from : (at index : ℕ) (here : index < length edges) (step : IsStep lengths at (get_or edges index no_edge)) → stop_before edges index at ≡ step.before
   comes_from at index here step =
       ap (λ (some : Option Edge). unwrap_or (option_and_then (λ edge. across edge at) some) at) (slice_get-get_or edges index no_edge here)
       ∙ ap (λ (over : Option ℕ). unwrap_or over at) step.goes

@@ -38,6 +38,7 @@ pub record HasSpread (settings : List Setting) : Type 0 where
   pub few : amount settings key.GenPassengersPerVehicle ≤ 100000
   pub spread : amount settings key.LoadSpread ≤ 1000
 
+-- the header of the table
 abbrev pub load_header : List ℕ
 load_header = codes "# edge-id; load; minimal-frequency; maximal-frequency"
 

@@ -1,9 +1,8 @@
 // The bounds of the frequency of an edge by its load.
-ghost use Rattle.std.specs.Prelude.{◌≡◌, ◌<◌, ◌≤◌, ◌*◌, map, All, IfOk, ⊤};
-ghost use Rattle.giv_files.specs.declared.key.Key.TheVariants as key;
+ghost use Rattle.std.specs.Prelude.{◌≡◌, ◌≤◌, map, All, IfOk, ⊤};
 ghost use Rattle.giv_files.specs.Inputs.{UnlessFault};
 ghost use Rattle.giv_files.specs.Settings.{amount};
-ghost use Rattle.demand_load.specs.LoadStage.{bounded, places, frequency_faults};
+ghost use Rattle.demand_load.specs.LoadStage.{bounded, frequency_faults};
 ghost use Rattle.demand_load.specs.LoadTables.{HasSpread};
 
 use crate::edge_load::EdgeLoad;

@@ -1,6 +1,7 @@
 // Paths that are known.
-ghost use Rattle.std.specs.Prelude.{◌≡◌, ◌<◌, true, is_some, length, slice_index_or, option_map, None, IfOk, OnOk};
-ghost use Rattle.demand_load.specs.Paths.{paths_from, way, AreKnown};
+ghost use Rattle.std.specs.Prelude.{◌≡◌, ◌<◌, true, is_some, length, slice_index_or, option_map, None, IfSome, IfOk, OnOk};
+ghost use Rattle.ptn_network.specs.Networks.{IsNetwork};
+ghost use Rattle.demand_load.specs.Paths.{way, ArePaths, AreKnown, IsShortest};
 
 use crate::paths::Paths;
 use plan_num::NoMemory;
@@ -43,11 +44,13 @@ impl KnownPaths {
         from: usize,
         to: usize,
     ) -> Result<Option<Vec<usize>>, NoMemory>
+        requires network { IsNetwork network.now }
         requires known { AreKnown network.now self.old }
         requires from { from < length network.now.stops }
         requires to { to < length network.now.stops }
         ensures known { OnOk result (AreKnown network.now self.new) }
         ensures way { IfOk result (λ found. option_map (λ path. path.items) found ≡ way network.now from to) }
+        ensures shortest { IfOk result (λ found. IfSome found (λ path. IsShortest network.now from to path.items)) }
     {
         self.learn(alloc, network, from)?;
         match &self.paths[from] {
@@ -80,9 +83,11 @@ fn way_among(
     from: usize,
     to: usize,
 ) -> Result<Option<Vec<usize>>, NoMemory>
-    requires paths { paths.now ≡ paths_from network.now from }
+    requires network { IsNetwork network.now }
+    requires paths { ArePaths network.now from paths.now }
     requires to { to < length network.now.stops }
-    ensures { IfOk result (λ found. option_map (λ path. path.items) found ≡ way network.now from to) }
+    ensures way { IfOk result (λ found. option_map (λ path. path.items) found ≡ way network.now from to) }
+    ensures shortest { IfOk result (λ found. IfSome found (λ path. IsShortest network.now from to path.items)) }
 {
     if !paths.reaches(to) {
         return Ok(None);

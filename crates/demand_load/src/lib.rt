@@ -13,3 +13,6 @@ mod paths;
 mod stage;
 
 pub use stage::make_load;
+
+#[cfg(test)]
+mod tests;

@@ -1,8 +1,8 @@
 // Paths along least lengths.
-ghost use Rattle.std.specs.Prelude.{◌≡◌, ◌<◌, ◌+◌, ◌==◌, is_some, length, map, reverse, slice_index_or, slice_set, vec_len, option_map, pos, unsigned_abs, None, IfOk};
+ghost use Rattle.std.specs.Prelude.{◌≡◌, ◌<◌, ◌+◌, is_some, true, length, map, reverse, slice_index_or, slice_set, vec_len, option_map, unsigned_abs, None, IfOk};
 ghost use Rattle.std.specs.List.{range_with_len};
-ghost use Rattle.ptn_network.specs.Walks.{least_sums, edge_length};
-ghost use Rattle.demand_load.specs.Paths.{are_equal, ends_least, last_edge, last_with, length_to, path, paths_from, stop_before};
+ghost use Rattle.ptn_network.specs.Networks.{IsNetwork};
+ghost use Rattle.demand_load.specs.Paths.{are_equal, ends_least, last_edge, last_with, length_to, path, stop_before, ArePaths, IsShortest};
 
 use plan_num::NoMemory;
 use ptn_network::{Edge, Network, Reach};
@@ -33,7 +33,7 @@ impl Paths {
         from: usize,
     ) -> Result<Paths, NoMemory>
         requires { from < length network.now.stops }
-        ensures { IfOk result (λ paths. paths ≡ paths_from network.now from) }
+        ensures { IfOk result (ArePaths network.now from) }
     {
         let reach = network.least_lengths(alloc, from)?;
         let last = last_edges(alloc, network, &reach)?;
@@ -56,9 +56,12 @@ impl Paths {
         from: usize,
         to: usize,
     ) -> Result<Vec<usize>, NoMemory>
-        requires paths { self.now ≡ paths_from network.now from }
+        requires network { IsNetwork network.now }
+        requires paths { ArePaths network.now from self.now }
         requires to { to < length network.now.stops }
-        ensures { IfOk result (λ found. found.items ≡ path network.now from to) }
+        requires reached { is_some (slice_index_or self.now.lengths to None) ≡ true }
+        ensures path { IfOk result (λ found. found.items ≡ path network.now from to) }
+        ensures shortest { IfOk result (λ found. IsShortest network.now from to found.items) }
     {
         let mut path = self.path_back(alloc, network, from, to)?;
         path.reverse();
@@ -81,7 +84,7 @@ impl Paths {
         from: usize,
         to: usize,
     ) -> Result<Vec<usize>, NoMemory>
-        requires paths { self.now ≡ paths_from network.now from }
+        requires paths { ArePaths network.now from self.now }
         requires to { to < length network.now.stops }
         ensures { IfOk result (λ back. reverse back.items ≡ path network.now from to) }
     {

@@ -1,6 +1,6 @@
-use Rattle.std.proofs.Common.{◌≡◌, ◌+◌, length, get_or, Option, None, ap, subst, sym, ◌∙◌, arith, IfSome}
+use Rattle.std.proofs.Common.{◌+◌, length, get_or, Option, None, ap, subst, sym, ◌∙◌, arith, IfSome}
 use Rattle.std.proofs.lemmas.List.{length_push}
-use Rattle.demand_load.specs.Paths.{PathParts, paths_from}
+use Rattle.demand_load.specs.Paths.{PathParts, ArePaths}
 use Rattle.demand_load.proofs.DemandRows.{none_more}
 use Rattle.demand_load.proofs.known_paths.KnownPaths.new.Goals as goal
 
@@ -16,5 +16,5 @@ pub returns : goal.returns
 returns c =
     record {
       size = omega (arith, c.loop-stop.invariant.size, c.stop_count-stop-end.ensures.count);
-      right = λ from within. subst (λ (known : Option PathParts). IfSome known (λ paths. paths ≡ paths_from c.args.network.now from)) (sym (c.loop-stop.invariant.none from)) tt;
+      right = λ from within. subst (λ (known : Option PathParts). IfSome known (ArePaths c.args.network.now from)) (sym (c.loop-stop.invariant.none from)) tt;
     }

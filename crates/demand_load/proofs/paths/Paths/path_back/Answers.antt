@@ -5,12 +5,12 @@ use Rattle.demand_load.proofs.PathSteps.{none_there, none_before, goes_back, don
 use Rattle.demand_load.proofs.paths.Paths.path_back.Goals as goal
 
 pub last_edge_to-requires : goal.last_edge_to-requires
-last_edge_to-requires c = omega (arith, as_many_known c.args.network.now c.args.from c.args.self.now c.requires.paths, c.loop-step.invariant.here)
+last_edge_to-requires c = omega (arith, as_many_known c.args.network.now c.args.from c.args.self.now c.requires.paths.is, c.loop-step.invariant.here)
 
 pub stop_before-at-requires : goal.stop_before-at-requires
 stop_before-at-requires c =
     let network = c.args.network.now in
-    let known = last_known network c.args.from c.args.self.now c.loop-step.at c.requires.paths c.loop-step.invariant.here in
+    let known = last_known network c.args.from c.args.self.now c.loop-step.at c.requires.paths.is c.loop-step.invariant.here in
     last_there network.edges (length_to (least_sums network edge_length c.args.from)) c.loop-step.at c.in-Some.index (sym known ∙ sym c.last_edge_to.ensures ∙ c.in-Some.is)
 
 pub loop-step-preserved : goal.loop-step-preserved
@@ -19,7 +19,7 @@ loop-step-preserved c =
     let lengths = length_to (least_sums network edge_length c.args.from) in
     let at = c.loop-step.at in
     let index = c.in-Some.index in
-    let known = last_known network c.args.from c.args.self.now at c.requires.paths c.loop-step.invariant.here in
+    let known = last_known network c.args.from c.args.self.now at c.requires.paths.is c.loop-step.invariant.here in
     let is = sym known ∙ sym c.last_edge_to.ensures ∙ c.in-Some.is in
     record {
       here = subst (λ stop. stop < length network.stops) (sym c.stop_before-at.ensures) (before_there network.edges (length network.stops) index at c.stop_count-step-end.ensures.network.edges (last_there network.edges lengths at index is) c.loop-step.invariant.here);
@@ -39,7 +39,7 @@ pub returns-in-None : goal.returns-in-None
 returns-in-None c =
     let network = c.args.network.now in
     let lengths = length_to (least_sums network edge_length c.args.from) in
-    let known = last_known network c.args.from c.args.self.now c.loop-step.at c.requires.paths c.loop-step.invariant.here in
+    let known = last_known network c.args.from c.args.self.now c.loop-step.at c.requires.paths.is c.loop-step.invariant.here in
     ap (λ front. front ++ reverse c.loop-step.back.items) (sym (none_before network.edges lengths c.args.from (length network.stops - c.loop-step.step) c.loop-step.at (sym known ∙ sym c.last_edge_to.ensures ∙ c.in-None.is)))
     ∙ c.loop-step.invariant.found
 
