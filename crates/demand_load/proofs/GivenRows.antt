@@ -20,16 +20,13 @@ use Rattle.giv_files.specs.declared.file_id.FileId.TheVariants as file
 use Rattle.giv_files.specs.declared.refusal.Refusal.TheVariants as refusal
 use Rattle.giv_files.specs.Inputs.{records, broken_whys, row_faults, table_faults}
 use Rattle.giv_files.specs.Tables.{TableRow}
+use Rattle.giv_files.proofs.Tests.{any_mapped}
 use Rattle.ptn_network.specs.declared.edge.Edge.{Edge}
 use Rattle.demand_load.specs.declared.edge_load.EdgeLoad.{EdgeLoad}
 use Rattle.demand_load.specs.declared.given_load.GivenLoad.{GivenLoad}
 use Rattle.demand_load.specs.GivenLoads.{given_input, given_for, given_loads, no_load, StandsAt}
 use Rattle.demand_load.proofs.DemandRows.{any_is}
 use Rattle.demand_load.proofs.PathSteps.{no_edge}
-
-any_mapped : {X Y : Type 0} (p : Y → Bool) (f : X → Y) (xs : List X) → list_any p (map f xs) ≡ list_any (λ x. p (f x)) xs
-any_mapped p f [] = refl
-any_mapped p f (x ∷ xs) = ap (λ b. p (f x) || b) (any_mapped p f xs)
 
 any_found : {X Y : Type 0} (p : X → Bool) (f : X → Y) (xs : List X) → is_some (option_map f (find p xs)) ≡ list_any p xs
 any_found p f [] = refl

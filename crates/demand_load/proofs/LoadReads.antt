@@ -18,7 +18,8 @@ use Rattle.demand_load.specs.LoadStage.{load_faults, load_stage, loads_in, netwo
 use Rattle.demand_load.specs.LoadTables.{load_header, load_rows}
 use Rattle.demand_load.specs.RightLoads.{LoadsAreRight}
 use Rattle.demand_load.proofs.LoadCalls.{loads_count}
-use Rattle.demand_load.proofs.LoadRows.{all_rare, columns_written, plain_header, rows_in_columns}
+use Rattle.giv_files.proofs.Headers.{plain_header}
+use Rattle.demand_load.proofs.LoadRows.{all_rare, columns_written, rows_in_columns}
 use Rattle.demand_load.proofs.SoundLoads.{edges_named, loads_sound}
 
 -- no fault first, and no other one

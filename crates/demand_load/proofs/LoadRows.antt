@@ -1,8 +1,6 @@
 -- The rows of the table of loads, and that their cells are in their columns.
-use Rattle.std.proofs.Common.{◌≡◌, ◌≢◌, ℕ, pos, ◌+◌, ◌<◌, ◌≤◌, ◌≤ℤ◌, int_lt, Bool, true, false, T, not, ◌==◌, cond, List, [], ◌∷◌, ◌++◌, length, take, get_or, refl, ap, subst, sym, ◌∙◌, arith, All, unsigned_abs}
+use Rattle.std.proofs.Common.{◌≡◌, ℕ, pos, ◌+◌, ◌<◌, ◌≤◌, ◌≤ℤ◌, int_lt, Bool, true, false, T, not, cond, List, [], ◌∷◌, ◌++◌, length, take, get_or, refl, ap, subst, sym, ◌∙◌, arith, All, unsigned_abs}
 use Rattle.std.specs.Int.Signed.{lt_z_no}
-use Rattle.std.specs.List.{list_all}
-use Rattle.std.proofs.lemmas.Bool.{eqb-false, not-true, and_parts}
 use Rattle.std.proofs.lemmas.Int.{ints}
 use Rattle.std.proofs.lemmas.List.{take_more, take_all, length-take-le}
 use Rattle.std.proofs.lemmas.List.Elements.{All-nil, All-cons, All-head, All-tail}
@@ -67,13 +65,6 @@ columns_written =
     let second : CanWrite load = (omega (arith, ints), omega (arith, ints)) in
     let other : CanWrite frequency = (omega (arith, ints), omega (arith, ints)) in
     All-cons CanWrite id (load ∷ frequency ∷ frequency ∷ []) first (All-cons CanWrite load (frequency ∷ frequency ∷ []) second (All-cons CanWrite frequency (frequency ∷ []) other (All-cons CanWrite frequency [] other (All-nil CanWrite))))
-
--- no byte of a header ends its line
-pub plain_header : (bytes : List ℕ) → list_all (λ byte. not (byte == 10)) bytes ≡ true → All (λ byte. byte ≢ 10) bytes
-plain_header [] e = All-nil (λ (byte : ℕ). byte ≢ 10)
-plain_header (byte ∷ bytes) e =
-    let parts = and_parts (not (byte == 10)) (list_all (λ byte. not (byte == 10)) bytes) e in
-    All-cons (λ (byte : ℕ). byte ≢ 10) byte bytes (eqb-false byte 10 (not-true (byte == 10) parts.0)) (plain_header bytes parts.1)
 
 -- ---- frequencies
 

@@ -1,12 +1,9 @@
 -- What holds of the loads of each text without a fault.
 use Rattle.std.proofs.Common.{◌≡◌, ℕ, ℤ, pos, ◌≤◌, Bool, true, false, T, not, cond, List, [], ◌∷◌, length, map, get_or, refl, subst, sym, arith, Some, option_map, unwrap_or, lit<}
 use Rattle.std.specs.List.{All, find, range_with_len}
-use Rattle.std.specs.FinMap.{put}
-use Rattle.std.specs.FinMap.Entries.{by_order}
 use Rattle.std.specs.Int.Signed.{lt_z_no}
 use Rattle.std.specs.Map.{values_of}
-use Rattle.std.specs.Ordering.{int_eq, int_cmp}
-use Rattle.std.specs.declared.cmp.Ordering.TheVariants.{Less, Equal, Greater}
+use Rattle.std.specs.Ordering.{int_eq}
 use Rattle.std.proofs.lemmas.Int.{ints}
 use Rattle.std.proofs.lemmas.List.Elements.{All-nil, All-cons, All-head, All-tail, All-map, All-weaker}
 use Rattle.giv_files.specs.declared.column.ColumnKind.TheVariants as kind
@@ -22,31 +19,17 @@ use Rattle.giv_files.proofs.Ranges.{back_none}
 use Rattle.giv_files.proofs.WriteFacts.{in_column}
 use Rattle.ptn_network.specs.declared.edge.Edge.{Edge}
 use Rattle.ptn_network.specs.Inputs.{stop_input, edge_input, edge_row}
-use Rattle.ptn_network.specs.Networks.{NetworkParts, by_id, edge_of, edge_entry, stops_of, network_of, network_faults}
+use Rattle.ptn_network.specs.Networks.{NetworkParts, edge_of, edge_entry, stops_of, network_of, network_faults}
 use Rattle.demand_load.specs.declared.given_load.GivenLoad.{GivenLoad}
 use Rattle.demand_load.specs.Demand.{demand_input, demand_loads, load_of}
 use Rattle.demand_load.specs.GivenLoads.{given_input, given_row, given_for, given_loads, no_load}
 use Rattle.demand_load.specs.LoadStage.{bounded, takes_demand, loads_by, text_faults}
 use Rattle.demand_load.specs.LoadTables.{HasId, IsBounded}
+use Rattle.ptn_network.proofs.Sound.{all_by_id}
 use Rattle.demand_load.proofs.Bearing.{few_customers, load_small}
 use Rattle.demand_load.proofs.GivenRows.{own_row}
 
 -- ---- the ids of edges
-
-all_put : {X : Type 0} (P : X → Type 0) (k : ℤ) (v : X) (es : List (ℤ × X)) → P v → All P (values_of es) → All P (values_of (put int_cmp k v es))
-all_put P k v [] own all = All-cons P v [] own all
-all_put P k v (e ∷ es) own all =
-    let rest = All-tail P e.1 (values_of es) all in
-    elim (int_cmp k e.0) as (λ o. All P (values_of (by_order o ((k, v) ∷ e ∷ es) ((e.0, v) ∷ es) (e ∷ put int_cmp k v es)))) [
-      | Less ↦ All-cons P v (values_of (e ∷ es)) own all
-      | Equal ↦ All-cons P v (values_of es) own rest
-      | Greater ↦ All-cons P e.1 (values_of (put int_cmp k v es)) (All-head P e.1 (values_of es) all) (all_put P k v es own rest)
-    ]
-
-all_by_id : {X : Type 0} (P : X → Type 0) (es : List (ℤ × X)) → All P (values_of es) → All P (values_of (by_id es))
-unfolding by_id
-all_by_id P [] all = all
-all_by_id P (e ∷ es) all = all_put P e.0 e.1 (by_id es) (All-head P e.1 (values_of es) all) (all_by_id P es (All-tail P e.1 (values_of es) all))
 
 has_id : (stops : List ℤ) (cells : List ℤ) → InColumns edge_columns cells → HasId (edge_of stops (edge_row cells))
 has_id stops cells within = let p = in_column edge_columns cells 0 kind.Skip (pos 0) within (lit< tt) in record { low = p.0; high = p.1 }

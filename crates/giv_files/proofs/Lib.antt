@@ -1,6 +1,7 @@
 pub mod CellFacts
 pub mod CellTexts
 pub mod FieldFacts
+pub mod Headers
 pub mod Inputs
 pub mod KeyPlaces
 pub mod Lines
@@ -12,5 +13,6 @@ pub mod SettingFacts
 pub mod SplitFacts
 pub mod StageCalls
 pub mod TableRows
+pub mod Tests
 pub mod WriteFacts
 pub mod WrittenBack

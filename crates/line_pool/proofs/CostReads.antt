@@ -17,7 +17,8 @@ use Rattle.line_pool.specs.CostStage.{cost_header, cost_stage, network_in}
 use Rattle.line_pool.specs.Pools.{pool_faults}
 use Rattle.line_pool.specs.RightCosts.{lines_in, cost_rows, CostsAreRight}
 use Rattle.line_pool.proofs.CostCalls.{settings_modest}
-use Rattle.line_pool.proofs.CostRows.{rows_in_columns, columns_written, plain_header}
+use Rattle.giv_files.proofs.Headers.{plain_header}
+use Rattle.line_pool.proofs.CostRows.{rows_in_columns, columns_written}
 use Rattle.line_pool.proofs.SoundLines.{pool_sound}
 
 -- what the stage makes of inputs without a fault

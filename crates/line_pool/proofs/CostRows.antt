@@ -1,8 +1,6 @@
 -- The rows of costs, and that their cells are in their columns.
-use Rattle.std.proofs.Common.{◌≡◌, ℕ, ℤ, pos, ◌+◌, ◌*◌, ◌/◌, ◌≤◌, ◌<◌, ◌≤ℤ◌, List, [], ◌∷◌, ◌++◌, length, map, take, get_or, slice_get, ap, subst, sym, ◌∙◌, arith, All, Some, option_map, sum, w64, to_z, true, not, ◌==◌, ◌≢◌}
+use Rattle.std.proofs.Common.{◌≡◌, ℕ, ℤ, pos, ◌+◌, ◌*◌, ◌/◌, ◌≤◌, ◌<◌, ◌≤ℤ◌, List, [], ◌∷◌, ◌++◌, length, map, take, get_or, slice_get, ap, subst, sym, ◌∙◌, arith, All, Some, option_map, sum, w64, to_z}
 use Rattle.std.proofs.lemmas.Int.{ints, to_z_pos}
-use Rattle.std.specs.List.{list_all}
-use Rattle.std.proofs.lemmas.Bool.{and_parts, eqb-false, not-true}
 use Rattle.std.proofs.lemmas.Option.{slice_get-get_or, same_Some}
 use Rattle.std.proofs.lemmas.List.{map_more}
 use Rattle.std.proofs.lemmas.List.Elements.{All-map, All-weaker, All-get_or, All-nil, All-cons}
@@ -93,10 +91,3 @@ columns_written =
     let id : CanWrite first = (omega (arith, ints), omega (arith, ints)) in
     let fixed : CanWrite other = (omega (arith, ints), omega (arith, ints)) in
     All-cons CanWrite first (other ∷ other ∷ []) id (All-cons CanWrite other (other ∷ []) fixed (All-cons CanWrite other [] fixed (All-nil CanWrite)))
-
--- no byte of the header ends its line
-pub plain_header : (bytes : List ℕ) → list_all (λ byte. not (byte == 10)) bytes ≡ true → All (λ byte. byte ≢ 10) bytes
-plain_header [] e = All-nil (λ (byte : ℕ). byte ≢ 10)
-plain_header (byte ∷ bytes) e =
-    let parts = and_parts (not (byte == 10)) (list_all (λ byte. not (byte == 10)) bytes) e in
-    All-cons (λ (byte : ℕ). byte ≢ 10) byte bytes (eqb-false byte 10 (not-true (byte == 10) parts.0)) (plain_header bytes parts.1)

@@ -1,5 +1,5 @@
 -- What holds of the lines of each text without a fault.
-use Rattle.std.proofs.Common.{◌≡◌, ℕ, ℤ, pos, ◌<◌, ◌≤◌, ◌≤ℤ◌, nat_lt, Bool, true, false, ◌||◌, cond, List, [], ◌∷◌, ◌++◌, length, map, get_or, position, refl, ap, subst, sym, ◌∙◌, arith, append_assoc, Some, None, is_some, unwrap_or, option_map, lit<}
+use Rattle.std.proofs.Common.{◌≡◌, ℕ, ℤ, pos, ◌<◌, ◌≤◌, ◌≤ℤ◌, nat_lt, Bool, true, false, cond, List, [], ◌∷◌, ◌++◌, length, map, get_or, position, refl, ap, subst, sym, ◌∙◌, arith, append_assoc, Some, None, is_some, unwrap_or, option_map, lit<}
 use Rattle.std.specs.List.{All, list_any, find, position_or_len, IsDistinct}
 use Rattle.std.specs.FinMap.{put}
 use Rattle.std.specs.FinMap.Entries.{by_order}
@@ -28,6 +28,7 @@ use Rattle.giv_files.proofs.Inputs.{parts_sound, sound_rows}
 use Rattle.giv_files.proofs.Ranges.{front_none, back_none, unmapped}
 use Rattle.giv_files.proofs.SettingFacts.{abs_within}
 use Rattle.giv_files.proofs.WriteFacts.{in_column}
+use Rattle.giv_files.proofs.Tests.{any_mapped}
 use Rattle.ptn_network.specs.declared.edge.Edge.{Edge}
 use Rattle.ptn_network.specs.Networks.{NetworkParts, IsEdge, IsNetwork, by_id, rising}
 use Rattle.line_pool.specs.declared.pool_row.PoolRow.{PoolRow}
@@ -57,10 +58,6 @@ edge_ids id rows = map (λ row. row.edge) (rows_of id rows)
 none_apart : IsDistinct int_eq []
 unfolding IsDistinct
 none_apart = tt
-
-any_mapped : {X Y : Type 0} (p : Y → Bool) (f : X → Y) (xs : List X) → list_any p (map f xs) ≡ list_any (λ x. p (f x)) xs
-any_mapped p f [] = refl
-any_mapped p f (x ∷ xs) = ap (λ b. p (f x) || b) (any_mapped p f xs)
 
 apart_more : (before : List PoolRow) (row : PoolRow) (id : ℤ) → list_any (λ other. int_eq row.edge other.edge) (rows_of row.line before) ≡ false → IsDistinct int_eq (edge_ids id before) → IsDistinct int_eq (edge_ids id (before ++ row ∷ []))
 apart_more before row id new apart =

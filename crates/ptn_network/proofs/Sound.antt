@@ -84,7 +84,8 @@ all_put P k v (e ∷ es) own all =
       | Greater ↦ All-cons P e.1 (values_of (put int_cmp k v es)) (All-head P e.1 (values_of es) all) (all_put P k v es own rest)
     ]
 
-all_by_id : {X : Type 0} (P : X → Type 0) (es : List (ℤ × X)) → All P (values_of es) → All P (values_of (by_id es))
+-- what holds of each value holds of each by id
+pub all_by_id : {X : Type 0} (P : X → Type 0) (es : List (ℤ × X)) → All P (values_of es) → All P (values_of (by_id es))
 unfolding by_id
 all_by_id P [] all = all
 all_by_id P (e ∷ es) all = all_put P e.0 e.1 (by_id es) (All-head P e.1 (values_of es) all) (all_by_id P es (All-tail P e.1 (values_of es) all))

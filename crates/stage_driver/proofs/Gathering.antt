@@ -1,16 +1,13 @@
 -- The inputs of a stage, one after the other.
-use Rattle.std.proofs.Common.{◌≡◌, ℕ, ℤ, ◌+◌, ◌<◌, ◌≤◌, List, [], ◌∷◌, ◌++◌, length, get_or, drop, Option, Some, None, IfSome, Result, Ok, Err, refl, ap, sym, ◌∙◌, subst, append-nil, append_assoc}
+use Rattle.std.proofs.Common.{◌≡◌, ℕ, ℤ, ◌+◌, ◌<◌, ◌≤◌, List, [], ◌∷◌, ◌++◌, length, get_or, drop, Option, Some, None, IfSome, Result, Ok, Err, refl, ap, sym, ◌∙◌, append-nil, append_assoc}
 use Rattle.std.proofs.lemmas.List.{at_drop_more, at_drop_all}
 use Rattle.plan_files.specs.Folder.{Folder}
 use Rattle.giv_files.specs.declared.file_id.FileId.{FileId}
 use Rattle.giv_files.specs.declared.made.MadeFile.{MadeFile}
 use Rattle.giv_files.specs.declared.stage.Stage.{Stage}
 use Rattle.giv_files.specs.Settings.{BundleParts}
-use Rattle.stage_driver.specs.declared.chain_end.ChainEnd.{ChainEnd}
-use Rattle.stage_driver.specs.declared.chain_end.ChainEnd.TheVariants as end
 use Rattle.stage_driver.specs.declared.stop.Stop.{Stop}
 use Rattle.stage_driver.specs.Chain.{chosen, input_text, with_text, texts_of, bundle_for, bundle_told}
-use Rattle.stage_driver.specs.Ends.{Gives}
 
 -- texts that are there, and then others
 abbrev pub behind : List (List ℕ) → Result (List (List ℕ)) Stop → Result (List (List ℕ)) Stop

@@ -1,5 +1,5 @@
 -- A chain goes stage by stage.
-use Rattle.std.proofs.Common.{◌≡◌, ℕ, ℤ, ◌+◌, ◌<◌, ◌≤◌, Bool, true, false, leb, List, [], ◌∷◌, ◌++◌, length, get_or, drop, Option, Some, None, IfSome, Result, Ok, Err, refl, ap, sym, ◌∙◌, subst, arith, append-nil, append_assoc}
+use Rattle.std.proofs.Common.{◌≡◌, ℕ, ℤ, ◌+◌, ◌<◌, ◌≤◌, Bool, true, false, leb, List, [], ◌++◌, length, get_or, drop, Option, Some, None, IfSome, Result, Ok, Err, refl, ap, sym, ◌∙◌, subst, arith, append-nil, append_assoc}
 use Rattle.std.proofs.lemmas.List.{at_drop_more, at_drop_all}
 use Rattle.plan_files.specs.Folder.{Folder}
 use Rattle.giv_files.specs.declared.made.MadeFile.{MadeFile}
@@ -7,9 +7,8 @@ use Rattle.giv_files.specs.declared.stage.Stage.{Stage}
 use Rattle.config_keys.specs.Config.{last_stage_of}
 use Rattle.stage_driver.specs.declared.chain_end.ChainEnd.{ChainEnd}
 use Rattle.stage_driver.specs.declared.chain_end.ChainEnd.TheVariants as end
-use Rattle.stage_driver.specs.declared.stop.Stop.{Stop}
 use Rattle.stage_driver.specs.Chain.{Visit, Halt, Trace, go_on, visit_of, chain_from, to_run, stage_place}
-use Rattle.stage_driver.specs.Built.{run_stage, files_of, visits_work, halt_work, given_work, stop_of, stage_work}
+use Rattle.stage_driver.specs.Built.{run_stage, files_of, halt_work, given_work, stop_of, stage_work}
 use Rattle.stage_driver.specs.Reports.{stage_lines, line_of}
 use Rattle.stage_driver.specs.Progress.{SoFar, nothing, with_made, IsRest, VisitGives, visit_work, IsAll, ChainGives, trace_work}
 

@@ -1,10 +1,10 @@
 -- A chain depends on hand files alone.
-use Rattle.std.proofs.Common.{◌≡◌, ℕ, ℤ, Bool, true, false, cond, List, [], ◌∷◌, ◌++◌, codes, Option, None, Result, Ok, Err, refl, ap, sym, ◌∙◌}
+use Rattle.std.proofs.Common.{◌≡◌, ℕ, ℤ, Bool, true, false, cond, List, [], ◌∷◌, ◌++◌, codes, None, Result, Ok, Err, refl, ap, sym, ◌∙◌}
 use Rattle.std.specs.Str.{bytes_eq}
 use Rattle.std.specs.FinMap as files
 use Rattle.std.proofs.lemmas.Bool.{false≢true}
 use Rattle.std.proofs.lemmas.Slice.Eq.{bytes_eq-Decides}
-use Rattle.plan_files.specs.Folder.{Folder, found, got_of}
+use Rattle.plan_files.specs.Folder.{Folder, found}
 use Rattle.plan_files.proofs.OtherFiles.{get_part}
 use Rattle.giv_files.specs.declared.file_id.FileId.{FileId}
 use Rattle.giv_files.specs.declared.file_id.FileId.TheVariants as file
@@ -17,9 +17,8 @@ use Rattle.config_keys.specs.Includes.{is_inside, path_of}
 use Rattle.config_keys.specs.Items.{look_in, config_name, file_limit}
 use Rattle.config_keys.specs.Values.{effective}
 use Rattle.config_keys.proofs.Looks.{effective_same}
-use Rattle.stage_driver.specs.declared.stop.Stop.{Stop}
 use Rattle.stage_driver.specs.Hand.{is_hand, hand_of}
-use Rattle.stage_driver.specs.Chain.{Visit, hand_text, origin_of, text_from, input_text, chosen, with_text, texts_of, bundle_told, tried, go_on, visit_of, chain_from, to_run}
+use Rattle.stage_driver.specs.Chain.{hand_text, input_text, chosen, with_text, texts_of, bundle_told, tried, go_on, visit_of, chain_from, to_run}
 use Rattle.stage_driver.specs.Built.{built, run_stage, trace_under, trace_of}
 
 -- under the name of a hand file the hand files have what the folder has

@@ -1,15 +1,14 @@
 -- The files that people write stay as they are.
-use Rattle.std.proofs.Common.{◌≡◌, ℕ, ℤ, Bool, true, false, cond, not, List, [], ◌∷◌, ◌++◌, map, filter, Option, Some, None, IfOk, Result, Ok, Err, refl, ap, sym, subst, ◌∙◌, ⊎_elim}
+use Rattle.std.proofs.Common.{◌≡◌, ℕ, ℤ, Bool, true, false, cond, not, List, [], ◌∷◌, ◌++◌, map, filter, Option, Some, IfOk, Result, Ok, Err, refl, ap, ◌∙◌, ⊎_elim}
 use Rattle.std.specs.Option.{option_map}
 use Rattle.std.specs.List.{list_all}
 use Rattle.std.proofs.lemmas.Bool.{false≢true, and_parts, and_from}
 use Rattle.std.proofs.lemmas.List.{map-append}
 use Rattle.std.proofs.lemmas.List.Folds.{list_all-append}
 use Rattle.plan_files.specs.declared.write.Write.{Write}
-use Rattle.plan_files.specs.declared.write.Write.TheVariants.{Put, Removal}
+use Rattle.plan_files.specs.declared.write.Write.TheVariants.{Removal}
 use Rattle.plan_files.specs.Folder.{Folder}
-use Rattle.plan_files.specs.Changes.{write_name}
-use Rattle.plan_files.specs.Applied.{AreApplied, AreCutShort}
+use Rattle.plan_files.specs.Applied.{AreApplied}
 use Rattle.plan_files.proofs.OtherFiles.{part_of, AreOutside, outside_both, applied_part, cut_part}
 use Rattle.giv_files.specs.declared.made.Made.{Made}
 use Rattle.giv_files.specs.declared.made.MadeFile.{MadeFile}
@@ -22,12 +21,11 @@ use Rattle.giv_files.specs.Settings.{BundleParts}
 use Rattle.config_keys.specs.declared.config_fault.ConfigFault.{ConfigFault}
 use Rattle.config_keys.specs.Items.{look_in}
 use Rattle.config_keys.specs.Values.{effective}
-use Rattle.line_pool.specs.CostStage.{cost_stage}
 use Rattle.demand_load.proofs.LoadMakes.{load_stage_makes}
 use Rattle.line_pool.proofs.CostMakes.{cost_stage_makes}
 use Rattle.stage_driver.specs.declared.stop.Stop.{Stop}
 use Rattle.stage_driver.specs.Hand.{is_among, is_hand, hand_of, names_made_by}
-use Rattle.stage_driver.specs.Chain.{Visit, Halt, bundle_told, solved, tried, go_on, visit_of, chain_from, to_run}
+use Rattle.stage_driver.specs.Chain.{Visit, Halt, solved, tried, go_on, visit_of, chain_from, to_run}
 use Rattle.stage_driver.specs.Built.{built, stage_function, run_stage, trace_under, trace_of, files_of, made}
 use Rattle.stage_driver.specs.Runs.{name_of, put_of, names_besides, writes_for, writes_of, AreNotAll, SameHand}
 

@@ -1,14 +1,12 @@
 -- What the writes of a run leave.
-use Rattle.std.proofs.Common.{◌≡◌, ℕ, Bool, true, false, cond, not, ◌||◌, List, [], ◌∷◌, ◌++◌, map, filter, Option, Some, None, refl, ap, sym, subst, ◌∙◌}
-use Rattle.std.specs.List.{list_any}
+use Rattle.std.proofs.Common.{◌≡◌, ℕ, Bool, true, false, cond, not, ◌||◌, List, [], ◌∷◌, ◌++◌, map, Option, Some, None, refl, ap, sym, ◌∙◌}
 use Rattle.std.specs.Str.{bytes_eq}
 use Rattle.std.specs.FinMap as files
 use Rattle.std.proofs.lemmas.Bool.{false≢true}
 use Rattle.std.proofs.lemmas.Slice.Eq.{bytes_eq-Decides}
-use Rattle.plan_files.specs.declared.write.Write.{Write}
 use Rattle.plan_files.specs.declared.write.Write.TheVariants.{Put, Removal}
 use Rattle.plan_files.specs.Folder.{Folder}
-use Rattle.plan_files.specs.Changes.{after_write, folder_after, write_name, left_by}
+use Rattle.plan_files.specs.Changes.{after_write, folder_after}
 use Rattle.plan_files.proofs.OtherFiles.{get_part, same_folder}
 use Rattle.plan_files.proofs.Writes.{folder_after_both, get_written}
 use Rattle.giv_files.specs.declared.made.MadeFile.{MadeFile}

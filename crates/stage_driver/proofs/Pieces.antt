@@ -1,5 +1,5 @@
 -- Pieces that are put behind one another.
-use Rattle.std.proofs.Common.{◌≡◌, ℕ, List, ◌++◌, ap, ◌∙◌, append_assoc}
+use Rattle.std.proofs.Common.{◌≡◌, List, ◌++◌, ap, ◌∙◌, append_assoc}
 
 pub two_pieces : {X : Type 0} (old a b first second : List X) → first ≡ old ++ a → second ≡ first ++ b → second ≡ old ++ (a ++ b)
 two_pieces old a b first second h k = k ∙ ap (λ front. front ++ b) h ∙ append_assoc old a b

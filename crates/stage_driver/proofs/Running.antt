@@ -1,17 +1,15 @@
 -- A run is what its hand files determine.
-use Rattle.std.proofs.Common.{◌≡◌, ℕ, ◌+◌, ◌≤◌, List, ◌++◌, Option, Some, None, IfSome, IfOk, OnOk, OnErr, Result, Ok, Err, refl, ap, sym, subst, ◌∙◌, arith, inl, inr, ⊎_elim}
+use Rattle.std.proofs.Common.{◌≡◌, ℕ, ◌+◌, ◌≤◌, List, ◌++◌, Option, Some, None, IfSome, IfOk, OnOk, OnErr, Result, Ok, Err, ap, sym, subst, ◌∙◌, arith, inl, ⊎_elim}
 use Rattle.std.specs.Option.{option_map}
 use Rattle.plan_files.specs.declared.write.Write.{Write}
 use Rattle.plan_files.specs.declared.write.Write.TheVariants.{Put, Removal}
-use Rattle.plan_files.specs.Applied.{AreApplied, AreCutShort, IsTorn}
-use Rattle.plan_files.specs.Changes.{folder_after}
+use Rattle.plan_files.specs.Applied.{AreApplied, IsTorn}
 use Rattle.plan_files.specs.Folder.{Folder}
-use Rattle.giv_files.specs.declared.made.MadeFile.{MadeFile}
 use Rattle.stage_driver.specs.declared.outcome.ChainFault.{ChainFault}
 use Rattle.stage_driver.specs.declared.outcome.Outcome.{Outcome}
 use Rattle.stage_driver.specs.declared.stop.Stop.{Stop}
 use Rattle.stage_driver.specs.Hand.{hand_of}
-use Rattle.stage_driver.specs.Built.{Chain, told_by, trace_of, made, stop_of, files_of}
+use Rattle.stage_driver.specs.Built.{Chain, told_by, trace_of, made, stop_of}
 use Rattle.stage_driver.specs.Reports.{last_line, end_of, stage_lines}
 use Rattle.stage_driver.specs.Runs.{after, with_files, without_made, writes_for, writes_of, IsOutcome, IsLeft, AreNotAll, SameHand}
 use Rattle.stage_driver.specs.Progress.{SoFar, IsAll, EndGives, trace_work}

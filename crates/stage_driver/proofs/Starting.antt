@@ -1,5 +1,5 @@
 -- A chain starts with the settings of its dataset.
-use Rattle.std.proofs.Common.{◌≡◌, ℕ, ℤ, ◌+◌, ◌≤◌, List, [], Option, Some, None, IfSome, Result, Ok, Err, refl, ap, sym, ◌∙◌, subst, arith}
+use Rattle.std.proofs.Common.{◌≡◌, ℕ, ℤ, List, [], Option, Some, None, IfSome, Result, Ok, Err, refl, sym, subst, arith}
 use Rattle.plan_files.specs.Folder.{Folder}
 use Rattle.config_keys.specs.declared.config_end.ConfigEnd.{ConfigEnd}
 use Rattle.config_keys.specs.declared.config_end.ConfigEnd.TheVariants as config
@@ -10,7 +10,7 @@ use Rattle.stage_driver.specs.declared.chain_end.ChainEnd.{ChainEnd}
 use Rattle.stage_driver.specs.Chain.{chain_from, to_run}
 use Rattle.stage_driver.specs.Built.{built, run_stage, trace_under, trace_of}
 use Rattle.stage_driver.specs.Ends.{end_of_config}
-use Rattle.stage_driver.specs.Progress.{SoFar, nothing, IsAll, ChainGives}
+use Rattle.stage_driver.specs.Progress.{SoFar, nothing, ChainGives}
 
 refused_in : (folder : Folder) (end : ConfigEnd) (count : ℕ) → ConfigGives (effective (look_in folder)) (Err end) → ChainGives (trace_of folder) nothing count count (Err (end_of_config end))
 unfolding trace_of

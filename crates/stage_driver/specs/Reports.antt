@@ -11,7 +11,7 @@ use Rattle.stage_driver.specs.declared.outcome.RunEnd.{RunEnd}
 use Rattle.stage_driver.specs.declared.outcome.RunEnd.TheVariants as end
 use Rattle.stage_driver.specs.declared.stop.Stop.{Stop}
 use Rattle.stage_driver.specs.declared.stop.Stop.TheVariants as stop
-use Rattle.stage_driver.specs.Chain.{Visit, Halt}
+use Rattle.stage_driver.specs.Chain.{Visit}
 
 -- a row of a file is refused
 abbrev pub row_text : List ℕ → ℕ → List ℕ → List ℕ

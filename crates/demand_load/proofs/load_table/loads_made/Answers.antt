@@ -2,7 +2,8 @@ use Rattle.std.proofs.Common.{refl, arith, subst, sym, All}
 use Rattle.giv_files.specs.Columns.{load_columns}
 use Rattle.giv_files.specs.Writing.{InColumns}
 use Rattle.demand_load.specs.LoadTables.{load_header}
-use Rattle.demand_load.proofs.LoadRows.{rows_in_columns, columns_written, plain_header}
+use Rattle.giv_files.proofs.Headers.{plain_header}
+use Rattle.demand_load.proofs.LoadRows.{rows_in_columns, columns_written}
 use Rattle.demand_load.proofs.load_table.loads_made.Goals as goal
 
 pub write_table-requires : goal.write_table-requires

@@ -1,8 +1,7 @@
-use Rattle.std.proofs.Common.{◌≡◌, ◌≤◌, true, false, get_or, Err, ap, sym, ◌∙◌, refl, arith}
+use Rattle.std.proofs.Common.{◌≡◌, true, false, get_or, Err, ap, ◌∙◌, refl, arith}
 use Rattle.std.proofs.lemmas.Bool.{le-leb, lt-leb}
 use Rattle.std.proofs.lemmas.Result.{err_from_is_err_and}
 use Rattle.giv_files.specs.declared.stage.Stage.TheVariants.{Load}
-use Rattle.config_keys.specs.Config.{last_stage_of}
 use Rattle.stage_driver.specs.Chain.{stage_place}
 use Rattle.stage_driver.proofs.Going.{in_time, told_first, told_more, told_same, told_ended, told_finished}
 use Rattle.stage_driver.proofs.chain.run_stages.Goals as goal

@@ -1,4 +1,4 @@
-use Rattle.std.proofs.Common.{◌≡◌, ap, sym, ◌∙◌, refl, ◌++◌, ◌∷◌, [], ◌+◌, length, length-append}
+use Rattle.std.proofs.Common.{◌≡◌, ap, ◌∙◌, ◌++◌, ◌∷◌, [], ◌+◌, length, length-append}
 use Rattle.giv_files.specs.declared.file_id.FileId.TheVariants.{Stop}
 use Rattle.giv_files.specs.Settings.{BundleParts}
 use Rattle.stage_driver.specs.Chain.{bundle_for}

@@ -1,5 +1,3 @@
-use Rattle.std.proofs.Common.{Err, ap, ◌∙◌}
-use Rattle.std.proofs.lemmas.Result.{err_from_is_err_and}
 use Rattle.stage_driver.proofs.MadeRight.{told_right}
 use Rattle.stage_driver.proofs.Running.{outcome_is, left_is, unfinished_is, untouched, work_told, work_bound, hand_is, hand_untouched}
 use Rattle.stage_driver.proofs.run.run_chain.Goals as goal
