@@ -20,7 +20,7 @@ use Rattle.giv_files.specs.declared.file_id.FileId.TheVariants as file
 use Rattle.giv_files.specs.declared.refusal.Refusal.TheVariants as refusal
 use Rattle.giv_files.specs.Inputs.{records, broken_whys, row_faults, table_faults}
 use Rattle.giv_files.specs.Tables.{TableRow}
-use Rattle.giv_files.proofs.Tests.{any_mapped}
+use Rattle.giv_files.proofs.AnyMapped.{any_mapped}
 use Rattle.ptn_network.specs.declared.edge.Edge.{Edge}
 use Rattle.demand_load.specs.declared.edge_load.EdgeLoad.{EdgeLoad}
 use Rattle.demand_load.specs.declared.given_load.GivenLoad.{GivenLoad}

@@ -1,3 +1,4 @@
+pub mod AnyMapped
 pub mod CellFacts
 pub mod CellTexts
 pub mod FieldFacts
@@ -13,6 +14,5 @@ pub mod SettingFacts
 pub mod SplitFacts
 pub mod StageCalls
 pub mod TableRows
-pub mod Tests
 pub mod WriteFacts
 pub mod WrittenBack
