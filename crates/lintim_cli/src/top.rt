@@ -1,8 +1,10 @@
 // The top call.
 ghost use Rattle.std.specs.Prelude.{◌≡◌, ◌≢◌, ◌≤◌, ◌<◌, ◌+◌, ◌⊎◌, IfSome, Some, true, false};
 ghost use Rattle.plan_files.specs.Counts.{Rose};
+ghost use Rattle.plan_files.specs.Others.{AreOutside};
 ghost use Rattle.stage_driver.specs.Built.{made};
-ghost use Rattle.stage_driver.specs.Hand.{hand_of};
+ghost use Rattle.stage_driver.specs.declared.outcome.ChainFault.TheVariants as faults;
+ghost use Rattle.stage_driver.specs.Hand.{hand_of, is_hand};
 ghost use Rattle.stage_driver.specs.Right.{MadeRight};
 ghost use Rattle.stage_driver.specs.Runs.{AreNotAll, SameHand, writes_of};
 ghost use Rattle.lintim_cli.specs.Answers.{AnswersTo};
@@ -56,11 +58,12 @@ pub fn lintim<F: Files, K: Sink, L: Ledger>(
 
     // The files that people write, and all others that no stage makes or keeps, are as before, whatever the answer.
     ensures hand { SameHand (F.contents files.old) (F.contents files.new) }
+    ensures outside { IfSome (F.contents files.old) (λ folder. AreOutside is_hand (writes_of folder)) }
 
     // A file fault comes only where the count rose. Its line is out; some first writes were made, and one more may be in part.
     ensures file_fault { result ≡ Status.FileFault → FileBroke (F.faults files.old) (F.faults files.new) (K.written out.old) (K.written out.new) (K.faults out.old) (K.faults out.new) }
     ensures file_fault_leaves { IfSome (F.contents files.old) (λ folder. result ≡ Status.FileFault →
-        AreNotAll (writes_of folder) (Some folder) (F.contents files.new) (F.writes files.old) (F.writes files.new)) }
+        AreNotAll faults.FileFault (writes_of folder) (Some folder) (F.contents files.new) (F.writes files.old) (F.writes files.new)) }
     ensures file_fault_comes { F.faults files.old < F.faults files.new → (result ≡ Status.FileFault) ⊎ (result ≡ Status.NoMemory) }
 
     // A sink fault comes only where its count rose. The files are as after success, and a front part of the report is out.
@@ -70,10 +73,13 @@ pub fn lintim<F: Files, K: Sink, L: Ledger>(
         × Finished folder (F.contents files.new) (F.writes files.old) (F.writes files.new) steps.old steps.new) }
     ensures sink_fault_comes { K.faults out.old < K.faults out.new → (result ≡ Status.SinkFault) ⊎ (result ≡ Status.FileFault) }
 
-    // Where memory was refused nothing is out. The files are as after some first writes, or as after success.
+    // Where memory was refused nothing is out. The files are as after some first writes, or as after success. A write can be
+    // made in part only where the count of file faults rose.
     ensures no_memory { result ≡ Status.NoMemory → K.written out.new ≡ K.written out.old }
     ensures no_memory_leaves { IfSome (F.contents files.old) (λ folder. result ≡ Status.NoMemory →
-        AreNotAll (writes_of folder) (Some folder) (F.contents files.new) (F.writes files.old) (F.writes files.new)
+        AreNotAll faults.NoMemory (writes_of folder) (Some folder) (F.contents files.new) (F.writes files.old) (F.writes files.new)
+        ⊎ (Rose (F.faults files.old) (F.faults files.new)
+        × AreNotAll faults.FileFault (writes_of folder) (Some folder) (F.contents files.new) (F.writes files.old) (F.writes files.new))
         ⊎ Finished folder (F.contents files.new) (F.writes files.old) (F.writes files.new) steps.old steps.new) }
     ensures no_less_steps { steps.old ≤ steps.new }
     ensures no_more_steps { IfSome (F.contents files.old) (λ folder. steps.new ≤ steps.old + (made (hand_of folder)).work) }

@@ -3,10 +3,11 @@ use Rattle.std.proofs.Common.{◌≡◌, ℕ, suc, ◌+◌, ◌<◌, ◌≤◌, 
 use Rattle.std.specs.Option.{option_map}
 use Rattle.std.proofs.lemmas.List.{take_more, take_all}
 use Rattle.std.proofs.Math.Seq.{split_at}
+use Rattle.plan_files.specs.declared.file_fault.FileFault.{FileFault}
 use Rattle.plan_files.specs.declared.write.Write.{Write}
 use Rattle.plan_files.specs.Folder.{Folder}
 use Rattle.plan_files.specs.Changes.{after_write, folder_after}
-use Rattle.plan_files.specs.Applied.{AreApplied, AreCutShort, IsTorn}
+use Rattle.plan_files.specs.Applied.{AreApplied, AreCutShort, LeftBy}
 use Rattle.plan_files.proofs.Writes.{folder_after_push}
 
 same_folder : (old : Option Folder) → old ≡ option_map (folder_after []) old
@@ -42,17 +43,17 @@ more_applied writes i write old mid new before noted now inside is h left told =
     }
 
 -- a write that was not finished
-pub cut_short : (writes : List Write) (i : ℕ) (write : Write) (old mid new : Option Folder) (before noted now : Option (List Write))
+pub cut_short : (fault : FileFault) (writes : List Write) (i : ℕ) (write : Write) (old mid new : Option Folder) (before noted now : Option (List Write))
     → i < length writes → write ≡ get_or writes i write → AreApplied (take i writes) old mid before noted
-    → IsTorn write mid new → now ≡ noted
-    → AreCutShort writes old new before now
-cut_short writes i write old mid new before noted now inside is h torn told = record {
+    → LeftBy fault write mid new → now ≡ noted
+    → AreCutShort fault writes old new before now
+cut_short fault writes i write old mid new before noted now inside is h torn told = record {
   made = take i writes;
   next = write;
   rest = drop (suc i) writes;
   split = split_at writes i write inside ∙ ap (λ w. take i writes ++ w ∷ drop (suc i) writes) (sym is);
   noted = told ∙ h.noted;
-  folder = subst (λ folder. IsTorn write folder new) h.folder torn;
+  folder = subst (λ folder. LeftBy fault write folder new) h.folder torn;
 }
 
 -- behind the last write

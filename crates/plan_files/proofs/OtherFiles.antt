@@ -13,10 +13,10 @@ use Rattle.plan_files.specs.declared.file_fault.FileFault.{FileFault}
 use Rattle.plan_files.specs.declared.file_fault.FileFault.TheVariants.{Failed, NoMemory}
 use Rattle.plan_files.specs.declared.write.Write.{Write}
 use Rattle.plan_files.specs.declared.write.Write.TheVariants.{Put, Removal}
-use Rattle.plan_files.specs.Applied.{AreApplied, AreCutShort, IsTorn}
+use Rattle.plan_files.specs.Applied.{AreApplied, AreCutShort, IsTorn, LeftBy}
 use Rattle.plan_files.specs.Changes.{after_write, folder_after, write_name}
 use Rattle.plan_files.specs.Folder.{Folder, PutLeaves, RemoveLeaves}
-use Rattle.plan_files.specs.Others.{SameBut, KeepsOthers}
+use Rattle.plan_files.specs.Others.{SameBut, KeepsOthers, AreOutside}
 
 -- a name is not another one
 different : (b : Bool) (other name : List ℕ) → (b ≡ true → other ≡ name) → other ≢ name → b ≡ false
@@ -85,11 +85,6 @@ pub part_after_write : (test : List ℕ → Bool) (write : Write) (folder : Fold
 part_after_write test (Put name bytes) folder out = part_stays test name folder (map.insert folder name bytes) out (insert_keeps folder name bytes)
 part_after_write test (Removal name) folder out = part_stays test name folder (map.remove folder name) out (remove_keeps folder name)
 
--- no write names a file of a part
-abbrev pub AreOutside : (List ℕ → Bool) → List Write → Type 0
-AreOutside test [] = Unit {0}
-AreOutside test (write ∷ writes) = (test (write_name write) ≡ false) × AreOutside test writes
-
 pub outside_both : (test : List ℕ → Bool) (writes more : List Write) → AreOutside test writes → AreOutside test more → AreOutside test (writes ++ more)
 outside_both test [] more h k = k
 outside_both test (write ∷ writes) more h k = (h.0, outside_both test writes more h.1 k)
@@ -123,8 +118,12 @@ torn_part test (Removal name) old new out h = ⊎_elim (λ same. ap (option_map 
 pub applied_part : (test : List ℕ → Bool) (writes : List Write) (old new : Option Folder) (before now : Option (List Write)) → AreOutside test writes → AreApplied writes old new before now → option_map (part_of test) new ≡ option_map (part_of test) old
 applied_part test writes old new before now out h = ap (option_map (part_of test)) h.folder ∙ told_part test writes old out
 
+left_part : (test : List ℕ → Bool) (fault : FileFault) (write : Write) (old new : Option Folder) → test (write_name write) ≡ false → LeftBy fault write old new → option_map (part_of test) new ≡ option_map (part_of test) old
+left_part test Failed write old new out h = torn_part test write old new out h
+left_part test NoMemory write old new out h = ap (option_map (part_of test)) h
+
 -- or not
-pub cut_part : (test : List ℕ → Bool) (writes : List Write) (old new : Option Folder) (before now : Option (List Write)) → AreOutside test writes → AreCutShort writes old new before now → option_map (part_of test) new ≡ option_map (part_of test) old
-cut_part test writes old new before now out h =
+pub cut_part : (test : List ℕ → Bool) (fault : FileFault) (writes : List Write) (old new : Option Folder) (before now : Option (List Write)) → AreOutside test writes → AreCutShort fault writes old new before now → option_map (part_of test) new ≡ option_map (part_of test) old
+cut_part test fault writes old new before now out h =
     let split : AreOutside test (h.made ++ h.next ∷ h.rest) = subst (AreOutside test) h.split out in
-    torn_part test h.next (option_map (folder_after h.made) old) new (outside_rest test h.made (h.next ∷ h.rest) split).0 h.folder ∙ told_part test h.made old (outside_front test h.made (h.next ∷ h.rest) split)
+    left_part test fault h.next (option_map (folder_after h.made) old) new (outside_rest test h.made (h.next ∷ h.rest) split).0 h.folder ∙ told_part test h.made old (outside_front test h.made (h.next ∷ h.rest) split)

@@ -2,6 +2,8 @@
 use Rattle.std.specs.Prelude.{ℕ, ◌≡◌, ◌⊎◌, List, ◌∷◌, ◌++◌, take, Option}
 use Rattle.std.specs.Option.{option_map}
 use Rattle.std.specs.FinMap as map
+use Rattle.plan_files.specs.declared.file_fault.FileFault.{FileFault}
+use Rattle.plan_files.specs.declared.file_fault.FileFault.TheVariants.{Failed, NoMemory}
 use Rattle.plan_files.specs.declared.write.Write.{Write}
 use Rattle.plan_files.specs.declared.write.Write.TheVariants.{Put, Removal}
 use Rattle.plan_files.specs.Folder.{Folder}
@@ -17,11 +19,16 @@ abbrev pub IsTorn : Write → Option Folder → Option Folder → Type 0
 IsTorn (Put name bytes) old new = (new ≡ old) ⊎ ((kept : ℕ) × (new ≡ option_map (λ folder. map.insert folder name (take kept bytes)) old))
 IsTorn (Removal name) old new = (new ≡ old) ⊎ (new ≡ option_map (λ folder. map.remove folder name) old)
 
--- some first writes were made, and the next one in part or not at all
-pub record AreCutShort (writes : List Write) (old new : Option Folder) (before now : Option (List Write)) : Type 0 where
+-- what is left of a write that was not finished, by why it was not: where memory was refused all is as before
+abbrev pub LeftBy : FileFault → Write → Option Folder → Option Folder → Type 0
+LeftBy Failed write old new = IsTorn write old new
+LeftBy NoMemory write old new = new ≡ old
+
+-- some first writes were made, and the next one was not finished, for a fault
+pub record AreCutShort (fault : FileFault) (writes : List Write) (old new : Option Folder) (before now : Option (List Write)) : Type 0 where
   pub made : List Write
   pub next : Write
   pub rest : List Write
   pub split : writes ≡ made ++ next ∷ rest
   pub noted : now ≡ option_map (λ noted_before. noted_before ++ made) before
-  pub folder : IsTorn next (option_map (folder_after made) old) new
+  pub folder : LeftBy fault next (option_map (folder_after made) old) new

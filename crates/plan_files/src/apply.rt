@@ -1,7 +1,7 @@
 // Writes that are made one after the other.
-ghost use Rattle.std.specs.Prelude.{◌≡◌, ◌++◌, ◌∷◌, [], OnOk, OnErr};
+ghost use Rattle.std.specs.Prelude.{◌≡◌, ◌++◌, ◌∷◌, [], IfErr, OnOk, OnErr};
 ghost use Rattle.std.specs.Option.{option_map};
-ghost use Rattle.plan_files.specs.Applied.{AreApplied, AreCutShort, IsTorn};
+ghost use Rattle.plan_files.specs.Applied.{AreApplied, AreCutShort, LeftBy};
 ghost use Rattle.plan_files.specs.Changes.{after_write};
 ghost use Rattle.plan_files.specs.Folder.{CountsFault};
 
@@ -9,10 +9,10 @@ use crate::file_fault::FileFault;
 use crate::store::Files;
 use crate::write::Write;
 
-/// Makes writes in their order. A fault ends it: those before are made, and the one that failed may be made in part.
+/// Makes writes in their order. A fault ends it: those before are made, and one that failed may be made in part.
 pub fn apply_all<F: Files>(files: &mut F, writes: &[Write]) -> Result<(), FileFault>
     ensures ok { OnOk result (AreApplied writes.now (F.contents files.old) (F.contents files.new) (F.writes files.old) (F.writes files.new)) }
-    ensures err { OnErr result (AreCutShort writes.now (F.contents files.old) (F.contents files.new) (F.writes files.old) (F.writes files.new)) }
+    ensures err { IfErr result (λ fault. AreCutShort fault writes.now (F.contents files.old) (F.contents files.new) (F.writes files.old) (F.writes files.new)) }
     ensures faults { CountsFault (F.faults files.old) (F.faults files.new) result }
 {
     for write in writes {
@@ -25,7 +25,7 @@ pub fn apply_all<F: Files>(files: &mut F, writes: &[Write]) -> Result<(), FileFa
 fn apply<F: Files>(files: &mut F, write: &Write) -> Result<(), FileFault>
     ensures ok { OnOk result (F.contents files.new ≡ option_map (after_write write.now) (F.contents files.old)) }
     ensures noted { OnOk result (F.writes files.new ≡ option_map (λ writes. writes ++ write.now ∷ []) (F.writes files.old)) }
-    ensures torn { OnErr result (IsTorn write.now (F.contents files.old) (F.contents files.new)) }
+    ensures left { IfErr result (λ fault. LeftBy fault write.now (F.contents files.old) (F.contents files.new)) }
     ensures unnoted { OnErr result (F.writes files.new ≡ F.writes files.old) }
     ensures faults { CountsFault (F.faults files.old) (F.faults files.new) result }
 {

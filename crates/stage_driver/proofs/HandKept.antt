@@ -9,7 +9,8 @@ use Rattle.plan_files.specs.declared.write.Write.{Write}
 use Rattle.plan_files.specs.declared.write.Write.TheVariants.{Removal}
 use Rattle.plan_files.specs.Folder.{Folder}
 use Rattle.plan_files.specs.Applied.{AreApplied}
-use Rattle.plan_files.proofs.OtherFiles.{part_of, AreOutside, outside_both, applied_part, cut_part}
+use Rattle.plan_files.specs.Others.{AreOutside}
+use Rattle.plan_files.proofs.OtherFiles.{part_of, outside_both, applied_part, cut_part}
 use Rattle.giv_files.specs.declared.made.Made.{Made}
 use Rattle.giv_files.specs.declared.made.MadeFile.{MadeFile}
 use Rattle.giv_files.specs.declared.file_id.FileId.{FileId}
@@ -23,7 +24,9 @@ use Rattle.config_keys.specs.Items.{look_in}
 use Rattle.config_keys.specs.Values.{effective}
 use Rattle.demand_load.proofs.LoadMakes.{load_stage_makes}
 use Rattle.line_pool.proofs.CostMakes.{cost_stage_makes}
+use Rattle.stage_driver.specs.declared.outcome.ChainFault.{ChainFault}
 use Rattle.stage_driver.specs.declared.stop.Stop.{Stop}
+use Rattle.stage_driver.specs.Ends.{cause_of}
 use Rattle.stage_driver.specs.Hand.{is_among, is_hand, hand_of, names_made_by}
 use Rattle.stage_driver.specs.Chain.{Visit, Halt, solved, tried, go_on, visit_of, chain_from, to_run}
 use Rattle.stage_driver.specs.Built.{built, stage_function, run_stage, trace_under, trace_of, files_of, made}
@@ -105,7 +108,7 @@ built_not : list_all (λ name. not (is_hand name)) (names_made_by built) ≡ tru
 unfolding is_hand
 built_not = refl
 
-writes_outside : (folder : Folder) → AreOutside is_hand (writes_of folder)
+pub writes_outside : (folder : Folder) → AreOutside is_hand (writes_of folder)
 unfolding writes_for
 writes_outside folder =
     let files = (made (hand_of folder)).files in
@@ -118,7 +121,7 @@ unfolding hand_of
 applied_hand folder new before now h = applied_part is_hand (writes_of folder) (Some folder) new before now (writes_outside folder) h
 
 -- and where not
-pub cut_hand : (folder : Folder) (new : Option Folder) (before now : Option (List Write)) → AreNotAll (writes_of folder) (Some folder) new before now → SameHand (Some folder) new
+pub cut_hand : (fault : ChainFault) (folder : Folder) (new : Option Folder) (before now : Option (List Write)) → AreNotAll fault (writes_of folder) (Some folder) new before now → SameHand (Some folder) new
 unfolding hand_of
-cut_hand folder new before now h =
-    ⊎_elim (λ same. ap (option_map (part_of is_hand)) same.0) (λ cut. cut_part is_hand (writes_of folder) (Some folder) new before now (writes_outside folder) cut) h
+cut_hand fault folder new before now h =
+    ⊎_elim (λ same. ap (option_map (part_of is_hand)) same.0) (λ cut. cut_part is_hand (cause_of fault) (writes_of folder) (Some folder) new before now (writes_outside folder) cut) h

@@ -1,20 +1,24 @@
 -- A run is what its hand files determine.
-use Rattle.std.proofs.Common.{◌≡◌, ℕ, ◌+◌, ◌≤◌, List, ◌++◌, Option, Some, None, IfSome, IfOk, OnOk, OnErr, Result, Ok, Err, ap, sym, subst, ◌∙◌, arith, inl, ⊎_elim}
+use Rattle.std.proofs.Common.{◌≡◌, ℕ, ◌+◌, ◌≤◌, List, ◌++◌, Option, Some, None, IfSome, IfOk, IfErr, OnOk, Result, Ok, Err, ap, sym, subst, ◌∙◌, arith, inl, ⊎_elim}
 use Rattle.std.specs.Option.{option_map}
+use Rattle.plan_files.specs.declared.file_fault.FileFault.{FileFault}
+use Rattle.plan_files.specs.declared.file_fault.FileFault.TheVariants as file_fault
 use Rattle.plan_files.specs.declared.write.Write.{Write}
 use Rattle.plan_files.specs.declared.write.Write.TheVariants.{Put, Removal}
-use Rattle.plan_files.specs.Applied.{AreApplied, IsTorn}
+use Rattle.plan_files.specs.Applied.{AreApplied, IsTorn, LeftBy}
 use Rattle.plan_files.specs.Folder.{Folder}
+use Rattle.plan_files.specs.Others.{AreOutside}
 use Rattle.stage_driver.specs.declared.outcome.ChainFault.{ChainFault}
 use Rattle.stage_driver.specs.declared.outcome.Outcome.{Outcome}
 use Rattle.stage_driver.specs.declared.stop.Stop.{Stop}
-use Rattle.stage_driver.specs.Hand.{hand_of}
+use Rattle.stage_driver.specs.Ends.{cause_of}
+use Rattle.stage_driver.specs.Hand.{hand_of, is_hand}
 use Rattle.stage_driver.specs.Built.{Chain, told_by, trace_of, made, stop_of}
 use Rattle.stage_driver.specs.Reports.{last_line, end_of, stage_lines}
 use Rattle.stage_driver.specs.Runs.{after, with_files, without_made, writes_for, writes_of, IsOutcome, IsLeft, AreNotAll, SameHand}
 use Rattle.stage_driver.specs.Progress.{SoFar, IsAll, EndGives, trace_work}
 use Rattle.stage_driver.proofs.HandAlone.{hand_alone}
-use Rattle.stage_driver.proofs.HandKept.{applied_hand, cut_hand}
+use Rattle.stage_driver.proofs.HandKept.{applied_hand, cut_hand, writes_outside}
 use Rattle.stage_driver.proofs.Left.{writes_leave}
 
 -- what the hand files determine is what the chain over the folder tells
@@ -63,14 +67,14 @@ left_is (Some folder) told new noted_old noted now so_far why before count (Ok o
 -- what is left where the run did not finish
 pub unfinished_is : (contents told new : Option Folder) (noted_old noted now : Option (List Write)) (so_far : SoFar) (why : Option Stop) (before count : ℕ) (result : Result Outcome ChainFault) → told ≡ contents → noted ≡ noted_old
     → IfSome contents (λ folder. EndGives (trace_of folder) so_far before count (Ok why))
-    → OnErr result (AreNotAll (writes_for so_far.files) told new noted now) → IfSome contents (λ folder. OnErr result (AreNotAll (writes_of folder) (Some folder) new noted_old now))
+    → IfErr result (λ fault. AreNotAll fault (writes_for so_far.files) told new noted now) → IfSome contents (λ folder. IfErr result (λ fault. AreNotAll fault (writes_of folder) (Some folder) new noted_old now))
 unfinished_is None told new noted_old noted now so_far why before count result same kept ends h = tt
 unfinished_is (Some folder) told new noted_old noted now so_far why before count (Ok outcome) same kept ends h = tt
 unfinished_is (Some folder) told new noted_old noted now so_far why before count (Err fault) same kept ends h =
-    subst (λ writes. AreNotAll writes (Some folder) new noted_old now) (writes_are folder so_far ends.1)
-    (subst (λ old. AreNotAll (writes_for so_far.files) old new noted_old now) same (subst (λ before. AreNotAll (writes_for so_far.files) told new before now) kept h))
+    subst (λ writes. AreNotAll fault writes (Some folder) new noted_old now) (writes_are folder so_far ends.1)
+    (subst (λ old. AreNotAll fault (writes_for so_far.files) old new noted_old now) same (subst (λ before. AreNotAll fault (writes_for so_far.files) told new before now) kept h))
 
-pub untouched : {T : Type 0} (contents told : Option Folder) (noted_old noted : Option (List Write)) (result : Result T ChainFault) → told ≡ contents → noted ≡ noted_old → IfSome contents (λ folder. OnErr result (AreNotAll (writes_of folder) (Some folder) told noted_old noted))
+pub untouched : {T : Type 0} (contents told : Option Folder) (noted_old noted : Option (List Write)) (result : Result T ChainFault) → told ≡ contents → noted ≡ noted_old → IfSome contents (λ folder. IfErr result (λ fault. AreNotAll fault (writes_of folder) (Some folder) told noted_old noted))
 untouched None told noted_old noted result same kept = tt
 untouched (Some folder) told noted_old noted (Ok x) same kept = tt
 untouched (Some folder) told noted_old noted (Err fault) same kept = inl (same, kept)
@@ -91,25 +95,34 @@ torn_none : (write : Write) (new : Option Folder) → IsTorn write None new → 
 torn_none (Put name bytes) new h = ⊎_elim (λ same. same) (λ part. part.1) h
 torn_none (Removal name) new h = ⊎_elim (λ same. same) (λ gone. gone) h
 
-none_left : (writes : List Write) (new : Option Folder) (before now : Option (List Write)) (result : Result Outcome ChainFault) → OnOk result (AreApplied writes None new before now) → OnErr result (AreNotAll writes None new before now) → new ≡ None
+left_none : (fault : FileFault) (write : Write) (new : Option Folder) → LeftBy fault write None new → new ≡ None
+left_none file_fault.Failed write new h = torn_none write new h
+left_none file_fault.NoMemory write new h = h
+
+none_left : (writes : List Write) (new : Option Folder) (before now : Option (List Write)) (result : Result Outcome ChainFault) → OnOk result (AreApplied writes None new before now) → IfErr result (λ fault. AreNotAll fault writes None new before now) → new ≡ None
 none_left writes new before now (Ok outcome) ok err = ok.folder
-none_left writes new before now (Err fault) ok err = ⊎_elim (λ same. same.0) (λ cut. torn_none cut.next new cut.folder) err
+none_left writes new before now (Err fault) ok err = ⊎_elim (λ same. same.0) (λ cut. left_none (cause_of fault) cut.next new cut.folder) err
 
 hand_in : (folder : Folder) (so_far : SoFar) (new : Option Folder) (before now : Option (List Write)) (result : Result Outcome ChainFault) → IsAll (trace_of folder) so_far
-    → OnOk result (AreApplied (writes_for so_far.files) (Some folder) new before now) → OnErr result (AreNotAll (writes_for so_far.files) (Some folder) new before now) → SameHand (Some folder) new
+    → OnOk result (AreApplied (writes_for so_far.files) (Some folder) new before now) → IfErr result (λ fault. AreNotAll fault (writes_for so_far.files) (Some folder) new before now) → SameHand (Some folder) new
 hand_in folder so_far new before now (Ok outcome) all ok err = applied_hand folder new before now (subst (λ writes. AreApplied writes (Some folder) new before now) (writes_are folder so_far all) ok)
-hand_in folder so_far new before now (Err fault) all ok err = cut_hand folder new before now (subst (λ writes. AreNotAll writes (Some folder) new before now) (writes_are folder so_far all) err)
+hand_in folder so_far new before now (Err fault) all ok err = cut_hand fault folder new before now (subst (λ writes. AreNotAll fault writes (Some folder) new before now) (writes_are folder so_far all) err)
 
 pub hand_is : (contents told new : Option Folder) (noted now : Option (List Write)) (so_far : SoFar) (why : Option Stop) (before count : ℕ) (result : Result Outcome ChainFault) → told ≡ contents
     → IfSome contents (λ folder. EndGives (trace_of folder) so_far before count (Ok why))
-    → OnOk result (AreApplied (writes_for so_far.files) told new noted now) → OnErr result (AreNotAll (writes_for so_far.files) told new noted now) → SameHand contents new
+    → OnOk result (AreApplied (writes_for so_far.files) told new noted now) → IfErr result (λ fault. AreNotAll fault (writes_for so_far.files) told new noted now) → SameHand contents new
 hand_is contents told new noted now so_far why before count result same ends ok err =
-    by contents ends (subst (λ old. OnOk result (AreApplied (writes_for so_far.files) old new noted now)) same ok) (subst (λ old. OnErr result (AreNotAll (writes_for so_far.files) old new noted now)) same err)
+    by contents ends (subst (λ old. OnOk result (AreApplied (writes_for so_far.files) old new noted now)) same ok) (subst (λ old. IfErr result (λ fault. AreNotAll fault (writes_for so_far.files) old new noted now)) same err)
   where
     by : (contents : Option Folder) → IfSome contents (λ folder. EndGives (trace_of folder) so_far before count (Ok why))
-        → OnOk result (AreApplied (writes_for so_far.files) contents new noted now) → OnErr result (AreNotAll (writes_for so_far.files) contents new noted now) → SameHand contents new
+        → OnOk result (AreApplied (writes_for so_far.files) contents new noted now) → IfErr result (λ fault. AreNotAll fault (writes_for so_far.files) contents new noted now) → SameHand contents new
     by None ends ok err = ap (option_map hand_of) (none_left (writes_for so_far.files) new noted now result ok err)
     by (Some folder) ends ok err = hand_in folder so_far new noted now result ends.1 ok err
 
 pub hand_untouched : (contents told : Option Folder) → told ≡ contents → SameHand contents told
 hand_untouched contents told same = ap (option_map hand_of) same
+
+-- no write of a run names a hand file
+pub told_outside : (contents : Option Folder) → IfSome contents (λ folder. AreOutside is_hand (writes_of folder))
+told_outside None = tt
+told_outside (Some folder) = writes_outside folder

@@ -17,6 +17,12 @@ abbrev pub chain_fault_of : FileFault → ChainFault
 chain_fault_of file_fault.Failed = fault.FileFault
 chain_fault_of file_fault.NoMemory = fault.NoMemory
 
+-- the fault of a call on a file that ends a run so
+abbrev pub cause_of : ChainFault → FileFault
+cause_of fault.FileFault = file_fault.Failed
+cause_of fault.NoMemory = file_fault.NoMemory
+
+-- what the fault of a file ends in a part of a chain
 abbrev pub end_of_file : FileFault → ChainEnd
 end_of_file file_fault.Failed = end.FileFault
 end_of_file file_fault.NoMemory = end.NoMemory

@@ -8,7 +8,9 @@ use Rattle.plan_files.specs.Applied.{AreCutShort}
 use Rattle.plan_files.specs.Folder.{Folder}
 use Rattle.giv_files.specs.declared.made.MadeFile.{MadeFile}
 use Rattle.giv_files.specs.Names.{file_name}
+use Rattle.stage_driver.specs.declared.outcome.ChainFault.{ChainFault}
 use Rattle.stage_driver.specs.declared.outcome.Outcome.{Outcome}
+use Rattle.stage_driver.specs.Ends.{cause_of}
 use Rattle.stage_driver.specs.Hand.{is_among, names_made_by, hand_of}
 use Rattle.stage_driver.specs.Built.{built, made}
 
@@ -58,6 +60,7 @@ pub record IsLeft (read : Folder) (left : Option Folder) (before now : Option (L
 abbrev pub SameHand : Option Folder → Option Folder → Type 0
 SameHand old new = option_map hand_of new ≡ option_map hand_of old
 
--- what is left where not all writes were made: nothing was written yet, or some first ones were made, and the next one in part or not at all
-abbrev pub AreNotAll : List Write → Option Folder → Option Folder → Option (List Write) → Option (List Write) → Type 0
-AreNotAll writes old new before now = ((new ≡ old) × (now ≡ before)) ⊎ AreCutShort writes old new before now
+-- What is left where not all writes were made, by why they were not: nothing was written yet, or some first ones were made. Only
+-- after the fault of a file the next one may be made in part.
+abbrev pub AreNotAll : ChainFault → List Write → Option Folder → Option Folder → Option (List Write) → Option (List Write) → Type 0
+AreNotAll fault writes old new before now = ((new ≡ old) × (now ≡ before)) ⊎ AreCutShort (cause_of fault) writes old new before now

@@ -1,9 +1,10 @@
 // A run of the chain over the files of a dataset.
-ghost use Rattle.std.specs.Prelude.{◌≡◌, ◌≤◌, ◌+◌, ◌++◌, IfSome, IfOk, OnOk, OnErr, Some};
+ghost use Rattle.std.specs.Prelude.{◌≡◌, ◌≤◌, ◌+◌, ◌++◌, IfSome, IfOk, IfErr, OnOk, Some};
 ghost use Rattle.plan_files.specs.Applied.{AreApplied};
+ghost use Rattle.plan_files.specs.Others.{AreOutside};
 ghost use Rattle.stage_driver.specs.Built.{made, trace_of};
 ghost use Rattle.stage_driver.specs.Ends.{CountsFault};
-ghost use Rattle.stage_driver.specs.Hand.{hand_of};
+ghost use Rattle.stage_driver.specs.Hand.{hand_of, is_hand};
 ghost use Rattle.stage_driver.specs.Progress.{EndGives, nothing};
 ghost use Rattle.stage_driver.specs.Reports.{last_line, end_of};
 ghost use Rattle.stage_driver.specs.Right.{MadeRight};
@@ -32,7 +33,8 @@ pub fn run_chain<F: Files, L: Ledger>(
     ensures right { IfSome (F.contents files.old) (λ folder. MadeRight (hand_of folder)) }
     ensures left { IfSome (F.contents files.old) (λ folder. OnOk result (IsLeft folder (F.contents files.new) (F.writes files.old) (F.writes files.new))) }
     ensures work { IfSome (F.contents files.old) (λ folder. OnOk result (steps.new ≡ steps.old + (made (hand_of folder)).work)) }
-    ensures unfinished { IfSome (F.contents files.old) (λ folder. OnErr result (AreNotAll (writes_of folder) (Some folder) (F.contents files.new) (F.writes files.old) (F.writes files.new))) }
+    ensures unfinished { IfSome (F.contents files.old) (λ folder. IfErr result (λ fault. AreNotAll fault (writes_of folder) (Some folder) (F.contents files.new) (F.writes files.old) (F.writes files.new))) }
+    ensures outside { IfSome (F.contents files.old) (λ folder. AreOutside is_hand (writes_of folder)) }
     ensures no_more { IfSome (F.contents files.old) (λ folder. steps.new ≤ steps.old + (made (hand_of folder)).work) }
     ensures no_less { steps.old ≤ steps.new }
     ensures hand { SameHand (F.contents files.old) (F.contents files.new) }
@@ -77,7 +79,7 @@ fn finish<F: Files>(
     ensures report { IfOk result (λ outcome. outcome.report ≡ progress.report ++ last_line stop) }
     ensures end { IfOk result (λ outcome. outcome.end ≡ end_of stop) }
     ensures left { OnOk result (AreApplied (writes_for progress.files) (F.contents files.old) (F.contents files.new) (F.writes files.old) (F.writes files.new)) }
-    ensures unfinished { OnErr result (AreNotAll (writes_for progress.files) (F.contents files.old) (F.contents files.new) (F.writes files.old) (F.writes files.new)) }
+    ensures unfinished { IfErr result (λ fault. AreNotAll fault (writes_for progress.files) (F.contents files.old) (F.contents files.new) (F.writes files.old) (F.writes files.new)) }
     ensures faults { CountsFault (F.faults files.old) (F.faults files.new) result }
 {
     let (made, lines) = progress.into_parts();

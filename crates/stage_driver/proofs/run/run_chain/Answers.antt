@@ -1,5 +1,5 @@
 use Rattle.stage_driver.proofs.MadeRight.{told_right}
-use Rattle.stage_driver.proofs.Running.{outcome_is, left_is, unfinished_is, untouched, work_told, work_bound, hand_is, hand_untouched}
+use Rattle.stage_driver.proofs.Running.{outcome_is, left_is, unfinished_is, untouched, work_told, work_bound, hand_is, hand_untouched, told_outside}
 use Rattle.stage_driver.proofs.run.run_chain.Goals as goal
 
 pub returns-clause-outcome : goal.returns-clause-outcome
@@ -34,3 +34,9 @@ returns-clause-right g c = told_right _
 
 pub returns-in_err-stop-clause-right : goal.returns-in_err-stop-clause-right
 returns-in_err-stop-clause-right g c = told_right _
+
+pub returns-clause-outside : goal.returns-clause-outside
+returns-clause-outside g c = told_outside _
+
+pub returns-in_err-stop-clause-outside : goal.returns-in_err-stop-clause-outside
+returns-in_err-stop-clause-outside g c = told_outside _
