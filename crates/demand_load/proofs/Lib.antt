@@ -4,6 +4,7 @@ mod GivenRows
 mod LastEdges
 mod LoadCalls
 pub mod LoadMakes
+pub mod LoadNames
 pub mod LoadReads
 mod LoadRows
 mod PathEdges

@@ -6,6 +6,7 @@ pub mod Headers
 pub mod Inputs
 pub mod KeyPlaces
 pub mod Lines
+pub mod Named
 pub mod PlainBytes
 pub mod Ranges
 pub mod RowFacts

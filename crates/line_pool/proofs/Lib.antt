@@ -1,5 +1,6 @@
 mod CostCalls
 pub mod CostMakes
+pub mod CostNames
 pub mod CostReads
 mod CostRows
 mod PoolTables

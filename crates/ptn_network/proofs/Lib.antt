@@ -1,5 +1,6 @@
 pub mod ById
 pub mod Labels
+pub mod NamedFaults
 mod Partway
 mod Rows
 pub mod Sound

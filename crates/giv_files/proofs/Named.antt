@@ -1,0 +1,78 @@
+-- Which file a refusal by a row names: that of the input that the row stands in.
+use Rattle.std.proofs.Common.{◌≡◌, ℕ, Bool, true, false, cond, List, [], ◌∷◌, ◌++◌, map, nat_lt, subst, Err}
+use Rattle.std.specs.Prelude.{⊤}
+use Rattle.std.specs.List.{flat_map}
+use Rattle.giv_files.specs.declared.file_id.FileId.{FileId}
+use Rattle.giv_files.specs.declared.made.Made.{Made}
+use Rattle.giv_files.specs.declared.row_why.RowWhy.{RowWhy}
+use Rattle.giv_files.specs.declared.refusal.Refusal.{Refusal}
+use Rattle.giv_files.specs.declared.refusal.Refusal.TheVariants as refusal
+use Rattle.giv_files.specs.Tables.{TableRow}
+use Rattle.giv_files.specs.Reading.{faults, table_of}
+use Rattle.giv_files.specs.Inputs.{Input, records, cell_faults, limit_faults, broken_whys, row_faults, whole_faults, or_else, input_faults}
+use Rattle.giv_files.specs.StageCalls.{unless_fault}
+
+-- a refusal names no file but those that pass a test
+abbrev pub NamesOnly : (FileId → Bool) → Refusal → Type 0
+NamesOnly test (refusal.BadRow file row why) = test file ≡ true
+NamesOnly test (refusal.TooMany what count) = ⊤
+NamesOnly test refusal.NoSolution = ⊤
+NamesOnly test (refusal.Spent entries) = ⊤
+
+-- each of some refusals does
+abbrev pub AllName : (FileId → Bool) → List Refusal → Type 0
+AllName test [] = ⊤
+AllName test (first ∷ more) = NamesOnly test first × AllName test more
+
+-- the refusals of two lists, one behind the other
+pub names_both : (test : FileId → Bool) (some others : List Refusal) → AllName test some → AllName test others → AllName test (some ++ others)
+names_both test [] others h k = k
+names_both test (first ∷ some) others h k = (h.0, names_both test some others h.1 k)
+
+-- the refusals of a list, or else those of another
+pub names_or_else : (test : FileId → Bool) (some others : List Refusal) → AllName test some → AllName test others → AllName test (or_else some others)
+names_or_else test [] others h k = k
+names_or_else test (first ∷ some) others h k = h
+
+-- a refusal that is made in some case alone
+names_if : (test : FileId → Bool) (b : Bool) (one : Refusal) → NamesOnly test one → AllName test (cond b (one ∷ []) [])
+names_if test true one h = (h, tt)
+names_if test false one h = tt
+
+-- for each of some things a refusal, in some case
+pub names_where : {X : Type 0} (test : FileId → Bool) (is_at_fault : X → Bool) (one : X → Refusal) → ((x : X) → NamesOnly test (one x)) → (all : List X) → AllName test (flat_map (λ x. cond (is_at_fault x) (one x ∷ []) []) all)
+names_where test is_at_fault one h [] = tt
+names_where test is_at_fault one h (x ∷ all) =
+    names_both test (cond (is_at_fault x) (one x ∷ []) []) _ (names_if test (is_at_fault x) (one x) (h x)) (names_where test is_at_fault one h all)
+
+-- for each of some things a row of one file
+names_rows : {X : Type 0} (test : FileId → Bool) (file : FileId) (row : X → ℕ) (why : X → RowWhy) → test file ≡ true → (all : List X) → AllName test (map (λ x. refusal.BadRow file (row x) (why x)) all)
+names_rows test file row why h [] = tt
+names_rows test file row why h (x ∷ all) = (h, names_rows test file row why h all)
+
+module _ {X : Type 0} (test : FileId → Bool) (input : Input X) (is : test input.file ≡ true) where
+  -- the rules that rows break
+  rules_name : (before : List X) (rows : List TableRow) → AllName test (row_faults input before rows)
+  unfolding row_faults
+  rules_name before [] = tt
+  rules_name before (row ∷ rows) =
+      let whys = broken_whys input.row_rules before (input.read row.cells) in
+      names_both test (map (λ why. refusal.BadRow input.file row.number why) whys) (row_faults input (before ++ input.read row.cells ∷ []) rows)
+      (names_rows test input.file (λ _. row.number) (λ why. why) is whys) (rules_name (before ++ input.read row.cells ∷ []) rows)
+
+-- every fault of a text as an input names the file of the input
+pub input_names : {X : Type 0} (test : FileId → Bool) (input : Input X) (text : List ℕ) → test input.file ≡ true → AllName test (input_faults input text)
+unfolding input_faults
+input_names test input text is =
+    let rows = table_of input.columns text in
+    let all = records input rows in
+    let cells = names_rows test input.file (λ fault. fault.row) (λ fault. fault.why) is (faults input.columns text) in
+    let limits : AllName test (limit_faults input.limits all) = names_where test (λ limit. nat_lt limit.most (limit.count all)) (λ limit. refusal.TooMany limit.what (limit.count all)) (λ _. tt) input.limits in
+    let whole : AllName test (whole_faults input.file input.table_rules all) = names_where test (λ rule. rule.is_broken all) (λ rule. refusal.BadRow input.file 0 rule.why) (λ _. is) input.table_rules in
+    names_or_else test (cell_faults input.file input.columns text) _ cells
+    (names_both test _ (whole_faults input.file input.table_rules all) (names_both test (limit_faults input.limits all) (row_faults input [] rows) limits (rules_name test input is [] rows)) whole)
+
+-- what is refused is one of the faults
+pub refused_names : (test : FileId → Bool) (faults : List Refusal) (made : Made) (reason : Refusal) → AllName test faults → unless_fault faults made ≡ Err reason → NamesOnly test reason
+refused_names test [] made reason h e = absurd (cc)
+refused_names test (first ∷ more) made reason h e = let same : first ≡ reason = cc in subst (NamesOnly test) same h.0
