@@ -9,7 +9,8 @@ use Rattle.giv_files.specs.declared.setting.Setting.{Setting}
 use Rattle.giv_files.specs.Inputs.{input_faults}
 use Rattle.giv_files.specs.Settings.{BundleParts}
 use Rattle.giv_files.specs.StageCalls.{input_text}
-use Rattle.giv_files.proofs.Named.{NamesOnly, AllName, names_both, names_or_else, names_where, input_names, refused_names}
+use Rattle.giv_files.specs.NamedFiles.{NamesOnly}
+use Rattle.giv_files.proofs.Named.{AllName, names_both, names_or_else, names_where, input_names, refused_names}
 use Rattle.ptn_network.specs.Networks.{NetworkParts, network_faults}
 use Rattle.ptn_network.proofs.NamedFaults.{network_names}
 use Rattle.demand_load.specs.Demand.{demand_input}

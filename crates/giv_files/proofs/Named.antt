@@ -10,14 +10,8 @@ use Rattle.giv_files.specs.declared.refusal.Refusal.TheVariants as refusal
 use Rattle.giv_files.specs.Tables.{TableRow}
 use Rattle.giv_files.specs.Reading.{faults, table_of}
 use Rattle.giv_files.specs.Inputs.{Input, records, cell_faults, limit_faults, broken_whys, row_faults, whole_faults, or_else, input_faults}
+use Rattle.giv_files.specs.NamedFiles.{NamesOnly}
 use Rattle.giv_files.specs.StageCalls.{unless_fault}
-
--- a refusal names no file but those that pass a test
-abbrev pub NamesOnly : (FileId → Bool) → Refusal → Type 0
-NamesOnly test (refusal.BadRow file row why) = test file ≡ true
-NamesOnly test (refusal.TooMany what count) = ⊤
-NamesOnly test refusal.NoSolution = ⊤
-NamesOnly test (refusal.Spent entries) = ⊤
 
 -- each of some refusals does
 abbrev pub AllName : (FileId → Bool) → List Refusal → Type 0

@@ -1,6 +1,7 @@
 pub mod Columns
 pub mod Inputs
 pub mod Keys
+pub mod NamedFiles
 pub mod Names
 pub mod Reading
 pub mod Rows

@@ -5,7 +5,8 @@ use Rattle.giv_files.specs.declared.file_id.FileId.TheVariants as file
 use Rattle.giv_files.specs.declared.refusal.Refusal.{Refusal}
 use Rattle.giv_files.specs.Settings.{BundleParts}
 use Rattle.giv_files.specs.StageCalls.{input_text}
-use Rattle.giv_files.proofs.Named.{NamesOnly, AllName, names_both, input_names, refused_names}
+use Rattle.giv_files.specs.NamedFiles.{NamesOnly}
+use Rattle.giv_files.proofs.Named.{AllName, names_both, input_names, refused_names}
 use Rattle.ptn_network.specs.Networks.{NetworkParts, network_faults}
 use Rattle.ptn_network.proofs.NamedFaults.{network_names}
 use Rattle.line_pool.specs.Pools.{pool_input, pool_faults}

@@ -5,7 +5,7 @@ ghost use Rattle.plan_files.specs.Others.{AreOutside};
 ghost use Rattle.stage_driver.specs.Built.{made};
 ghost use Rattle.stage_driver.specs.declared.outcome.ChainFault.TheVariants as faults;
 ghost use Rattle.stage_driver.specs.Hand.{hand_of, is_hand};
-ghost use Rattle.stage_driver.specs.Right.{MadeRight};
+ghost use Rattle.stage_driver.specs.Right.{MadeRight, RefusesHand};
 ghost use Rattle.stage_driver.specs.Runs.{AreNotAll, SameHand, writes_of};
 ghost use Rattle.lintim_cli.specs.Answers.{AnswersTo};
 ghost use Rattle.lintim_cli.specs.Reports.{Reported, usage_report};
@@ -56,9 +56,12 @@ pub fn lintim<F: Files, K: Sink, L: Ledger>(
     // Each file that the stages make, read again, satisfies its stage's model over what the stage was given.
     ensures right { is_make words.now ≡ true → IfSome (F.contents files.old) (λ folder. MadeRight (hand_of folder)) }
 
+    // Where a row is refused, it stands in a file that people write.
+    ensures refusal { is_make words.now ≡ true → IfSome (F.contents files.old) (λ folder. RefusesHand (hand_of folder)) }
+
     // The files that people write, and all others that no stage makes or keeps, are as before, whatever the answer.
     ensures hand { SameHand (F.contents files.old) (F.contents files.new) }
-    ensures outside { IfSome (F.contents files.old) (λ folder. AreOutside is_hand (writes_of folder)) }
+    ensures outside { is_make words.now ≡ true → IfSome (F.contents files.old) (λ folder. AreOutside is_hand (writes_of folder)) }
 
     // A file fault comes only where the count rose. Its line is out; some first writes were made, and one more may be in part.
     ensures file_fault { result ≡ Status.FileFault → FileBroke (F.faults files.old) (F.faults files.new) (K.written out.old) (K.written out.new) (K.faults out.old) (K.faults out.new) }

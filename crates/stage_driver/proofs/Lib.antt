@@ -6,6 +6,7 @@ pub mod Left
 pub mod MadeRight
 pub mod Named
 pub mod Pieces
+pub mod Refusing
 pub mod Removing
 pub mod Running
 pub mod Starting

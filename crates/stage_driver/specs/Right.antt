@@ -1,14 +1,19 @@
--- What the stages of a chain made is right.
-use Rattle.std.specs.Prelude.{List, [], ◌∷◌}
+-- What holds of what the stages of a chain make and refuse.
+use Rattle.std.specs.Prelude.{List, [], ◌∷◌, Option, Some, None}
 use Rattle.giv_files.specs.declared.made.Made.{Made}
 use Rattle.giv_files.specs.declared.stage.Stage.{Stage}
 use Rattle.giv_files.specs.declared.stage.Stage.TheVariants as stage
+use Rattle.giv_files.specs.NamedFiles.{NamesOnly}
+use Rattle.giv_files.specs.Names.{file_name}
 use Rattle.giv_files.specs.Settings.{BundleParts}
 use Rattle.demand_load.specs.RightLoads.{LoadsAreRight}
 use Rattle.line_pool.specs.RightCosts.{CostsAreRight}
 use Rattle.plan_files.specs.Folder.{Folder}
-use Rattle.stage_driver.specs.Built.{trace_of}
+use Rattle.stage_driver.specs.Built.{stop_of, trace_of}
 use Rattle.stage_driver.specs.Chain.{Visit}
+use Rattle.stage_driver.specs.Hand.{is_hand}
+use Rattle.stage_driver.specs.declared.stop.Stop.{Stop}
+use Rattle.stage_driver.specs.declared.stop.Stop.TheVariants as stop
 
 -- The files that a stage made, read again, satisfy its model over what it was given. A stage that is not built makes nothing.
 abbrev pub IsRightAs : Stage → BundleParts → Made → Type 0
@@ -24,3 +29,14 @@ AreRight (visit ∷ visits) = IsRightAs visit.bundle.stage visit.bundle visit.ma
 -- each stage that the chain over hand files made did
 unfoldable pub MadeRight : Folder → Type 0
 MadeRight hand = AreRight (trace_of hand).visits
+
+-- a chain that a refused row ends names by it a file that people write
+abbrev pub NamesHand : Option Stop → Type 0
+NamesHand None = Unit {0}
+NamesHand (Some (stop.BadConfig reason)) = Unit {0}
+NamesHand (Some (stop.Missing file)) = Unit {0}
+NamesHand (Some (stop.TooLong file)) = Unit {0}
+NamesHand (Some (stop.Refused stage reason)) = NamesOnly (λ file. is_hand (file_name file)) reason
+
+unfoldable pub RefusesHand : Folder → Type 0
+RefusesHand hand = NamesHand (stop_of (trace_of hand).halt)

@@ -7,7 +7,7 @@ ghost use Rattle.stage_driver.specs.Ends.{CountsFault};
 ghost use Rattle.stage_driver.specs.Hand.{hand_of, is_hand};
 ghost use Rattle.stage_driver.specs.Progress.{EndGives, nothing};
 ghost use Rattle.stage_driver.specs.Reports.{last_line, end_of};
-ghost use Rattle.stage_driver.specs.Right.{MadeRight};
+ghost use Rattle.stage_driver.specs.Right.{MadeRight, RefusesHand};
 ghost use Rattle.stage_driver.specs.Runs.{AreNotAll, IsOutcome, IsLeft, SameHand, writes_for, writes_of};
 
 use crate::chain::run_built;
@@ -31,6 +31,7 @@ pub fn run_chain<F: Files, L: Ledger>(
 ) -> Result<Outcome, ChainFault>
     ensures outcome { IfSome (F.contents files.old) (λ folder. IfOk result (IsOutcome (hand_of folder))) }
     ensures right { IfSome (F.contents files.old) (λ folder. MadeRight (hand_of folder)) }
+    ensures refusal { IfSome (F.contents files.old) (λ folder. RefusesHand (hand_of folder)) }
     ensures left { IfSome (F.contents files.old) (λ folder. OnOk result (IsLeft folder (F.contents files.new) (F.writes files.old) (F.writes files.new))) }
     ensures work { IfSome (F.contents files.old) (λ folder. OnOk result (steps.new ≡ steps.old + (made (hand_of folder)).work)) }
     ensures unfinished { IfSome (F.contents files.old) (λ folder. IfErr result (λ fault. AreNotAll fault (writes_of folder) (Some folder) (F.contents files.new) (F.writes files.old) (F.writes files.new))) }

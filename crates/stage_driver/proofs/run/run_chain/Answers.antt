@@ -1,4 +1,5 @@
 use Rattle.stage_driver.proofs.MadeRight.{told_right}
+use Rattle.stage_driver.proofs.Refusing.{told_refuses}
 use Rattle.stage_driver.proofs.Running.{outcome_is, left_is, unfinished_is, untouched, work_told, work_bound, hand_is, hand_untouched, told_outside}
 use Rattle.stage_driver.proofs.run.run_chain.Goals as goal
 
@@ -40,3 +41,9 @@ returns-clause-outside g c = told_outside _
 
 pub returns-in_err-stop-clause-outside : goal.returns-in_err-stop-clause-outside
 returns-in_err-stop-clause-outside g c = told_outside _
+
+pub returns-clause-refusal : goal.returns-clause-refusal
+returns-clause-refusal g c = told_refuses _
+
+pub returns-in_err-stop-clause-refusal : goal.returns-in_err-stop-clause-refusal
+returns-in_err-stop-clause-refusal g c = told_refuses _

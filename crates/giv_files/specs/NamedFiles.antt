@@ -1,0 +1,12 @@
+-- Which file a refusal names.
+use Rattle.std.specs.Prelude.{◌≡◌, Bool, true, ⊤}
+use Rattle.giv_files.specs.declared.file_id.FileId.{FileId}
+use Rattle.giv_files.specs.declared.refusal.Refusal.{Refusal}
+use Rattle.giv_files.specs.declared.refusal.Refusal.TheVariants as refusal
+
+-- a refusal names no file but those that pass a test
+abbrev pub NamesOnly : (FileId → Bool) → Refusal → Type 0
+NamesOnly test (refusal.BadRow file row why) = test file ≡ true
+NamesOnly test (refusal.TooMany what count) = ⊤
+NamesOnly test refusal.NoSolution = ⊤
+NamesOnly test (refusal.Spent entries) = ⊤
