@@ -1,10 +1,10 @@
--- The faults of an input, part by part.
-use Rattle.std.proofs.Common.{◌≡◌, ℕ, ◌+◌, ◌<◌, ◌≤◌, arith, Bool, true, false, cond, List, [], ◌∷◌, ◌++◌, length, map, get_or, slice_get, take, drop, refl, ap, subst, sym, ◌∙◌, Some, Result, Ok, Err}
+-- The faults of an input, part by part, for any limits and rules.
+use Rattle.std.proofs.Common.{◌≡◌, ℕ, zero, suc, ◌+◌, ◌<◌, ◌≤◌, arith, Bool, true, false, cond, List, [], ◌∷◌, ◌++◌, length, map, get_or, slice_get, take, drop, refl, ap, subst, sym, ◌∙◌, Option, Some, None, Result, Ok, Err, append_assoc}
 use Rattle.std.proofs.lemmas.Bool.{lt-ltb, le-ltb, ltb-false}
-use Rattle.std.proofs.lemmas.List.{at_drop_more, at_drop_all, take_more, take_all, map_push, length-map}
+use Rattle.std.proofs.lemmas.List.{at_drop_more, at_drop_all, take_more, take_all, map_push, append-nil}
 use Rattle.std.proofs.lemmas.List.Elements.{All-cons}
 use Rattle.std.specs.List.{All}
-use Rattle.giv_files.specs.declared.counted.Counted.{Counted}
+use Rattle.giv_files.specs.declared.file_id.FileId.{FileId}
 use Rattle.giv_files.specs.declared.row_why.RowWhy.{RowWhy}
 use Rattle.giv_files.specs.declared.refusal.Refusal.{Refusal}
 use Rattle.giv_files.specs.declared.refusal.Refusal.TheVariants as refusal
@@ -14,12 +14,12 @@ use Rattle.giv_files.specs.Tables.{TableRow, no_row}
 use Rattle.giv_files.specs.Reading.{table_of}
 use Rattle.giv_files.specs.Writing.{InColumns}
 use Rattle.giv_files.proofs.Ranges.{front_none, back_none, unmapped, table_in_columns}
-use Rattle.giv_files.specs.Inputs.{Input, records, records_of, cell_faults, limit_faults, broken_whys, row_faults, whole_faults, table_faults, row_limit, or_else, input_faults, Refuses, UnlessFault}
+use Rattle.giv_files.specs.Inputs.{Numbered, Limit, RowRule, TableRule, Input, records, records_of, numbered, cell_faults, limit_fault, limit_faults, broken_whys, row_faults, table_row_faults, fault_at, whole_faults, table_faults, or_else, input_faults, Refuses, UnlessFault}
 
 -- ---- lists of faults
 
 -- the first of some items is the first of them and more
-first_append : {X : Type 0} (all more : List X) (first : X) → slice_get all 0 ≡ Some first → slice_get (all ++ more) 0 ≡ Some first
+pub first_append : {X : Type 0} (all more : List X) (first : X) → slice_get all 0 ≡ Some first → slice_get (all ++ more) 0 ≡ Some first
 first_append [] more first h = cc
 first_append (x ∷ all) more first h = h
 
@@ -55,70 +55,172 @@ module _ {X : Type 0} (input : Input X) (text : List ℕ) where
   unfolding input_faults
   faults_of_table rows none is = ap (table_faults input) is ∙ sym (ap (λ all. or_else all (table_faults input (table_of input.columns text))) none)
 
--- ---- limits
+-- ---- a list of limits, of rules of rows, and of rules of a whole file: the first, and those behind it
 
-module _ {X : Type 0} (input : Input X) (rows : List TableRow) (what : Counted) (most : ℕ) (limits : input.limits ≡ row_limit what most ∷ []) where
-  -- more rows than there may be
-  pub too_many : most < length rows → slice_get (table_faults input rows) 0 ≡ Some (refusal.TooMany what (length rows))
-  too_many h =
-      let over : limit_faults input.limits (records input rows) ≡ refusal.TooMany what (length rows) ∷ [] =
-      ap (λ all. limit_faults all (records input rows)) limits
-      ∙ ap (λ n. limit_faults (record { what = what; most = most; count = λ _. n } ∷ []) (records input rows)) (length-map rows (λ row. input.read row.cells))
-      ∙ ap (λ b. cond b (refusal.TooMany what (length rows) ∷ []) [] ++ []) (lt-ltb most (length rows) h) in
-      rw over refl
+module _ {X : Type 0} (limit : Limit X) (limits : List (Limit X)) (rows : List X) where
+  -- a limit that is passed refuses the rows
+  pub limit_passed : limit.most < limit.count rows → slice_get (limit_faults (limit ∷ limits) rows) 0 ≡ Some (refusal.TooMany limit.what (limit.count rows))
+  limit_passed h = ap (λ b. slice_get (cond b (refusal.TooMany limit.what (limit.count rows) ∷ []) [] ++ limit_faults limits rows) 0) (lt-ltb limit.most (limit.count rows) h)
 
-  -- as many as there may be
-  within : length rows ≤ most → limit_faults input.limits (records input rows) ≡ []
-  within h =
-      ap (λ all. limit_faults all (records input rows)) limits
-      ∙ ap (λ n. limit_faults (record { what = what; most = most; count = λ _. n } ∷ []) (records input rows)) (length-map rows (λ row. input.read row.cells))
-      ∙ ap (λ b. cond b (refusal.TooMany what (length rows) ∷ []) [] ++ []) (le-ltb most (length rows) h)
+  -- and one that is kept leaves those behind it
+  pub limit_kept : limit.count rows ≤ limit.most → limit_faults limits rows ≡ [] → limit_faults (limit ∷ limits) rows ≡ []
+  limit_kept h rest = ap (λ b. cond b (refusal.TooMany limit.what (limit.count rows) ∷ []) [] ++ limit_faults limits rows) (le-ltb limit.most (limit.count rows) h) ∙ rest
 
-  -- a table that is refused by a row
-  pub refused_rows : (fault : StageFault) → length rows ≤ most → Refuses (row_faults input [] rows) fault → Refuses (table_faults input rows) fault
-  refused_rows fault h by =
-      let whole = whole_faults input.file input.table_rules (records input rows) in
-      subst (λ (some : List Refusal). Refuses (some ++ row_faults input [] rows ++ whole) fault) (sym (within h)) (refused_append (row_faults input [] rows) whole fault by)
+  pub limit_next : (fault : StageFault) → limit.count rows ≤ limit.most → Refuses (limit_faults limits rows) fault → Refuses (limit_faults (limit ∷ limits) rows) fault
+  limit_next fault h by = subst (λ (some : List Refusal). Refuses (some ++ limit_faults limits rows) fault) (sym (ap (λ b. cond b (refusal.TooMany limit.what (limit.count rows) ∷ []) []) (le-ltb limit.most (limit.count rows) h))) by
 
-  -- a table whose rows break no rule, where there is no rule of the whole table
-  pub no_faults : input.table_rules ≡ [] → length rows ≤ most → row_faults input [] rows ≡ [] → table_faults input rows ≡ []
-  no_faults none h by = rw (within h, by, none) refl
+  -- where no limit is passed, the first is kept, and those behind it are
+  pub limits_sound : limit_faults (limit ∷ limits) rows ≡ [] → (limit.count rows ≤ limit.most) × (limit_faults limits rows ≡ [])
+  limits_sound none = (ltb-false limit.most (limit.count rows) (not_passed _ _ (front_none _ _ none)), back_none (limit_fault rows limit) _ none)
+    where
+      not_passed : (b : Bool) (fault : Refusal) → cond b (fault ∷ []) [] ≡ [] → b ≡ false
+      not_passed true fault e = cc
+      not_passed false fault e = refl
 
--- ---- rows
+module _ {X : Type 0} (rule : RowRule X) (rules : List (RowRule X)) (before : List X) (row : X) where
+  -- a rule that a row breaks is its first reason
+  pub rule_broken : rule.is_broken before row ≡ true → slice_get (broken_whys (rule ∷ rules) before row) 0 ≡ Some rule.why
+  rule_broken h = ap (λ b. slice_get (cond b (rule.why ∷ []) [] ++ broken_whys rules before row) 0) h
+
+  -- and one that it keeps leaves those behind it
+  pub rule_kept : rule.is_broken before row ≡ false → broken_whys (rule ∷ rules) before row ≡ broken_whys rules before row
+  rule_kept h = ap (λ b. cond b (rule.why ∷ []) [] ++ broken_whys rules before row) h
+
+  -- where a row breaks no rule, it keeps the first, and those behind it
+  pub rules_sound : broken_whys (rule ∷ rules) before row ≡ [] → (rule.is_broken before row ≡ false) × (broken_whys rules before row ≡ [])
+  rules_sound none = (not_broken _ (front_none _ _ none), back_none (cond (rule.is_broken before row) (rule.why ∷ []) []) _ none)
+    where
+      not_broken : (b : Bool) → cond b (rule.why ∷ []) [] ≡ [] → b ≡ false
+      not_broken true e = cc
+      not_broken false e = refl
+
+module _ {X : Type 0} (file : FileId) (rule : TableRule X) (rules : List (TableRule X)) (rows : List (Numbered X)) where
+  -- a rule that a file breaks is its first fault
+  pub whole_broken : (row : ℕ) → rule.broken_at rows ≡ Some row → slice_get (whole_faults file (rule ∷ rules) rows) 0 ≡ Some (refusal.BadRow file row rule.why)
+  whole_broken row h = ap (λ at. slice_get (fault_at file rule.why at ++ whole_faults file rules rows) 0) h
+
+  -- and one that it keeps leaves those behind it
+  pub whole_kept : rule.broken_at rows ≡ None → whole_faults file (rule ∷ rules) rows ≡ whole_faults file rules rows
+  whole_kept h = ap (λ at. fault_at file rule.why at ++ whole_faults file rules rows) h
+
+  -- where a file breaks no rule, it keeps the first, and those behind it
+  pub whole_sound : whole_faults file (rule ∷ rules) rows ≡ [] → (rule.broken_at rows ≡ None) × (whole_faults file rules rows ≡ [])
+  whole_sound none = (kept _ (front_none _ _ none), back_none (fault_at file rule.why (rule.broken_at rows)) _ none)
+    where
+      kept : (at : Option ℕ) → fault_at file rule.why at ≡ [] → at ≡ None
+      kept None e = refl
+      kept (Some row) e = cc
+
+-- ---- the parts of a table
+
+module _ {X : Type 0} (input : Input X) (rows : List TableRow) where
+  -- a table that is refused by a limit, by a row where no limit is passed, or by a rule of it as a whole where no
+  -- row is at fault
+  pub refused_limits : (fault : StageFault) → Refuses (limit_faults input.limits (records input rows)) fault → Refuses (table_faults input rows) fault
+  refused_limits fault by = refused_append _ _ fault (refused_append _ _ fault by)
+
+  pub refused_rows : (fault : StageFault) → limit_faults input.limits (records input rows) ≡ [] → Refuses (table_row_faults input rows) fault → Refuses (table_faults input rows) fault
+  refused_rows fault few by =
+      let whole = whole_faults input.file input.table_rules (numbered input rows) in
+      subst (λ (some : List Refusal). Refuses (some ++ table_row_faults input rows ++ whole) fault) (sym few) (refused_append (table_row_faults input rows) whole fault by)
+
+  pub refused_whole : (fault : StageFault) → limit_faults input.limits (records input rows) ≡ [] → table_row_faults input rows ≡ [] → Refuses (whole_faults input.file input.table_rules (numbered input rows)) fault → Refuses (table_faults input rows) fault
+  refused_whole fault few none by =
+      let whole = whole_faults input.file input.table_rules (numbered input rows) in
+      subst (λ (some : List Refusal). Refuses (some ++ whole) fault) (sym (ap (λ (some : List Refusal). some ++ table_row_faults input rows) few ∙ none)) by
+
+  -- a table without a fault in any of them
+  pub no_faults : limit_faults input.limits (records input rows) ≡ [] → table_row_faults input rows ≡ [] → whole_faults input.file input.table_rules (numbered input rows) ≡ [] → table_faults input rows ≡ []
+  no_faults few none kept = rw (few, none, kept) refl
+
+  pub table_sound : table_faults input rows ≡ [] → (limit_faults input.limits (records input rows) ≡ []) × (table_row_faults input rows ≡ []) × (whole_faults input.file input.table_rules (numbered input rows) ≡ [])
+  table_sound none =
+      let front = front_none _ _ none in
+      (front_none _ _ front, back_none (limit_faults input.limits (records input rows)) _ front, back_none (limit_faults input.limits (records input rows) ++ table_row_faults input rows) _ none)
+
+-- ---- rows, one after the other, which stand for something and have a number
+
+module _ {S X : Type 0} (number : S → ℕ) (of : S → X) (file : FileId) (rules : List (RowRule X)) where
+  -- with the number of each
+  abbrev pub told : List S → List (Numbered X)
+  told rows = map (λ row. record { number = number row; row = of row }) rows
+
+  module _ (rows : List S) (i : ℕ) (d : S) where
+    -- what rows stand for where there is one more
+    pub more : i < length rows → map of (take (i + 1) rows) ≡ map of (take i rows) ++ of (get_or rows i d) ∷ []
+    more h = ap (map of) (take_more rows i d h) ∙ map_push of (take i rows) (get_or rows i d)
+
+    -- the rules that the row at a place breaks come before those that later rows break
+    pub next : i < length rows → row_faults file rules (map of (take i rows)) (told (drop i rows))
+        ≡ map (λ why. refusal.BadRow file (number (get_or rows i d)) why) (broken_whys rules (map of (take i rows)) (of (get_or rows i d)))
+        ++ row_faults file rules (map of (take (i + 1) rows)) (told (drop (i + 1) rows))
+    unfolding row_faults
+    next h =
+        let row = get_or rows i d in
+        at_drop_more (λ rest. row_faults file rules (map of (take i rows)) (told rest)) rows i d h
+        ∙ ap (λ some. map (λ why. refusal.BadRow file (number row) why) (broken_whys rules (map of (take i rows)) (of row)) ++ row_faults file rules some (told (drop (i + 1) rows))) (sym (more h))
+
+    -- a row that breaks no rule goes to those before
+    pub met : i < length rows → broken_whys rules (map of (take i rows)) (of (get_or rows i d)) ≡ [] → row_faults file rules (map of (take i rows)) (told (drop i rows)) ≡ row_faults file rules [] (told rows)
+        → row_faults file rules (map of (take (i + 1) rows)) (told (drop (i + 1) rows)) ≡ row_faults file rules [] (told rows)
+    met h kept so_far =
+        let later = row_faults file rules (map of (take (i + 1) rows)) (told (drop (i + 1) rows)) in
+        sym (next h ∙ ap (λ whys. map (λ why. refusal.BadRow file (number (get_or rows i d)) why) whys ++ later) kept) ∙ so_far
+
+    -- the first rule that a row breaks refuses the rows
+    pub refused : (why : RowWhy) → i < length rows → slice_get (broken_whys rules (map of (take i rows)) (of (get_or rows i d))) 0 ≡ Some why → row_faults file rules (map of (take i rows)) (told (drop i rows)) ≡ row_faults file rules [] (told rows)
+        → slice_get (row_faults file rules [] (told rows)) 0 ≡ Some (refusal.BadRow file (number (get_or rows i d)) why)
+    refused why h broken so_far =
+        ap (λ all. slice_get all 0) (sym so_far ∙ next h)
+        ∙ first_append _ _ _ (first_mapped (λ reason. refusal.BadRow file (number (get_or rows i d)) reason) _ why broken)
+
+    -- after the last row no row breaks a rule
+    pub all_met : length rows ≤ i → row_faults file rules (map of (take i rows)) (told (drop i rows)) ≡ row_faults file rules [] (told rows) → row_faults file rules [] (told rows) ≡ []
+    unfolding row_faults
+    all_met h so_far = sym so_far ∙ at_drop_all (λ rest. row_faults file rules (map of (take i rows)) (told rest)) rows i h
+
+  -- rows break no rule where none breaks one after those before it
+  pub none_broken : (before : List X) (rows : List S) (d : S) → ((i : ℕ) → i < length rows → broken_whys rules (before ++ map of (take i rows)) (of (get_or rows i d)) ≡ []) → row_faults file rules before (told rows) ≡ []
+  unfolding row_faults
+  none_broken before [] d each = refl
+  none_broken before (row ∷ rows) d each =
+      let first : broken_whys rules before (of row) ≡ [] = ap (λ some. broken_whys rules some (of row)) (sym (append-nil before)) ∙ each 0 (omega arith) in
+      let rest = none_broken (before ++ of row ∷ []) rows d (λ i h.
+      ap (λ some. broken_whys rules some (of (get_or rows i d))) (append_assoc before (of row ∷ []) (map of (take i rows))) ∙ each (suc i) (omega arith)) in
+      ap (λ whys. map (λ why. refusal.BadRow file (number row) why) whys ++ row_faults file rules (before ++ of row ∷ []) (told rows)) first ∙ rest
+
+  -- and where they break none, each breaks none after those before it
+  pub none_breaks : (before : List X) (rows : List S) (d : S) → row_faults file rules before (told rows) ≡ [] → (i : ℕ) → i < length rows → broken_whys rules (before ++ map of (take i rows)) (of (get_or rows i d)) ≡ []
+  unfolding row_faults
+  none_breaks before [] d none i h = absurd (omega arith)
+  none_breaks before (row ∷ rows) d none zero h = ap (λ some. broken_whys rules some (of row)) (append-nil before) ∙ unmapped _ _ (front_none _ _ none)
+  none_breaks before (row ∷ rows) d none (suc i) h =
+      ap (λ some. broken_whys rules some (of (get_or rows i d))) (sym (append_assoc before (of row ∷ []) (map of (take i rows))))
+      ∙ none_breaks (before ++ of row ∷ []) rows d (back_none (map (λ why. refusal.BadRow file (number row) why) (broken_whys rules before (of row))) _ none) i (omega arith)
+
+-- ---- the rows of a table
 
 module _ {X : Type 0} (input : Input X) (rows : List TableRow) (i : ℕ) where
+  -- all faults of rows are those of the rows from a place on
+  abbrev pub SoundBefore : Type 0
+  SoundBefore = row_faults input.file input.row_rules (records input (take i rows)) (numbered input (drop i rows)) ≡ table_row_faults input rows
+
   -- what one row more stands for
   pub records_more : i < length rows → records input (take (i + 1) rows) ≡ records input (take i rows) ++ input.read (get_or rows i no_row).cells ∷ []
-  records_more h = ap (records input) (take_more rows i no_row h) ∙ map_push (λ row. input.read row.cells) (take i rows) (get_or rows i no_row)
+  records_more h = more (λ row. row.number) (λ row. input.read row.cells) input.file input.row_rules rows i no_row h
 
   -- after the last row all stand for something
   pub records_all : length rows ≤ i → records input (take i rows) ≡ records input rows
   records_all h = ap (records input) (take_all i rows h)
 
-  -- the rules that the row at a place breaks come before those that later rows break
-  rows_more : i < length rows → row_faults input (records input (take i rows)) (drop i rows) ≡ map (λ why. refusal.BadRow input.file (get_or rows i no_row).number why) (broken_whys input.row_rules (records input (take i rows)) (input.read (get_or rows i no_row).cells)) ++ row_faults input (records input (take (i + 1) rows)) (drop (i + 1) rows)
-  unfolding row_faults
-  rows_more h =
-      let row = get_or rows i no_row in
-      at_drop_more (row_faults input (records input (take i rows))) rows i no_row h
-      ∙ ap (λ some. map (λ why. refusal.BadRow input.file row.number why) (broken_whys input.row_rules (records input (take i rows)) (input.read row.cells)) ++ row_faults input some (drop (i + 1) rows)) (sym (records_more h))
+  pub row_met : i < length rows → broken_whys input.row_rules (records input (take i rows)) (input.read (get_or rows i no_row).cells) ≡ [] → SoundBefore → row_faults input.file input.row_rules (records input (take (i + 1) rows)) (numbered input (drop (i + 1) rows)) ≡ table_row_faults input rows
+  row_met h kept so_far = met (λ row. row.number) (λ row. input.read row.cells) input.file input.row_rules rows i no_row h kept so_far
 
-  -- a row that breaks no rule goes to those before
-  pub row_met : i < length rows → broken_whys input.row_rules (records input (take i rows)) (input.read (get_or rows i no_row).cells) ≡ [] → row_faults input (records input (take i rows)) (drop i rows) ≡ row_faults input [] rows → row_faults input (records input (take (i + 1) rows)) (drop (i + 1) rows) ≡ row_faults input [] rows
-  row_met h met so_far =
-      let later = row_faults input (records input (take (i + 1) rows)) (drop (i + 1) rows) in
-      sym (rows_more h ∙ ap (λ whys. map (λ why. refusal.BadRow input.file (get_or rows i no_row).number why) whys ++ later) met) ∙ so_far
+  pub row_refused : (why : RowWhy) → i < length rows → slice_get (broken_whys input.row_rules (records input (take i rows)) (input.read (get_or rows i no_row).cells)) 0 ≡ Some why → SoundBefore → slice_get (table_row_faults input rows) 0 ≡ Some (refusal.BadRow input.file (get_or rows i no_row).number why)
+  row_refused why h broken so_far = refused (λ row. row.number) (λ row. input.read row.cells) input.file input.row_rules rows i no_row why h broken so_far
 
-  -- the first rule that a row breaks refuses the rows
-  pub row_refused : (why : RowWhy) → i < length rows → slice_get (broken_whys input.row_rules (records input (take i rows)) (input.read (get_or rows i no_row).cells)) 0 ≡ Some why → row_faults input (records input (take i rows)) (drop i rows) ≡ row_faults input [] rows → slice_get (row_faults input [] rows) 0 ≡ Some (refusal.BadRow input.file (get_or rows i no_row).number why)
-  row_refused why h broken so_far =
-      ap (λ all. slice_get all 0) (sym so_far ∙ rows_more h)
-      ∙ first_append _ _ _ (first_mapped (λ reason. refusal.BadRow input.file (get_or rows i no_row).number reason) _ why broken)
-
-  -- after the last row no row breaks a rule
-  pub rows_met : length rows ≤ i → row_faults input (records input (take i rows)) (drop i rows) ≡ row_faults input [] rows → row_faults input [] rows ≡ []
-  unfolding row_faults
-  rows_met h so_far = sym so_far ∙ at_drop_all (row_faults input (records input (take i rows))) rows i h
+  pub rows_met : length rows ≤ i → SoundBefore → table_row_faults input rows ≡ []
+  rows_met h so_far = all_met (λ row. row.number) (λ row. input.read row.cells) input.file input.row_rules rows i no_row h so_far
 
 -- ---- texts without a fault
 
@@ -132,19 +234,13 @@ module _ {X : Type 0} (input : Input X) where
   unfolding input_faults
   parts_sound text none = or_else_none _ _ none
 
-  -- it has no more rows than there may be
-  pub few_rows : (text : List ℕ) (what : Counted) (most : ℕ) → input.limits ≡ row_limit what most ∷ [] → input_faults input text ≡ [] → length (records_of input text) ≤ most
-  few_rows text what most limits none =
-      let all = records_of input text in
-      let passed : limit_faults input.limits all ≡ [] = front_none _ _ (front_none _ _ (parts_sound text none).1) in
-      let tested : limit_faults (row_limit what most ∷ []) all ≡ [] = ap (λ some. limit_faults some all) (sym limits) ∙ passed in
-      ltb-false most (length all) (not_passed _ _ tested)
-    where
-      not_passed : (b : Bool) (fault : Refusal) → cond b (fault ∷ []) [] ++ [] ≡ [] → b ≡ false
-      not_passed true fault e = cc
-      not_passed false fault e = refl
+  -- its first limit is kept
+  pub few_rows : (text : List ℕ) (limit : Limit X) (limits : List (Limit X)) → input.limits ≡ limit ∷ limits → input_faults input text ≡ [] → limit.count (records_of input text) ≤ limit.most
+  few_rows text limit limits is none =
+      let few = (table_sound input (table_of input.columns text) (parts_sound text none).1).0 in
+      (limits_sound limit limits (records_of input text) (ap (λ some. limit_faults some (records_of input text)) (sym is) ∙ few)).0
 
-  kept : (before : List X) (rows : List TableRow) → row_faults input before rows ≡ [] → All (λ row. (some : List X) × (broken_whys input.row_rules some (input.read row.cells) ≡ [])) rows
+  kept : (before : List X) (rows : List TableRow) → row_faults input.file input.row_rules before (numbered input rows) ≡ [] → All (λ row. (some : List X) × (broken_whys input.row_rules some (input.read row.cells) ≡ [])) rows
   unfolding row_faults
   kept before [] none = λ k d h. absurd (omega arith)
   kept before (row ∷ rows) none =
@@ -155,6 +251,6 @@ module _ {X : Type 0} (input : Input X) where
   pub sound_rows : (text : List ℕ) → input_faults input text ≡ [] → All (λ row. (some : List X) × (broken_whys input.row_rules some (input.read row.cells) ≡ []) × InColumns input.columns row.cells) (table_of input.columns text)
   sound_rows text none =
       let parts = parts_sound text none in
-      let rows = kept [] (table_of input.columns text) (back_none _ _ (front_none _ _ parts.1)) in
+      let rows = kept [] (table_of input.columns text) (table_sound input _ parts.1).1 in
       let cells = table_in_columns input.columns text (unmapped _ _ parts.0) in
       λ k d h. ((rows k d h).0, (rows k d h).1, cells k d h)

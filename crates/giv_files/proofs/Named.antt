@@ -1,5 +1,5 @@
 -- Which file a refusal by a row names: that of the input that the row stands in.
-use Rattle.std.proofs.Common.{◌≡◌, ℕ, Bool, true, false, cond, List, [], ◌∷◌, ◌++◌, map, nat_lt, subst, Err}
+use Rattle.std.proofs.Common.{◌≡◌, ℕ, Bool, true, false, cond, List, [], ◌∷◌, ◌++◌, map, nat_lt, subst, Option, Some, None, Err}
 use Rattle.std.specs.Prelude.{⊤}
 use Rattle.std.specs.List.{flat_map}
 use Rattle.giv_files.specs.declared.file_id.FileId.{FileId}
@@ -7,9 +7,8 @@ use Rattle.giv_files.specs.declared.made.Made.{Made}
 use Rattle.giv_files.specs.declared.row_why.RowWhy.{RowWhy}
 use Rattle.giv_files.specs.declared.refusal.Refusal.{Refusal}
 use Rattle.giv_files.specs.declared.refusal.Refusal.TheVariants as refusal
-use Rattle.giv_files.specs.Tables.{TableRow}
 use Rattle.giv_files.specs.Reading.{faults, table_of}
-use Rattle.giv_files.specs.Inputs.{Input, records, cell_faults, limit_faults, broken_whys, row_faults, whole_faults, or_else, input_faults}
+use Rattle.giv_files.specs.Inputs.{Numbered, RowRule, TableRule, Input, records, numbered, cell_faults, limit_faults, broken_whys, row_faults, table_row_faults, fault_at, whole_faults, or_else, input_faults}
 use Rattle.giv_files.specs.NamedFiles.{NamesOnly}
 use Rattle.giv_files.specs.StageCalls.{unless_fault}
 
@@ -44,15 +43,23 @@ names_rows : {X : Type 0} (test : FileId → Bool) (file : FileId) (row : X → 
 names_rows test file row why h [] = tt
 names_rows test file row why h (x ∷ all) = (h, names_rows test file row why h all)
 
-module _ {X : Type 0} (test : FileId → Bool) (input : Input X) (is : test input.file ≡ true) where
+at_row : (test : FileId → Bool) (file : FileId) (is : test file ≡ true) (why : RowWhy) (at : Option ℕ) → AllName test (fault_at file why at)
+at_row test file is why None = tt
+at_row test file is why (Some row) = (is, tt)
+
+module _ {X : Type 0} (test : FileId → Bool) (file : FileId) (is : test file ≡ true) where
   -- the rules that rows break
-  rules_name : (before : List X) (rows : List TableRow) → AllName test (row_faults input before rows)
+  rules_name : (rules : List (RowRule X)) (before : List X) (rows : List (Numbered X)) → AllName test (row_faults file rules before rows)
   unfolding row_faults
-  rules_name before [] = tt
-  rules_name before (row ∷ rows) =
-      let whys = broken_whys input.row_rules before (input.read row.cells) in
-      names_both test (map (λ why. refusal.BadRow input.file row.number why) whys) (row_faults input (before ++ input.read row.cells ∷ []) rows)
-      (names_rows test input.file (λ _. row.number) (λ why. why) is whys) (rules_name (before ++ input.read row.cells ∷ []) rows)
+  rules_name rules before [] = tt
+  rules_name rules before (at ∷ rows) =
+      names_both test _ (row_faults file rules (before ++ at.row ∷ []) rows)
+      (names_rows test file (λ _. at.number) (λ why. why) is (broken_whys rules before at.row)) (rules_name rules (before ++ at.row ∷ []) rows)
+
+  -- the rules that a whole file breaks
+  whole_names : (rules : List (TableRule X)) (rows : List (Numbered X)) → AllName test (whole_faults file rules rows)
+  whole_names [] rows = tt
+  whole_names (rule ∷ rules) rows = names_both test (fault_at file rule.why (rule.broken_at rows)) _ (at_row test file is rule.why (rule.broken_at rows)) (whole_names rules rows)
 
 -- every fault of a text as an input names the file of the input
 pub input_names : {X : Type 0} (test : FileId → Bool) (input : Input X) (text : List ℕ) → test input.file ≡ true → AllName test (input_faults input text)
@@ -62,9 +69,9 @@ input_names test input text is =
     let all = records input rows in
     let cells = names_rows test input.file (λ fault. fault.row) (λ fault. fault.why) is (faults input.columns text) in
     let limits : AllName test (limit_faults input.limits all) = names_where test (λ limit. nat_lt limit.most (limit.count all)) (λ limit. refusal.TooMany limit.what (limit.count all)) (λ _. tt) input.limits in
-    let whole : AllName test (whole_faults input.file input.table_rules all) = names_where test (λ rule. rule.is_broken all) (λ rule. refusal.BadRow input.file 0 rule.why) (λ _. is) input.table_rules in
+    let whole = whole_names test input.file is input.table_rules (numbered input rows) in
     names_or_else test (cell_faults input.file input.columns text) _ cells
-    (names_both test _ (whole_faults input.file input.table_rules all) (names_both test (limit_faults input.limits all) (row_faults input [] rows) limits (rules_name test input is [] rows)) whole)
+    (names_both test _ (whole_faults input.file input.table_rules (numbered input rows)) (names_both test (limit_faults input.limits all) (table_row_faults input rows) limits (rules_name test input.file is input.row_rules [] (numbered input rows))) whole)
 
 -- what is refused is one of the faults
 pub refused_names : (test : FileId → Bool) (faults : List Refusal) (made : Made) (reason : Refusal) → AllName test faults → unless_fault faults made ≡ Err reason → NamesOnly test reason

@@ -45,7 +45,15 @@ impl Bundle {
         ensures err { OnErr result (self.new ≡ self.old) }
     {
         let copy = Text::copy(self.alloc, text)?;
-        self.inputs.push(copy)?;
+        self.push_text(copy)
+    }
+
+    /// One input more, which is not copied.
+    pub fn push_text(&mut self, text: Text) -> Result<(), NoMemory>
+        ensures ok { OnOk result (self.new ≡ record self.old { inputs = self.old.inputs ++ text ∷ [] }) }
+        ensures err { OnErr result (self.new ≡ self.old) }
+    {
+        self.inputs.push(text)?;
         Ok(())
     }
 
