@@ -1,9 +1,10 @@
 -- The faults of an input, part by part, for any limits and rules.
 use Rattle.std.proofs.Common.{◌≡◌, ℕ, zero, suc, ◌+◌, ◌<◌, ◌≤◌, arith, Bool, true, false, cond, List, [], ◌∷◌, ◌++◌, length, map, get_or, slice_get, take, drop, refl, ap, subst, sym, ◌∙◌, Option, Some, None, Result, Ok, Err, append_assoc}
 use Rattle.std.proofs.lemmas.Bool.{lt-ltb, le-ltb, ltb-false}
-use Rattle.std.proofs.lemmas.List.{at_drop_more, at_drop_all, take_more, take_all, map_push, append-nil}
+use Rattle.std.proofs.lemmas.List.{at_drop_more, at_drop_all, take_more, take_all, map_push, append-nil, length-map}
 use Rattle.std.proofs.lemmas.List.Elements.{All-cons}
 use Rattle.std.specs.List.{All}
+use Rattle.giv_files.specs.declared.counted.Counted.{Counted}
 use Rattle.giv_files.specs.declared.file_id.FileId.{FileId}
 use Rattle.giv_files.specs.declared.row_why.RowWhy.{RowWhy}
 use Rattle.giv_files.specs.declared.refusal.Refusal.{Refusal}
@@ -14,7 +15,7 @@ use Rattle.giv_files.specs.Tables.{TableRow, no_row}
 use Rattle.giv_files.specs.Reading.{table_of}
 use Rattle.giv_files.specs.Writing.{InColumns}
 use Rattle.giv_files.proofs.Ranges.{front_none, back_none, unmapped, table_in_columns}
-use Rattle.giv_files.specs.Inputs.{Numbered, Limit, RowRule, TableRule, Input, records, records_of, numbered, cell_faults, limit_fault, limit_faults, broken_whys, row_faults, table_row_faults, fault_at, whole_faults, table_faults, or_else, input_faults, Refuses, UnlessFault}
+use Rattle.giv_files.specs.Inputs.{Numbered, Limit, row_limit, RowRule, TableRule, Input, records, records_of, numbered, cell_faults, limit_fault, limit_faults, broken_whys, row_faults, table_row_faults, fault_at, whole_faults, table_faults, or_else, input_faults, Refuses, UnlessFault}
 
 -- ---- lists of faults
 
@@ -137,6 +138,24 @@ module _ {X : Type 0} (input : Input X) (rows : List TableRow) where
   table_sound none =
       let front = front_none _ _ none in
       (front_none _ _ front, back_none (limit_faults input.limits (records input rows)) _ front, back_none (limit_faults input.limits (records input rows) ++ table_row_faults input rows) _ none)
+
+-- ---- a table with one limit, that of its rows
+
+module _ {X : Type 0} (input : Input X) (rows : List TableRow) (what : Counted) (most : ℕ) (limits : input.limits ≡ row_limit what most ∷ []) where
+  counted : length (records input rows) ≡ length rows
+  counted = length-map rows (λ row. input.read row.cells)
+
+  -- more rows than there may be
+  pub too_many : most < length rows → slice_get (table_faults input rows) 0 ≡ Some (refusal.TooMany what (length rows))
+  too_many h =
+      refused_limits input rows (stage.Refused (refusal.TooMany what (length rows)))
+      (ap (λ some. slice_get (limit_faults some (records input rows)) 0) limits
+      ∙ limit_passed (row_limit what most) [] (records input rows) (omega (arith, counted))
+      ∙ ap (λ n. Some (refusal.TooMany what n)) counted)
+
+  -- as many as there may be
+  pub few_enough : length rows ≤ most → limit_faults input.limits (records input rows) ≡ []
+  few_enough h = ap (λ some. limit_faults some (records input rows)) limits ∙ limit_kept (row_limit what most) [] (records input rows) (omega (arith, counted)) refl
 
 -- ---- rows, one after the other, which stand for something and have a number
 

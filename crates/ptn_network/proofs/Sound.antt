@@ -24,7 +24,8 @@ use Rattle.giv_files.specs.Tables.{TableRow}
 use Rattle.giv_files.specs.Columns.{edge_columns}
 use Rattle.giv_files.specs.Reading.{table_of}
 use Rattle.giv_files.specs.Writing.{InColumns}
-use Rattle.giv_files.specs.Inputs.{records, records_of, broken_whys, input_faults}
+use Rattle.giv_files.specs.declared.counted.Counted.TheVariants as counted
+use Rattle.giv_files.specs.Inputs.{records, records_of, row_limit, broken_whys, input_faults}
 use Rattle.giv_files.proofs.Inputs.{few_rows, sound_rows}
 use Rattle.giv_files.proofs.Ranges.{front_none, back_none}
 use Rattle.giv_files.proofs.WriteFacts.{in_column}
@@ -174,7 +175,7 @@ unfolding stops_of
 few_stops text none =
     let alone : ℤ → ℤ × Unit {0} = λ id. (id, tt) in
     let units : List (ℤ × Unit {0}) = map alone (records_of stop_input text) in
-    omega (arith, length-keys_of (by_id units), length_by_id units, length-map (records_of stop_input text) alone, few_rows stop_input text _ 1000 refl none)
+    omega (arith, length-keys_of (by_id units), length_by_id units, length-map (records_of stop_input text) alone, few_rows stop_input text (row_limit counted.Stops 1000) [] refl none)
 
 -- texts without a fault give a network
 pub network_sound : (stops_text edges_text : List ℕ) → network_faults stops_text edges_text ≡ [] → IsNetwork (network_of stops_text edges_text)
@@ -192,6 +193,6 @@ network_sound stops_text edges_text none =
       stops_rise = stops_rise stops_text;
       edges_rise = subst (IsStrictlySortedBy int_cmp) keyed (sorted_rise (by_id entries) (by_id_sorted entries));
       few_stops = few_stops stops_text (front_none _ _ none);
-      few_edges = omega (arith, length-values_of (by_id entries), length_by_id entries, length-map rows (edge_entry stops), few_rows input edges_text _ 1000 refl own);
+      few_edges = omega (arith, length-values_of (by_id entries), length_by_id entries, length-map rows (edge_entry stops), few_rows input edges_text (row_limit counted.Edges 1000) [] refl own);
       edges = all_by_id (IsEdge (length stops)) entries (all_entries (IsEdge (length stops)) stops table (λ k d h. edge_sound stops (sound k d h).0 _ (sound k d h).1 (sound k d h).2));
     }

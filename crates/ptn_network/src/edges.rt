@@ -2,7 +2,7 @@
 ghost use Rattle.std.specs.Prelude.{◌≡◌, ℤ, List, [], map, is_some, MatchResult, slice_get, Some};
 ghost use Rattle.std.specs.List.{list_any};
 ghost use Rattle.std.specs.Ordering.{int_eq};
-ghost use Rattle.giv_files.specs.Inputs.{input_faults, records, records_of, row_faults, table_faults, broken_whys, UnlessFault};
+ghost use Rattle.giv_files.specs.Inputs.{input_faults, records, records_of, table_row_faults, table_faults, broken_whys, UnlessFault};
 ghost use Rattle.indexmap.specs.IndexMap.{get};
 ghost use Rattle.ptn_network.specs.declared.edge_row.EdgeRow.{EdgeRow};
 ghost use Rattle.ptn_network.specs.Inputs.{edge_input, edge_rules};
@@ -55,7 +55,7 @@ fn edges_of_rows(
     stops: &IndexSet<i64>,
     table: &Table<6>,
 ) -> Result<IndexMap<i64, Edge>, StageFault>
-    ensures { UnlessFault (row_faults (edge_input stops.now.keys) [] table.now)
+    ensures { UnlessFault (table_row_faults (edge_input stops.now.keys) table.now)
         (λ edges. edges.entries ≡ map (edge_entry stops.now.keys) (records (edge_input stops.now.keys) table.now)) result }
 {
     let mut edges = IndexMap::new(alloc);

@@ -1,6 +1,6 @@
 // Reading stops.
 ghost use Rattle.std.specs.Prelude.{◌≡◌, []};
-ghost use Rattle.giv_files.specs.Inputs.{input_faults, records, row_faults, table_faults, UnlessFault};
+ghost use Rattle.giv_files.specs.Inputs.{input_faults, records, table_row_faults, table_faults, UnlessFault};
 ghost use Rattle.ptn_network.specs.Inputs.{stop_input};
 ghost use Rattle.ptn_network.specs.Networks.{rising, stops_of};
 
@@ -35,7 +35,7 @@ fn stops_of_table(alloc: Global, table: &Table<5>) -> Result<IndexSet<i64>, Stag
 
 // The ids of the rows of a table in their order, or the first row that repeats one.
 fn ids_of_rows(alloc: Global, table: &Table<5>) -> Result<IndexSet<i64>, StageFault>
-    ensures { UnlessFault (row_faults stop_input [] table.now) (λ stops. stops.keys ≡ records stop_input table.now) result }
+    ensures { UnlessFault (table_row_faults stop_input table.now) (λ stops. stops.keys ≡ records stop_input table.now) result }
 {
     let mut stops = IndexSet::new(alloc);
     for i in 0..table.len() {
