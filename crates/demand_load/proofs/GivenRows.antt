@@ -18,7 +18,9 @@ use Rattle.std.proofs.lemmas.Simd.{map-map}
 use Rattle.giv_files.specs.declared.row_why.RowWhy.TheVariants as why
 use Rattle.giv_files.specs.declared.file_id.FileId.TheVariants as file
 use Rattle.giv_files.specs.declared.refusal.Refusal.TheVariants as refusal
-use Rattle.giv_files.specs.Inputs.{records, broken_whys, row_faults, table_faults}
+use Rattle.giv_files.specs.declared.refusal.StageFault.TheVariants as stage
+use Rattle.giv_files.specs.Inputs.{Input, records, broken_whys, table_row_faults, table_faults}
+use Rattle.giv_files.proofs.Inputs.{refused_whole, no_faults, whole_rule_broken, whole_rule_kept}
 use Rattle.giv_files.specs.Tables.{TableRow}
 use Rattle.giv_files.proofs.AnyMapped.{any_mapped}
 use Rattle.ptn_network.specs.declared.edge.Edge.{Edge}
@@ -170,6 +172,12 @@ given_more edges before row given index rise are at new =
 -- ---- the whole table
 
 module _ (edges : List Edge) (rows : List TableRow) (given : List (Option EdgeLoad)) (are : given ≡ map (given_for (records (given_input edges) rows)) edges) where
+  abbrev input : Input GivenLoad
+  input = given_input edges
+
+  abbrev is_not_whole : List GivenLoad → Bool
+  is_not_whole some = list_any (λ edge. not (is_some (given_for some edge))) edges
+
   abbrev pub missing : Bool
   missing = list_any (λ edge. not (is_some (given_for (records (given_input edges) rows) edge))) edges
 
@@ -178,12 +186,14 @@ module _ (edges : List Edge) (rows : List TableRow) (given : List (Option EdgeLo
   is_missing = ap (list_any (λ load. not (is_some load))) are ∙ any_mapped (λ load. not (is_some load)) (given_for (records (given_input edges) rows)) edges
 
   -- then the table is refused by that, where no row breaks a rule
-  pub edge_missing : row_faults (given_input edges) [] rows ≡ [] → list_any (λ load. not (is_some load)) given ≡ true → slice_get (table_faults (given_input edges) rows) 0 ≡ Some (refusal.BadRow file.LoadGiven 0 why.MissingEdge)
-  edge_missing none e = rw (none, sym is_missing ∙ e) refl
+  pub edge_missing : table_row_faults (given_input edges) rows ≡ [] → list_any (λ load. not (is_some load)) given ≡ true → slice_get (table_faults (given_input edges) rows) 0 ≡ Some (refusal.BadRow file.LoadGiven 0 why.MissingEdge)
+  edge_missing none e =
+      refused_whole input rows (stage.Refused (refusal.BadRow file.LoadGiven 0 why.MissingEdge)) refl none
+      (whole_rule_broken input rows is_not_whole why.MissingEdge [] (sym is_missing ∙ e))
 
   -- and else has no fault
-  pub no_faults : row_faults (given_input edges) [] rows ≡ [] → list_any (λ load. not (is_some load)) given ≡ false → table_faults (given_input edges) rows ≡ []
-  no_faults none e = rw (none, sym is_missing ∙ e) refl
+  pub table_kept : table_row_faults (given_input edges) rows ≡ [] → list_any (λ load. not (is_some load)) given ≡ false → table_faults (given_input edges) rows ≡ []
+  table_kept none e = no_faults input rows refl none (whole_rule_kept input rows is_not_whole why.MissingEdge [] (sym is_missing ∙ e))
 
   -- the loads of all edges
   pub all_loads : (loads : List EdgeLoad) → loads ≡ map (λ load. unwrap_or load no_load) given → loads ≡ given_loads edges (records (given_input edges) rows)

@@ -10,7 +10,7 @@ use Rattle.giv_files.specs.declared.column.ColumnKind.TheVariants as kind
 use Rattle.giv_files.specs.declared.counted.Counted.TheVariants as counted
 use Rattle.giv_files.specs.declared.setting.Setting.{Setting}
 use Rattle.giv_files.specs.Columns.{edge_columns, load_columns}
-use Rattle.giv_files.specs.Inputs.{records, records_of, input_faults, broken_whys}
+use Rattle.giv_files.specs.Inputs.{records, records_of, row_limit, input_faults, broken_whys}
 use Rattle.giv_files.specs.Reading.{table_of}
 use Rattle.giv_files.specs.Tables.{TableRow}
 use Rattle.giv_files.specs.Writing.{InColumns}
@@ -58,7 +58,7 @@ demand_small network text none =
     let rows = records_of input text in
     let cells = sound_rows input text none in
     let customers = few_customers network (table_of input.columns text) (λ k d h. (cells k d h).2) in
-    let few = few_rows input text counted.DemandRows 100000 refl none in
+    let few = few_rows input text (row_limit counted.DemandRows 100000) [] refl none in
     All-map (λ (load : ℕ). load ≤ 100000000000000000) (load_of network rows) (range_with_len 0 (length network.edges)) (λ k d h.
     let small = load_small network rows (get_or (range_with_len 0 (length network.edges)) k d) customers in
     omega arith)

@@ -5,7 +5,7 @@ use Rattle.std.specs.Ordering.{int_eq}
 use Rattle.giv_files.specs.declared.file_id.FileId.TheVariants as file
 use Rattle.giv_files.specs.declared.row_why.RowWhy.TheVariants as why
 use Rattle.giv_files.specs.Columns.{load_columns}
-use Rattle.giv_files.specs.Inputs.{Input, RowRule, TableRule, own_id}
+use Rattle.giv_files.specs.Inputs.{Input, RowRule, TableRule, own_id, whole_rule}
 use Rattle.ptn_network.specs.declared.edge.Edge.{Edge}
 use Rattle.demand_load.specs.declared.edge_load.EdgeLoad.{EdgeLoad}
 use Rattle.demand_load.specs.declared.given_load.GivenLoad.{GivenLoad}
@@ -31,7 +31,7 @@ given_for rows edge = option_map (λ row. row.load) (find (λ row. int_eq edge.i
 
 -- the rule that each edge has a row
 abbrev pub all_given : List Edge → TableRule GivenLoad
-all_given edges = record { is_broken = λ rows. list_any (λ edge. not (is_some (given_for rows edge))) edges; why = why.MissingEdge }
+all_given edges = whole_rule (λ rows. list_any (λ edge. not (is_some (given_for rows edge))) edges) why.MissingEdge
 
 -- the file of given loads over the edges of a network
 abbrev pub given_input : List Edge → Input GivenLoad

@@ -2,7 +2,7 @@
 ghost use Rattle.std.specs.Prelude.{ℕ, pos, ◌≡◌, ◌+◌, ◌<◌, ◌≤◌, ◌≤ℤ◌, ◌^◌, if◌then◌else◌, nat_eq, [], length, slice_get, slice_index, vec_len, Some, IfOk, OnOk, MatchResult};
 ghost use Rattle.std.specs.List.{All, IsDistinct, list_any};
 ghost use Rattle.giv_files.specs.Columns.{od_columns};
-ghost use Rattle.giv_files.specs.Inputs.{input_faults, records, records_of, row_faults, table_faults, broken_whys, UnlessFault};
+ghost use Rattle.giv_files.specs.Inputs.{input_faults, records, records_of, table_row_faults, table_faults, broken_whys, UnlessFault};
 ghost use Rattle.giv_files.specs.Writing.{InColumns};
 ghost use Rattle.ptn_network.specs.Networks.{IsNetwork};
 ghost use Rattle.demand_load.specs.Demand.{demand_input, demand_loads, BearsRow};
@@ -54,7 +54,7 @@ fn loads_of_table(
 fn loads_of_rows(alloc: Global, network: &Network, table: &Table<3>) -> Result<Vec<u64>, StageFault>
     requires few { length table.now ≤ 100000 }
     requires cells { All (λ row. InColumns od_columns row.cells) table.now }
-    ensures { UnlessFault (row_faults (demand_input network.now) [] table.now)
+    ensures { UnlessFault (table_row_faults (demand_input network.now) table.now)
         (λ loads. loads.items ≡ demand_loads network.now (records (demand_input network.now) table.now)) result }
 {
     let mut loads = vec![in alloc; 0; network.edge_count()]?;

@@ -1,7 +1,7 @@
 // Loads that a file gives.
 ghost use Rattle.std.specs.Prelude.{◌≡◌, ◌<◌, [], List, length, map, slice_get, slice_index_or, not, is_some, option_map, unwrap_or, if◌then◌else◌, None, Some, IfOk, MatchResult};
 ghost use Rattle.std.specs.List.{list_any};
-ghost use Rattle.giv_files.specs.Inputs.{input_faults, records, records_of, row_faults, table_faults, broken_whys, UnlessFault};
+ghost use Rattle.giv_files.specs.Inputs.{input_faults, records, records_of, table_row_faults, table_faults, broken_whys, UnlessFault};
 ghost use Rattle.ptn_network.specs.Networks.{IsNetwork};
 ghost use Rattle.demand_load.specs.declared.given_load.GivenLoad.{GivenLoad};
 ghost use Rattle.demand_load.specs.GivenLoads.{given_input, given_for, given_loads, no_load, StandsAt};
@@ -52,7 +52,7 @@ fn loads_of_rows(
     network: &Network,
     table: &Table<4>,
 ) -> Result<Vec<Option<EdgeLoad>>, StageFault>
-    ensures { UnlessFault (row_faults (given_input network.now.edges) [] table.now)
+    ensures { UnlessFault (table_row_faults (given_input network.now.edges) table.now)
         (λ given. given.items ≡ map (given_for (records (given_input network.now.edges) table.now)) network.now.edges) result }
 {
     let mut given = none_given(alloc, network)?;

@@ -2,6 +2,7 @@
 use Rattle.std.proofs.Common.{◌≡◌, ℕ, zero, suc, ◌+◌, ◌<◌, ◌≤◌, arith, Bool, true, false, cond, List, [], ◌∷◌, ◌++◌, length, map, get_or, slice_get, take, drop, refl, ap, subst, sym, ◌∙◌, Option, Some, None, Result, Ok, Err, append_assoc}
 use Rattle.std.proofs.lemmas.Bool.{lt-ltb, le-ltb, ltb-false}
 use Rattle.std.proofs.lemmas.List.{at_drop_more, at_drop_all, take_more, take_all, map_push, append-nil, length-map}
+use Rattle.std.proofs.lemmas.Simd.{map-map}
 use Rattle.std.proofs.lemmas.List.Elements.{All-cons}
 use Rattle.std.specs.List.{All}
 use Rattle.giv_files.specs.declared.counted.Counted.{Counted}
@@ -15,7 +16,7 @@ use Rattle.giv_files.specs.Tables.{TableRow, no_row}
 use Rattle.giv_files.specs.Reading.{table_of}
 use Rattle.giv_files.specs.Writing.{InColumns}
 use Rattle.giv_files.proofs.Ranges.{front_none, back_none, unmapped, table_in_columns}
-use Rattle.giv_files.specs.Inputs.{Numbered, Limit, row_limit, RowRule, TableRule, Input, records, records_of, numbered, cell_faults, limit_fault, limit_faults, broken_whys, row_faults, table_row_faults, fault_at, whole_faults, table_faults, or_else, input_faults, Refuses, UnlessFault}
+use Rattle.giv_files.specs.Inputs.{Numbered, Limit, row_limit, RowRule, TableRule, whole_rule, Input, unnumbered, records, records_of, numbered, cell_faults, limit_fault, limit_faults, broken_whys, row_faults, table_row_faults, fault_at, whole_faults, table_faults, or_else, input_faults, Refuses, UnlessFault}
 
 -- ---- lists of faults
 
@@ -138,6 +139,28 @@ module _ {X : Type 0} (input : Input X) (rows : List TableRow) where
   table_sound none =
       let front = front_none _ _ none in
       (front_none _ _ front, back_none (limit_faults input.limits (records input rows)) _ front, back_none (limit_faults input.limits (records input rows) ++ table_row_faults input rows) _ none)
+
+-- ---- a rule of a whole file that names no row
+
+module _ {X : Type 0} (input : Input X) (rows : List TableRow) where
+  pub unnumbered_records : unnumbered (numbered input rows) ≡ records input rows
+  unnumbered_records = map-map (λ (at : Numbered X). at.row) (λ (row : TableRow). record { number = row.number; row = input.read row.cells }) rows
+
+  module _ (is_broken : List X → Bool) (why : RowWhy) (rules : List (TableRule X)) where
+    pub whole_rule_broken : is_broken (records input rows) ≡ true → slice_get (whole_faults input.file (whole_rule is_broken why ∷ rules) (numbered input rows)) 0 ≡ Some (refusal.BadRow input.file 0 why)
+    whole_rule_broken h = whole_broken input.file (whole_rule is_broken why) rules (numbered input rows) 0 (ap (λ some. cond (is_broken some) (Some 0) None) unnumbered_records ∙ ap (λ b. cond b (Some 0) None) h)
+
+    pub whole_rule_kept : is_broken (records input rows) ≡ false → whole_faults input.file (whole_rule is_broken why ∷ rules) (numbered input rows) ≡ whole_faults input.file rules (numbered input rows)
+    whole_rule_kept h = whole_kept input.file (whole_rule is_broken why) rules (numbered input rows) (ap (λ some. cond (is_broken some) (Some 0) None) unnumbered_records ∙ ap (λ b. cond b (Some 0) None) h)
+
+    pub whole_rule_sound : whole_faults input.file (whole_rule is_broken why ∷ rules) (numbered input rows) ≡ [] → (is_broken (records input rows) ≡ false) × (whole_faults input.file rules (numbered input rows) ≡ [])
+    whole_rule_sound none =
+        let sound = whole_sound input.file (whole_rule is_broken why) rules (numbered input rows) none in
+        (kept _ (ap (λ some. cond (is_broken some) (Some 0) None) (sym unnumbered_records) ∙ sound.0), sound.1)
+      where
+        kept : (b : Bool) → cond {A = Option ℕ} b (Some 0) None ≡ None → b ≡ false
+        kept true e = cc
+        kept false e = refl
 
 -- ---- a table with one limit, that of its rows
 

@@ -20,11 +20,12 @@ use Rattle.std.proofs.lemmas.Map.Keys.{IsDistinct-push}
 use Rattle.std.proofs.lemmas.Map.Made.{is_member-Decides, length-le_from_is_member}
 use Rattle.std.proofs.lemmas.Option.{slice_get_past, slice_get-get_or}
 use Rattle.giv_files.specs.declared.column.ColumnKind.TheVariants as kind
+use Rattle.giv_files.specs.declared.file_id.FileId.TheVariants as file
 use Rattle.giv_files.specs.Columns.{pool_columns}
-use Rattle.giv_files.specs.Inputs.{records, records_of, broken_whys, row_faults, input_faults}
+use Rattle.giv_files.specs.Inputs.{records, records_of, numbered, broken_whys, row_faults, input_faults}
 use Rattle.giv_files.specs.Reading.{table_of}
 use Rattle.giv_files.specs.Tables.{TableRow}
-use Rattle.giv_files.proofs.Inputs.{parts_sound, sound_rows}
+use Rattle.giv_files.proofs.Inputs.{parts_sound, table_sound, sound_rows}
 use Rattle.giv_files.proofs.Ranges.{front_none, back_none, unmapped}
 use Rattle.giv_files.proofs.SettingFacts.{abs_within}
 use Rattle.giv_files.proofs.WriteFacts.{in_column}
@@ -70,7 +71,7 @@ apart_more before row id new apart =
       | false ↦ λ other. subst (λ rows. IsDistinct int_eq (map (λ row. row.edge) rows)) (sym (rows_other before row id other)) apart
     ] refl
 
-all_apart : (edges : List Edge) (id : ℤ) (before : List PoolRow) (rows : List TableRow) → row_faults (pool_input edges) before rows ≡ [] → IsDistinct int_eq (edge_ids id before) → IsDistinct int_eq (edge_ids id (before ++ records (pool_input edges) rows))
+all_apart : (edges : List Edge) (id : ℤ) (before : List PoolRow) (rows : List TableRow) → row_faults file.Pool (pool_input edges).row_rules before (numbered (pool_input edges) rows) ≡ [] → IsDistinct int_eq (edge_ids id before) → IsDistinct int_eq (edge_ids id (before ++ records (pool_input edges) rows))
 unfolding row_faults
 all_apart edges id before [] none apart = subst (λ rows. IsDistinct int_eq (edge_ids id rows)) (sym (append-nil before)) apart
 all_apart edges id before (row ∷ rows) none apart =
@@ -161,7 +162,7 @@ module _ (network : NetworkParts) (sound : IsNetwork network) (text : List ℕ) 
         (All-weaker Known (λ row. Listed row.edge) (λ row h. any_mapped (int_eq row.edge) (λ (edge : Edge). edge.id) network.edges ∙ (known_at (λ edge. int_eq row.edge edge.id) network.edges some_edge h).1) own known)
 
     apart : IsDistinct int_eq (edge_ids id input_rows)
-    apart = all_apart network.edges id [] (table_of pool_columns text) (back_none _ _ (front_none _ _ (parts_sound (pool_input network.edges) text none).1)) none_apart
+    apart = all_apart network.edges id [] (table_of pool_columns text) (table_sound (pool_input network.edges) _ (parts_sound (pool_input network.edges) text none).1).1 none_apart
 
     few : length indexes ≤ 1000
     few =

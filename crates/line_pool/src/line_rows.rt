@@ -2,7 +2,7 @@
 ghost use Rattle.std.specs.Prelude.{◌≡◌, ◌+◌, ◌<◌, ℤ, pos, true, not, List, [], length, map, slice_get, slice_set, slice_index_or, position, vec_len, Some, IfOk, OnOk, MatchResult};
 ghost use Rattle.std.specs.List.{list_any, IsDistinct};
 ghost use Rattle.std.specs.Ordering.{int_eq};
-ghost use Rattle.giv_files.specs.Inputs.{records, row_faults, broken_whys, UnlessFault};
+ghost use Rattle.giv_files.specs.Inputs.{records, table_row_faults, broken_whys, UnlessFault};
 ghost use Rattle.ptn_network.specs.Networks.{rising};
 ghost use Rattle.line_pool.specs.declared.pool_row.PoolRow.{PoolRow};
 ghost use Rattle.line_pool.specs.Pools.{pool_input, rows_of};
@@ -41,7 +41,7 @@ pub(crate) fn lines_of_rows(
 ) -> Result<Vec<LineSoFar>, StageFault>
     requires there { (id : ℤ) → list_any (int_eq id) ids.now.keys ≡ list_any (int_eq id) (lines_in table.now) }
     requires distinct { IsDistinct int_eq ids.now.keys }
-    ensures { UnlessFault (row_faults (pool_input network.now.edges) [] table.now)
+    ensures { UnlessFault (table_row_faults (pool_input network.now.edges) table.now)
         (λ lines. lines.items ≡ map (line_so_far network.now.edges (records (pool_input network.now.edges) table.now)) ids.now.keys) result }
 {
     let mut lines = no_lines(alloc, ids)?;

@@ -1,6 +1,7 @@
 -- The loads are those of the rows so far, and none of these rows breaks a rule.
-use Rattle.std.proofs.Common.{◌≡◌, [], map, take, drop}
-use Rattle.giv_files.specs.Inputs.{records, row_faults}
+use Rattle.std.proofs.Common.{◌≡◌, map, take}
+use Rattle.giv_files.specs.Inputs.{records}
+use Rattle.giv_files.proofs.Inputs.{SoundBefore}
 use Rattle.demand_load.specs.GivenLoads.{given_input, given_for}
 use Rattle.demand_load.proofs.given.loads_of_rows.Given as goal
 
@@ -9,6 +10,6 @@ invariant-loop-i l =
     let edges = l.network.edges in
     let input = given_input edges in
     record {
-      sound : row_faults input (records input (take l.i l.table)) (drop l.i l.table) ≡ row_faults input [] l.table;
+      sound : SoundBefore input l.table l.i;
       given : l.given.items ≡ map (given_for (records input (take l.i l.table))) edges;
     }

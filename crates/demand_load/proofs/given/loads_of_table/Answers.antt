@@ -1,7 +1,7 @@
 use Rattle.std.proofs.Common.{not, is_some, map, unwrap_or}
 use Rattle.std.specs.List.{list_any}
 use Rattle.demand_load.specs.GivenLoads.{no_load}
-use Rattle.demand_load.proofs.GivenRows.{edge_missing, no_faults, all_loads, not_all, all_are}
+use Rattle.demand_load.proofs.GivenRows.{edge_missing, table_kept, all_loads, not_all, all_are}
 use Rattle.demand_load.proofs.given.loads_of_table.Goals as goal
 
 pub returns-in-Some : goal.returns-in-Some
@@ -12,7 +12,7 @@ returns-in-Some c =
     let read = c.in_ok-given.ensures in
     let all = rw (c.in-Some.is, c.deref.ensures.value) at c.in_ok-loads.ensures in
     let are = all_are (list_any (λ load. not (is_some load)) given) (map (λ load. unwrap_or load no_load) given) c.in-Some.loads.items all in
-    (no_faults edges table given read.1 read.0 are.0, all_loads edges table given read.1 c.in-Some.loads.items are.1)
+    (table_kept edges table given read.1 read.0 are.0, all_loads edges table given read.1 c.in-Some.loads.items are.1)
 
 pub returns : goal.returns
 returns c =

@@ -1,9 +1,10 @@
 -- The lines and the pairs are those of the rows so far, and none of these rows breaks a rule.
-use Rattle.std.proofs.Common.{◌≡◌, ℤ, ◌&&◌, [], map, take, drop}
+use Rattle.std.proofs.Common.{◌≡◌, ℤ, ◌&&◌, map, take}
 use Rattle.std.specs.List.{list_any}
 use Rattle.std.specs.HashSet.{contains}
 use Rattle.std.specs.Ordering.{int_eq}
-use Rattle.giv_files.specs.Inputs.{records, row_faults}
+use Rattle.giv_files.specs.Inputs.{records}
+use Rattle.giv_files.proofs.Inputs.{SoundBefore}
 use Rattle.line_pool.specs.Pools.{pool_input, rows_of}
 use Rattle.line_pool.specs.LinesSoFar.{line_so_far}
 use Rattle.line_pool.proofs.line_rows.lines_of_rows.Given as goal
@@ -13,7 +14,7 @@ invariant-loop-i l =
     let edges = l.network.edges in
     let input = pool_input edges in
     record {
-      sound : row_faults input (records input (take l.i l.table)) (drop l.i l.table) ≡ row_faults input [] l.table;
+      sound : SoundBefore input l.table l.i;
       lines : l.lines.items ≡ map (line_so_far edges (records input (take l.i l.table))) l.ids.keys;
       pairs : (line edge : ℤ) → contains (λ x y. int_eq x.0 y.0 && int_eq x.1 y.1) l.pairs (line, edge) ≡ list_any (λ other. int_eq edge other.edge) (rows_of line (records input (take l.i l.table)));
     }

@@ -1,5 +1,5 @@
 use Rattle.std.proofs.Common.{arith}
-use Rattle.line_pool.proofs.PoolTables.{no_faults, lines_are}
+use Rattle.line_pool.proofs.PoolTables.{table_kept, lines_are}
 use Rattle.line_pool.proofs.pool.pool_of_table.Goals as goal
 
 pub returns : goal.returns
@@ -8,6 +8,6 @@ returns c =
     let table = c.args.table.now in
     let ids = c.in_ok-ids.ids.keys in
     let read = c.in_ok-lines.ensures in (
-      no_faults edges table ids c.in_ok-ids.ensures.rising (omega arith) read.0,
+      table_kept edges table ids c.in_ok-ids.ensures.rising (omega arith) read.0,
       lines_are edges table ids c.in_ok-ids.ensures.rising c.in_ok-lines.lines.items c.in_ok-whole_lines.field-0.items read.1 c.in_ok-whole_lines.ensures,
     )
