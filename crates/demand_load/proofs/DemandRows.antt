@@ -1,11 +1,10 @@
 -- Rows of demand: their rules, and the paths that bear their customers.
-use Rattle.std.proofs.Common.{◌≡◌, ℕ, ℤ, pos, ◌+◌, ◌<◌, ◌≤ℤ◌, int_lt, Bool, true, false, T, not, ◌&&◌, ◌||◌, cond, nat_eq, List, [], ◌∷◌, ◌++◌, length, get_or, slice_get, refl, ap, subst, sym, ◌∙◌, arith, unsigned_abs, Option, Some, None, option_map, unwrap_or, is_some, position, inl, inr}
-use Rattle.std.specs.List.{list_any, position_from, IsDistinct}
+use Rattle.std.proofs.Common.{◌≡◌, ℕ, ℤ, pos, ◌<◌, ◌≤ℤ◌, int_lt, Bool, true, false, T, not, ◌&&◌, cond, nat_eq, List, [], ◌∷◌, ◌++◌, length, get_or, slice_get, refl, ap, subst, sym, ◌∙◌, arith, unsigned_abs, Option, Some, None, option_map, unwrap_or, is_some, position, inl, inr}
+use Rattle.std.specs.List.{list_any, IsDistinct}
 use Rattle.std.specs.Ordering.{int_eq}
 use Rattle.std.specs.Int.Signed.{lt_z_no}
 use Rattle.std.proofs.lemmas.Bool.{cases_lt}
 use Rattle.std.proofs.lemmas.Int.{ints}
-use Rattle.std.proofs.lemmas.Iterator.Adapters.{position_from-zero}
 use Rattle.std.proofs.lemmas.List.{get_or_push, get_or_past, length_push}
 use Rattle.std.proofs.lemmas.List.Elements.{All-nil}
 use Rattle.std.proofs.lemmas.List.FromFn.{get_or-map-range_with_len, length-map-range_with_len}
@@ -13,13 +12,14 @@ use Rattle.std.proofs.lemmas.Option.{same_Some}
 use Rattle.std.proofs.Math.ListN.{get_or-append}
 use Rattle.giv_files.specs.declared.row_why.RowWhy.TheVariants as why
 use Rattle.giv_files.specs.Inputs.{broken_whys}
+use Rattle.giv_files.proofs.Found.{any_is}
 use Rattle.ptn_network.specs.Inputs.{is_unknown}
 use Rattle.ptn_network.specs.Networks.{NetworkParts, IsNetwork, index_in}
 use Rattle.ptn_network.specs.Walks.{edge_length, least_sum}
 use Rattle.demand_load.specs.declared.demand_row.DemandRow.{DemandRow}
 use Rattle.demand_load.specs.Demand.{demand_input, is_joined, BearsRow}
-use Rattle.demand_load.specs.Paths.{PathParts, path, paths_from, way, IsSimple}
-use Rattle.demand_load.proofs.PathEdges.{path_simple}
+use Rattle.ptn_network.specs.Paths.{PathParts, path, paths_from, way, IsSimple}
+use Rattle.ptn_network.proofs.PathEdges.{path_simple}
 
 -- ---- known paths
 
@@ -73,14 +73,6 @@ module _ (network : NetworkParts) (from : ℕ) where
   joined to found e = path_there _ _ _ e
 
 -- ---- the stops of a row
-
-any_from : {X : Type 0} (p : X → Bool) (i : ℕ) (xs : List X) → list_any p xs ≡ is_some (position_from p i xs)
-any_from p i [] = refl
-any_from p i (x ∷ xs) = elim (p x) as (λ b. (b || list_any p xs) ≡ is_some (cond b (Some i) (position_from p (i + 1) xs))) [ true ↦ refl | false ↦ any_from p (i + 1) xs ]
-
--- an item that has a place is there
-pub any_is : {X : Type 0} (p : X → Bool) (xs : List X) → list_any p xs ≡ is_some (position p xs)
-any_is p xs = any_from p 0 xs ∙ ap is_some (sym (position_from-zero p xs))
 
 -- a stop without an index is unknown
 pub unknown : (stops : List ℤ) (id : ℤ) → position (int_eq id) stops ≡ None → is_unknown stops id ≡ true

@@ -23,9 +23,11 @@ use Rattle.giv_files.proofs.Inputs.{refused_append}
 use Rattle.giv_files.proofs.SettingFacts.{value_allowed, abs_within, amount_within}
 use Rattle.giv_files.proofs.StageCalls.{stage_refused, stage_made}
 use Rattle.ptn_network.specs.Networks.{NetworkParts, network_of, network_faults}
-use Rattle.demand_load.specs.declared.edge_load.EdgeLoad.{EdgeLoad}
+use Rattle.ptn_network.specs.declared.edge_load.EdgeLoad.{EdgeLoad}
 use Rattle.demand_load.specs.Demand.{demand_input, demand_loads, load_of}
-use Rattle.demand_load.specs.GivenLoads.{given_input, given_loads, given_for, no_load}
+use Rattle.giv_files.specs.declared.file_id.FileId.TheVariants as file
+use Rattle.ptn_network.specs.Loads.{load_input, loads_of}
+use Rattle.ptn_network.proofs.LoadRows.{loads_count as edge_loads_count}
 use Rattle.demand_load.specs.LoadStage.{takes_demand, bounded, loads_by, text_faults, frequency_faults, load_faults, loads_in, load_stage}
 use Rattle.demand_load.specs.LoadTables.{loads_made, HasSpread}
 
@@ -68,13 +70,13 @@ module _ (settings : List Setting) (network : NetworkParts) (text : List ℕ) wh
     other : takes_demand settings ≡ false
     other = ne_eqb (amount settings key.LoadSource) 0 given
 
-    pub given_faults : input_faults (given_input network.edges) text ≡ text_faults settings network text
+    pub given_faults : input_faults (load_input file.LoadGiven network.edges) text ≡ text_faults settings network text
     unfolding text_faults
-    given_faults = sym (ap (λ b. cond b (input_faults (demand_input network) text) (input_faults (given_input network.edges) text)) other)
+    given_faults = sym (ap (λ b. cond b (input_faults (demand_input network) text) (input_faults (load_input file.LoadGiven network.edges) text)) other)
 
-    pub loads_given : given_loads network.edges (records_of (given_input network.edges) text) ≡ loads_by settings network text
+    pub loads_given : loads_of file.LoadGiven network.edges text ≡ loads_by settings network text
     unfolding loads_by
-    loads_given = sym (ap (λ b. cond b (map (bounded settings) (demand_loads network (records_of (demand_input network) text))) (given_loads network.edges (records_of (given_input network.edges) text))) other)
+    loads_given = sym (ap (λ b. cond b (map (bounded settings) (demand_loads network (records_of (demand_input network) text))) (loads_of file.LoadGiven network.edges text)) other)
 
   module _ (none : amount settings key.LoadSource ≡ 0) where
     own : takes_demand settings ≡ true
@@ -82,19 +84,19 @@ module _ (settings : List Setting) (network : NetworkParts) (text : List ℕ) wh
 
     pub demand_faults : input_faults (demand_input network) text ≡ text_faults settings network text
     unfolding text_faults
-    demand_faults = sym (ap (λ b. cond b (input_faults (demand_input network) text) (input_faults (given_input network.edges) text)) own)
+    demand_faults = sym (ap (λ b. cond b (input_faults (demand_input network) text) (input_faults (load_input file.LoadGiven network.edges) text)) own)
 
     pub loads_of_demand : map (bounded settings) (demand_loads network (records_of (demand_input network) text)) ≡ loads_by settings network text
     unfolding loads_by
-    loads_of_demand = sym (ap (λ b. cond b (map (bounded settings) (demand_loads network (records_of (demand_input network) text))) (given_loads network.edges (records_of (given_input network.edges) text))) own)
+    loads_of_demand = sym (ap (λ b. cond b (map (bounded settings) (demand_loads network (records_of (demand_input network) text))) (loads_of file.LoadGiven network.edges text)) own)
 
   -- each edge has a load
   pub loads_count : length (loads_by settings network text) ≡ length network.edges
   unfolding loads_by
   loads_count =
-      elim (takes_demand settings) as (λ b. length (cond b (map (bounded settings) (demand_loads network (records_of (demand_input network) text))) (given_loads network.edges (records_of (given_input network.edges) text))) ≡ length network.edges) [
+      elim (takes_demand settings) as (λ b. length (cond b (map (bounded settings) (demand_loads network (records_of (demand_input network) text))) (loads_of file.LoadGiven network.edges text)) ≡ length network.edges) [
         | true ↦ length-map (demand_loads network (records_of (demand_input network) text)) (bounded settings) ∙ length-map-range_with_len (load_of network (records_of (demand_input network) text)) 0 (length network.edges)
-        | false ↦ length-map network.edges (λ edge. unwrap_or (given_for (records_of (given_input network.edges) text) edge) no_load)
+        | false ↦ edge_loads_count file.LoadGiven network.edges text
       ]
 
 -- ---- the stage

@@ -14,7 +14,7 @@ use Rattle.giv_files.proofs.Named.{AllName, names_both, names_or_else, names_whe
 use Rattle.ptn_network.specs.Networks.{NetworkParts, network_faults}
 use Rattle.ptn_network.proofs.NamedFaults.{network_names}
 use Rattle.demand_load.specs.Demand.{demand_input}
-use Rattle.demand_load.specs.GivenLoads.{given_input}
+use Rattle.ptn_network.specs.Loads.{load_input}
 use Rattle.demand_load.specs.LoadStage.{takes_demand, text_faults, frequency_faults, network_in, loads_in, load_faults, load_stage}
 
 -- one of two lists of refusals
@@ -26,8 +26,8 @@ either_names test false some others h k = k
 text_names : (test : FileId → Bool) → test file.Od ≡ true → test file.LoadGiven ≡ true → (settings : List Setting) (network : NetworkParts) (text : List ℕ) → AllName test (text_faults settings network text)
 unfolding text_faults
 text_names test od given settings network text =
-    either_names test (takes_demand settings) (input_faults (demand_input network) text) (input_faults (given_input network.edges) text)
-    (input_names test (demand_input network) text od) (input_names test (given_input network.edges) text given)
+    either_names test (takes_demand settings) (input_faults (demand_input network) text) (input_faults (load_input file.LoadGiven network.edges) text)
+    (input_names test (demand_input network) text od) (input_names test (load_input file.LoadGiven network.edges) text given)
 
 -- a refusal by a row names the file of stops, of edges, of demand or of given loads
 pub load_stage_names : (test : FileId → Bool) → test file.Stop ≡ true → test file.Edge ≡ true → test file.Od ≡ true → test file.LoadGiven ≡ true → (bundle : BundleParts) (reason : Refusal) → load_stage bundle ≡ Err reason → NamesOnly test reason

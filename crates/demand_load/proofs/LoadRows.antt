@@ -14,8 +14,9 @@ use Rattle.giv_files.specs.Tables.{TableRow}
 use Rattle.giv_files.specs.Writing.{InColumns, CanWrite}
 use Rattle.giv_files.proofs.Ranges.{back_none}
 use Rattle.ptn_network.specs.declared.edge.Edge.{Edge}
-use Rattle.demand_load.specs.declared.edge_load.EdgeLoad.{EdgeLoad}
-use Rattle.demand_load.specs.LoadTables.{load_row, load_rows, HasId, IsBounded}
+use Rattle.ptn_network.specs.declared.edge_load.EdgeLoad.{EdgeLoad}
+use Rattle.ptn_network.specs.Loads.{IsBounded}
+use Rattle.demand_load.specs.LoadTables.{load_row, load_rows, HasId}
 use Rattle.demand_load.specs.LoadStage.{frequency_faults}
 
 -- ---- row by row

@@ -1,33 +1,30 @@
 -- What holds of the loads of each text without a fault.
-use Rattle.std.proofs.Common.{◌≡◌, ℕ, ℤ, pos, ◌≤◌, Bool, true, false, T, not, cond, List, [], ◌∷◌, length, map, get_or, refl, subst, sym, arith, Some, option_map, unwrap_or, lit<}
-use Rattle.std.specs.List.{All, find, range_with_len}
-use Rattle.std.specs.Int.Signed.{lt_z_no}
+use Rattle.std.proofs.Common.{◌≡◌, ℕ, ℤ, pos, ◌≤◌, true, false, cond, List, [], ◌∷◌, length, map, get_or, refl, arith, lit<}
+use Rattle.std.specs.List.{All, range_with_len}
 use Rattle.std.specs.Map.{values_of}
-use Rattle.std.specs.Ordering.{int_eq}
 use Rattle.std.proofs.lemmas.Int.{ints}
 use Rattle.std.proofs.lemmas.List.Elements.{All-nil, All-cons, All-head, All-tail, All-map, All-weaker}
 use Rattle.giv_files.specs.declared.column.ColumnKind.TheVariants as kind
 use Rattle.giv_files.specs.declared.counted.Counted.TheVariants as counted
 use Rattle.giv_files.specs.declared.setting.Setting.{Setting}
-use Rattle.giv_files.specs.Columns.{edge_columns, load_columns}
-use Rattle.giv_files.specs.Inputs.{records, records_of, row_limit, input_faults, broken_whys}
+use Rattle.giv_files.specs.Columns.{edge_columns}
+use Rattle.giv_files.specs.Inputs.{records, records_of, row_limit, input_faults}
 use Rattle.giv_files.specs.Reading.{table_of}
 use Rattle.giv_files.specs.Tables.{TableRow}
 use Rattle.giv_files.specs.Writing.{InColumns}
 use Rattle.giv_files.proofs.Inputs.{few_rows, sound_rows}
 use Rattle.giv_files.proofs.Ranges.{back_none}
 use Rattle.giv_files.proofs.WriteFacts.{in_column}
-use Rattle.ptn_network.specs.declared.edge.Edge.{Edge}
 use Rattle.ptn_network.specs.Inputs.{stop_input, edge_input, edge_row}
 use Rattle.ptn_network.specs.Networks.{NetworkParts, edge_of, edge_entry, stops_of, network_of, network_faults}
-use Rattle.demand_load.specs.declared.given_load.GivenLoad.{GivenLoad}
 use Rattle.demand_load.specs.Demand.{demand_input, demand_loads, load_of}
-use Rattle.demand_load.specs.GivenLoads.{given_input, given_row, given_for, given_loads, no_load}
+use Rattle.giv_files.specs.declared.file_id.FileId.TheVariants as file
+use Rattle.ptn_network.specs.Loads.{load_input, loads_of, IsBounded, IsLoad}
+use Rattle.ptn_network.proofs.LoadRows.{loads_sound as edge_loads_sound}
 use Rattle.demand_load.specs.LoadStage.{bounded, takes_demand, loads_by, text_faults}
-use Rattle.demand_load.specs.LoadTables.{HasId, IsBounded}
+use Rattle.demand_load.specs.LoadTables.{HasId}
 use Rattle.ptn_network.proofs.Sound.{all_by_id}
 use Rattle.demand_load.proofs.Bearing.{few_customers, load_small}
-use Rattle.demand_load.proofs.GivenRows.{own_row}
 
 -- ---- the ids of edges
 
@@ -66,37 +63,12 @@ demand_small network text none =
 bounded_sound : (settings : List Setting) (load : ℕ) → load ≤ 100000000000000000 → IsBounded (bounded settings load)
 bounded_sound settings load small = record { load_low = omega (arith, ints); load_high = omega (arith, ints); least_low = omega (arith, ints); in_order = omega (arith, ints) }
 
--- ---- given loads
-
-given_sound : (edges : List Edge) (before : List GivenLoad) (cells : List ℤ) → broken_whys (given_input edges).row_rules before (given_row cells) ≡ [] → InColumns load_columns cells → IsBounded (given_row cells).load
-given_sound edges before cells none within =
-    let load = in_column load_columns cells 1 kind.Skip (pos 0) within (lit< tt) in
-    let least = in_column load_columns cells 2 kind.Skip (pos 0) within (lit< tt) in
-    let order = (own_row edges before (given_row cells) none).1 in
-    record { load_low = load.0; load_high = load.1; least_low = least.0; in_order = lt_z_no (subst (λ b. T (not b)) (sym order) tt) }
-
-found_sound : (p : GivenLoad → Bool) (rows : List GivenLoad) → All (λ row. IsBounded row.load) rows → IsBounded (unwrap_or (option_map (λ row. row.load) (find p rows)) no_load)
-found_sound p [] all = record { load_low = omega (arith, ints); load_high = omega (arith, ints); least_low = omega (arith, ints); in_order = omega (arith, ints) }
-found_sound p (row ∷ rows) all =
-    elim (p row) as (λ b. IsBounded (unwrap_or (option_map (λ row. row.load) (cond b (Some row) (find p rows))) no_load)) [
-      | true ↦ All-head (λ row. IsBounded row.load) row rows all
-      | false ↦ found_sound p rows (All-tail (λ row. IsBounded row.load) row rows all)
-    ]
-
-given_all_sound : (edges : List Edge) (text : List ℕ) → input_faults (given_input edges) text ≡ [] → All IsBounded (given_loads edges (records_of (given_input edges) text))
-given_all_sound edges text none =
-    let input = given_input edges in
-    let rows = records_of input text in
-    let sound = sound_rows input text none in
-    let all = All-map (λ (row : GivenLoad). IsBounded row.load) (λ (row : TableRow). given_row row.cells) (table_of input.columns text) (λ k d h. given_sound edges (sound k d h).0 _ (sound k d h).1 (sound k d h).2) in
-    All-map IsBounded (λ edge. unwrap_or (given_for rows edge) no_load) edges (λ k d h. found_sound (λ row. int_eq (get_or edges k d).id row.edge) rows all)
-
 -- the loads of a text without a fault are bounded
 pub loads_sound : (settings : List Setting) (network : NetworkParts) (text : List ℕ) → text_faults settings network text ≡ [] → All IsBounded (loads_by settings network text)
 unfolding loads_by text_faults
 loads_sound settings network text none =
-    elim (takes_demand settings) as (λ b. cond b (input_faults (demand_input network) text) (input_faults (given_input network.edges) text) ≡ [] → All IsBounded (cond b (map (bounded settings) (demand_loads network (records_of (demand_input network) text))) (given_loads network.edges (records_of (given_input network.edges) text)))) [
+    elim (takes_demand settings) as (λ b. cond b (input_faults (demand_input network) text) (input_faults (load_input file.LoadGiven network.edges) text) ≡ [] → All IsBounded (cond b (map (bounded settings) (demand_loads network (records_of (demand_input network) text))) (loads_of file.LoadGiven network.edges text))) [
       | true ↦ λ fine. All-map IsBounded (bounded settings) (demand_loads network (records_of (demand_input network) text))
           (All-weaker (λ (load : ℕ). load ≤ 100000000000000000) (λ load. IsBounded (bounded settings load)) (bounded_sound settings) _ (demand_small network text fine))
-      | false ↦ λ fine. given_all_sound network.edges text fine
+      | false ↦ λ fine. All-weaker IsLoad IsBounded (λ load is. is.bounded) _ (edge_loads_sound file.LoadGiven network.edges text fine)
     ] none

@@ -15,10 +15,11 @@ use Rattle.giv_files.specs.Settings.{BundleParts}
 use Rattle.giv_files.specs.Writing.{cell_text, cell_texts, joined, table_text}
 use Rattle.plan_num.specs.Number.{spelling_of, value_of, value_at, fixed_of, whole_of}
 use Rattle.plan_num.specs.Print.{digits_at}
+use Rattle.ptn_network.specs.Loads.{loads_of}
 use Rattle.ptn_network.specs.declared.edge.Edge.{Edge}
 use Rattle.ptn_network.specs.Networks.{NetworkParts, by_id, stops_of, network_of, network_faults}
 use Rattle.ptn_network.specs.Walks.{walks_within, least_of, least_sum}
-use Rattle.demand_load.specs.Paths.{path_within, path}
+use Rattle.ptn_network.specs.Paths.{path_within, path}
 use Rattle.demand_load.specs.LoadTables.{load_header}
 use Rattle.demand_load.specs.LoadStage.{loads_by, text_faults, load_stage}
 
@@ -75,21 +76,21 @@ abbrev made : List ℕ → Made
 made table = record { files = record { file = file.Load; text = load_header ++ 10 ∷ table } ∷ []; report = codes "load: 4 edges" }
 
 demand : load_stage (bundle 0 (four ∷ ways ∷ codes "1; 4; 150.5\n" ∷ [])) ≡ Ok (made (codes "1; 150.5; 3; 6\n2; 150.5; 3; 6\n3; 0; 0; 3\n4; 0; 0; 3\n"))
-unfolding digits digits_at load_stage loads_by text_faults path_within least_sum walks_within least_of network_of network_faults stops_of input_faults row_faults faults by_id table_of cells_from cell_of values errors row_whys rows cleaned spelling_of value_of value_at fixed_of whole_of cell_text cell_texts joined table_text
+unfolding digits digits_at load_stage loads_by loads_of text_faults path_within least_sum walks_within least_of network_of network_faults stops_of input_faults row_faults faults by_id table_of cells_from cell_of values errors row_whys rows cleaned spelling_of value_of value_at fixed_of whole_of cell_text cell_texts joined table_text
 demand = refl
 
 too_often : load_stage (bundle 0 (four ∷ ways ∷ codes "1; 4; 70000\n" ∷ [])) ≡ Err (refusal.TooMany counted.Frequency 1003)
-unfolding digits digits_at load_stage loads_by text_faults path_within least_sum walks_within least_of network_of network_faults stops_of input_faults row_faults faults by_id table_of cells_from cell_of values errors row_whys rows cleaned spelling_of value_of value_at fixed_of whole_of
+unfolding digits digits_at load_stage loads_by loads_of text_faults path_within least_sum walks_within least_of network_of network_faults stops_of input_faults row_faults faults by_id table_of cells_from cell_of values errors row_whys rows cleaned spelling_of value_of value_at fixed_of whole_of
 too_often = refl
 
 no_way : load_stage (bundle 0 (codes "1;;;;;\n2;;;;;\n" ∷ [] ∷ codes "1; 1; 5\n1; 2; 0\n1; 2; 1\n" ∷ [])) ≡ Err (refusal.BadRow file.Od 3 why.NoPath)
-unfolding digits digits_at load_stage loads_by text_faults path_within least_sum walks_within least_of network_of network_faults stops_of input_faults row_faults faults by_id table_of cells_from cell_of values errors row_whys rows cleaned spelling_of value_of value_at fixed_of whole_of
+unfolding digits digits_at load_stage loads_by loads_of text_faults path_within least_sum walks_within least_of network_of network_faults stops_of input_faults row_faults faults by_id table_of cells_from cell_of values errors row_whys rows cleaned spelling_of value_of value_at fixed_of whole_of
 no_way = refl
 
 given : load_stage (bundle 1 (codes "1;;;;;\n2;;;;;\n" ∷ codes "7; 1; 2; 1; 1; 1\n5; 1; 2; 1; 1; 1\n" ∷ codes "7; 140; 2; 5\n5; 0.25; 1; 1\n" ∷ [])) ≡ Ok (record { files = record { file = file.Load; text = load_header ++ 10 ∷ codes "5; 0.25; 1; 1\n7; 140; 2; 5\n" } ∷ []; report = codes "load: 2 edges" })
-unfolding digits digits_at load_stage loads_by text_faults network_of network_faults stops_of input_faults row_faults faults by_id table_of cells_from cell_of values errors row_whys rows cleaned spelling_of value_of value_at fixed_of whole_of cell_text cell_texts joined table_text
+unfolding digits digits_at load_stage loads_by loads_of text_faults network_of network_faults stops_of input_faults row_faults faults by_id table_of cells_from cell_of values errors row_whys rows cleaned spelling_of value_of value_at fixed_of whole_of cell_text cell_texts joined table_text
 given = refl
 
 missing : load_stage (bundle 1 (codes "1;;;;;\n2;;;;;\n" ∷ codes "7; 1; 2; 1; 1; 1\n5; 1; 2; 1; 1; 1\n" ∷ codes "7; 140; 2; 5\n" ∷ [])) ≡ Err (refusal.BadRow file.LoadGiven 0 why.MissingEdge)
-unfolding digits digits_at load_stage loads_by text_faults network_of network_faults stops_of input_faults row_faults faults by_id table_of cells_from cell_of values errors row_whys rows cleaned spelling_of value_of value_at fixed_of whole_of
+unfolding digits digits_at load_stage loads_by loads_of text_faults network_of network_faults stops_of input_faults row_faults faults by_id table_of cells_from cell_of values errors row_whys rows cleaned spelling_of value_of value_at fixed_of whole_of
 missing = refl

@@ -10,7 +10,7 @@ use Rattle.ptn_network.specs.Inputs.{is_unknown}
 use Rattle.ptn_network.specs.Networks.{NetworkParts, index_in}
 use Rattle.ptn_network.specs.Walks.{edge_length, least_sum}
 use Rattle.demand_load.specs.declared.demand_row.DemandRow.{DemandRow}
-use Rattle.demand_load.specs.Paths.{path, IsSimple}
+use Rattle.ptn_network.specs.Paths.{path, IsSimple}
 
 -- the demand of a row: two stops, and the customers in millionths
 abbrev pub demand_row : List ℤ → DemandRow

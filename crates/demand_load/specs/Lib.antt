@@ -1,6 +1,5 @@
 pub mod Demand
-pub mod GivenLoads
+pub mod Known
 pub mod LoadStage
 pub mod LoadTables
-pub mod Paths
 pub mod RightLoads

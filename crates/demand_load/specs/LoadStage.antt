@@ -12,9 +12,10 @@ use Rattle.giv_files.specs.Inputs.{input_faults, records_of, or_else}
 use Rattle.giv_files.specs.Settings.{BundleParts, amount}
 use Rattle.giv_files.specs.StageCalls.{input_text, unless_fault}
 use Rattle.ptn_network.specs.Networks.{NetworkParts, network_of, network_faults}
-use Rattle.demand_load.specs.declared.edge_load.EdgeLoad.{EdgeLoad}
+use Rattle.ptn_network.specs.declared.edge_load.EdgeLoad.{EdgeLoad}
 use Rattle.demand_load.specs.Demand.{demand_input, demand_loads}
-use Rattle.demand_load.specs.GivenLoads.{given_input, given_loads}
+use Rattle.giv_files.specs.declared.file_id.FileId.TheVariants as file
+use Rattle.ptn_network.specs.Loads.{load_input, loads_of}
 use Rattle.demand_load.specs.LoadTables.{loads_made}
 
 -- loads come of demand, and otherwise from their file
@@ -40,10 +41,10 @@ bounded settings load = record {
 -- the loads of the edges of a network by the text of demand or of given loads, and the faults of that text
 unfoldable pub loads_by : List Setting → NetworkParts → List ℕ → List EdgeLoad
 loads_by settings network text =
-    if takes_demand settings then map (bounded settings) (demand_loads network (records_of (demand_input network) text)) else given_loads network.edges (records_of (given_input network.edges) text)
+    if takes_demand settings then map (bounded settings) (demand_loads network (records_of (demand_input network) text)) else loads_of file.LoadGiven network.edges text
 
 unfoldable pub text_faults : List Setting → NetworkParts → List ℕ → List Refusal
-text_faults settings network text = if takes_demand settings then input_faults (demand_input network) text else input_faults (given_input network.edges) text
+text_faults settings network text = if takes_demand settings then input_faults (demand_input network) text else input_faults (load_input file.LoadGiven network.edges) text
 
 -- the maximal frequencies that are too great, in the order of the edges
 abbrev pub frequency_faults : List EdgeLoad → List Refusal

@@ -9,7 +9,7 @@ use Rattle.giv_files.specs.Settings.{amount}
 use Rattle.giv_files.specs.Tables.{TableRow}
 use Rattle.giv_files.specs.Writing.{table_text}
 use Rattle.ptn_network.specs.declared.edge.Edge.{Edge}
-use Rattle.demand_load.specs.declared.edge_load.EdgeLoad.{EdgeLoad}
+use Rattle.ptn_network.specs.declared.edge_load.EdgeLoad.{EdgeLoad}
 
 -- the row of an edge: its id, its load and its bounds of frequency
 abbrev pub load_row : Edge → EdgeLoad → TableRow
@@ -19,13 +19,6 @@ load_row edge load = record { number = 0; cells = edge.id ∷ load.load ∷ load
 abbrev pub load_rows : List Edge → List EdgeLoad → List TableRow
 load_rows (edge ∷ edges) (load ∷ loads) = load_row edge load ∷ load_rows edges loads
 load_rows _ _ = []
-
--- a load that is not too great, with bounds of frequency in order
-pub record IsBounded (load : EdgeLoad) : Type 0 where
-  pub load_low : pos 0 ≤ℤ load.load
-  pub load_high : load.load ≤ℤ pos 1000000000000000000
-  pub least_low : pos 0 ≤ℤ load.least
-  pub in_order : load.least ≤ℤ load.most
 
 -- an edge whose id is one
 pub record HasId (edge : Edge) : Type 0 where

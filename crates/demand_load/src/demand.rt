@@ -6,7 +6,7 @@ ghost use Rattle.giv_files.specs.Inputs.{input_faults, records, records_of, tabl
 ghost use Rattle.giv_files.specs.Writing.{InColumns};
 ghost use Rattle.ptn_network.specs.Networks.{IsNetwork};
 ghost use Rattle.demand_load.specs.Demand.{demand_input, demand_loads, BearsRow};
-ghost use Rattle.demand_load.specs.Paths.{AreKnown};
+ghost use Rattle.demand_load.specs.Known.{AreKnown};
 
 use crate::demand_row::DemandRow;
 use crate::known_paths::KnownPaths;

@@ -5,9 +5,9 @@ ghost use Rattle.giv_files.specs.Settings.{amount};
 ghost use Rattle.demand_load.specs.LoadStage.{bounded, frequency_faults};
 ghost use Rattle.demand_load.specs.LoadTables.{HasSpread};
 
-use crate::edge_load::EdgeLoad;
 use giv_files::{Counted, Key, Refusal, Settings, StageFault};
 use plan_num::NoMemory;
+use ptn_network::EdgeLoad;
 use std::alloc::Global;
 
 const MOST_FREQUENT: i64 = 1_000;

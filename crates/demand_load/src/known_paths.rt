@@ -1,11 +1,11 @@
 // Paths that are known.
 ghost use Rattle.std.specs.Prelude.{◌≡◌, ◌<◌, true, is_some, length, slice_index_or, option_map, None, IfSome, IfOk, OnOk};
 ghost use Rattle.ptn_network.specs.Networks.{IsNetwork};
-ghost use Rattle.demand_load.specs.Paths.{way, ArePaths, AreKnown, IsShortest};
+ghost use Rattle.ptn_network.specs.Paths.{way, ArePaths, IsShortest};
+ghost use Rattle.demand_load.specs.Known.{AreKnown};
 
-use crate::paths::Paths;
 use plan_num::NoMemory;
-use ptn_network::Network;
+use ptn_network::{Network, Paths};
 use std::alloc::Global;
 use std::marker::Model;
 
@@ -17,7 +17,7 @@ pub(crate) struct KnownPaths {
 
 impl Model for KnownPaths {
     ghost use Rattle.std.specs.Prelude.{List, Option};
-    ghost use Rattle.demand_load.specs.Paths.{PathParts};
+    ghost use Rattle.ptn_network.specs.Paths.{PathParts};
 
     ghost Value = { List (Option PathParts) };
 

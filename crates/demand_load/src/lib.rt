@@ -3,13 +3,9 @@
 
 mod demand;
 mod demand_row;
-mod edge_load;
 mod frequency;
-mod given;
-mod given_load;
 mod known_paths;
 mod load_table;
-mod paths;
 mod stage;
 
 pub use stage::make_load;

@@ -1,12 +1,12 @@
 // The table of loads.
 ghost use Rattle.std.specs.Prelude.{◌≡◌, ◌++◌, ◌≤ℤ◌, pos, length, codes, decimal, [], ◌∷◌, All, IfOk, OnOk};
-ghost use Rattle.demand_load.specs.LoadTables.{load_row, load_rows, loads_made, HasId, IsBounded};
+ghost use Rattle.ptn_network.specs.Loads.{IsBounded};
+ghost use Rattle.demand_load.specs.LoadTables.{load_row, load_rows, loads_made, HasId};
 
-use crate::edge_load::EdgeLoad;
 use giv_files::{FileId, Made, MadeFile, MadeList, Table, columns, write_table};
 use itoa::Buffer;
 use plan_num::{NoMemory, Text};
-use ptn_network::{Edge, Network};
+use ptn_network::{Edge, EdgeLoad, Network};
 use std::alloc::Global;
 
 /// What is made of the loads of the edges of a network: their table, and the line of the report.

@@ -1,7 +1,9 @@
 // The stage that writes how often each edge is to be driven.
 ghost use Rattle.std.specs.Prelude.{◌≡◌, IfOk};
 ghost use Rattle.giv_files.specs.declared.stage.Stage.TheVariants as stages;
-ghost use Rattle.giv_files.specs.Inputs.{UnlessFault};
+ghost use Rattle.giv_files.specs.declared.file_id.FileId.TheVariants as files;
+ghost use Rattle.giv_files.specs.Inputs.{input_faults, UnlessFault};
+ghost use Rattle.ptn_network.specs.Loads.{load_input, loads_of};
 ghost use Rattle.giv_files.specs.Settings.{Fits};
 ghost use Rattle.giv_files.specs.StageCalls.{StageGives, TakesSteps};
 ghost use Rattle.demand_load.specs.LoadStage.{load_stage, loads_by, text_faults};
@@ -9,13 +11,11 @@ ghost use Rattle.demand_load.specs.LoadTables.{HasSpread};
 ghost use Rattle.demand_load.specs.RightLoads.{LoadsAreRight};
 
 use crate::demand::read_demand;
-use crate::edge_load::EdgeLoad;
 use crate::frequency::{amount, bounds_of, check_frequencies};
-use crate::given::read_given;
 use crate::load_table::loads_made;
-use giv_files::{Bundle, Key, Made, Settings, StageFault};
+use giv_files::{Bundle, FileId, Key, Made, Settings, StageFault};
 use plan_num::{Ledger, Steps};
-use ptn_network::Network;
+use ptn_network::{EdgeLoad, Loads, Network};
 use std::alloc::Global;
 
 /// The loads of edges with the bounds of their frequencies, from the settings and the texts of stops, edges, and
@@ -62,4 +62,13 @@ fn loads_of_text(
     }
     let loads = read_demand(alloc, network, text)?;
     Ok(bounds_of(alloc, settings, &loads)?)
+}
+
+// The loads that a text gives, or the first fault of the text.
+fn read_given(alloc: Global, network: &Network, text: &[u8]) -> Result<Vec<EdgeLoad>, StageFault>
+    ensures { UnlessFault (input_faults (load_input files.LoadGiven network.now.edges) text.now)
+        (λ loads. loads.items ≡ loads_of files.LoadGiven network.now.edges text.now) result }
+{
+    let loads = Loads::from_text(alloc, network, FileId::LoadGiven, text)?;
+    Ok(loads.into_vec())
 }

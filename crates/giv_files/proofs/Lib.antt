@@ -1,7 +1,7 @@
-pub mod AnyMapped
 pub mod CellFacts
 pub mod CellTexts
 pub mod FieldFacts
+pub mod Found
 pub mod Headers
 pub mod Inputs
 pub mod KeyPlaces

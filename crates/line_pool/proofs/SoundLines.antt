@@ -29,7 +29,7 @@ use Rattle.giv_files.proofs.Inputs.{parts_sound, table_sound, sound_rows}
 use Rattle.giv_files.proofs.Ranges.{front_none, back_none, unmapped}
 use Rattle.giv_files.proofs.SettingFacts.{abs_within}
 use Rattle.giv_files.proofs.WriteFacts.{in_column}
-use Rattle.giv_files.proofs.AnyMapped.{any_mapped}
+use Rattle.giv_files.proofs.Found.{any_mapped}
 use Rattle.ptn_network.specs.declared.edge.Edge.{Edge}
 use Rattle.ptn_network.specs.Networks.{NetworkParts, IsEdge, IsNetwork, by_id, rising}
 use Rattle.line_pool.specs.declared.pool_row.PoolRow.{PoolRow}

@@ -1,8 +1,13 @@
 pub mod ById
 pub mod Labels
+mod LastEdges
+pub mod LoadRows
 pub mod NamedFaults
 mod Partway
+pub mod PathEdges
+mod PathSteps
 mod Rows
+pub mod ShortestPaths
 pub mod Sound
 mod Sums
 mod Texts

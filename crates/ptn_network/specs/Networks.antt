@@ -1,5 +1,5 @@
 -- Networks: stops, and edges between them.
-use Rattle.std.specs.Prelude.{◌≡◌, ◌≢◌, ℕ, ℤ, pos, ◌<◌, ◌≤◌, ◌≤ℤ◌, List, [], ◌∷◌, ◌++◌, length, map, position}
+use Rattle.std.specs.Prelude.{◌≡◌, ◌≢◌, ℕ, ℤ, pos, ◌<◌, ◌≤◌, ◌≤ℤ◌, List, [], ◌∷◌, ◌++◌, length, map, position, slice_get, option_map, Some}
 use Rattle.std.specs.List.{All}
 use Rattle.std.specs.List.Sorted.{IsStrictlySortedBy}
 use Rattle.std.specs.Option.{unwrap_or}
@@ -52,6 +52,11 @@ rising ids = keys_of (by_id (map (λ id. (id, tt {0})) ids))
 -- the index of the stop of an id
 abbrev pub index_in : List ℤ → ℤ → ℕ
 index_in stops id = unwrap_or (position (int_eq id) stops) 0
+
+-- the edge of an id stands at an index
+pub record StandsAt (edges : List Edge) (id : ℤ) (index : ℕ) : Type 0 where
+  pub within : index < length edges
+  pub own : option_map (λ edge. edge.id) (slice_get edges index) ≡ Some id
 
 -- the edge of a row between the stops of two indexes
 abbrev pub edge_between : ℕ → ℕ → EdgeRow → Edge

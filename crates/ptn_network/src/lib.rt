@@ -2,17 +2,24 @@
 #![tactic(auto)]
 
 mod edge;
+mod edge_load;
 mod edge_row;
 mod edges;
 mod label;
 mod least_sums;
+mod load_row;
+mod loads;
 mod network;
+mod paths;
 mod reach;
 mod stops;
 mod weight;
 
 pub use edge::Edge;
+pub use edge_load::EdgeLoad;
+pub use loads::Loads;
 pub use network::Network;
+pub use paths::Paths;
 pub use reach::Reach;
 
 #[cfg(test)]

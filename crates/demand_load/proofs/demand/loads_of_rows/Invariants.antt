@@ -3,7 +3,7 @@ use Rattle.std.proofs.Common.{◌≡◌, ◌<◌, ℕ, get_or, length, take}
 use Rattle.giv_files.specs.Inputs.{records}
 use Rattle.giv_files.proofs.Inputs.{SoundBefore}
 use Rattle.demand_load.specs.Demand.{demand_input, load_of}
-use Rattle.demand_load.specs.Paths.{AreKnown}
+use Rattle.demand_load.specs.Known.{AreKnown}
 use Rattle.demand_load.proofs.demand.loads_of_rows.Given as goal
 
 abbrev pub invariant-loop-i : goal.invariant-loop-i

@@ -1,7 +1,7 @@
 use Rattle.std.proofs.Common.{◌∷◌, ◌++◌, [], ap, sym, get_or, ◌∙◌, arith}
 use Rattle.std.proofs.lemmas.List.{get_or_default}
 use Rattle.std.proofs.lemmas.Option.{get_or_from_slice_get}
-use Rattle.demand_load.specs.GivenLoads.{no_load}
+use Rattle.ptn_network.specs.Loads.{no_load}
 use Rattle.demand_load.specs.LoadTables.{load_row}
 use Rattle.demand_load.proofs.LoadRows.{rows_more, rows_all}
 use Rattle.demand_load.proofs.load_table.load_table.Goals as goal

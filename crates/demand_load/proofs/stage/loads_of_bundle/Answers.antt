@@ -1,7 +1,8 @@
 use Rattle.std.proofs.Common.{◌≤ℤ◌, pos, length, ap, subst, sym, ◌∙◌}
 use Rattle.std.specs.List.{All}
 use Rattle.std.proofs.lemmas.Result.{err_from_is_err_and}
-use Rattle.demand_load.specs.LoadTables.{HasSpread, HasId, IsBounded}
+use Rattle.ptn_network.specs.Loads.{IsBounded}
+use Rattle.demand_load.specs.LoadTables.{HasSpread, HasId}
 use Rattle.demand_load.proofs.LoadCalls.{settings_fit, loads_count, network_refused, text_refused, frequency_refused, stage_given}
 use Rattle.demand_load.proofs.LoadRows.{all_rare}
 use Rattle.demand_load.proofs.SoundLoads.{edges_named, loads_sound}

@@ -1,9 +1,10 @@
 use Rattle.std.proofs.Common.{◌≡◌, ◌≤◌, ap, map, subst, sym, ◌∙◌}
 use Rattle.std.specs.List.{All}
 use Rattle.std.proofs.lemmas.Result.{err_from_is_err_and}
-use Rattle.giv_files.specs.Inputs.{records_of, Refuses}
+use Rattle.giv_files.specs.Inputs.{Refuses}
 use Rattle.giv_files.proofs.Inputs.{UnlessFault-weaker}
-use Rattle.demand_load.specs.GivenLoads.{given_input, given_loads}
+use Rattle.giv_files.specs.declared.file_id.FileId.TheVariants as file
+use Rattle.ptn_network.specs.Loads.{loads_of}
 use Rattle.demand_load.specs.LoadStage.{bounded, loads_by}
 use Rattle.demand_load.proofs.LoadCalls.{given_faults, loads_given, demand_faults, loads_of_demand}
 use Rattle.demand_load.proofs.SoundLoads.{demand_small}
@@ -14,7 +15,7 @@ returns-then-amount-ne0 c =
     let settings = c.args.settings.now in
     let network = c.args.network.now in
     let text = c.args.text.now in
-    UnlessFault-weaker _ _ (λ loads. loads.items ≡ given_loads network.edges (records_of (given_input network.edges) text)) (λ loads. loads.items ≡ loads_by settings network text) c.read_given.result
+    UnlessFault-weaker _ _ (λ loads. loads.items ≡ loads_of file.LoadGiven network.edges text) (λ loads. loads.items ≡ loads_by settings network text) c.read_given.result
     (given_faults settings network text (λ e. c.if-amount-ne0.true (c.amount.ensures ∙ e)))
     (λ loads is. is ∙ loads_given settings network text (λ e. c.if-amount-ne0.true (c.amount.ensures ∙ e)))
     c.read_given.ensures

@@ -1,6 +1,6 @@
 use Rattle.std.proofs.Common.{◌+◌, length, get_or, Option, None, ap, subst, sym, ◌∙◌, arith, IfSome}
 use Rattle.std.proofs.lemmas.List.{length_push}
-use Rattle.demand_load.specs.Paths.{PathParts, ArePaths}
+use Rattle.ptn_network.specs.Paths.{PathParts, ArePaths}
 use Rattle.demand_load.proofs.DemandRows.{none_more}
 use Rattle.demand_load.proofs.known_paths.KnownPaths.new.Goals as goal
 

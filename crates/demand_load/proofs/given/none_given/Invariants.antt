@@ -1,7 +1,0 @@
--- No load is given of the edges so far.
-use Rattle.std.proofs.Common.{◌≡◌, [], map, take}
-use Rattle.demand_load.specs.GivenLoads.{given_for}
-use Rattle.demand_load.proofs.given.none_given.Given as goal
-
-abbrev pub invariant-loop-edge : goal.invariant-loop-edge
-invariant-loop-edge l = l.given.items ≡ map (given_for []) (take l._edge l.network.edges)
