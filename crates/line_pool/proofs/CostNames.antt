@@ -9,13 +9,14 @@ use Rattle.giv_files.specs.NamedFiles.{NamesOnly}
 use Rattle.giv_files.proofs.Named.{AllName, names_both, input_names, refused_names}
 use Rattle.ptn_network.specs.Networks.{NetworkParts, network_faults}
 use Rattle.ptn_network.proofs.NamedFaults.{network_names}
-use Rattle.line_pool.specs.Pools.{pool_input, pool_faults}
+use Rattle.line_pool.specs.Pools.{line_input, line_faults, pool_faults}
+use Rattle.line_pool.specs.declared.line_file.LineFile.TheVariants as kind
 use Rattle.line_pool.specs.CostStage.{network_in, cost_faults, cost_stage}
 
 -- the faults of a pool name its file
 pool_names : (test : FileId → Bool) → test file.Pool ≡ true → (network : NetworkParts) (text : List ℕ) → AllName test (pool_faults network text)
-unfolding pool_faults
-pool_names test pool network text = input_names test (pool_input network.edges) text pool
+unfolding line_faults
+pool_names test pool network text = input_names test (line_input kind.Pool network.edges) text pool
 
 -- a refusal by a row names the file of stops, of edges or of the pool
 pub cost_stage_names : (test : FileId → Bool) → test file.Stop ≡ true → test file.Edge ≡ true → test file.Pool ≡ true → (bundle : BundleParts) (reason : Refusal) → cost_stage bundle ≡ Err reason → NamesOnly test reason

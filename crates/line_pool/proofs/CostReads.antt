@@ -14,6 +14,7 @@ use Rattle.giv_files.proofs.WrittenBack.{written_back}
 use Rattle.ptn_network.specs.Networks.{network_faults}
 use Rattle.ptn_network.proofs.Sound.{network_sound}
 use Rattle.line_pool.specs.CostStage.{cost_header, cost_stage, network_in}
+use Rattle.line_pool.specs.declared.line_file.LineFile.TheVariants as kind
 use Rattle.line_pool.specs.Pools.{pool_faults}
 use Rattle.line_pool.specs.RightCosts.{lines_in, cost_rows, CostsAreRight}
 use Rattle.line_pool.proofs.CostCalls.{settings_modest}
@@ -28,7 +29,7 @@ costs_are_right bundle made _ fits is =
     let none = none_unless _ _ made is in
     let network = network_sound (input_text bundle 0) (input_text bundle 1) (front_none _ _ none) in
     let later = back_none (network_faults (input_text bundle 0) (input_text bundle 1)) (pool_faults (network_in bundle) (input_text bundle 2)) none in
-    let lines = pool_sound (network_in bundle) (input_text bundle 2) network later in
+    let lines = pool_sound kind.Pool (network_in bundle) (input_text bundle 2) network later in
     record {
       text = table_text cost_header pool_cost_columns (cost_rows bundle);
       files = ap (λ (made : Made). made.files) (sym (made_unless _ _ made is));

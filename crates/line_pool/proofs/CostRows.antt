@@ -43,7 +43,7 @@ module _ (settings : List Setting) (edges : List Edge) (costs : AreModest settin
   rows_in_columns lines h = All-map (λ (row : TableRow). InColumns pool_cost_columns row.cells) (cost_row settings edges) lines (All-weaker (IsModest edges) (λ line. InColumns pool_cost_columns (cost_row settings edges line).cells) row_in_columns lines h)
 
   no_parts : LineParts
-  no_parts = record { id = pos 0; edges = []; stops = [] }
+  no_parts = record { id = pos 0; edges = []; stops = []; frequency = 0 }
 
   module _ (lines : List LineParts) (i : ℕ) (id : ℤ) (some : List ℕ) (units cost : ℕ) (h : i < length lines) (has_id : option_map (λ line. line.id) (slice_get lines i) ≡ Some id) (has_edges : option_map (λ line. line.edges) (slice_get lines i) ≡ Some some) (sums : units ≡ sum (map (length_at edges) some)) where
     line_is : (id ≡ (get_or lines i no_parts).id) × (some ≡ (get_or lines i no_parts).edges)

@@ -8,3 +8,4 @@ mod RowsOfLines
 pub mod SoundLines
 mod Tried
 mod Walks
+pub mod WholeLines

@@ -19,48 +19,53 @@ use Rattle.std.proofs.lemmas.List.Sums.{sum-map, sum_by-le}
 use Rattle.std.proofs.lemmas.Map.Keys.{IsDistinct-push}
 use Rattle.std.proofs.lemmas.Map.Made.{is_member-Decides, length-le_from_is_member}
 use Rattle.std.proofs.lemmas.Option.{slice_get_past, slice_get-get_or}
-use Rattle.giv_files.specs.declared.column.ColumnKind.TheVariants as kind
-use Rattle.giv_files.specs.declared.file_id.FileId.TheVariants as file
-use Rattle.giv_files.specs.Columns.{pool_columns}
+use Rattle.giv_files.specs.declared.column.ColumnKind.TheVariants as column
+use Rattle.giv_files.specs.Columns.{pool_columns, concept_columns}
 use Rattle.giv_files.specs.Inputs.{records, records_of, numbered, broken_whys, row_faults, input_faults}
 use Rattle.giv_files.specs.Reading.{table_of}
 use Rattle.giv_files.specs.Tables.{TableRow}
 use Rattle.giv_files.proofs.Inputs.{parts_sound, table_sound, sound_rows}
 use Rattle.giv_files.proofs.Ranges.{front_none, back_none, unmapped}
 use Rattle.giv_files.proofs.SettingFacts.{abs_within}
+use Rattle.giv_files.specs.Writing.{InColumns}
 use Rattle.giv_files.proofs.WriteFacts.{in_column}
 use Rattle.giv_files.proofs.Found.{any_mapped}
 use Rattle.ptn_network.specs.declared.edge.Edge.{Edge}
 use Rattle.ptn_network.specs.Networks.{NetworkParts, IsEdge, IsNetwork, by_id, rising}
-use Rattle.line_pool.specs.declared.pool_row.PoolRow.{PoolRow}
+use Rattle.line_pool.specs.declared.line_file.LineFile.{LineFile}
+use Rattle.line_pool.specs.declared.line_file.LineFile.TheVariants as kinds
+use Rattle.line_pool.specs.declared.line_row.LineRow.{LineRow}
 use Rattle.line_pool.specs.CostStage.{length_at, line_length}
 use Rattle.line_pool.specs.LineCosts.{IsModest}
-use Rattle.line_pool.specs.Pools.{pool_row, pool_input, edge_with, index_of, rows_of, walk_of, edges_of, line_of, lines_over, pool_of, pool_faults}
+use Rattle.line_pool.specs.Pools.{file_of, columns_of, line_row, line_rules, line_input, edge_with, index_of, rows_of, walk_of, edges_of, first_frequency, differs, line_of, lines_over, lines_of, line_faults}
 use Rattle.line_pool.proofs.RowsOfLines.{some_edge, whys, rows_own, rows_other}
 
 -- ---- rows that break no rule
 
-kept : (known next repeated joined : Bool) → whys known next repeated joined ≡ [] → (known ≡ true) × (repeated ≡ false)
-kept false next repeated joined e = cc
-kept true false repeated joined e = cc
-kept true true true joined e = cc
-kept true true false joined e = (refl, refl)
+kept : (known next repeated joined other : Bool) → whys known next repeated joined other ≡ [] → (known ≡ true) × (repeated ≡ false) × (joined ≡ true)
+kept false next repeated joined other e = cc
+kept true false repeated joined other e = cc
+kept true true true joined other e = cc
+kept true true false false other e = cc
+kept true true false true other e = (refl, refl, refl)
 
 -- the edge of such a row is there, and its line did not have it
-row_sound : (edges : List Edge) (before : List PoolRow) (row : PoolRow) → broken_whys (pool_input edges).row_rules before row ≡ [] → (is_some (edge_with edges row.edge) ≡ true) × (list_any (λ other. int_eq row.edge other.edge) (rows_of row.line before) ≡ false)
-row_sound edges before row none = kept (is_some (edge_with edges row.edge)) _ (list_any (λ other. int_eq row.edge other.edge) (rows_of row.line before)) (is_some (walk_of (edges_of edges row.line (before ++ row ∷ [])))) none
+pub row_sound : (edges : List Edge) (before : List LineRow) (row : LineRow) → broken_whys (line_rules edges) before row ≡ [] → (is_some (edge_with edges row.edge) ≡ true) × (list_any (λ other. int_eq row.edge other.edge) (rows_of row.line before) ≡ false) × (is_some (walk_of (edges_of edges row.line (before ++ row ∷ []))) ≡ true)
+row_sound edges before row none =
+    kept (is_some (edge_with edges row.edge)) _ (list_any (λ other. int_eq row.edge other.edge) (rows_of row.line before)) (is_some (walk_of (edges_of edges row.line (before ++ row ∷ []))))
+    (differs row.frequency (first_frequency (rows_of row.line before))) none
 
 -- ---- the edges of a line are different
 
 -- the ids of the edges of a line
-abbrev edge_ids : ℤ → List PoolRow → List ℤ
+abbrev pub edge_ids : ℤ → List LineRow → List ℤ
 edge_ids id rows = map (λ row. row.edge) (rows_of id rows)
 
 none_apart : IsDistinct int_eq []
 unfolding IsDistinct
 none_apart = tt
 
-apart_more : (before : List PoolRow) (row : PoolRow) (id : ℤ) → list_any (λ other. int_eq row.edge other.edge) (rows_of row.line before) ≡ false → IsDistinct int_eq (edge_ids id before) → IsDistinct int_eq (edge_ids id (before ++ row ∷ []))
+apart_more : (before : List LineRow) (row : LineRow) (id : ℤ) → list_any (λ other. int_eq row.edge other.edge) (rows_of row.line before) ≡ false → IsDistinct int_eq (edge_ids id before) → IsDistinct int_eq (edge_ids id (before ++ row ∷ []))
 apart_more before row id new apart =
     elim (int_eq id row.line) as (λ b. int_eq id row.line ≡ b → IsDistinct int_eq (edge_ids id (before ++ row ∷ []))) [
       | true ↦ λ own.
@@ -71,19 +76,19 @@ apart_more before row id new apart =
       | false ↦ λ other. subst (λ rows. IsDistinct int_eq (map (λ row. row.edge) rows)) (sym (rows_other before row id other)) apart
     ] refl
 
-all_apart : (edges : List Edge) (id : ℤ) (before : List PoolRow) (rows : List TableRow) → row_faults file.Pool (pool_input edges).row_rules before (numbered (pool_input edges) rows) ≡ [] → IsDistinct int_eq (edge_ids id before) → IsDistinct int_eq (edge_ids id (before ++ records (pool_input edges) rows))
+pub all_apart : (kind : LineFile) (edges : List Edge) (id : ℤ) (before : List LineRow) (rows : List TableRow) → row_faults (file_of kind) (line_rules edges) before (numbered (line_input kind edges) rows) ≡ [] → IsDistinct int_eq (edge_ids id before) → IsDistinct int_eq (edge_ids id (before ++ records (line_input kind edges) rows))
 unfolding row_faults
-all_apart edges id before [] none apart = subst (λ rows. IsDistinct int_eq (edge_ids id rows)) (sym (append-nil before)) apart
-all_apart edges id before (row ∷ rows) none apart =
-    let read = pool_row row.cells in
+all_apart kind edges id before [] none apart = subst (λ rows. IsDistinct int_eq (edge_ids id rows)) (sym (append-nil before)) apart
+all_apart kind edges id before (row ∷ rows) none apart =
+    let read = line_row row.cells in
     let met = row_sound edges before read (unmapped _ _ (front_none _ _ none)) in
-    subst (λ all. IsDistinct int_eq (edge_ids id all)) (append_assoc before (read ∷ []) (records (pool_input edges) rows))
-    (all_apart edges id (before ++ read ∷ []) rows (back_none _ _ none) (apart_more before read id met.1 apart))
+    subst (λ all. IsDistinct int_eq (edge_ids id all)) (append_assoc before (read ∷ []) (records (line_input kind edges) rows))
+    (all_apart kind edges id (before ++ read ∷ []) rows (back_none _ _ none) (apart_more before read id met.1 apart))
 
 -- ---- an edge that is there
 
 -- what is found stands at a place, and is one of the items
-known_at : {X : Type 0} (p : X → Bool) (xs : List X) (d : X) → is_some (find p xs) ≡ true → (unwrap_or (position p xs) 0 < length xs) × (list_any p xs ≡ true)
+pub known_at : {X : Type 0} (p : X → Bool) (xs : List X) (d : X) → is_some (find p xs) ≡ true → (unwrap_or (position p xs) 0 < length xs) × (list_any p xs ≡ true)
 known_at p xs d known =
     let place = position_or_len p xs in
     elim (nat_lt place (length xs)) as (λ b. nat_lt place (length xs) ≡ b → (unwrap_or (cond b (Some place) None) 0 < length xs) × (list_any p xs ≡ true)) [
@@ -107,7 +112,7 @@ all_put P k v (e ∷ es) own all =
       | Greater ↦ All-cons P e.0 (keys_of (put int_cmp k v es)) (All-head P e.0 (keys_of es) all) (all_put P k v es own (All-tail P e.0 (keys_of es) all))
     ]
 
-all_rising : (P : ℤ → Type 0) (ids : List ℤ) → All P ids → All P (rising ids)
+pub all_rising : (P : ℤ → Type 0) (ids : List ℤ) → All P ids → All P (rising ids)
 unfolding by_id
 all_rising P [] all = all
 all_rising P (id ∷ ids) all = all_put P id tt (by_id (map (λ id. (id, tt {0})) ids)) (All-head P id ids all) (all_rising P ids (All-tail P id ids all))
@@ -122,47 +127,49 @@ short_edge stops edges all index h =
     let some : pos 1 ≤ℤ edge.length = sound.some_length in
     subst (λ n. n ≤ 10000000000) (sym is) (abs_within edge.length 10000000000 (omega (arith, ints)) sound.short)
 
+-- the cell of a line's id is one
+pub id_in : (kind : LineFile) (cells : List ℤ) → InColumns (columns_of kind) cells → (pos 1 ≤ℤ (line_row cells).line) × ((line_row cells).line ≤ℤ pos 1000000000)
+id_in kinds.Pool cells within = in_column pool_columns cells 0 column.Skip (pos 0) within (lit< tt)
+id_in kinds.Concept cells within = in_column concept_columns cells 0 column.Skip (pos 0) within (lit< tt)
+
 -- ---- lines
 
-module _ (network : NetworkParts) (sound : IsNetwork network) (text : List ℕ) (none : input_faults (pool_input network.edges) text ≡ []) where
-  abbrev input_rows : List PoolRow
-  input_rows = records_of (pool_input network.edges) text
+module _ (kind : LineFile) (network : NetworkParts) (sound : IsNetwork network) (text : List ℕ) (none : input_faults (line_input kind network.edges) text ≡ []) where
+  abbrev pub input_rows : List LineRow
+  input_rows = records_of (line_input kind network.edges) text
 
-  Known : PoolRow → Type 0
+  abbrev pub Known : LineRow → Type 0
   Known row = is_some (edge_with network.edges row.edge) ≡ true
 
-  known_rows : All Known input_rows
-  unfolding Known
+  pub known_rows : All Known input_rows
   known_rows =
-      let rows = sound_rows (pool_input network.edges) text none in
-      All-map Known (λ (row : TableRow). pool_row row.cells) (table_of pool_columns text)
+      let rows = sound_rows (line_input kind network.edges) text none in
+      All-map Known (λ (row : TableRow). line_row row.cells) (table_of (columns_of kind) text)
       (λ k d h. (row_sound network.edges (rows k d h).0 _ (rows k d h).1).0)
 
   module _ (id : ℤ) where
-    abbrev own : List PoolRow
+    abbrev pub own : List LineRow
     own = rows_of id input_rows
 
-    abbrev indexes : List ℕ
+    abbrev pub indexes : List ℕ
     indexes = map (λ row. index_of network.edges row.edge) own
 
-    known : All Known own
+    pub known : All Known own
     known = All-filter (λ row. int_eq id row.line) Known input_rows known_rows
 
-    there : All (λ index. index < length network.edges) indexes
-    unfolding Known
+    pub there : All (λ index. index < length network.edges) indexes
     there =
-        All-map (λ index. index < length network.edges) (λ (row : PoolRow). index_of network.edges row.edge) own
+        All-map (λ index. index < length network.edges) (λ (row : LineRow). index_of network.edges row.edge) own
         (All-weaker Known (λ row. index_of network.edges row.edge < length network.edges) (λ row h. (known_at (λ edge. int_eq row.edge edge.id) network.edges some_edge h).0) own known)
 
     listed : All (λ edge. is_member int_eq (map (λ edge. edge.id) network.edges) edge ≡ true) (edge_ids id input_rows)
-    unfolding Known
     listed =
         let Listed : ℤ → Type 0 = λ edge. is_member int_eq (map (λ edge. edge.id) network.edges) edge ≡ true in
-        All-map Listed (λ (row : PoolRow). row.edge) own
+        All-map Listed (λ (row : LineRow). row.edge) own
         (All-weaker Known (λ row. Listed row.edge) (λ row h. any_mapped (int_eq row.edge) (λ (edge : Edge). edge.id) network.edges ∙ (known_at (λ edge. int_eq row.edge edge.id) network.edges some_edge h).1) own known)
 
-    apart : IsDistinct int_eq (edge_ids id input_rows)
-    apart = all_apart network.edges id [] (table_of pool_columns text) (table_sound (pool_input network.edges) _ (parts_sound (pool_input network.edges) text none).1).1 none_apart
+    pub apart : IsDistinct int_eq (edge_ids id input_rows)
+    apart = all_apart kind network.edges id [] (table_of (columns_of kind) text) (table_sound (line_input kind network.edges) _ (parts_sound (line_input kind network.edges) text none).1).1 none_apart
 
     few : length indexes ≤ 1000
     few =
@@ -183,15 +190,15 @@ module _ (network : NetworkParts) (sound : IsNetwork network) (text : List ℕ) 
   -- each line has an id within its range, edges that are there and not too many, and is not too long
   lines_sound : All (IsModest network.edges) (lines_over network.edges input_rows)
   lines_sound =
-      let rows = sound_rows (pool_input network.edges) text none in
+      let rows = sound_rows (line_input kind network.edges) text none in
       let IsId : ℤ → Type 0 = λ id. (pos 1 ≤ℤ id) × (id ≤ℤ pos 1000000000) in
-      let line : TableRow → ℤ = λ row. (pool_row row.cells).line in
-      let cells : All (λ row. IsId (line row)) (table_of pool_columns text) = λ k d h. in_column pool_columns _ 0 kind.Skip (pos 0) (rows k d h).2 (lit< tt) in
-      let ids : All IsId (map (λ row. row.line) input_rows) = All-map IsId (λ (row : PoolRow). row.line) input_rows (All-map (λ (row : PoolRow). IsId row.line) (λ (row : TableRow). pool_row row.cells) (table_of pool_columns text) cells) in
+      let line : TableRow → ℤ = λ row. (line_row row.cells).line in
+      let cells : All (λ row. IsId (line row)) (table_of (columns_of kind) text) = λ k d h. id_in kind _ (rows k d h).2 in
+      let ids : All IsId (map (λ row. row.line) input_rows) = All-map IsId (λ (row : LineRow). row.line) input_rows (All-map (λ (row : LineRow). IsId row.line) (λ (row : TableRow). line_row row.cells) (table_of (columns_of kind) text) cells) in
       All-map (IsModest network.edges) (line_of network.edges input_rows) (rising (map (λ row. row.line) input_rows))
       (All-weaker IsId (λ id. IsModest network.edges (line_of network.edges input_rows id)) (λ id h. line_sound id h.0 h.1) (rising (map (λ row. row.line) input_rows)) (all_rising IsId (map (λ row. row.line) input_rows) ids))
 
 -- the lines of a text without a fault
-pub pool_sound : (network : NetworkParts) (text : List ℕ) → IsNetwork network → pool_faults network text ≡ [] → All (IsModest network.edges) (pool_of network text)
-unfolding pool_of pool_faults
-pool_sound network text sound none = lines_sound network sound text none
+pub pool_sound : (kind : LineFile) (network : NetworkParts) (text : List ℕ) → IsNetwork network → line_faults kind network text ≡ [] → All (IsModest network.edges) (lines_of kind network text)
+unfolding lines_of line_faults
+pool_sound kind network text sound none = lines_sound kind network sound text none

@@ -16,7 +16,7 @@ use Rattle.plan_num.specs.Print.{digits_at}
 use Rattle.std.specs.Fmt.{digits}
 use Rattle.ptn_network.specs.declared.edge.Edge.{Edge}
 use Rattle.ptn_network.specs.Networks.{NetworkParts, by_id, stops_of, network_of, network_faults}
-use Rattle.line_pool.specs.Pools.{walk_from, pool_of, pool_faults}
+use Rattle.line_pool.specs.Pools.{walk_from, lines_of, line_faults, pool_of, pool_faults}
 use Rattle.line_pool.specs.CostStage.{cost_stage}
 
 abbrev edge : ℕ → ℕ → ℕ → ℕ → Edge
@@ -30,16 +30,16 @@ network = record {
 }
 
 -- a line over two edges, one over parallel edges, one of one edge, and one that starts at the right stop of its first edge
-lines : pool_of network (codes "# pool\n9; 1; 2\n3; 1; 1\n3; 2; 2\n9; 2; 7\n1; 1; 3\n4; 1; 2\n4; 2; 1\n") ≡ record { id = pos 1; edges = 2 ∷ []; stops = 3 ∷ 4 ∷ [] }
-    ∷ record { id = pos 3; edges = 0 ∷ 1 ∷ []; stops = 0 ∷ 1 ∷ 2 ∷ [] }
-    ∷ record { id = pos 4; edges = 1 ∷ 0 ∷ []; stops = 2 ∷ 1 ∷ 0 ∷ [] }
-    ∷ record { id = pos 9; edges = 1 ∷ 3 ∷ []; stops = 1 ∷ 2 ∷ 1 ∷ [] }
+lines : pool_of network (codes "# pool\n9; 1; 2\n3; 1; 1\n3; 2; 2\n9; 2; 7\n1; 1; 3\n4; 1; 2\n4; 2; 1\n") ≡ record { id = pos 1; edges = 2 ∷ []; stops = 3 ∷ 4 ∷ []; frequency = 0 }
+    ∷ record { id = pos 3; edges = 0 ∷ 1 ∷ []; stops = 0 ∷ 1 ∷ 2 ∷ []; frequency = 0 }
+    ∷ record { id = pos 4; edges = 1 ∷ 0 ∷ []; stops = 2 ∷ 1 ∷ 0 ∷ []; frequency = 0 }
+    ∷ record { id = pos 9; edges = 1 ∷ 3 ∷ []; stops = 1 ∷ 2 ∷ 1 ∷ []; frequency = 0 }
     ∷ []
-unfolding pool_of by_id walk_from table_of cells_from cell_of values rows cleaned spelling_of value_of value_at fixed_of whole_of
+unfolding lines_of by_id walk_from table_of cells_from cell_of values rows cleaned spelling_of value_of value_at fixed_of whole_of
 lines = refl
 
 fine : pool_faults network (codes "# pool\n9; 1; 2\n3; 1; 1\n3; 2; 2\n9; 2; 7\n1; 1; 3\n4; 1; 2\n4; 2; 1\n") ≡ []
-unfolding pool_faults input_faults row_faults faults by_id walk_from table_of cells_from cell_of values errors row_whys rows cleaned spelling_of value_of value_at fixed_of whole_of
+unfolding line_faults input_faults row_faults faults by_id walk_from table_of cells_from cell_of values errors row_whys rows cleaned spelling_of value_of value_at fixed_of whole_of
 fine = refl
 
 -- rows that break each rule
@@ -48,7 +48,7 @@ broken : pool_faults network (codes "1; 1; 1\n1; 3; 2\n2; 1; 8\n3; 1; 1\n3; 2; 1
     ∷ refusal.BadRow file.Pool 5 why.RepeatedEdge
     ∷ refusal.BadRow file.Pool 7 why.BrokenLine
     ∷ []
-unfolding pool_faults input_faults row_faults faults by_id walk_from table_of cells_from cell_of values errors row_whys rows cleaned spelling_of value_of value_at fixed_of whole_of
+unfolding line_faults input_faults row_faults faults by_id walk_from table_of cells_from cell_of values errors row_whys rows cleaned spelling_of value_of value_at fixed_of whole_of
 broken = refl
 
 -- ---- the stage
@@ -66,18 +66,18 @@ abbrev made : List ℕ → List ℕ → Made
 made table report = record { files = record { file = file.PoolCost; text = table } ∷ []; report = report }
 
 costs : cost_stage (bundle 10000000 1000000 0 (codes "1; 1; 1\n1; 2; 2\n2; 1; 1\n")) ≡ Ok (made (codes "# line-id; length; cost\n1; 5; 15\n2; 2; 12\n") (codes "cost: 2 lines"))
-unfolding digits cost_stage pool_of pool_faults network_of network_faults stops_of input_faults row_faults faults by_id walk_from table_of cells_from cell_of values errors row_whys rows cleaned spelling_of value_of value_at fixed_of whole_of cell_text cell_texts joined table_text
+unfolding digits cost_stage lines_of line_faults network_of network_faults stops_of input_faults row_faults faults by_id walk_from table_of cells_from cell_of values errors row_whys rows cleaned spelling_of value_of value_at fixed_of whole_of cell_text cell_texts joined table_text
 costs = refl
 
 half : cost_stage (bundle 10000000 500000 2000000 (codes "1; 1; 1\n1; 2; 2\n2; 1; 1\n")) ≡ Ok (made (codes "# line-id; length; cost\n1; 5; 16.5\n2; 2; 13\n") (codes "cost: 2 lines"))
-unfolding digits digits_at cost_stage pool_of pool_faults network_of network_faults stops_of input_faults row_faults faults by_id walk_from table_of cells_from cell_of values errors row_whys rows cleaned spelling_of value_of value_at fixed_of whole_of cell_text cell_texts joined table_text
+unfolding digits digits_at cost_stage lines_of line_faults network_of network_faults stops_of input_faults row_faults faults by_id walk_from table_of cells_from cell_of values errors row_whys rows cleaned spelling_of value_of value_at fixed_of whole_of cell_text cell_texts joined table_text
 half = refl
 
 empty : cost_stage (bundle 10000000 1000000 0 []) ≡ Ok (made (codes "# line-id; length; cost\n") (codes "cost: 0 lines"))
-unfolding digits cost_stage pool_of pool_faults network_of network_faults stops_of input_faults row_faults faults by_id walk_from table_of cells_from cell_of values errors row_whys rows cleaned spelling_of value_of value_at fixed_of whole_of cell_text cell_texts joined table_text
+unfolding digits cost_stage lines_of line_faults network_of network_faults stops_of input_faults row_faults faults by_id walk_from table_of cells_from cell_of values errors row_whys rows cleaned spelling_of value_of value_at fixed_of whole_of cell_text cell_texts joined table_text
 empty = refl
 
 -- rows count with the comments before them
 gap : cost_stage (bundle 10000000 1000000 0 (codes "# pool\n1; 1; 1\n1; 3; 2\n")) ≡ Err (refusal.BadRow file.Pool 3 why.OrderGap)
-unfolding digits cost_stage pool_of pool_faults network_of network_faults stops_of input_faults row_faults faults by_id walk_from table_of cells_from cell_of values errors row_whys rows cleaned spelling_of value_of value_at fixed_of whole_of cell_text cell_texts joined table_text
+unfolding digits cost_stage lines_of line_faults network_of network_faults stops_of input_faults row_faults faults by_id walk_from table_of cells_from cell_of values errors row_whys rows cleaned spelling_of value_of value_at fixed_of whole_of cell_text cell_texts joined table_text
 gap = refl

@@ -3,10 +3,11 @@
 
 mod cost_table;
 mod ends;
+mod line_file;
+mod line_row;
 mod line_rows;
 mod line_so_far;
 mod pool;
-mod pool_row;
 mod stage;
 mod walk;
 

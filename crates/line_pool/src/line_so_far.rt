@@ -1,5 +1,6 @@
 // A line while the rows of a pool are read.
 ghost use Rattle.std.specs.Prelude.{◌≡◌, length, IfOk, OnOk};
+ghost use Rattle.line_pool.specs.Pools.{differs};
 ghost use Rattle.line_pool.specs.LinesSoFar.{next_ends, no_line, with_edge, whole_line};
 
 use crate::ends::Ends;
@@ -10,13 +11,15 @@ use ptn_network::Edge;
 use std::alloc::Global;
 use std::marker::Model;
 
-/// A line with its edges so far, by index and as they are, and where its walks end. Contracts see it as these four.
+/// A line with its edges so far, by index and as they are, where its walks end, and the frequency of its first row.
+/// Contracts see it as these five.
 #[derive(Drop)]
 pub(crate) struct LineSoFar {
     id: i64,
     indexes: Vec<usize>,
     edges: Vec<Edge>,
     ends: Ends,
+    frequency: Option<i64>,
 }
 
 impl Model for LineSoFar {
@@ -24,7 +27,7 @@ impl Model for LineSoFar {
 
     ghost Value = { LineEdges };
 
-    ghost view = { λ line. record { id = line.id; indexes = line.indexes.items; edges = line.edges.items; ends = line.ends } };
+    ghost view = { λ line. record { id = line.id; indexes = line.indexes.items; edges = line.edges.items; ends = line.ends; frequency = line.frequency } };
 }
 
 impl LineSoFar {
@@ -40,6 +43,7 @@ impl LineSoFar {
                 left: None,
                 right: None,
             },
+            frequency: None,
         }
     }
 
@@ -61,14 +65,27 @@ impl LineSoFar {
         }
     }
 
-    /// One edge more.
-    pub(crate) fn add(&mut self, index: usize, edge: Edge) -> Result<(), NoMemory>
-        ensures { OnOk result (self.new ≡ with_edge self.old index edge) }
+    /// Whether a frequency is another one than that of its first row.
+    pub(crate) fn differs(&self, frequency: i64) -> bool
+        ensures { result ≡ differs frequency self.now.frequency }
+    {
+        match self.frequency {
+            None => false,
+            Some(first) => frequency != first,
+        }
+    }
+
+    /// One edge more, by a row that has a frequency.
+    pub(crate) fn add(&mut self, index: usize, edge: Edge, frequency: i64) -> Result<(), NoMemory>
+        ensures { OnOk result (self.new ≡ with_edge self.old index edge frequency) }
     {
         let ends = self.ends_after(&edge);
         self.indexes.push(index)?;
         self.edges.push(edge)?;
         self.ends = ends;
+        if self.frequency.is_none() {
+            self.frequency = Some(frequency);
+        }
         Ok(())
     }
 
@@ -80,9 +97,11 @@ impl LineSoFar {
             id,
             indexes,
             edges,
+            frequency,
             ..
         } = self;
         let stops = line_stops(alloc, &edges)?;
-        Ok(Line::new(id, indexes, stops))
+        let served = frequency.unwrap_or(0).unsigned_abs();
+        Ok(Line::new(id, indexes, stops, served))
     }
 }

@@ -1,8 +1,10 @@
 // The pool of lines.
-ghost use Rattle.std.specs.Prelude.{◌≡◌, ◌<◌, length, slice_get, Some, option_map};
+ghost use Rattle.std.specs.Prelude.{◌≡◌, ◌<◌, ◌≤◌, length, slice_get, Some, option_map, IfOk};
 ghost use Rattle.giv_files.specs.Inputs.{records, table_faults, UnlessFault};
-ghost use Rattle.line_pool.specs.Pools.{pool_input, lines_over, pool_of, pool_faults};
+ghost use Rattle.ptn_network.specs.Networks.{IsNetwork};
+ghost use Rattle.line_pool.specs.Pools.{line_input, lines_over, pool_of, pool_faults, concept_of, concept_faults, AreLines};
 
+use crate::line_file::LineFile;
 use crate::line_rows::{line_ids, lines_of_rows, whole_lines};
 use giv_files::{Counted, FileId, Refusal, StageFault, Table, columns, read_input};
 use ptn_network::Network;
@@ -11,12 +13,13 @@ use std::marker::Model;
 
 const MOST_LINES: usize = 200;
 
-/// A line. Contracts see it as its id, the indexes of its edges and the stops of its walk.
+/// A line. Contracts see it as its id, the indexes of its edges, the stops of its walk and its frequency.
 #[derive(Drop)]
 pub(crate) struct Line {
     id: i64,
     edges: Vec<usize>,
     stops: Vec<usize>,
+    frequency: u64,
 }
 
 impl Model for Line {
@@ -24,14 +27,19 @@ impl Model for Line {
 
     ghost Value = { LineParts };
 
-    ghost view = { λ line. record { id = line.id; edges = line.edges.items; stops = line.stops.items } };
+    ghost view = { λ line. record { id = line.id; edges = line.edges.items; stops = line.stops.items; frequency = line.frequency } };
 }
 
 impl Line {
-    pub(crate) fn new(id: i64, edges: Vec<usize>, stops: Vec<usize>) -> Line
-        ensures { result ≡ record { id = id; edges = edges.items; stops = stops.items } }
+    pub(crate) fn new(id: i64, edges: Vec<usize>, stops: Vec<usize>, frequency: u64) -> Line
+        ensures { result ≡ record { id = id; edges = edges.items; stops = stops.items; frequency = frequency } }
     {
-        Line { id, edges, stops }
+        Line {
+            id,
+            edges,
+            stops,
+            frequency,
+        }
     }
 
     fn id(&self) -> i64
@@ -51,6 +59,12 @@ impl Line {
     {
         &self.stops
     }
+
+    fn frequency(&self) -> u64
+        ensures { result ≡ self.now.frequency }
+    {
+        self.frequency
+    }
 }
 
 /// Lines by id rising, each a walk over the edges of a network. Contracts see it as the list of its lines.
@@ -60,21 +74,40 @@ pub struct Pool {
 }
 
 impl Model for Pool {
-    ghost use Rattle.std.specs.Prelude.{List};
+    ghost use Rattle.std.specs.Prelude.{List, ◌≤◌};
+    ghost use Rattle.std.specs.List.{All};
     ghost use Rattle.line_pool.specs.Pools.{LineParts};
 
     ghost Value = { List LineParts };
 
     ghost view = { λ pool. pool.lines.items };
+
+    ghost invariant = { λ pool. All (λ line. line.frequency ≤ 1000) pool.lines.items };
 }
 
 impl Pool {
-    /// The pool of a text over a network, or the first fault of the text.
+    /// The lines of a text of the pool over a network, or the first fault of the text. Their frequencies are 0.
     pub fn from_text(alloc: Global, network: &Network, pool: &[u8]) -> Result<Pool, StageFault>
-        ensures { UnlessFault (pool_faults network.now pool.now) (λ made. made ≡ pool_of network.now pool.now) result }
+        ensures made { UnlessFault (pool_faults network.now pool.now) (λ made. made ≡ pool_of network.now pool.now) result }
+        ensures sound { IfOk result (AreLines network.now.edges) }
     {
         let table = read_input(alloc, FileId::Pool, pool, &columns!(Pool))?;
-        pool_of_table(alloc, network, &table)
+        let lines = lines_of_table(alloc, network, LineFile::Pool, &table)?;
+        Ok(Pool { lines })
+    }
+
+    /// The lines of a text of a line concept over a network, or the first fault of the text.
+    pub fn from_concept(
+        alloc: Global,
+        network: &Network,
+        concept: &[u8],
+    ) -> Result<Pool, StageFault>
+        ensures made { UnlessFault (concept_faults network.now concept.now) (λ made. made ≡ concept_of network.now concept.now) result }
+        ensures sound { IfOk result (AreLines network.now.edges) }
+    {
+        let table = read_input(alloc, FileId::Concept, concept, &columns!(Concept))?;
+        let lines = lines_of_table(alloc, network, LineFile::Concept, &table)?;
+        Ok(Pool { lines })
     }
 
     /// How many lines there are.
@@ -107,13 +140,30 @@ impl Pool {
     {
         self.lines[line].stops()
     }
+
+    /// How often the line at a place is driven in a period, each way.
+    pub fn frequency(&self, line: usize) -> u32
+        requires { line < length self.now }
+        ensures { option_map (λ at. at.frequency) (slice_get self.now line) ≡ Some result }
+    {
+        self.lines[line].frequency() as u32
+    }
 }
 
-// The pool of a table, or its first fault.
-fn pool_of_table(alloc: Global, network: &Network, table: &Table<3>) -> Result<Pool, StageFault>
-    ensures { UnlessFault (table_faults (pool_input network.now.edges) table.now)
-        (λ pool. pool ≡ lines_over network.now.edges (records (pool_input network.now.edges) table.now)) result }
+// The lines of a table, or its first fault.
+fn lines_of_table<const C: usize>(
+    alloc: Global,
+    network: &Network,
+    kind: LineFile,
+    table: &Table<C>,
+) -> Result<Vec<Line>, StageFault>
+    requires { 3 ≤ C }
+    ensures network { IsNetwork network.now }
+    ensures lines { UnlessFault (table_faults (line_input kind network.now.edges) table.now)
+        (λ lines. lines.items ≡ lines_over network.now.edges (records (line_input kind network.now.edges) table.now)) result }
 {
+    // The count tells that the network is one.
+    let _edges = network.edge_count();
     let ids = line_ids(alloc, table)?;
     if ids.len() > MOST_LINES {
         return Err(StageFault::Refused(Refusal::TooMany {
@@ -121,8 +171,6 @@ fn pool_of_table(alloc: Global, network: &Network, table: &Table<3>) -> Result<P
             count: ids.len() as u64,
         }));
     }
-    let lines = lines_of_rows(alloc, network, &ids, table)?;
-    Ok(Pool {
-        lines: whole_lines(alloc, lines)?,
-    })
+    let lines = lines_of_rows(alloc, network, kind, &ids, table)?;
+    Ok(whole_lines(alloc, lines)?)
 }

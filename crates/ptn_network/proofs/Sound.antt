@@ -32,7 +32,7 @@ use Rattle.giv_files.proofs.WriteFacts.{in_column}
 use Rattle.ptn_network.specs.declared.edge.Edge.{Edge}
 use Rattle.ptn_network.specs.declared.edge_row.EdgeRow.{EdgeRow}
 use Rattle.ptn_network.specs.Inputs.{stop_input, edge_input, edge_row, edge_rules}
-use Rattle.ptn_network.specs.Networks.{by_id, index_in, edge_of, edge_entry, stops_of, network_of, network_faults, IsEdge, IsNetwork}
+use Rattle.ptn_network.specs.Networks.{by_id, index_in, edge_of, edge_entry, stops_of, network_of, network_faults, IsEdge, IsNetwork, rising}
 use Rattle.ptn_network.proofs.ById.{by_id_sorted, by_id_keyed}
 use Rattle.ptn_network.proofs.Rows.{no_reason, entries_keyed}
 
@@ -166,9 +166,13 @@ all_entries : (P : Edge → Type 0) (stops : List ℤ) (rows : List TableRow) �
 all_entries P stops [] all = λ k d h. absurd (omega arith)
 all_entries P stops (row ∷ rows) all = All-cons P _ (values_of (map (edge_entry stops) (records (edge_input stops) rows))) (All-head (λ r. P (edge_of stops (edge_row r.cells))) row rows all) (all_entries P stops rows (All-tail (λ r. P (edge_of stops (edge_row r.cells))) row rows all))
 
+-- ids that were sorted rise
+pub rising_rises : (ids : List ℤ) → IsStrictlySortedBy int_cmp (rising ids)
+rising_rises ids = sorted_rise _ (by_id_sorted _)
+
 stops_rise : (text : List ℕ) → IsStrictlySortedBy int_cmp (stops_of text)
 unfolding stops_of
-stops_rise text = sorted_rise _ (by_id_sorted _)
+stops_rise text = rising_rises (records_of stop_input text)
 
 few_stops : (text : List ℕ) → input_faults stop_input text ≡ [] → length (stops_of text) ≤ 1000
 unfolding stops_of

@@ -9,12 +9,12 @@ use Rattle.line_pool.proofs.RowsOfLines.{ids_more}
 use Rattle.line_pool.proofs.line_rows.line_ids.Goals as goal
 
 pub loop-i-preserved : goal.loop-i-preserved
-loop-i-preserved c = λ id.
+loop-i-preserved g c = λ id.
     let read = to_z-of_z w64 c.cell.result (record { sfits = c.cell.type_inv }) ∙ c.cell.ensures in
     ids_more c.args.table.now c.loop-i.i _ id _ _ (omega arith) read (c.in_ok-insert.ensures.updates.0 id) (c.loop-i.invariant id)
 
 pub returns-clause-rising : goal.returns-clause-rising
-returns-clause-rising c =
+returns-clause-rising g c =
     let sorted = c.in_ok-sort.ensures in
     let table = c.args.table.now in
     sorted_ids c.sort.new.self.keys (lines_in table) sorted.sorted sorted.unique

@@ -6,4 +6,4 @@ use Rattle.line_pool.specs.LinesSoFar.{lines_in}
 use Rattle.line_pool.proofs.line_rows.line_ids.Given as goal
 
 abbrev pub invariant-loop-i : goal.invariant-loop-i
-invariant-loop-i l = (id : ℤ) → list_any (int_eq id) l.ids.keys ≡ list_any (int_eq id) (lines_in (take l.i l.table))
+invariant-loop-i g l = (id : ℤ) → list_any (int_eq id) l.ids.keys ≡ list_any (int_eq id) (lines_in (take l.i l.table))

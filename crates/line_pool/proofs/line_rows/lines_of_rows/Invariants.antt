@@ -5,14 +5,14 @@ use Rattle.std.specs.HashSet.{contains}
 use Rattle.std.specs.Ordering.{int_eq}
 use Rattle.giv_files.specs.Inputs.{records}
 use Rattle.giv_files.proofs.Inputs.{SoundBefore}
-use Rattle.line_pool.specs.Pools.{pool_input, rows_of}
+use Rattle.line_pool.specs.Pools.{line_input, rows_of}
 use Rattle.line_pool.specs.LinesSoFar.{line_so_far}
 use Rattle.line_pool.proofs.line_rows.lines_of_rows.Given as goal
 
 abbrev pub invariant-loop-i : goal.invariant-loop-i
-invariant-loop-i l =
+invariant-loop-i g l =
     let edges = l.network.edges in
-    let input = pool_input edges in
+    let input = line_input l.kind edges in
     record {
       sound : SoundBefore input l.table l.i;
       lines : l.lines.items ≡ map (line_so_far edges (records input (take l.i l.table))) l.ids.keys;

@@ -2,7 +2,7 @@ use Rattle.std.proofs.Common.{◌∙◌, ap, sym, position, map, w64, arith}
 use Rattle.std.specs.Ordering.{int_eq}
 use Rattle.std.proofs.lemmas.Bool.{not-true, not-false}
 use Rattle.std.proofs.lemmas.Int.{to_z-of_z}
-use Rattle.line_pool.proofs.RowsOfLines.{unknown, no_edge, order_gap, repeated_edge, broken_line, row_fits, edge_at, stands_at, is_known, next_told, walk_told}
+use Rattle.line_pool.proofs.RowsOfLines.{unknown, no_edge, order_gap, repeated_edge, broken_line, frequency_differs, row_fits, edge_at, stands_at, is_known, next_told, walk_told, frequency_told}
 use Rattle.line_pool.proofs.line_rows.new_edge.Goals as goal
 
 pub returns-in_default : goal.returns-in_default
@@ -40,6 +40,19 @@ returns-then-not-is_walk c = λ before told new.
     let joins = walk_told edges before row c.args.line.now c.edge.result c.ends_after.result told (edge_at edges row.edge c.in-Some.index c.edge.result stands c.edge.ensures.place) c.ends_after.ensures in
     broken_line edges before row (is_known edges row.edge c.in-Some.index stands) next (not-true _ (sym new ∙ c.if-not-is_new.false)) (joins ∙ sym c.is_walk.ensures ∙ c.if-not-is_walk.true)
 
+pub returns-then-differs : goal.returns-then-differs
+returns-then-differs c = λ before told new.
+    let edges = c.args.network.now.edges in
+    let row = c.args.row.now in
+    let own = ap (λ id. position (int_eq id) (map (λ edge. edge.id) edges)) (to_z-of_z w64 row.edge (record { sfits = omega arith })) in
+    let stands = stands_at edges row.edge c.in-Some.index (sym own ∙ sym c.edge_index.ensures ∙ c.in-Some.is) in
+    let next = next_told edges before row c.args.line.now _ c.len.result c.is_next.result _ told (to_z-of_z w64 row.order (record { sfits = omega arith })) c.len.ensures c.is_next.ensures c.if-not-is_next.false in
+    let joins = walk_told edges before row c.args.line.now c.edge.result c.ends_after.result told (edge_at edges row.edge c.in-Some.index c.edge.result stands c.edge.ensures.place) c.ends_after.ensures in
+    let new = not-true _ (sym new ∙ c.if-not-is_new.false) in
+    let joined = joins ∙ sym c.is_walk.ensures ∙ c.if-not-is_walk.false in
+    let differs = frequency_told edges before row c.args.line.now _ c.differs.result _ told (to_z-of_z w64 row.frequency (record { sfits = omega arith })) c.differs.ensures c.if-differs.true in
+    frequency_differs edges before row (is_known edges row.edge c.in-Some.index stands) next new joined differs
+
 pub returns : goal.returns
 returns c = λ before told new.
     let edges = c.args.network.now.edges in
@@ -48,4 +61,7 @@ returns c = λ before told new.
     let stands = stands_at edges row.edge c.in-Some.index (sym own ∙ sym c.edge_index.ensures ∙ c.in-Some.is) in
     let next = next_told edges before row c.args.line.now _ c.len.result c.is_next.result _ told (to_z-of_z w64 row.order (record { sfits = omega arith })) c.len.ensures c.is_next.ensures c.if-not-is_next.false in
     let joins = walk_told edges before row c.args.line.now c.edge.result c.ends_after.result told (edge_at edges row.edge c.in-Some.index c.edge.result stands c.edge.ensures.place) c.ends_after.ensures in
-    (row_fits edges before row (is_known edges row.edge c.in-Some.index stands) next (not-true _ (sym new ∙ c.if-not-is_new.false)) (joins ∙ sym c.is_walk.ensures ∙ c.if-not-is_walk.false), stands)
+    let new = not-true _ (sym new ∙ c.if-not-is_new.false) in
+    let joined = joins ∙ sym c.is_walk.ensures ∙ c.if-not-is_walk.false in
+    let differs = frequency_told edges before row c.args.line.now _ c.differs.result _ told (to_z-of_z w64 row.frequency (record { sfits = omega arith })) c.differs.ensures c.if-differs.false in
+    (row_fits edges before row (is_known edges row.edge c.in-Some.index stands) next new joined differs, stands)

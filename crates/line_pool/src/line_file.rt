@@ -1,0 +1,24 @@
+// The files whose rows are lines.
+ghost use Rattle.std.specs.Prelude.{◌≡◌};
+ghost use Rattle.line_pool.specs.Pools.{file_of};
+
+use giv_files::FileId;
+
+/// A file that has lines, row by row: the pool, or a line concept, which has the frequency of each line too.
+#[derive(Clone, Copy, Debug, PartialEq, Eq)]
+pub(crate) enum LineFile {
+    Pool,
+    Concept,
+}
+
+impl LineFile {
+    /// The file that a refusal names.
+    pub(crate) fn id(self) -> FileId
+        ensures { result ≡ file_of self }
+    {
+        match self {
+            LineFile::Pool => FileId::Pool,
+            LineFile::Concept => FileId::Concept,
+        }
+    }
+}
