@@ -1,5 +1,5 @@
 -- A call on a file leaves every other one as it was.
-use Rattle.std.proofs.Common.{◌≡◌, ◌≢◌, ℕ, Bool, true, false, List, [], ◌∷◌, ◌++◌, Option, Some, None, Result, Ok, Err, refl, ap, sym, subst, ◌∙◌, cond, take, nat_cmp, ⊎_elim}
+use Rattle.std.proofs.Common.{◌≡◌, ◌≢◌, ℕ, Bool, true, false, List, [], ◌∷◌, ◌++◌, Option, Some, None, refl, ap, sym, subst, ◌∙◌, cond, take, nat_cmp, ⊎_elim}
 use Rattle.std.specs.Str.{bytes_eq}
 use Rattle.std.specs.Ordering.{eq_by_cmp}
 use Rattle.std.specs.Option.{option_map}
@@ -14,9 +14,10 @@ use Rattle.plan_files.specs.declared.file_fault.FileFault.TheVariants.{Failed, N
 use Rattle.plan_files.specs.declared.write.Write.{Write}
 use Rattle.plan_files.specs.declared.write.Write.TheVariants.{Put, Removal}
 use Rattle.plan_files.specs.Applied.{AreApplied, AreCutShort, IsTorn, LeftBy}
-use Rattle.plan_files.specs.Changes.{after_write, folder_after, write_name}
-use Rattle.plan_files.specs.Folder.{Folder, PutLeaves, RemoveLeaves}
-use Rattle.plan_files.specs.Others.{SameBut, KeepsOthers, AreOutside}
+use Rattle.plan_files.specs.Changes.{after_write, folder_after, folder_of, write_name}
+use Rattle.plan_files.specs.Folder.{Folder}
+use Rattle.plan_files.specs.Others.{SameBut, AreOutside}
+use Rattle.plan_files.proofs.Writes.{folder_after_push, get_written}
 
 -- a name is not another one
 different : (b : Bool) (other name : List ℕ) → (b ≡ true → other ≡ name) → other ≢ name → b ≡ false
@@ -31,30 +32,6 @@ insert_keeps folder name bytes other ne = map.get-insert nat_list_cmp_total fold
 
 pub remove_keeps : (folder : Folder) (name : List ℕ) → SameBut name folder (map.remove folder name)
 remove_keeps folder name other ne = map.get-remove nat_list_cmp_total folder name other ∙ ap (λ b. cond b None (map.get folder other)) (not_equal other name ne)
-
--- the same where the folder is told
-pub same_keeps : (name : List ℕ) (old : Option Folder) → KeepsOthers name old old
-same_keeps name None = refl
-same_keeps name (Some folder) = λ other ne. refl
-
-pub inserted_keeps : (name bytes : List ℕ) (old : Option Folder) → KeepsOthers name old (option_map (λ folder. map.insert folder name bytes) old)
-inserted_keeps name bytes None = refl
-inserted_keeps name bytes (Some folder) = insert_keeps folder name bytes
-
-pub removed_keeps : (name : List ℕ) (old : Option Folder) → KeepsOthers name old (option_map (λ folder. map.remove folder name) old)
-removed_keeps name None = refl
-removed_keeps name (Some folder) = remove_keeps folder name
-
--- a put and a removal leave every other file, whatever they answer
-pub put_keeps_others : {T : Type 0} (name bytes : List ℕ) (old new : Option Folder) (result : Result T FileFault) → PutLeaves name bytes old new result → KeepsOthers name old new
-put_keeps_others name bytes old new (Ok _) h = rw h (inserted_keeps name bytes old)
-put_keeps_others name bytes old new (Err Failed) h = ⊎_elim (λ same. rw same (same_keeps name old)) (λ part. rw part.1 (inserted_keeps name (take part.0 bytes) old)) h
-put_keeps_others name bytes old new (Err NoMemory) h = rw h (same_keeps name old)
-
-pub remove_keeps_others : {T : Type 0} (name : List ℕ) (old new : Option Folder) (result : Result T FileFault) → RemoveLeaves name old new result → KeepsOthers name old new
-remove_keeps_others name old new (Ok _) h = rw h (removed_keeps name old)
-remove_keeps_others name old new (Err Failed) h = ⊎_elim (λ same. rw same (same_keeps name old)) (λ gone. rw gone (removed_keeps name old)) h
-remove_keeps_others name old new (Err NoMemory) h = rw h (same_keeps name old)
 
 -- ---- files of a kind that no write names
 
@@ -71,6 +48,21 @@ get_part test folder name = map.get-retain_keys folder test name (λ other tied.
 -- folders with the same bytes under each name are one
 pub same_folder : (folder other : Folder) → ((name : List ℕ) → map.get folder name ≡ map.get other name) → folder ≡ other
 same_folder folder other same = map.same_map nat_list_cmp_total (map.slice_cmp-IsAntisymmetric map.nat_cmp-IsAntisymmetric) folder other same
+
+absent_stays : (folder : Folder) (name other : List ℕ) (b : Bool) → (b ≡ true → other ≡ name)
+    → map.get folder name ≡ None → cond b None (map.get folder other) ≡ map.get folder other
+absent_stays folder name other true same absent = sym (ap (map.get folder) (same refl) ∙ absent)
+absent_stays folder name other false same absent = refl
+
+-- a folder without a name stays as it is where the name is removed
+pub remove_absent : (writes : List Write) (name : List ℕ) → map.get (folder_of writes) name ≡ None
+    → folder_of (writes ++ Removal name ∷ []) ≡ folder_of writes
+remove_absent writes name absent =
+    let before = folder_of writes in
+    folder_after_push writes (Removal name) map.empty
+    ∙ same_folder (map.remove before name) before (λ other.
+    get_written (Removal name) before other
+    ∙ absent_stays before name other (bytes_eq other name) (bytes_eq-Decides other name).0 absent)
 
 part_kept : (test : List ℕ → Bool) (name : List ℕ) (old new : Folder) → test name ≡ false → SameBut name old new → (b : Bool) (other : List ℕ) → test other ≡ b → cond b (map.get new other) None ≡ cond b (map.get old other) None
 part_kept test name old new out same true other is = same other (λ e. false≢true (sym out ∙ ap test (sym e) ∙ is))

@@ -7,8 +7,13 @@ mod drive;
 mod faults;
 mod file_fault;
 mod folder_files;
+#[cfg(test)]
+mod folder_tests;
 mod memory_sink;
 mod name;
+mod place;
+#[cfg(test)]
+mod refusing_tests;
 mod sink;
 mod sink_fault;
 mod std_sink;

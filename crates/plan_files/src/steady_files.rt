@@ -102,7 +102,7 @@ impl Files for SteadyFiles {
         Ok(())
     }
 
-    #[tactic(auto, using(crate::proofs::Writes::folder_after_push))]
+    #[tactic(auto, using(crate::proofs::Writes::folder_after_push, crate::proofs::OtherFiles::remove_absent))]
     fn remove(&mut self, name: &str) -> Result<(), FileFault> {
         let name = Name::copy(self.alloc, name)?;
         self.writes.push(Write::Removal(name))?;
