@@ -8,19 +8,22 @@ use Rattle.plan_files.specs.declared.write.Write.TheVariants.{Put, Removal}
 use Rattle.plan_files.specs.Folder.{Folder}
 use Rattle.plan_files.specs.Changes.{after_write, folder_after}
 
--- what a write leaves that was not finished: all as before, or a front part of the bytes, or the removal
+-- what a write leaves that was not finished: all as before, or a front part of the bytes, or the
+-- removal done
 abbrev pub IsTorn : Write → Option Folder → Option Folder → Type 0
 IsTorn (Put name bytes) old new =
     (new ≡ old) ⊎ ((kept : ℕ) × (new ≡ option_map (after_write (Put name (take kept bytes))) old))
 IsTorn (Removal name) old new = (new ≡ old) ⊎ (new ≡ option_map (after_write (Removal name)) old)
 
--- what is left of a write that was not finished, by why it was not: where memory was refused all is as before
+-- what is left of a write that was not finished, by why it was not: where memory was refused all
+-- is as before
 abbrev pub LeftBy : FileFault → Write → Option Folder → Option Folder → Type 0
 LeftBy Failed write old new = IsTorn write old new
 LeftBy NoMemory write old new = new ≡ old
 
 -- the folder after a call that writes, by its answer
-abbrev pub Leaves : {T : Type 0} → Write → Option Folder → Option Folder → Result T FileFault → Type 0
+abbrev pub Leaves :
+    {T : Type 0} → Write → Option Folder → Option Folder → Result T FileFault → Type 0
 Leaves write old new (Ok _) = new ≡ option_map (after_write write) old
 Leaves write old new (Err fault) = LeftBy fault write old new
 

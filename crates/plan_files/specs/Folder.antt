@@ -1,6 +1,6 @@
 -- What calls on files find, and whether they failed.
-use Rattle.std.specs.Prelude.{ℕ, ◌≤◌, ◌<◌, ⊤, Bool, true, false, if◌then◌else◌, nat_le, List, length}
-use Rattle.std.specs.Prelude.{Option, Some, None, Result, Ok, Err}
+use Rattle.std.specs.Prelude.{ℕ, ◌≤◌, ◌<◌, ⊤, Bool, true, false, if◌then◌else◌, nat_le}
+use Rattle.std.specs.Prelude.{List, length, Option, Some, None, Result, Ok, Err}
 use Rattle.std.specs.Cmp.Lexicographic.{slice_cmp}
 use Rattle.std.specs.Ordering.{nat_cmp}
 use Rattle.std.specs.FinMap as map
@@ -26,7 +26,8 @@ got_of folder name limit = found (map.get folder name) limit
 abbrev pub last_length : ℕ
 last_length = 18446744073709551615
 
--- What is found keeps to a limit: bytes are at most so many, and no file is too long for the greatest limit.
+-- What is found keeps to a limit: bytes are at most so many, and no file is too long for the
+-- greatest limit.
 abbrev pub KeepsLimit : ℕ → Got → Type 0
 KeepsLimit limit (Bytes bytes) = length bytes ≤ limit
 KeepsLimit limit Absent = ⊤

@@ -8,7 +8,8 @@ use crate::file_fault::FileFault;
 use crate::store::Files;
 use crate::write::Write;
 
-/// Makes writes in their order. A fault ends it: those before are made, and one that failed may be made in part.
+/// Makes writes in their order. A fault ends it: those before are made, and one that failed may be
+/// made in part.
 pub fn apply_all<F: Files>(files: &mut F, writes: &[Write]) -> Result<(), FileFault>
     ensures ok { OnOk result (AreApplied writes.now
         (F.contents files.old) (F.contents files.new) (F.writes files.old) (F.writes files.new)) }

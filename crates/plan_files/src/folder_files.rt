@@ -16,9 +16,9 @@ use std::{fs, io, rt};
 
 /// The files below the folder that the program runs in. Which files are there is not told.
 ///
-/// A name stands for a regular file to which folders lead. Where a link or something else stands under a name, or on the
-/// way to it, each call fails; so does a put over a file that has a second name. A name that is too long for the system is
-/// one of no file.
+/// A name stands for a regular file to which folders lead. Where a link or something else stands
+/// under a name, or on the way to it, each call fails; so does a put over a file that has a second
+/// name. Under a name that no file of the system can have, as one that is too long, there is none.
 #[derive(Drop)]
 pub struct FolderFiles<'a, R: rt::Files> {
     rt: &'a R,
@@ -108,22 +108,28 @@ fn read_file<R: rt::Files>(rt: &R, alloc: Global, name: &str, limit: u64) -> Res
 
 // Makes the name's folder where it is not there.
 fn write_file<R: rt::Files>(rt: &R, name: &str, bytes: &[u8]) -> Result<(), FileFault> {
-    if let Place::Other = place_of(rt, name)? {
-        return Err(FileFault::Failed);
-    }
+    let is_new = match place_of(rt, name)? {
+        Place::Vacant => true,
+        Place::Regular => false,
+        Place::Other => return Err(FileFault::Failed),
+    };
     if let Some((folder, _)) = name.rsplit_once('/') {
         fs::create_dir_all(rt, folder)?;
     }
     // From here on bytes may have changed, and no fault is want of memory.
-    match replace_bytes(rt, name, bytes) {
+    match replace_bytes(rt, name, is_new, bytes) {
         Ok(()) => Ok(()),
         Err(_) => Err(FileFault::Failed),
     }
 }
 
-// Empties a file before it is written, once it is known to be a regular one that has no other name.
-fn replace_bytes<R: rt::Files>(rt: &R, name: &str, bytes: &[u8]) -> io::Result<()> {
-    let mut file = OpenOptions::new().write(true).create(true).open(rt, name)?;
+// Makes a file that was not there, and empties one that was, once it is known to be a regular file
+// that has no other name.
+fn replace_bytes<R: rt::Files>(rt: &R, name: &str, is_new: bool, bytes: &[u8]) -> io::Result<()> {
+    let mut file = OpenOptions::new()
+        .write(true)
+        .create_new(is_new)
+        .open(rt, name)?;
     let found = file.metadata()?;
     if !found.is_file() || found.nlink() > 1 {
         return Err(io::Error::from(ErrorKind::InvalidInput));

@@ -1,4 +1,5 @@
-//! Files and sinks as the planning chain sees them: what each call answers and leaves, with counts of faults.
+//! Files and sinks as the planning chain sees them: what each call answers and leaves, with counts
+//! of faults.
 #![tactic(auto)]
 
 mod apply;

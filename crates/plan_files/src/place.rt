@@ -15,7 +15,8 @@ pub(crate) enum Place {
     Other,
 }
 
-/// Looks at a name, and at each folder on the way to it. It follows no link, so one is a place of another kind.
+/// Looks at a name, and at each folder on the way to it. It follows no link, so one is a place of
+/// another kind.
 pub(crate) fn place_of<R: rt::Files>(rt: &R, name: &str) -> io::Result<Place> {
     for folder in Path::new(name).ancestors().skip(1) {
         if let Some(found) = look_at(rt, folder.as_str())? {
@@ -40,8 +41,8 @@ fn look_at<R: rt::Files>(rt: &R, path: &str) -> io::Result<Option<Metadata>> {
     }
 }
 
-// Whether an error says that nothing is there: no such file, or a name that no file of the system can have, as one that is
-// too long or has a zero byte.
+// Whether an error says that nothing is there: no such file, or a name that no file of the system
+// can have, as one that is too long or has a zero byte.
 fn tells_nothing_there(kind: ErrorKind) -> bool {
     matches!(
         kind,

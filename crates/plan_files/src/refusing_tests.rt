@@ -9,7 +9,8 @@ use std::io::{ErrorKind, Read, Seek, SeekFrom, Write};
 use std::test::Fail;
 use std::{io, rt};
 
-// Has one regular file. The first calls are taken, and each one from then on is refused for one reason.
+// Has one regular file. The first calls are taken, and each one from then on is refused for one
+// reason.
 #[derive(Drop)]
 struct Disk {
     taken: Cell<u8>,

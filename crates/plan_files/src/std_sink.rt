@@ -70,7 +70,8 @@ mod tests {
     use std::fmt::Display;
     use std::test::Fail;
 
-    // Takes a few bytes at a time, and nothing once it is full. Every other write is refused, or interrupted.
+    // Takes a few bytes at a time, and nothing once it is full. Every other write is refused, or
+    // interrupted.
     #[derive(Drop)]
     struct Output {
         room: Cell<usize>,

@@ -31,7 +31,8 @@ pub trait Files {
     /// How often a call has failed, as a counter of 64 bits which stops at its last value.
     ghost faults: { Self → ℕ };
 
-    /// The bytes under a name, where they are at most `limit`. With the greatest limit no file is too long.
+    /// The bytes under a name, where they are at most `limit`. For the greatest limit no file is
+    /// too long.
     fn get(&mut self, alloc: Global, name: &str, limit: u64) -> Result<Got, FileFault>
         ensures got { IfSome (contents self.old) (λ folder.
             IfOk result (λ got. got ≡ got_of folder name.now limit)) }
@@ -41,14 +42,16 @@ pub trait Files {
 
     /// Puts bytes under a name, in the place of those that are there.
     fn put(&mut self, name: &str, bytes: &[u8]) -> Result<(), FileFault>
-        ensures contents { Leaves (Put name.now bytes.now) (contents self.old) (contents self.new) result }
+        ensures contents { Leaves (Put name.now bytes.now)
+            (contents self.old) (contents self.new) result }
         ensures writes { Notes (Put name.now bytes.now) (writes self.old) (writes self.new) result }
         ensures faults { Counts (has_failed result) (faults self.old) (faults self.new) }
         ensures capped { faults self.new ≤ last_count };
 
     /// Removes the file of a name, if there is one.
     fn remove(&mut self, name: &str) -> Result<(), FileFault>
-        ensures contents { Leaves (Removal name.now) (contents self.old) (contents self.new) result }
+        ensures contents { Leaves (Removal name.now)
+            (contents self.old) (contents self.new) result }
         ensures writes { Notes (Removal name.now) (writes self.old) (writes self.new) result }
         ensures faults { Counts (has_failed result) (faults self.old) (faults self.new) }
         ensures capped { faults self.new ≤ last_count }
