@@ -1,4 +1,3 @@
 pub mod Applying
 pub mod OtherFiles
 pub mod Writes
-pub mod Written

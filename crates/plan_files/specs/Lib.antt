@@ -4,4 +4,5 @@ pub mod Counts
 pub mod Folder
 pub mod Kinds
 pub mod Others
+pub mod Reads
 pub mod Sinks

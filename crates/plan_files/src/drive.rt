@@ -7,14 +7,14 @@ use std::test::Fail;
 
 /// A call on files.
 #[derive(Debug, Drop)]
-pub enum Call {
-    Put(&'static str, &'static str),
-    Get(&'static str, u64),
-    Remove(&'static str),
+pub enum Call<'a> {
+    Put(&'a str, &'a str),
+    Get(&'a str, u64),
+    Remove(&'a str),
 }
 
 // What a call answered: the bytes that were got, or a word.
-fn answer<F: Files>(alloc: Global, files: &mut F, call: &Call) -> Result<String, AllocError> {
+fn answer<F: Files>(alloc: Global, files: &mut F, call: &Call<'_>) -> Result<String, AllocError> {
     let changed = match call {
         Call::Put(name, bytes) => files.put(name, bytes.as_bytes()),
         Call::Remove(name) => files.remove(name),
@@ -41,7 +41,7 @@ pub fn drive<F: Files>(
     rt: &impl Abort,
     alloc: Global,
     files: &mut F,
-    rows: &[(Call, &str)],
+    rows: &[(Call<'_>, &str)],
 ) -> Result<(), Fail> {
     for (call, expected) in rows {
         let told = answer(alloc, files, call)?;

@@ -1,17 +1,24 @@
 // The files of the real folder.
-ghost use Rattle.std.specs.Prelude.{◌≡◌, None};
-ghost use Rattle.plan_files.specs.Folder.{CountsFault};
+ghost use Rattle.std.specs.Prelude.{◌≡◌, ◌≤◌, None, IfOk};
+ghost use Rattle.plan_files.specs.Counts.{Counts, last_count};
+ghost use Rattle.plan_files.specs.Folder.{has_failed, KeepsLimit};
 
 use crate::faults::count_fault;
 use crate::file_fault::FileFault;
+use crate::place::{Place, place_of};
 use crate::store::{Files, Got};
 use plan_num::{Tally, Text};
 use std::alloc::Global;
 use std::fs::{OpenFile, OpenOptions};
 use std::io::{ErrorKind, Read, Write};
+use std::os::unix::fs::MetadataExt;
 use std::{fs, io, rt};
 
 /// The files below the folder that the program runs in. Which files are there is not told.
+///
+/// A name stands for a regular file to which folders lead. Where a link or something else stands
+/// under a name, or on the way to it, each call fails; so does a put over a file that has a second
+/// name. Under a name that no file of the system can have, as one that is too long, there is none.
 #[derive(Drop)]
 pub struct FolderFiles<'a, R: rt::Files> {
     rt: &'a R,
@@ -32,11 +39,20 @@ impl<'a, R: rt::Files> FolderFiles<'a, R> {
         }
     }
 
+    // How many calls have failed.
+    #[cfg(test)]
+    pub(crate) fn faults(&self) -> u64 {
+        self.faults.seen()
+    }
+
     // Passes an answer on, and counts it where it is a fault other than want of memory.
     fn counted<T>(&mut self, answer: Result<T, FileFault>) -> Result<T, FileFault>
         ensures answer { result ≡ answer }
-        ensures faults { CountsFault self.old.faults self.new.faults answer }
+        ensures faults { Counts (has_failed answer) self.old.faults self.new.faults }
+        ensures capped { self.new.faults ≤ last_count }
     {
+        // What is read is known to be a number of 64 bits.
+        let _seen = self.faults.seen();
         if let Err(FileFault::Failed) = answer {
             count_fault(&mut self.faults);
         }
@@ -64,35 +80,10 @@ impl<R: rt::Files> Files for FolderFiles<'_, R> {
     }
 }
 
-// What stands under a name.
-#[derive(Clone, Copy)]
-enum Place {
-    Vacant,
-    Regular,
-    Other,
-}
-
-// Follows links. One that leads nowhere is there, and is no regular file.
-fn place_of<R: rt::Files>(rt: &R, name: &str) -> io::Result<Place> {
-    match fs::metadata(rt, name) {
-        Ok(found) if found.is_file() => Ok(Place::Regular),
-        Ok(_) => Ok(Place::Other),
-        Err(error) if error.kind() == ErrorKind::NotFound => match fs::symlink_metadata(rt, name) {
-            Ok(_) => Ok(Place::Other),
-            Err(error) if error.kind() == ErrorKind::NotFound => Ok(Place::Vacant),
-            Err(error) => Err(error),
-        },
-        Err(error) => Err(error),
-    }
-}
-
 // Reads at most one byte more than the file had when it was opened.
-fn read_file<R: rt::Files>(
-    rt: &R,
-    alloc: Global,
-    name: &str,
-    limit: u64,
-) -> Result<Got, FileFault> {
+fn read_file<R: rt::Files>(rt: &R, alloc: Global, name: &str, limit: u64) -> Result<Got, FileFault>
+    ensures { IfOk result (KeepsLimit limit) }
+{
     match place_of(rt, name)? {
         Place::Vacant => return Ok(Got::Absent),
         Place::Regular => {}
@@ -117,23 +108,30 @@ fn read_file<R: rt::Files>(
 
 // Makes the name's folder where it is not there.
 fn write_file<R: rt::Files>(rt: &R, name: &str, bytes: &[u8]) -> Result<(), FileFault> {
-    if let Place::Other = place_of(rt, name)? {
-        return Err(FileFault::Failed);
-    }
+    let is_new = match place_of(rt, name)? {
+        Place::Vacant => true,
+        Place::Regular => false,
+        Place::Other => return Err(FileFault::Failed),
+    };
     if let Some((folder, _)) = name.rsplit_once('/') {
         fs::create_dir_all(rt, folder)?;
     }
     // From here on bytes may have changed, and no fault is want of memory.
-    match replace_bytes(rt, name, bytes) {
+    match replace_bytes(rt, name, is_new, bytes) {
         Ok(()) => Ok(()),
         Err(_) => Err(FileFault::Failed),
     }
 }
 
-// Empties a file before it is written, once it is known to be a regular one.
-fn replace_bytes<R: rt::Files>(rt: &R, name: &str, bytes: &[u8]) -> io::Result<()> {
-    let mut file = OpenOptions::new().write(true).create(true).open(rt, name)?;
-    if !file.metadata()?.is_file() {
+// Makes a file that was not there, and empties one that was, once it is known to be a regular file
+// that has no other name.
+fn replace_bytes<R: rt::Files>(rt: &R, name: &str, is_new: bool, bytes: &[u8]) -> io::Result<()> {
+    let mut file = OpenOptions::new()
+        .write(true)
+        .create_new(is_new)
+        .open(rt, name)?;
+    let found = file.metadata()?;
+    if !found.is_file() || found.nlink() > 1 {
         return Err(io::Error::from(ErrorKind::InvalidInput));
     }
     file.set_len(0)?;
@@ -146,71 +144,5 @@ fn remove_file<R: rt::Files>(rt: &R, name: &str) -> Result<(), FileFault> {
         Place::Vacant => Ok(()),
         Place::Regular => Ok(fs::remove_file(rt, name)?),
         Place::Other => Err(FileFault::Failed),
-    }
-}
-
-#[cfg(test)]
-mod tests {
-    use super::*;
-    use crate::drive::{Call, drive};
-    use std::env::set_current_dir;
-    use std::os::unix::fs::symlink;
-    use std::test::Fail;
-
-    // The test's own folder, among what is made and never kept.
-    const FOLDER: &str = "out/folder_test";
-
-    #[test]
-    fn works_in_a_real_folder(rt: HostRuntime) -> Result<(), Fail> {
-        // what an earlier run left where it stopped half-way
-        let _ = fs::remove_dir_all(&rt, FOLDER);
-        fs::create_dir_all(&rt, FOLDER)?;
-        set_current_dir(&rt, FOLDER)?;
-        let mut files = FolderFiles::here(&rt, rt.alloc());
-        let rows = [
-            (Call::Get("basis/Edge.giv", 9), "absent"),
-            (Call::Remove("basis/Edge.giv"), "done"),
-            (Call::Put("basis/Edge.giv", "1; 2; 3"), "done"),
-            (Call::Get("basis/Edge.giv", 7), "1; 2; 3"),
-            (Call::Get("basis/Edge.giv", 6), "too long"),
-            (Call::Put("basis/Edge.giv", "4"), "done"),
-            (Call::Get("basis/Edge.giv", 7), "4"),
-            (Call::Remove("basis/Edge.giv"), "done"),
-            (Call::Get("basis/Edge.giv", 9), "absent"),
-            (Call::Remove("basis/Edge.giv"), "done"),
-            (Call::Put("Report", ""), "done"),
-            (Call::Get("Report", 0), ""),
-        ];
-        drive(&rt, rt.alloc(), &mut files, &rows)?;
-        assert_eq!(rt; files.faults.seen(), 0);
-        symlink(&rt, "nowhere", "link")?;
-        let faults = [
-            (Call::Get("basis", 9), "file fault"),
-            (Call::Put("basis", "5"), "file fault"),
-            (Call::Remove("basis"), "file fault"),
-            (Call::Get("Report/Edge.giv", 9), "file fault"),
-            (Call::Put("Report/Edge.giv", "5"), "file fault"),
-            (Call::Remove("Report/Edge.giv"), "file fault"),
-            (Call::Get("link", 9), "file fault"),
-            (Call::Put("link", "5"), "file fault"),
-            (Call::Remove("link"), "file fault"),
-            (Call::Get("/dev/null", 9), "file fault"),
-            (Call::Put("/dev/null", "5"), "file fault"),
-            (Call::Remove("/dev/null"), "file fault"),
-            // its length is told as 0, and there is more to read
-            (Call::Get("/proc/version", 9), "file fault"),
-        ];
-        drive(&rt, rt.alloc(), &mut files, &faults)?;
-        assert_eq!(rt; files.faults.seen(), faults.len() as u64);
-        let kept = [
-            (Call::Get("Report", 0), ""),
-            (Call::Get("nowhere", 9), "absent"),
-            (Call::Put("basis/Edge.giv", "6"), "done"),
-            (Call::Get("basis/Edge.giv", 9), "6"),
-        ];
-        drive(&rt, rt.alloc(), &mut files, &kept)?;
-        set_current_dir(&rt, "../..")?;
-        fs::remove_dir_all(&rt, FOLDER)?;
-        Ok(())
     }
 }

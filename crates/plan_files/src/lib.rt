@@ -1,4 +1,5 @@
-//! Files and sinks as the planning chain sees them: what each call answers and leaves, with counts of faults.
+//! Files and sinks as the planning chain sees them: what each call answers and leaves, with counts
+//! of faults.
 #![tactic(auto)]
 
 mod apply;
@@ -7,8 +8,13 @@ mod drive;
 mod faults;
 mod file_fault;
 mod folder_files;
+#[cfg(test)]
+mod folder_tests;
 mod memory_sink;
 mod name;
+mod place;
+#[cfg(test)]
+mod refusing_tests;
 mod sink;
 mod sink_fault;
 mod std_sink;

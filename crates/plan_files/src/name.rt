@@ -5,7 +5,8 @@ use plan_num::NoMemory;
 use std::alloc::Global;
 use std::marker::Model;
 
-/// The name of a file, as a path below the dataset's folder. Contracts see it as the list of its bytes.
+/// The name of a file, as a path below the dataset's folder. Contracts see it as the list of its
+/// bytes.
 #[derive(Debug, Drop)]
 pub struct Name {
     text: String,

@@ -1,6 +1,7 @@
 // Where reports go.
-ghost use Rattle.std.specs.Prelude.{List, ℕ, Option};
-ghost use Rattle.plan_files.specs.Sinks.{WriteLeaves, CountsSinkFault};
+ghost use Rattle.std.specs.Prelude.{◌≤◌, List, ℕ, Option};
+ghost use Rattle.plan_files.specs.Counts.{Counts, last_count};
+ghost use Rattle.plan_files.specs.Sinks.{WriteLeaves, is_broken};
 
 use crate::sink_fault::SinkFault;
 
@@ -15,5 +16,6 @@ pub trait Sink {
     /// Appends a piece.
     fn write(&mut self, piece: &[u8]) -> Result<(), SinkFault>
         ensures written { WriteLeaves piece.now (written self.old) (written self.new) result }
-        ensures faults { CountsSinkFault (faults self.old) (faults self.new) result };
+        ensures faults { Counts (is_broken result) (faults self.old) (faults self.new) }
+        ensures capped { faults self.new ≤ last_count };
 }

@@ -33,6 +33,8 @@ impl<R: Print> Sink for StdSink<'_, R> {
     ghost faults = { λ sink. sink.faults };
 
     fn write(&mut self, piece: &[u8]) -> Result<(), SinkFault> {
+        // What is read is known to be a number of 64 bits.
+        let _seen = self.faults.seen();
         match print_whole(self.rt, piece) {
             Ok(()) => Ok(()),
             Err(_) => {
@@ -68,11 +70,13 @@ mod tests {
     use std::fmt::Display;
     use std::test::Fail;
 
-    // Takes a few bytes at a time, and nothing once it is full. Every other write is interrupted.
+    // Takes a few bytes at a time, and nothing once it is full. Every other write is refused, or
+    // interrupted.
     #[derive(Drop)]
     struct Output {
         room: Cell<usize>,
         is_ready: Cell<bool>,
+        reason: ErrorKind,
     }
 
     impl Print for Output {
@@ -92,12 +96,26 @@ mod tests {
             let is_ready = self.is_ready.get();
             self.is_ready.set(!is_ready);
             if !is_ready {
-                return Err(io::Error::from(ErrorKind::Interrupted));
+                return Err(io::Error::from(self.reason));
             }
             let room = self.room.get();
             let count = bytes.len().min(2).min(room);
             self.room.set(room - count);
             Ok(count)
+        }
+    }
+
+    #[test]
+    fn each_error_is_a_failure(rt: HostRuntime) {
+        for reason in [ErrorKind::BrokenPipe, ErrorKind::OutOfMemory] {
+            let output = Output {
+                room: Cell::new(6),
+                is_ready: Cell::new(false),
+                reason,
+            };
+            let mut sink = StdSink::new(&output);
+            assert_eq!(rt; sink.write(b"done\n"), Err(SinkFault::Failed), "{reason:?}");
+            assert_eq!(rt; sink.faults.seen(), 1, "{reason:?}");
         }
     }
 
@@ -109,6 +127,7 @@ mod tests {
         let full = Output {
             room: Cell::new(6),
             is_ready: Cell::new(false),
+            reason: ErrorKind::Interrupted,
         };
         let mut sink = StdSink::new(&full);
         let rows = [

@@ -13,7 +13,8 @@ use plan_num::Text;
 use std::alloc::Global;
 use std::marker::Model;
 
-/// Files in memory. Contracts see them as the list of the writes that were made, from no files at all.
+/// Files in memory. Contracts see them as the list of the writes that were made, from no files at
+/// all.
 #[derive(Debug, Drop)]
 pub struct SteadyFiles {
     alloc: Global,
@@ -71,7 +72,8 @@ impl SteadyFiles {
     /// Whether a write put bytes.
     pub fn write_is_put(&self, index: usize) -> bool
         requires { index < length self.now }
-        ensures { Some result ≡ option_map (λ write. is_some (left_by write)) (slice_get self.now index) }
+        ensures { Some result
+            ≡ option_map (λ write. is_some (left_by write)) (slice_get self.now index) }
     {
         self.writes[index].is_put()
     }
@@ -102,7 +104,7 @@ impl Files for SteadyFiles {
         Ok(())
     }
 
-    #[tactic(auto, using(crate::proofs::Writes::folder_after_push))]
+    #[tactic(auto, using(crate::proofs::Writes::folder_after_push, crate::proofs::OtherFiles::remove_absent))]
     fn remove(&mut self, name: &str) -> Result<(), FileFault> {
         let name = Name::copy(self.alloc, name)?;
         self.writes.push(Write::Removal(name))?;

@@ -1,9 +1,12 @@
 // Files by name.
-ghost use Rattle.std.specs.Prelude.{◌≡◌, ◌≤◌, ◌++◌, ◌∷◌, [], List, ℕ, Option, IfSome, IfOk, IfErr, OnOk};
-ghost use Rattle.plan_files.specs.declared.store.Got.{Got};
+ghost use Rattle.std.specs.Prelude.{◌≡◌, ◌≤◌, List, ℕ, Option, None, IfSome, IfOk};
+ghost use Rattle.std.specs.FinMap as map;
 ghost use Rattle.plan_files.specs.declared.write.Write.{Write};
 ghost use Rattle.plan_files.specs.declared.write.Write.TheVariants.{Put, Removal};
-ghost use Rattle.plan_files.specs.Folder.{Folder, got_of, PutLeaves, RemoveLeaves, NotesWrite, CountsFault};
+ghost use Rattle.plan_files.specs.Applied.{Leaves, Notes};
+ghost use Rattle.plan_files.specs.Counts.{Counts, last_count};
+ghost use Rattle.plan_files.specs.Folder.{Folder, got_of, has_failed, KeepsLimit};
+ghost use Rattle.plan_files.specs.Reads.{OnlyReads};
 
 use crate::file_fault::FileFault;
 use plan_num::Text;
@@ -28,22 +31,32 @@ pub trait Files {
     /// How often a call has failed, as a counter of 64 bits which stops at its last value.
     ghost faults: { Self → ℕ };
 
-    /// The bytes under a name, up to a limit. It changes no file.
+    /// The bytes under a name, where they are at most `limit`. For the greatest limit no file is
+    /// too long.
     fn get(&mut self, alloc: Global, name: &str, limit: u64) -> Result<Got, FileFault>
-        ensures got { IfSome (contents self.old) (λ folder. IfOk result (λ got. got ≡ got_of folder name.now limit)) }
-        ensures contents { contents self.new ≡ contents self.old }
-        ensures writes { writes self.new ≡ writes self.old }
-        ensures faults { CountsFault (faults self.old) (faults self.new) result };
+        ensures got { IfSome (contents self.old) (λ folder.
+            IfOk result (λ got. got ≡ got_of folder name.now limit)) }
+        ensures within { IfOk result (KeepsLimit limit) }
+        ensures reads { OnlyReads contents writes faults self.old self.new (has_failed result) }
+        ensures capped { faults self.new ≤ last_count };
 
     /// Puts bytes under a name, in the place of those that are there.
     fn put(&mut self, name: &str, bytes: &[u8]) -> Result<(), FileFault>
-        ensures contents { PutLeaves name.now bytes.now (contents self.old) (contents self.new) result }
-        ensures writes { NotesWrite (Put name.now bytes.now) (writes self.old) (writes self.new) result }
-        ensures faults { CountsFault (faults self.old) (faults self.new) result };
+        ensures contents { Leaves (Put name.now bytes.now)
+            (contents self.old) (contents self.new) result }
+        ensures writes { Notes (Put name.now bytes.now) (writes self.old) (writes self.new) result }
+        ensures faults { Counts (has_failed result) (faults self.old) (faults self.new) }
+        ensures capped { faults self.new ≤ last_count };
 
     /// Removes the file of a name, if there is one.
     fn remove(&mut self, name: &str) -> Result<(), FileFault>
-        ensures contents { RemoveLeaves name.now (contents self.old) (contents self.new) result }
-        ensures writes { NotesWrite (Removal name.now) (writes self.old) (writes self.new) result }
-        ensures faults { CountsFault (faults self.old) (faults self.new) result };
+        ensures contents { Leaves (Removal name.now)
+            (contents self.old) (contents self.new) result }
+        ensures writes { Notes (Removal name.now) (writes self.old) (writes self.new) result }
+        ensures faults { Counts (has_failed result) (faults self.old) (faults self.new) }
+        ensures capped { faults self.new ≤ last_count }
+
+        // Where there is none, all is as before.
+        ensures absent { IfSome (contents self.old) (λ folder.
+            map.get folder name.now ≡ None → contents self.new ≡ contents self.old) };
 }

@@ -1,5 +1,8 @@
 -- Digits and what they are worth.
-use Rattle.std.proofs.Common.{◌≡◌, ℕ, ◌+◌, ◌-◌, ◌*◌, ◌<◌, ◌≤◌, zero, suc, Bool, true, false, List, [], ◌∷◌, ◌++◌, length, get_or, drop, min, refl, sym, arith, add-one, drop-cons, length-append, eqb, leb, ◌&&◌, unwrap_or, position, ⊎_elim, cond, ltb, Some, None, not}
+use Rattle.std.proofs.Common.{◌≡◌, ℕ, ◌+◌, ◌-◌, ◌*◌, ◌<◌, ◌≤◌, zero, suc, Bool, true, false, List}
+use Rattle.std.proofs.Common.{[], ◌∷◌, ◌++◌, length, get_or, drop, min, refl, sym, arith, add-one}
+use Rattle.std.proofs.Common.{drop-cons, length-append, eqb, leb, ◌&&◌, unwrap_or, position, ⊎_elim}
+use Rattle.std.proofs.Common.{cond, ltb, Some, None, not}
 use Rattle.std.specs.List.{position_or_len}
 use Rattle.std.specs.Char.{is_ascii_digit}
 use Rattle.std.proofs.Math.Nat.{pow-suc, mul-le-mul_right}
@@ -15,10 +18,12 @@ unfolding value_of
 value_of-none = refl
 
 -- one more digit makes ten times as much
-pub value_of-push : (digits : List ℕ) (digit : ℕ) → value_of (digits ++ digit ∷ []) ≡ value_of digits * 10 + (digit - 48)
+pub value_of-push : (digits : List ℕ) (digit : ℕ)
+    → value_of (digits ++ digit ∷ []) ≡ value_of digits * 10 + (digit - 48)
 unfolding value_of
 value_of-push [] digit = omega arith
-value_of-push (d ∷ ds) digit = rw (length-append ds (digit ∷ []), add-one, pow-suc) (omega (arith, value_of-push ds digit))
+value_of-push (d ∷ ds) digit =
+    rw (length-append ds (digit ∷ []), add-one, pow-suc) (omega (arith, value_of-push ds digit))
 
 -- both tests passed
 pub both_passed : (a b : Bool) → (a && b) ≡ true → (a ≡ true) × (b ≡ true)
@@ -30,18 +35,25 @@ pub digit_range : (digit : ℕ) → is_ascii_digit digit ≡ true → (48 ≤ di
 digit_range digit h = grind (arith, nat_tests, both_passed (leb 48 digit) (leb digit 57) h)
 
 -- each of the digits is one
-pub digit_in : (digits : List ℕ) (i : ℕ) → all_digits digits ≡ true → i < length digits → (48 ≤ get_or digits i 0) × (get_or digits i 0 ≤ 57)
+pub digit_in : (digits : List ℕ) (i : ℕ) → all_digits digits ≡ true → i < length digits
+    → (48 ≤ get_or digits i 0) × (get_or digits i 0 ≤ 57)
 digit_in [] i h lt = absurd (omega arith)
 digit_in (d ∷ ds) zero h lt = digit_range d (both_passed (is_ascii_digit d) (all_digits ds) h).0
-digit_in (d ∷ ds) (suc i) h lt = digit_in ds i (both_passed (is_ascii_digit d) (all_digits ds) h).1 (omega arith)
+digit_in (d ∷ ds) (suc i) h lt =
+    digit_in ds i (both_passed (is_ascii_digit d) (all_digits ds) h).1 (omega arith)
 
 -- the digit at a place, and what those behind it are worth
-pub value_at-turn : (ps digits : List ℕ) (i place digit : ℕ) → i < length ps → i < length digits → place ≡ get_or ps i 0 → digit ≡ get_or digits i 0 → value_at (drop i ps) (drop i digits) ≡ place * (digit - 48) + value_at (drop (i + 1) ps) (drop (i + 1) digits)
+pub value_at-turn : (ps digits : List ℕ) (i place digit : ℕ) → i < length ps → i < length digits
+    → place ≡ get_or ps i 0 → digit ≡ get_or digits i 0
+    → value_at (drop i ps) (drop i digits)
+    ≡ place * (digit - 48) + value_at (drop (i + 1) ps) (drop (i + 1) digits)
 unfolding value_at
-value_at-turn ps digits i place digit p d e f = rw (drop-cons ps i 0, drop-cons digits i 0, add-one) (rw (e, f) (omega arith))
+value_at-turn ps digits i place digit p d e f =
+    rw (drop-cons ps i 0, drop-cons digits i 0, add-one) (rw (e, f) (omega arith))
 
 -- behind the last place or the last digit nothing is left
-pub value_at-end : (ps digits : List ℕ) (i : ℕ) → i ≡ min (length ps) (length digits) → value_at (drop i ps) (drop i digits) ≡ 0
+pub value_at-end : (ps digits : List ℕ) (i : ℕ) → i ≡ min (length ps) (length digits)
+    → value_at (drop i ps) (drop i digits) ≡ 0
 unfolding value_at
 value_at-end [] ds i e = let none : i ≡ 0 = omega arith in rw none refl
 value_at-end (p ∷ ps) [] i e = let none : i ≡ 0 = omega arith in rw none refl
@@ -61,7 +73,12 @@ value_at-small (p ∷ ps) [] h = omega arith
 value_at-small (p ∷ ps) (d ∷ ds) h =
     let range = digit_range d (both_passed (is_ascii_digit d) (all_digits ds) h).0 in
     let less : d - 48 ≤ 9 = omega (arith, range) in
-    omega (arith, mul-le-mul_right p less, value_at-small ps ds (both_passed (is_ascii_digit d) (all_digits ds) h).1)
+    omega (
+      arith,
+      mul-le-mul_right p less,
+      value_at-small ps ds
+          (both_passed (is_ascii_digit d) (all_digits ds) h).1,
+    )
 
 -- zeros are worth nothing
 pub value_at-zero : (ps digits : List ℕ) → all_zero digits ≡ true → value_at ps digits ≡ 0
@@ -75,8 +92,11 @@ value_at-zero (p ∷ ps) (d ∷ ds) h =
 -- a place before the end, or the end
 place_at : (n m : ℕ) → n ≤ m → unwrap_or (cond (ltb n m) (Some n) None) m ≡ n
 place_at n m h =
-    ⊎_elim (λ below. rw (lt-ltb n m below) refl) (λ past. let same : n ≡ m = omega arith in rw (le-ltb n m past) (sym same)) (cases_lt n m)
+    ⊎_elim (λ below. rw (lt-ltb n m below) refl)
+    (λ past. let same : n ≡ m = omega arith in rw (le-ltb n m past) (sym same)) (cases_lt n m)
 
 -- a place that was found, or the length
-pub place_or_length : (p : ℕ → Bool) (xs : List ℕ) → unwrap_or (position p xs) (length xs) ≡ position_or_len p xs
-place_or_length p xs = place_at (position_or_len p xs) (length xs) (prefix_len-le-length (λ x. not (p x)) xs)
+pub place_or_length : (p : ℕ → Bool) (xs : List ℕ)
+    → unwrap_or (position p xs) (length xs) ≡ position_or_len p xs
+place_or_length p xs =
+    place_at (position_or_len p xs) (length xs) (prefix_len-le-length (λ x. not (p x)) xs)

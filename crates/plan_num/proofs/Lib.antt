@@ -1,4 +1,5 @@
 pub mod Digits
 pub mod Places
+pub mod Printed
 pub mod ReadBack
 pub mod Shortest

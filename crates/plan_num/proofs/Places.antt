@@ -1,5 +1,7 @@
 -- The places of a fraction, one after the other.
-use Rattle.std.proofs.Common.{◌≡◌, ℕ, ◌+◌, ◌*◌, ◌/◌, ◌%◌, ◌<◌, zero, suc, List, [], ◌∷◌, ◌++◌, append_assoc, append-nil, ◌∙◌, sym, length, get_or, drop, refl, ap, arith, ne_eqb, add-one, drop-cons}
+use Rattle.std.proofs.Common.{◌≡◌, ℕ, ◌+◌, ◌/◌, ◌%◌, ◌<◌, zero, suc, List, [], ◌∷◌, ◌++◌}
+use Rattle.std.proofs.Common.{append_assoc, append-nil, ◌∙◌, sym, length, get_or, drop, refl, ap}
+use Rattle.std.proofs.Common.{arith, ne_eqb, add-one, drop-cons}
 use Rattle.std.proofs.lemmas.Bool.Decides.{nat_tests}
 use Rattle.plan_num.specs.Print.{places, digits_at, fraction_text}
 
@@ -7,17 +9,7 @@ use Rattle.plan_num.specs.Print.{places, digits_at, fraction_text}
 abbrev pub limits : List ℕ
 limits = 1000000 ∷ places
 
--- at a place a rest has one digit
-pub limit_at : (i : ℕ) → i < 6 → get_or limits i 0 ≡ 10 * get_or places i 0
-limit_at zero h = refl
-limit_at (suc zero) h = refl
-limit_at (suc (suc zero)) h = refl
-limit_at (suc (suc (suc zero))) h = refl
-limit_at (suc (suc (suc (suc zero)))) h = refl
-limit_at (suc (suc (suc (suc (suc zero))))) h = refl
-limit_at (suc (suc (suc (suc (suc (suc n)))))) h = absurd (omega arith)
-
--- and what is left of it is below that place
+-- what is left of a rest is below the place
 pub next_limit : (i : ℕ) → get_or limits (i + 1) 0 ≡ get_or places i 0
 next_limit i = rw add-one refl
 
@@ -43,20 +35,28 @@ unfolding digits_at
 no_places rest = refl
 
 -- another rest has the digit of the place, and then those of what is left
-pub digits_more : (ps : List ℕ) (i rest : ℕ) → i < length ps → (rest ≡ 0 → ⊥) → digits_at (drop i ps) rest ≡ (48 + rest / get_or ps i 0) ∷ digits_at (drop (i + 1) ps) (rest % get_or ps i 0)
+pub digits_more : (ps : List ℕ) (i rest : ℕ) → i < length ps → (rest ≡ 0 → ⊥)
+    → digits_at (drop i ps) rest
+    ≡ (48 + rest / get_or ps i 0) ∷ digits_at (drop (i + 1) ps) (rest % get_or ps i 0)
 unfolding digits_at
 digits_more ps i rest h ne = rw (drop-cons ps i 0) (rw add-one (grind (arith, nat_tests)))
 
 -- a digit goes from those that are left to those that are written
-pub digit_moves : (written more all left rest : List ℕ) (digit : ℕ) → more ≡ written ++ digit ∷ [] → left ≡ digit ∷ rest → written ++ left ≡ all → more ++ rest ≡ all
-digit_moves written more all left rest digit e f h = ap (λ x. x ++ rest) e ∙ append_assoc written (digit ∷ []) rest ∙ ap (λ x. written ++ x) (sym f) ∙ h
+pub digit_moves : (written more all left rest : List ℕ) (digit : ℕ) → more ≡ written ++ digit ∷ []
+    → left ≡ digit ∷ rest → written ++ left ≡ all → more ++ rest ≡ all
+digit_moves written more all left rest digit e f h =
+    ap (λ x. x ++ rest) e ∙ append_assoc written (digit ∷ []) rest ∙ ap (λ x. written ++ x) (sym f)
+    ∙ h
 
 -- no digit is left
 pub digits_done : (written all left : List ℕ) → left ≡ [] → written ++ left ≡ all → written ≡ all
 digits_done written all left e h = sym (append-nil written) ∙ ap (λ x. written ++ x) (sym e) ∙ h
 
 -- a point and all digits make the text of a fraction that is not 0
-pub fraction_told : (before dotted written : List ℕ) (millionths : ℕ) → (millionths ≡ 0 → ⊥) → dotted ≡ before ++ 46 ∷ [] → written ≡ dotted ++ digits_at places millionths → written ≡ before ++ fraction_text millionths
+pub fraction_told : (before dotted written : List ℕ) (millionths : ℕ) → (millionths ≡ 0 → ⊥)
+    → dotted ≡ before ++ 46 ∷ [] → written ≡ dotted ++ digits_at places millionths
+    → written ≡ before ++ fraction_text millionths
 fraction_told before dotted written millionths ne dots told =
     let test = ne_eqb millionths 0 ne in
-    told ∙ ap (λ x. x ++ digits_at places millionths) dots ∙ append_assoc before (46 ∷ []) (digits_at places millionths) ∙ rw test refl
+    told ∙ ap (λ x. x ++ digits_at places millionths) dots
+    ∙ append_assoc before (46 ∷ []) (digits_at places millionths) ∙ rw test refl

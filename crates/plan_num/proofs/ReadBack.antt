@@ -1,180 +1,122 @@
 -- A printed number is read back.
-use Rattle.std.proofs.Common.{◌≡◌, ℕ, ℤ, pos, neg_ℤ, negsuc, ◌+◌, ◌-◌, ◌*◌, ◌/◌, ◌%◌, ◌^◌, ◌<◌, ◌≤◌, ◌≤ℤ◌, ◌∙◌, ◌++◌, ◌||◌, suc, Bool, true, false, List, [], ◌∷◌, length, eqb, not, Some, option_map, option_and_then, refl, ap, append-nil, add-one, arith, rules, decimal, ne_eqb, ⊎_elim}
-use Rattle.std.specs.List.{before_first, after_first, position_or_len, list_all}
+use Rattle.std.proofs.Common.{◌≡◌, ℕ, ℤ, pos, neg_ℤ, negsuc, ◌+◌, ◌*◌, ◌/◌, ◌%◌, ◌^◌, ◌<◌, ◌≤◌}
+use Rattle.std.proofs.Common.{◌≤ℤ◌, ◌∙◌, ◌++◌, suc, Bool, true, false, List, [], ◌∷◌}
+use Rattle.std.proofs.Common.{eqb, Option, Some, option_map, option_and_then, refl, ap}
+use Rattle.std.proofs.Common.{append-nil, add-one, arith, decimal, ne_eqb, ⊎_elim}
+use Rattle.std.specs.List.{list_all}
 use Rattle.std.specs.Char.{is_ascii_digit}
 use Rattle.std.specs.Fmt.{signed_decimal}
-use Rattle.std.proofs.lemmas.Str.Parse.{IsDigitsTest, IsNumeralModel, numerals_by_weight}
 use Rattle.std.proofs.lemmas.Int.{ints}
-use Rattle.std.proofs.lemmas.Fmt.{digits_decimal, digits_value-decimal, decimal_nonempty}
-use Rattle.std.proofs.Math.Nat.{div-lt_iff_lt-mul, div-add-mod}
-use Rattle.std.proofs.Math.Bool.{or-true, and-false}
-use Rattle.std.proofs.Math.Seq.{take-length, take-append_seam, drop-append-add}
-use Rattle.std.proofs.Math.ListN.{drop_of_length-le}
-use Rattle.std.proofs.lemmas.Bool.{cases_lt, lt-ltb, le-ltb}
-use Rattle.std.proofs.lemmas.Bool.Decides.{nat_tests}
+use Rattle.std.proofs.Math.Bool.{and-false}
+use Rattle.std.proofs.lemmas.Bool.{cases_lt, le-ltb}
 use Rattle.std.specs.Cmp.Derive.{both_true}
 use Rattle.plan_num.specs.Print.{places, digits_at, fraction_text, magnitude_text, fixed_text}
-use Rattle.plan_num.specs.Number.{is_point, has_point, has_minus, is_number_byte, all_digits, is_numeral, parts_of, spelling_of, value_of, value_at, signed, is_beyond, fixed_from, whole_from, fixed_of, whole_of}
-use Rattle.plan_num.proofs.Digits.{both_passed, digit_range}
+use Rattle.plan_num.specs.Number.{has_minus, is_number_byte, all_digits}
+use Rattle.plan_num.specs.Number.{parts_of, spelling_of, signed}
+use Rattle.plan_num.specs.Number.{is_beyond, worth_of, whole_from, number_of, fixed_of, whole_of}
+use Rattle.plan_num.specs.Number.{Spelling}
+use Rattle.plan_num.proofs.Printed.{tens, decimal_digits, decimal_value, decimal_some}
+use Rattle.plan_num.proofs.Printed.{digits_at-digits, value_at-digits_at, no_minus, parts_of-digits}
+use Rattle.plan_num.proofs.Printed.{parts_of-printed}
+use Rattle.plan_num.proofs.Digits.{both_passed}
 use Rattle.plan_num.proofs.Places.{digits_of_zero}
 
-abbrev pub AreDigits : List ℕ → Type 0
-AreDigits digits = all_digits digits ≡ true
-
--- a number between those of '0' and '9' is a digit
-pub is_digit : (digit : ℕ) → 48 ≤ digit → digit ≤ 57 → is_ascii_digit digit ≡ true
-is_digit digit low high = search (rules, nat_tests)
-
--- digits, and what they are worth, are those of std's numerals
-tells_digits : IsDigitsTest AreDigits
-tells_digits =
+-- the parts of a printed number
+abbrev pub printed : Bool → ℕ → Spelling
+printed minus n =
     record {
-      empty = refl;
-      parts = λ c cs h. let b = both_passed (is_ascii_digit c) (all_digits cs) h in (digit_range c b.0, b.1);
-      more = λ c cs range h. both_true (is_digit c range.0 range.1) h;
+      minus = minus;
+      whole = decimal (n / 1000000);
+      fraction = digits_at places (n % 1000000);
     }
 
-pub numerals : IsNumeralModel AreDigits value_of
-unfolding value_of
-numerals = numerals_by_weight AreDigits tells_digits value_of (record { empty = refl; more = λ c cs range. refl })
+-- a sign and the parts of a text
+abbrev pub with_sign : Bool → Option (List ℕ × List ℕ) → Option Spelling
+with_sign minus parts =
+    option_map (λ p. record { minus = minus; whole = p.0; fraction = p.1 }) parts
 
--- a printed whole number is a numeral of its value
-pub decimal_digits : (n : ℕ) → n < 2 ^ 64 → all_digits (decimal n) ≡ true
-decimal_digits n h = digits_decimal numerals n h
+printed_parts : (minus : Bool) (n : ℕ) → n < 10 ^ 64
+    → with_sign minus (parts_of (magnitude_text n)) ≡ Some (printed minus n)
+printed_parts minus n h =
+    let fits : n / 1000000 < 10 ^ 64 = omega arith in
+    rw
+    (parts_of-printed (decimal (n / 1000000)) (n % 1000000) (decimal_digits (n / 1000000) fits)
+    (decimal_some (n / 1000000) fits) (omega arith)) refl
 
-pub decimal_value : (n : ℕ) → n < 2 ^ 64 → value_of (decimal n) ≡ n
-decimal_value n h = digits_value-decimal numerals n h
+-- a printed number has these parts
+spelling_positive : (n : ℕ) → n < 10 ^ 64
+    → spelling_of (fixed_text (pos n)) ≡ Some (printed false n)
+unfolding spelling_of
+spelling_positive n h =
+    let fits : n / 1000000 < 10 ^ 64 = omega arith in
+    let bare =
+    no_minus (decimal (n / 1000000)) (fraction_text (n % 1000000))
+    (decimal_digits (n / 1000000) fits) (decimal_some (n / 1000000) fits) in
+    rw bare (printed_parts false n h)
 
--- each limit is ten times its place, and the next limit is that place
-abbrev pub AreTens : ℕ → List ℕ → Type 0
-AreTens limit [] = limit ≡ 1
-AreTens limit (place ∷ places) = (limit ≡ 10 * place) × (0 < place) × AreTens place places
+spelling_negative : (n : ℕ) → n + 1 < 10 ^ 64
+    → spelling_of (fixed_text (negsuc n)) ≡ Some (printed true (n + 1))
+unfolding spelling_of
+spelling_negative n h = printed_parts true (n + 1) h
 
--- a rest below ten times a place has one digit there
-one_digit : (place rest : ℕ) → 0 < place → rest < 10 * place → is_ascii_digit (48 + rest / place) ≡ true
-one_digit place rest h lt =
-    let less : rest / place < 10 = (div-lt_iff_lt-mul h).1 (omega arith) in
-    is_digit (48 + rest / place) (omega arith) (omega arith)
+-- and they are worth the number
+worth_back : (minus : Bool) (n : ℕ) → n < 10 ^ 64 → worth_of (printed minus n) ≡ signed minus n
+worth_back minus n h =
+    let fits : n / 1000000 < 10 ^ 64 = omega arith in
+    let same : n / 1000000 * 1000000 + n % 1000000 ≡ n = omega arith in
+    let digits = value_at-digits_at places 1000000 (n % 1000000) tens (omega arith) in
+    rw (decimal_value (n / 1000000) fits, digits) (ap (signed minus) same)
 
--- a digit at its place and what is left make the rest
-digit_and_rest : (place rest more : ℕ) → 0 < place → more ≡ rest % place → (48 + rest / place - 48) * place + more ≡ rest
-digit_and_rest place rest more h e = let same : 48 + rest / place - 48 ≡ rest / place = omega arith in rw same (omega (arith, e, div-add-mod rest place))
-
-pub tens : AreTens 1000000 places
-tens = (refl, omega arith, (refl, omega arith, (refl, omega arith, (refl, omega arith, (refl, omega arith, (refl, omega arith, refl))))))
-
--- the digits that are printed behind a point are digits
-pub digits_at-digits : (ps : List ℕ) (limit rest : ℕ) → AreTens limit ps → rest < limit → all_digits (digits_at ps rest) ≡ true
-unfolding digits_at
-digits_at-digits [] limit rest tens h = refl
-digits_at-digits (p ∷ ps) limit rest tens h =
-    ⊎_elim (λ more. rw (ne_eqb rest 0 (omega arith)) (both_true (one_digit p rest tens.1 (omega (arith, tens.0))) (digits_at-digits ps p (rest % p) tens.2 (omega (arith, tens.1)))))
-    (λ none. let zero_rest : rest ≡ 0 = omega arith in rw zero_rest refl) (cases_lt 0 rest)
-
--- and are worth what they were printed of
-pub value_at-digits_at : (ps : List ℕ) (limit rest : ℕ) → AreTens limit ps → rest < limit → value_at ps (digits_at ps rest) ≡ rest
-unfolding digits_at value_at
-value_at-digits_at [] limit rest tens h = omega arith
-value_at-digits_at (p ∷ ps) limit rest tens h =
-    ⊎_elim (λ more. rw (ne_eqb rest 0 (omega arith)) (digit_and_rest p rest _ tens.1 (value_at-digits_at ps p (rest % p) tens.2 (omega (arith, tens.1)))))
-    (λ none. let zero_rest : rest ≡ 0 = omega arith in rw zero_rest refl) (cases_lt 0 rest)
-
--- a digit is no point
-not_point : (digit : ℕ) → is_ascii_digit digit ≡ true → is_point digit ≡ false
-not_point digit h = let range = digit_range digit h in ne_eqb digit 46 (λ e. omega (arith, range))
-
--- no point stands in digits
-pub no_point : (digits : List ℕ) → all_digits digits ≡ true → position_or_len is_point digits ≡ length digits
-no_point [] h = refl
-no_point (d ∷ ds) h =
-    let b = both_passed (is_ascii_digit d) (all_digits ds) h in
-    rw (not_point d b.0) (rw (no_point ds b.1) (omega arith))
-
--- the first point stands behind the digits before it
-pub point_behind : (digits rest : List ℕ) → all_digits digits ≡ true → position_or_len is_point (digits ++ 46 ∷ rest) ≡ length digits
-point_behind [] rest h = refl
-point_behind (d ∷ ds) rest h =
-    let b = both_passed (is_ascii_digit d) (all_digits ds) h in
-    rw (not_point d b.0) (rw (point_behind ds rest b.1) (omega arith))
-
--- digits, and at least one, are a numeral
-numeral : (digits : List ℕ) → all_digits digits ≡ true → 0 < length digits → is_numeral digits ≡ true
-numeral digits h some = both_true (lt-ltb 0 (length digits) some) h
-
--- the parts of a text, from what stands before its point and behind it
-parts_are : (bytes whole fraction : List ℕ) → before_first is_point bytes ≡ whole → after_first is_point bytes ≡ fraction → is_numeral whole ≡ true → (not (has_point bytes) || is_numeral fraction) ≡ true → parts_of bytes ≡ Some (whole, fraction)
-parts_are bytes whole fraction e f n h = rw (e, f) (rw (both_true n h) refl)
-
--- the parts of digits alone
-pub parts_of-digits : (digits : List ℕ) → all_digits digits ≡ true → 0 < length digits → parts_of digits ≡ Some (digits, [])
-parts_of-digits digits h some =
-    parts_are digits digits [] (rw (no_point digits h) (take-length digits)) (rw (no_point digits h) (drop_of_length-le digits (omega arith))) (numeral digits h some)
-    (rw (no_point digits h) (rw (le-ltb (length digits) (length digits) (omega arith)) refl))
-
--- the parts of digits, a point and digits
-pub parts_of-pointed : (whole fraction : List ℕ) → all_digits whole ≡ true → 0 < length whole → all_digits fraction ≡ true → 0 < length fraction → parts_of (whole ++ 46 ∷ fraction) ≡ Some (whole, fraction)
-parts_of-pointed whole fraction w some f more =
-    parts_are (whole ++ 46 ∷ fraction) whole fraction (rw (point_behind whole fraction w) (take-append_seam whole (46 ∷ fraction)))
-    (rw (point_behind whole fraction w) (rw (drop-append-add whole (46 ∷ fraction) 1) refl)) (numeral whole w some) (rw (numeral fraction f more) (or-true (not (has_point (whole ++ 46 ∷ fraction)))))
-
--- what begins with a digit has no minus in front
-pub no_minus : (digits rest : List ℕ) → all_digits digits ≡ true → 0 < length digits → has_minus (digits ++ rest) ≡ false
-no_minus [] rest h some = absurd (omega arith)
-no_minus (d ∷ ds) rest h some = let range = digit_range d (both_passed (is_ascii_digit d) (all_digits ds) h).0 in ne_eqb d 45 (λ e. omega (arith, range))
-
--- a rest that is not 0 has a digit
-digits_some : (p : ℕ) (ps : List ℕ) (rest : ℕ) → 0 < rest → 0 < length (digits_at (p ∷ ps) rest)
-unfolding digits_at
-digits_some p ps rest h = rw (ne_eqb rest 0 (omega arith)) (omega arith)
-
--- the parts of digits with a fraction behind them
-pub parts_of-printed : (whole : List ℕ) (fraction : ℕ) → all_digits whole ≡ true → 0 < length whole → fraction < 1000000 → parts_of (whole ++ fraction_text fraction) ≡ Some (whole, digits_at places fraction)
-parts_of-printed whole fraction w some small =
-    ⊎_elim (λ more. rw (ne_eqb fraction 0 (omega arith)) (parts_of-pointed whole (digits_at places fraction) w some (digits_at-digits places 1000000 fraction tens small) (digits_some 100000 _ fraction more)))
-    (λ none. let zero_fraction : fraction ≡ 0 = omega arith in rw zero_fraction (rw (append-nil whole, digits_of_zero places) (parts_of-digits whole w some))) (cases_lt 0 fraction)
+-- a printed number spells the number
+pub number_back : (n : ℤ) → neg_ℤ (pos (10 ^ 37)) ≤ℤ n → n ≤ℤ pos (10 ^ 37)
+    → number_of (fixed_text n) ≡ Some n
+unfolding number_of
+number_back (pos n) low high =
+    let fits : n < 10 ^ 64 = omega (arith, ints) in
+    rw (spelling_positive n fits) (ap Some (worth_back false n fits))
+number_back (negsuc n) low high =
+    let fits : n + 1 < 10 ^ 64 = omega (arith, ints) in
+    rw (spelling_negative n fits) (ap Some (worth_back true (n + 1) fits ∙ rw add-one refl))
 
 -- no more than the limit is within it
-not_beyond : (minus : Bool) (whole fraction : ℕ) → whole < 2 ^ 64 → whole * 1000000 + fraction ≤ 1000000000000000000 → is_beyond (record { minus = minus; whole = decimal whole; fraction = digits_at places fraction }) ≡ false
-not_beyond minus whole fraction fits h =
-    rw (decimal_value whole fits) (rw (le-ltb 1000000000000 whole (omega arith))
-    (⊎_elim (λ less. rw (ne_eqb whole 1000000000000 (omega arith)) refl)
-    (λ most. let zero_fraction : fraction ≡ 0 = omega arith in rw zero_fraction (rw (digits_of_zero places) (and-false (eqb whole 1000000000000)))) (cases_lt whole 1000000000000)))
-
--- what a sign, a whole part and a fraction below one are read as
-pub fixed_from-printed : (minus : Bool) (whole fraction : ℕ) → whole < 2 ^ 64 → fraction < 1000000 → whole * 1000000 + fraction ≤ 1000000000000000000 → fixed_from (record { minus = minus; whole = decimal whole; fraction = digits_at places fraction }) ≡ Some (signed minus (whole * 1000000 + fraction))
-fixed_from-printed minus whole fraction fits small h =
-    rw (not_beyond minus whole fraction fits h) (rw (decimal_value whole fits, value_at-digits_at places 1000000 fraction tens small) refl)
-
--- what a sign and a printed magnitude are read as
-pub magnitude_back : (minus : Bool) (millionths : ℕ) → millionths ≤ 1000000000000000000 → option_and_then fixed_from (option_map (λ p. record { minus = minus; whole = p.0; fraction = p.1 }) (parts_of (magnitude_text millionths))) ≡ Some (signed minus millionths)
-magnitude_back minus millionths h =
-    let whole = millionths / 1000000 in let fraction = millionths % 1000000 in
-    let fits : whole < 2 ^ 64 = omega arith in
-    let same : whole * 1000000 + fraction ≡ millionths = omega arith in
-    rw (parts_of-printed (decimal whole) fraction (decimal_digits whole fits) (decimal_nonempty whole fits) (omega arith))
-    (fixed_from-printed minus whole fraction fits (omega arith) (omega arith) ∙ ap (λ n. Some (signed minus n)) same)
+not_beyond : (minus : Bool) (n : ℕ) → n ≤ 1000000000000000000 → is_beyond (printed minus n) ≡ false
+not_beyond minus n h =
+    rw (decimal_value (n / 1000000) (omega arith))
+    (rw (le-ltb 1000000000000 (n / 1000000) (omega arith))
+    (⊎_elim (λ less. rw (ne_eqb (n / 1000000) 1000000000000 (omega arith)) refl)
+    (λ most. let none : n % 1000000 ≡ 0 = omega arith in
+    rw none (rw (digits_of_zero places) (and-false (eqb (n / 1000000) 1000000000000))))
+    (cases_lt (n / 1000000) 1000000000000)))
 
 -- a printed number of millionths is read back
-pub fixed_back : (millionths : ℤ) → neg_ℤ (pos 1000000000000000000) ≤ℤ millionths → millionths ≤ℤ pos 1000000000000000000 → fixed_of (fixed_text millionths) ≡ Some millionths
-unfolding fixed_of spelling_of
+pub fixed_back : (millionths : ℤ) → neg_ℤ (pos 1000000000000000000) ≤ℤ millionths
+    → millionths ≤ℤ pos 1000000000000000000 → fixed_of (fixed_text millionths) ≡ Some millionths
+unfolding fixed_of
 fixed_back (pos n) low high =
-    let fits : n / 1000000 < 2 ^ 64 = omega (arith, ints) in
-    let bare = no_minus (decimal (n / 1000000)) (fraction_text (n % 1000000)) (decimal_digits (n / 1000000) fits) (decimal_nonempty (n / 1000000) fits) in
-    rw bare (magnitude_back false n (omega (arith, ints)))
-fixed_back (negsuc n) low high = magnitude_back true (n + 1) (omega (arith, ints)) ∙ rw add-one refl
+    let small : n ≤ 1000000000000000000 = omega (arith, ints) in
+    rw (spelling_positive n (omega arith))
+    (rw (not_beyond false n small) (ap Some (worth_back false n (omega arith))))
+fixed_back (negsuc n) low high =
+    let small : n + 1 ≤ 1000000000000000000 = omega (arith, ints) in
+    rw (spelling_negative n (omega arith))
+    (rw (not_beyond true (n + 1) small)
+    (ap Some (worth_back true (n + 1) (omega arith) ∙ rw add-one refl)))
 
 -- what a sign and printed digits are read as
-whole_magnitude_back : (minus : Bool) (n : ℕ) → n ≤ 1000000000000000000 → option_and_then whole_from (option_map (λ p. record { minus = minus; whole = p.0; fraction = p.1 }) (parts_of (decimal n))) ≡ Some (signed minus n)
+whole_magnitude_back : (minus : Bool) (n : ℕ) → n ≤ 1000000000000000000
+    → option_and_then whole_from (with_sign minus (parts_of (decimal n))) ≡ Some (signed minus n)
 whole_magnitude_back minus n h =
-    let fits : n < 2 ^ 64 = omega arith in
-    rw (parts_of-digits (decimal n) (decimal_digits n fits) (decimal_nonempty n fits)) (rw (decimal_value n fits) (rw (le-ltb 1000000000000000000 n h) refl))
+    let fits : n < 10 ^ 64 = omega arith in
+    rw (parts_of-digits (decimal n) (decimal_digits n fits) (decimal_some n fits))
+    (rw (decimal_value n fits) (rw (le-ltb 1000000000000000000 n h) refl))
 
 -- a printed whole number is read back
-pub whole_back : (n : ℤ) → neg_ℤ (pos 1000000000000000000) ≤ℤ n → n ≤ℤ pos 1000000000000000000 → whole_of (signed_decimal n) ≡ Some n
+pub whole_back : (n : ℤ) → neg_ℤ (pos 1000000000000000000) ≤ℤ n → n ≤ℤ pos 1000000000000000000
+    → whole_of (signed_decimal n) ≡ Some n
 unfolding whole_of spelling_of
 whole_back (pos n) low high =
-    let fits : n < 2 ^ 64 = omega (arith, ints) in
-    let bare = no_minus (decimal n) [] (decimal_digits n fits) (decimal_nonempty n fits) in
+    let fits : n < 10 ^ 64 = omega (arith, ints) in
+    let bare = no_minus (decimal n) [] (decimal_digits n fits) (decimal_some n fits) in
     let bare' : has_minus (decimal n) ≡ false = rw append-nil at bare in
     rw bare' (whole_magnitude_back false n (omega (arith, ints)))
 whole_back (negsuc n) low high = whole_magnitude_back true (suc n) (omega (arith, ints)) ∙ refl
@@ -184,25 +126,44 @@ digit_byte : (digit : ℕ) → is_ascii_digit digit ≡ true → is_number_byte 
 digit_byte digit h = rw h refl
 
 -- digits, and then others of such bytes, are such bytes
-digits_bytes : (digits rest : List ℕ) → all_digits digits ≡ true → list_all is_number_byte rest ≡ true → list_all is_number_byte (digits ++ rest) ≡ true
+digits_bytes : (digits rest : List ℕ) → all_digits digits ≡ true
+    → list_all is_number_byte rest ≡ true → list_all is_number_byte (digits ++ rest) ≡ true
 digits_bytes [] rest h more = more
-digits_bytes (d ∷ ds) rest h more = let b = both_passed (is_ascii_digit d) (all_digits ds) h in both_true (digit_byte d b.0) (digits_bytes ds rest b.1 more)
+digits_bytes (d ∷ ds) rest h more =
+    let b = both_passed (is_ascii_digit d) (all_digits ds) h in
+    both_true (digit_byte d b.0) (digits_bytes ds rest b.1 more)
 
 -- a printed whole number has digits, and a minus in front
-pub whole_bytes : (n : ℤ) → neg_ℤ (pos 1000000000000000000) ≤ℤ n → n ≤ℤ pos 1000000000000000000 → list_all is_number_byte (signed_decimal n) ≡ true
-whole_bytes (pos n) low high = let bytes = digits_bytes (decimal n) [] (decimal_digits n (omega (arith, ints))) refl in rw append-nil at bytes
-whole_bytes (negsuc n) low high = let bytes = digits_bytes (decimal (suc n)) [] (decimal_digits (suc n) (omega (arith, ints))) refl in rw append-nil at bytes
+pub whole_bytes : (n : ℤ) → neg_ℤ (pos 1000000000000000000) ≤ℤ n → n ≤ℤ pos 1000000000000000000
+    → list_all is_number_byte (signed_decimal n) ≡ true
+whole_bytes (pos n) low high =
+    let bytes = digits_bytes (decimal n) [] (decimal_digits n (omega (arith, ints))) refl in
+    rw append-nil at bytes
+whole_bytes (negsuc n) low high =
+    let bytes =
+    digits_bytes (decimal (suc n)) [] (decimal_digits (suc n) (omega (arith, ints))) refl in
+    rw append-nil at bytes
 
 -- a printed fraction has a point and digits
-fraction_bytes : (fraction : ℕ) → fraction < 1000000 → list_all is_number_byte (fraction_text fraction) ≡ true
+fraction_bytes : (fraction : ℕ) → fraction < 1000000
+    → list_all is_number_byte (fraction_text fraction) ≡ true
 fraction_bytes fraction small =
-    let digits = digits_bytes (digits_at places fraction) [] (digits_at-digits places 1000000 fraction tens small) refl in
-    ⊎_elim (λ more. rw (ne_eqb fraction 0 (omega arith)) (rw append-nil at digits)) (λ none. let zero_fraction : fraction ≡ 0 = omega arith in rw zero_fraction refl) (cases_lt 0 fraction)
+    let digits =
+    digits_bytes (digits_at places fraction) []
+    (digits_at-digits places 1000000 fraction tens small) refl in
+    ⊎_elim (λ more. rw (ne_eqb fraction 0 (omega arith)) (rw append-nil at digits))
+    (λ none. let zero_fraction : fraction ≡ 0 = omega arith in rw zero_fraction refl)
+    (cases_lt 0 fraction)
 
-magnitude_bytes : (millionths : ℕ) → millionths < 2 ^ 64 → list_all is_number_byte (magnitude_text millionths) ≡ true
-magnitude_bytes millionths fits = digits_bytes (decimal (millionths / 1000000)) _ (decimal_digits (millionths / 1000000) (omega arith)) (fraction_bytes (millionths % 1000000) (omega arith))
+magnitude_bytes : (millionths : ℕ) → millionths < 10 ^ 64
+    → list_all is_number_byte (magnitude_text millionths) ≡ true
+magnitude_bytes millionths fits =
+    digits_bytes (decimal (millionths / 1000000)) _
+    (decimal_digits (millionths / 1000000) (omega arith))
+    (fraction_bytes (millionths % 1000000) (omega arith))
 
 -- a printed number of millionths has digits, a minus in front, and a point
-pub fixed_bytes : (millionths : ℤ) → neg_ℤ (pos 1000000000000000000) ≤ℤ millionths → millionths ≤ℤ pos 1000000000000000000 → list_all is_number_byte (fixed_text millionths) ≡ true
+pub fixed_bytes : (millionths : ℤ) → neg_ℤ (pos 1000000000000000000) ≤ℤ millionths
+    → millionths ≤ℤ pos 1000000000000000000 → list_all is_number_byte (fixed_text millionths) ≡ true
 fixed_bytes (pos n) low high = magnitude_bytes n (omega (arith, ints))
 fixed_bytes (negsuc n) low high = magnitude_bytes (n + 1) (omega (arith, ints))

@@ -1,5 +1,7 @@
 -- The number that a field of a table spells.
-use Rattle.std.specs.Prelude.{ℕ, ℤ, pos, neg_ℤ, ◌+◌, ◌-◌, ◌*◌, ◌^◌, ◌==◌, ◌&&◌, ◌||◌, nat_lt, not, if◌then◌else◌, Bool, false, List, [], ◌∷◌, length, drop, Option, Some, None, option_map, option_and_then}
+use Rattle.std.specs.Prelude.{ℕ, ℤ, pos, neg_ℤ, ◌+◌, ◌-◌, ◌*◌, ◌^◌, ◌==◌, ◌&&◌, ◌||◌, nat_lt, not}
+use Rattle.std.specs.Prelude.{if◌then◌else◌, Bool, false, List, [], ◌∷◌, length, drop}
+use Rattle.std.specs.Prelude.{Option, Some, None, option_map, option_and_then}
 use Rattle.std.specs.List.{before_first, after_first, position_or_len, list_all}
 use Rattle.std.specs.Char.{is_ascii_digit}
 use Rattle.plan_num.specs.Print.{places}
@@ -38,15 +40,22 @@ is_numeral digits = nat_lt 0 (length digits) && all_digits digits
 
 -- digits, and optionally a point with digits behind it
 abbrev pub is_magnitude : List ℕ → Bool
-is_magnitude bytes = is_numeral (before_first is_point bytes) && (not (has_point bytes) || is_numeral (after_first is_point bytes))
+is_magnitude bytes =
+    is_numeral (before_first is_point bytes)
+    && (not (has_point bytes) || is_numeral (after_first is_point bytes))
 
 -- the digits before a point and those behind it
 abbrev pub parts_of : List ℕ → Option (List ℕ × List ℕ)
-parts_of bytes = if is_magnitude bytes then Some (before_first is_point bytes, after_first is_point bytes) else None
+parts_of bytes =
+    if is_magnitude bytes
+    then Some (before_first is_point bytes, after_first is_point bytes)
+    else None
 
 -- the parts of a field that has the form of a number
 unfoldable pub spelling_of : List ℕ → Option Spelling
-spelling_of field = option_map (λ p. record { minus = has_minus field; whole = p.0; fraction = p.1 }) (parts_of (magnitude_of field))
+spelling_of field =
+    option_map (λ p. record { minus = has_minus field; whole = p.0; fraction = p.1 })
+    (parts_of (magnitude_of field))
 
 -- what digits are worth, each by its place
 unfoldable pub value_of : List ℕ → ℕ
@@ -74,15 +83,28 @@ whole_limit = 1000000000000000000
 
 -- the written magnitude is more than the limit of fixed numbers
 abbrev pub is_beyond : Spelling → Bool
-is_beyond s = nat_lt fixed_limit (value_of s.whole) || ((value_of s.whole == fixed_limit) && not (all_zero s.fraction))
+is_beyond s =
+    nat_lt fixed_limit (value_of s.whole)
+    || ((value_of s.whole == fixed_limit) && not (all_zero s.fraction))
 
--- a written number in millionths, of which digits behind the sixth are dropped
+-- the millionths that a written number is worth, of which digits behind the sixth are dropped
+abbrev pub worth_of : Spelling → ℤ
+worth_of s = signed s.minus (value_of s.whole * 1000000 + value_at places s.fraction)
+
+-- the same, where the number is within the limit
 abbrev pub fixed_from : Spelling → Option ℤ
-fixed_from s = if is_beyond s then None else Some (signed s.minus (value_of s.whole * 1000000 + value_at places s.fraction))
+fixed_from s = if is_beyond s then None else Some (worth_of s)
 
 -- a written number that is whole
 abbrev pub whole_from : Spelling → Option ℤ
-whole_from s = if all_zero s.fraction && not (nat_lt whole_limit (value_of s.whole)) then Some (signed s.minus (value_of s.whole)) else None
+whole_from s =
+    if all_zero s.fraction && not (nat_lt whole_limit (value_of s.whole))
+    then Some (signed s.minus (value_of s.whole))
+    else None
+
+-- the millionths that a text spells, however many they are
+unfoldable pub number_of : List ℕ → Option ℤ
+number_of text = option_map worth_of (spelling_of text)
 
 -- the millionths that a field spells, and the whole number that it spells
 unfoldable pub fixed_of : List ℕ → Option ℤ

@@ -1,5 +1,6 @@
 -- How numbers of millionths are printed.
-use Rattle.std.specs.Prelude.{ℕ, ℤ, pos, negsuc, ◌+◌, ◌/◌, ◌%◌, ◌==◌, if◌then◌else◌, List, [], ◌∷◌, ◌++◌, codes, decimal}
+use Rattle.std.specs.Prelude.{ℕ, ℤ, pos, negsuc, ◌+◌, ◌/◌, ◌%◌, ◌==◌, if◌then◌else◌, List, [], ◌∷◌}
+use Rattle.std.specs.Prelude.{◌++◌, codes, decimal}
 
 -- the values of the six digits after a point, in millionths
 abbrev pub places : List ℕ
@@ -8,7 +9,8 @@ places = 100000 ∷ 10000 ∷ 1000 ∷ 100 ∷ 10 ∷ 1 ∷ []
 -- the digits of a rest at these places, up to the last one that is not 0
 unfoldable pub digits_at : List ℕ → ℕ → List ℕ
 digits_at [] rest = []
-digits_at (place ∷ places) rest = if rest == 0 then [] else (48 + rest / place) ∷ digits_at places (rest % place)
+digits_at (place ∷ places) rest =
+    if rest == 0 then [] else (48 + rest / place) ∷ digits_at places (rest % place)
 
 -- a point and the digits of a fraction below one, or nothing where it is 0
 abbrev pub fraction_text : ℕ → List ℕ

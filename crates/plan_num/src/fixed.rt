@@ -3,7 +3,8 @@ ghost use Rattle.std.specs.Prelude.{◌≡◌, ◌↔◌, ◌^◌, pos, neg_ℤ,
 
 use std::marker::Model;
 
-/// A number of millionths, at most 10^18 of them in absolute value. Contracts see it as that whole number.
+/// A number of millionths, at most 10^18 of them in absolute value. Contracts see it as that whole
+/// number.
 #[derive(Clone, Copy, Debug, PartialEq, Eq)]
 pub struct Fixed {
     millionths: i64,
@@ -16,13 +17,16 @@ impl Model for Fixed {
 
     ghost view = { λ f. f.millionths };
 
-    ghost invariant = { λ f. (neg_ℤ (pos 1000000000000000000) ≤ℤ f.millionths) × (f.millionths ≤ℤ pos 1000000000000000000) };
+    ghost invariant = { λ f.
+        (neg_ℤ (pos 1000000000000000000) ≤ℤ f.millionths)
+        × (f.millionths ≤ℤ pos 1000000000000000000) };
 
     ghost inverse = { λ n. record { millionths = n } };
 }
 
 impl Fixed {
-    /// The number of so many millionths; none exactly where they are more than 10^18 in absolute value.
+    /// The number of so many millionths; none exactly where they are more than 10^18 in absolute
+    /// value.
     pub fn from_millionths(m: i64) -> Option<Fixed>
         ensures value { IfSome result (λ fixed. fixed ≡ m) }
         ensures within { IsSome result

@@ -1,8 +1,12 @@
 // The numbers that fields spell.
-ghost use Rattle.std.specs.Prelude.{◌≡◌, ◌+◌, ◌^◌, ◌<◌, ◌≤◌, min, pos, neg_ℤ, ◌≤ℤ◌, true, is_some, option_map, IfSome, length, drop};
+ghost use Rattle.std.specs.Prelude.{◌≡◌, ◌+◌, ◌^◌, ◌<◌, ◌≤◌, min, pos, neg_ℤ, ◌≤ℤ◌, true};
+ghost use Rattle.std.specs.Prelude.{is_some, option_map, IfSome, length, drop};
 ghost use Rattle.std.specs.List.{position_or_len};
 ghost use Rattle.plan_num.specs.Print.{places};
-ghost use Rattle.plan_num.specs.Number.{spelling_of, value_of, value_at, is_point, all_digits, is_numeral, parts_of, all_zero, has_minus, magnitude_of, is_beyond, signed, fixed_from, whole_from, fixed_of, whole_of, whole_limit};
+ghost use Rattle.plan_num.specs.Number.{spelling_of, value_of, value_at, is_point, all_digits};
+ghost use Rattle.plan_num.specs.Number.{is_numeral, parts_of, all_zero, has_minus, magnitude_of};
+ghost use Rattle.plan_num.specs.Number.{is_beyond, signed, fixed_from, whole_from, fixed_of};
+ghost use Rattle.plan_num.specs.Number.{whole_of, whole_limit};
 ghost use Rattle.plan_num.specs.Written.{spelled};
 
 use crate::fixed::Fixed;
@@ -13,7 +17,8 @@ const FIXED_LIMIT: u64 = 1_000_000_000_000;
 
 const WHOLE_LIMIT: u64 = 1_000_000_000_000_000_000;
 
-// A field that has the form of a number, in its parts: digits before the point, and digits behind it.
+// A field that has the form of a number, in its parts: digits before the point, and digits behind
+// it.
 #[derive(Clone, Copy)]
 struct Written<'a> {
     minus: bool,
@@ -21,9 +26,9 @@ struct Written<'a> {
     fraction: &'a [u8],
 }
 
-/// The fixed-point number that a field spells: an optional `-`, at least one digit, and optionally a point
-/// with at least one digit. Digits after the sixth are dropped. None exactly where the field has another
-/// form, or where the number as it is written exceeds 10^12 in absolute value.
+/// The fixed-point number that a field spells: an optional `-`, at least one digit, and optionally
+/// a point with at least one digit. Digits after the sixth are dropped. None exactly where the field
+/// has another form, or where the number as it is written exceeds 10^12 in absolute value.
 #[tactic(auto, unfolding(crate::specs::Number::fixed_of))]
 pub fn parse_fixed(field: &[u8]) -> Option<Fixed>
     ensures { result ≡ fixed_of field.now }
@@ -32,9 +37,9 @@ pub fn parse_fixed(field: &[u8]) -> Option<Fixed>
     fixed(written)
 }
 
-/// The whole number that a field spells, in the form of a fixed-point number whose digits after a point
-/// are all 0. None exactly where the form differs, such a digit is not 0, or the number exceeds 10^18 in
-/// absolute value.
+/// The whole number that a field spells, in the form of a fixed-point number whose digits after a
+/// point are all 0. None exactly where the form differs, such a digit is not 0, or the number
+/// exceeds 10^18 in absolute value.
 #[tactic(auto, unfolding(crate::specs::Number::whole_of))]
 pub fn parse_whole(field: &[u8]) -> Option<i64>
     ensures value { result ≡ whole_of field.now }

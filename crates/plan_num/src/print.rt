@@ -1,6 +1,7 @@
 // Numbers as text.
-ghost use Rattle.std.specs.Prelude.{◌≡◌, ◌^◌, ◌<◌, ◌++◌, pos, neg_ℤ, ◌≤ℤ◌, IfOk, OnOk, Some, List, ℕ, length, ◌≤◌};
-ghost use Rattle.plan_num.specs.Number.{fixed_of};
+ghost use Rattle.std.specs.Prelude.{◌≡◌, ◌^◌, ◌<◌, ◌≤◌, ◌++◌, pos, neg_ℤ, ◌≤ℤ◌, IfOk, OnOk};
+ghost use Rattle.std.specs.Prelude.{Some, List, ℕ, length};
+ghost use Rattle.plan_num.specs.Number.{fixed_of, number_of};
 ghost use Rattle.plan_num.specs.Print.{fixed_text, fraction_text};
 
 use crate::memory::NoMemory;
@@ -11,20 +12,21 @@ use std::alloc::Global;
 // The values of the six digits after a point, in millionths.
 pub(crate) const PLACES: [u32; 6] = [100_000, 10_000, 1_000, 100, 10, 1];
 
-/// The text of a number of millionths: a minus for negatives, the whole part, and, where the fraction
-/// is not 0, a point and its digits without trailing zeros.
+/// The text of a number of millionths: a minus for negatives, the whole part, and, where the
+/// fraction is not 0, a point and its digits without trailing zeros.
 pub fn print_fixed(alloc: Global, millionths: i128) -> Result<Text, NoMemory>
     requires low { neg_ℤ (pos (10 ^ 37)) ≤ℤ millionths }
     requires high { millionths ≤ℤ pos (10 ^ 37) }
     ensures text { IfOk result (λ text. text ≡ fixed_text millionths) }
 
-    // What is printed is read back, where it is a number that a field may spell.
+    // What is printed spells the number, and no text that spells it is shorter.
+    ensures spells { IfOk result (λ text. number_of text ≡ Some millionths) }
+    ensures shortest { IfOk result (λ text. (other : List ℕ) → number_of other ≡ Some millionths →
+        length text ≤ length other) }
+
+    // It is read back as a field, where a field may spell the number.
     ensures read_back { neg_ℤ (pos (10 ^ 18)) ≤ℤ millionths → millionths ≤ℤ pos (10 ^ 18) →
         IfOk result (λ text. fixed_of text ≡ Some millionths) }
-
-    // No field that spells the number is shorter.
-    ensures shortest { IfOk result (λ text. (field : List ℕ) → fixed_of field ≡ Some millionths →
-        length text ≤ length field) }
 {
     let bytes = fixed_bytes(alloc, millionths)?;
     Ok(Text::from_vec(bytes))
@@ -74,13 +76,16 @@ mod tests {
 
     #[test]
     fn numbers_are_printed(rt: HostRuntime) -> Result<(), Fail> {
-        let numbers: [(i128, &[u8]); 6] = [
+        let most = 10_000_000_000_000_000_000_000_000_000_000_000_000;
+        let numbers: [(i128, &[u8]); 8] = [
             (1_500_000, b"1.5"),
             (-250_000, b"-0.25"),
             (27_000_000, b"27"),
             (0, b"0"),
             (-1, b"-0.000001"),
             (1_000_000_000_000_000_000, b"1000000000000"),
+            (most, b"10000000000000000000000000000000"),
+            (-most, b"-10000000000000000000000000000000"),
         ];
         for (millionths, text) in numbers {
             let printed = print_fixed(rt.alloc(), millionths)?;

@@ -105,14 +105,14 @@ mod tests {
     use crate::text::Text;
     use std::test::Fail;
 
-    // The ledger is told of each step, once.
+    // The ledger is told of each step, and once.
     #[test]
     fn steps_are_noted(rt: HostRuntime) {
         let mut steps = Steps::new(Tally::new());
-        for _ in 0..3 {
+        for told in 1..4 {
             steps.tick();
+            assert_eq!(rt; steps.ledger().seen(), told);
         }
-        assert_eq!(rt; steps.ledger().seen(), 3);
         let mut silent = Steps::new(Silent);
         silent.tick();
         let _nothing: &Silent = silent.ledger();

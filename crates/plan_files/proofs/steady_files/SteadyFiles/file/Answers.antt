@@ -10,5 +10,7 @@ loop-write-init c = sym (get-empty (slice_cmp nat_cmp) c.args.name.now)
 
 pub loop-write-preserved : goal.loop-write-preserved
 loop-write-preserved c =
-    let step = get_next_write c.deref-write-items.result.now c.loop-write.write-index c.write-item.result c.args.name.now c.loop-write-test.true c.write-item.is in
+    let step =
+    get_next_write c.deref-write-items.result.now c.loop-write.write-index c.write-item.result
+    c.args.name.now c.loop-write-test.true c.write-item.is in
     grind (arith, step)
