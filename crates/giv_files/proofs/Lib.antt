@@ -13,7 +13,10 @@ pub mod RowFacts
 pub mod RowsLeft
 pub mod SettingFacts
 pub mod SplitFacts
+pub mod SpacedFacts
 pub mod StageCalls
 pub mod TableRows
+pub mod ToldFacts
+pub mod ToldRead
 pub mod WriteFacts
 pub mod WrittenBack

@@ -6,7 +6,9 @@ pub mod Names
 pub mod Reading
 pub mod Rows
 pub mod Settings
+pub mod Spaced
 pub mod StageCalls
 pub mod Stages
 pub mod Tables
+pub mod Told
 pub mod Writing

@@ -1,20 +1,21 @@
 // The fields of a line.
-ghost use Rattle.std.specs.Prelude.{◌≡◌, ◌<◌, ◌≢◌, [], All, OnOk, length, slice_index_or};
+ghost use Rattle.std.specs.Prelude.{◌≡◌, ◌<◌, ◌≢◌, ◌∷◌, [], List, All, OnOk, length, slice_index_or};
 ghost use Rattle.csv.specs.Records.{fields_of};
 ghost use Rattle.giv_files.specs.Rows.{cleaned, pieces};
+ghost use Rattle.giv_files.specs.Told.{Told};
+ghost use Rattle.giv_files.specs.Spaced.{Awaits};
 
 use crate::line::{without_blanks, without_quotes};
-use crate::pieces::split_line;
-use csv::ByteRecord;
+use crate::pieces::next_pieces;
+use crate::spaced::Spaced;
+use csv::{ByteRecord, Reader};
 use plan_num::NoMemory;
 use std::alloc::Global;
 use std::marker::Model;
 
-/// The fields of the line that was split last. Contracts see it as the list of them.
+/// The fields of the line that was read last. Contracts see it as the list of them.
 #[derive(Drop)]
 pub(crate) struct Fields {
-    alloc: Global,
-    spaced: Vec<u8>,
     row: ByteRecord,
 }
 
@@ -32,18 +33,16 @@ impl Fields {
     /// Room for the fields of a line.
     pub(crate) fn new(alloc: Global) -> Fields {
         Fields {
-            alloc,
-            spaced: Vec::new(alloc),
             row: ByteRecord::new(alloc),
         }
     }
 
-    /// Splits a line, in which no comment begins.
-    pub(crate) fn split(&mut self, line: &[u8]) -> Result<(), NoMemory>
-        requires { All (λ byte. byte ≢ 10) line.now }
-        ensures { OnOk result (self.new ≡ cleaned (pieces line.now)) }
+    /// Reads those of the next line.
+    pub(crate) fn read(&mut self, reader: &mut Reader<Spaced<'_>>) -> Result<(), NoMemory>
+        ensures { (told : Told) (more : List Told) → Awaits reader.old (told ∷ more) → All (λ byte. byte ≢ 10) told.line
+            → OnOk result ((self.new ≡ cleaned (pieces told.line)) × Awaits reader.new more) }
     {
-        split_line(self.alloc, line, &mut self.spaced, &mut self.row)
+        next_pieces(reader, &mut self.row)
     }
 
     /// How many fields there are.

@@ -1,12 +1,12 @@
 // Reading a text as a table.
-ghost use Rattle.std.specs.Prelude.{◌≡◌, ◌≢◌, ◌<◌, ◌^◌, All};
-ghost use Rattle.giv_files.specs.Rows.{row_of};
-ghost use Rattle.giv_files.specs.Reading.{faults, table_of, LineGives, ReadGives};
+ghost use Rattle.std.specs.Prelude.{◌<◌, ◌^◌};
+ghost use Rattle.giv_files.specs.Reading.{faults, table_of, ReadGives};
 
 use crate::column::ColumnKind;
 use crate::fields::Fields;
-use crate::line::{before_comment, first_part, is_all_blank, without_return};
+use crate::pieces::pieces_reader;
 use crate::read_fault::{ReadFault, RowFault};
+use crate::row_lines::RowLines;
 use crate::row_why::RowWhy;
 use crate::table::Table;
 use std::alloc::Global;
@@ -27,36 +27,11 @@ pub fn read_table<const C: usize>(
     }
     let mut table = Table::new(alloc);
     let mut fields = Fields::new(alloc);
-    let mut number: u64 = 0;
-    let mut left = Some(bytes);
-    'lines: while let Some(text) = left {
-        let (part, rest) = first_part(text);
-        let line = without_return(part);
-        if !line.is_empty() {
-            number += 1;
-            read_line(&mut table, number, line, &mut fields, kinds)?;
-        }
-        left = rest;
+    let mut lines = RowLines::new(bytes);
+    let mut reader = pieces_reader(alloc, bytes);
+    'lines: while let Some(line) = lines.next() {
+        fields.read(&mut reader)?;
+        table.read_row(line.number, &fields, kinds)?;
     }
     Ok(table)
-}
-
-// Reads the row of one line, where the line has one.
-fn read_line<const C: usize>(
-    table: &mut Table<C>,
-    number: u64,
-    line: &[u8],
-    fields: &mut Fields,
-    kinds: &[ColumnKind; C],
-) -> Result<(), ReadFault>
-    requires plain { All (λ byte. byte ≢ 10) line.now }
-    requires narrow { C < 2 ^ 32 }
-    ensures { LineGives kinds.now (row_of number line.now) table.old table.new result }
-{
-    let told = before_comment(line);
-    if is_all_blank(told) {
-        return Ok(());
-    }
-    fields.split(told)?;
-    table.read_row(number, fields, kinds)
 }

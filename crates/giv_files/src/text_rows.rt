@@ -1,11 +1,11 @@
 // The rows of a text, with their fields as they are written.
 ghost use Rattle.std.specs.Prelude.{◌≡◌, ◌≢◌, ◌<◌, ◌∷◌, ◌++◌, [], All, IfOk, OnOk, length, slice_index_or};
-ghost use Rattle.giv_files.specs.Rows.{row_of};
 ghost use Rattle.giv_files.specs.Reading.{RowsGive};
 
 use crate::fields::Fields;
-use crate::line::{before_comment, first_part, is_all_blank, without_return};
+use crate::pieces::pieces_reader;
 use crate::read_fault::{ReadFault, RowFault};
+use crate::row_lines::RowLines;
 use crate::row_why::RowWhy;
 use plan_num::{NoMemory, Text};
 use std::alloc::Global;
@@ -115,36 +115,13 @@ pub fn read_rows(alloc: Global, bytes: &[u8]) -> Result<TextRows, ReadFault>
     }
     let mut rows = TextRows::new(alloc);
     let mut fields = Fields::new(alloc);
-    let mut number = 0;
-    let mut left = Some(bytes);
-    'lines: while let Some(text) = left {
-        let (part, rest) = first_part(text);
-        let line = without_return(part);
-        if !line.is_empty() {
-            number += 1;
-            push_line(&mut rows, number, line, &mut fields)?;
-        }
-        left = rest;
+    let mut lines = RowLines::new(bytes);
+    let mut reader = pieces_reader(alloc, bytes);
+    'lines: while let Some(line) = lines.next() {
+        fields.read(&mut reader)?;
+        rows.push(line.number, &fields)?;
     }
     Ok(rows)
-}
-
-// Appends the row of one line, where the line has one.
-fn push_line(
-    rows: &mut TextRows,
-    number: u64,
-    line: &[u8],
-    fields: &mut Fields,
-) -> Result<(), NoMemory>
-    requires { All (λ byte. byte ≢ 10) line.now }
-    ensures { OnOk result (rows.new ≡ rows.old ++ row_of number line.now) }
-{
-    let told = before_comment(line);
-    if is_all_blank(told) {
-        return Ok(());
-    }
-    fields.split(told)?;
-    rows.push(number, fields)
 }
 
 #[cfg(test)]
