@@ -1,6 +1,7 @@
 pub mod AnyMapped
 pub mod CellFacts
 pub mod CellTexts
+pub mod Failing
 pub mod FieldFacts
 pub mod Headers
 pub mod Inputs
@@ -17,6 +18,5 @@ pub mod SpacedFacts
 pub mod StageCalls
 pub mod TableRows
 pub mod ToldFacts
-pub mod ToldRead
 pub mod WriteFacts
 pub mod WrittenBack

@@ -1,10 +1,8 @@
 -- The rows of the lines that are left of a text.
-use Rattle.std.proofs.Common.{◌≡◌, ℕ, ◌+◌, ◌<◌, List, [], ◌∷◌, ◌++◌, length, map, filter, refl, ap, sym, ◌∙◌, true, false, eqb, arith, append_assoc, Bor, Option, Some, None, Err}
+use Rattle.std.proofs.Common.{◌≡◌, ℕ, ◌+◌, ◌<◌, List, [], ◌∷◌, ◌++◌, length, map, filter, refl, true, false, eqb, arith, Bor, Option, Some, None, Err}
 use Rattle.std.specs.List.{flat_map, enumerate_from, slice_get}
 use Rattle.std.specs.Option.{IfSome, option_copied}
 use Rattle.std.specs.Str.Lines.{strip_carriage_return}
-use Rattle.std.proofs.lemmas.List.{map-append}
-use Rattle.std.proofs.lemmas.Grind.{flat_map-append}
 use Rattle.giv_files.specs.declared.column.ColumnKind.{ColumnKind}
 use Rattle.giv_files.specs.declared.row_why.RowWhy.TheVariants as why
 use Rattle.giv_files.specs.declared.read_fault.RowFault.{RowFault}
@@ -13,7 +11,8 @@ use Rattle.giv_files.specs.declared.read_fault.ReadFault.TheVariants as fault
 use Rattle.giv_files.specs.Rows.{Row, row_of, has_byte, parts_of, parts_left, rows}
 use Rattle.giv_files.specs.Tables.{TableRow}
 use Rattle.giv_files.specs.Told.{left_size}
-use Rattle.giv_files.specs.Reading.{row_faults, table_row, faults, table_of, has_mark, LineGives, ReadGives}
+use Rattle.giv_files.specs.InnerReading.{RowGives}
+use Rattle.giv_files.specs.Reading.{row_faults, table_row, faults, table_of, has_mark, ReadGives}
 
 -- the rows of lines, after so many that were numbered
 unfoldable pub rows_left : ℕ → List (List ℕ) → List Row
@@ -40,22 +39,11 @@ pub first_stays : {X : Type 0} (some more : List X) (first : X) → slice_get so
 first_stays [] more first e = cc
 first_stays (x ∷ some) more first e = e
 
--- a line that was read goes from what is left to what is there
-pub line_read : (kinds : List ColumnKind) (told rest : List Row) (all : List RowFault) (old new whole : List TableRow)
-    → flat_map (row_faults kinds) (told ++ rest) ≡ all → old ++ map (table_row kinds) (told ++ rest) ≡ whole
-    → (flat_map (row_faults kinds) told ≡ []) × (new ≡ old ++ map (table_row kinds) told)
-    → (flat_map (row_faults kinds) rest ≡ all) × (new ++ map (table_row kinds) rest ≡ whole)
-line_read kinds told rest all old new whole left there gives = (
-  sym (flat_map-append (row_faults kinds) told rest ∙ ap (λ (some : List RowFault). some ++ flat_map (row_faults kinds) rest) gives.0) ∙ left,
-  rw (gives.1, append_assoc old (map (table_row kinds) told) (map (table_row kinds) rest), ← map-append (table_row kinds) told rest) there,
-)
-
--- a line that was refused has the first fault of all
-pub line_refused : (kinds : List ColumnKind) (told rest : List Row) (all : List RowFault) (old new whole : List TableRow) (reason : ReadFault)
-    → flat_map (row_faults kinds) (told ++ rest) ≡ all → LineGives kinds told old new (Err reason) → ReadGives all whole (Err reason)
-line_refused kinds told rest all old new whole (fault.Row first) left gives =
-    rw (← left, flat_map-append (row_faults kinds) told rest) (first_stays (flat_map (row_faults kinds) told) (flat_map (row_faults kinds) rest) first gives)
-line_refused kinds told rest all old new whole fault.NoMemory left gives = tt
+-- a row that was refused has the first fault of all
+pub row_ends : (kinds : List ColumnKind) (row : Row) (rest : List Row) (all : List RowFault) (old new whole : List TableRow) (reason : ReadFault)
+    → flat_map (row_faults kinds) (row ∷ rest) ≡ all → RowGives kinds row old new (Err reason) → ReadGives all whole (Err reason)
+row_ends kinds row rest all old new whole (fault.Row first) left gives = rw (← left) (first_stays (row_faults kinds row) (flat_map (row_faults kinds) rest) first gives)
+row_ends kinds row rest all old new whole fault.NoMemory left gives = tt
 
 -- without a mark the faults and the table are those of the rows
 pub no_mark : (kinds : List ColumnKind) (text : List ℕ) → has_mark text ≡ false → flat_map (row_faults kinds) (rows text) ≡ faults kinds text
@@ -82,7 +70,3 @@ numbered_step number part line left parts e f some = rw (e, f) (numbered_line nu
 pub no_parts : (left : Option (Bor (List ℕ))) → ((text : Bor (List ℕ)) → left ≡ Some text → ⊥) → parts_left (option_copied left) ≡ []
 no_parts None h = refl
 no_parts (Some text) h = absurd (h text refl)
-
--- the rows of a line go from what is left to what is there
-pub line_told : (old new told rest all : List Row) → new ≡ old ++ told → old ++ (told ++ rest) ≡ all → new ++ rest ≡ all
-line_told old new told rest all e h = rw (e, append_assoc old told rest) h

@@ -8,7 +8,7 @@ use Rattle.csv.specs.declared.parser.State.TheVariants as st
 use Rattle.csv.specs.declared.parser.Action.{Action}
 use Rattle.csv.specs.declared.parser.Action.TheVariants as act
 use Rattle.csv.specs.declared.reader.Reader.{Reader}
-use Rattle.csv.specs.Reading.{ReadsNext, ReadRecord, pending_of, strip_bom, took_first}
+use Rattle.csv.specs.Reading.{ReadsNext, ReadRecord, is_flexible, pending_of, strip_bom, took_first}
 use Rattle.giv_files.specs.declared.spaced.Spaced.{Spaced}
 use Rattle.giv_files.specs.Rows.{pieces}
 use Rattle.giv_files.specs.Told.{Told}
@@ -106,23 +106,25 @@ spaced_first told more = refl
 
 gives_after : (told : Told) (more : List Told) (pending : Option (List ℕ)) (found : Bool) (fields : List (List ℕ)) (after : State)
     → ReadsNext table_config st.StartRecord (Some (spaced_lines (told ∷ more))) pending found fields after → All (λ byte. byte ≢ 10) told.line
-    → (fields ≡ pieces (32 ∷ told.line)) × (after ≡ st.StartRecord) × (pending ≡ Some (spaced_lines more))
+    → (fields ≡ pieces (32 ∷ told.line)) × (found ≡ true) × (after ≡ st.StartRecord) × (pending ≡ Some (spaced_lines more))
 gives_after told more None found fields after read h = absurd read
 gives_after told more (Some left) found fields after read h =
     let all = rw (spaced_first told more, splits_line (spaced_lines more) told.line h) at read in
-    (all.1, all.2, ap (λ (bytes : List ℕ). Some bytes) all.3)
+    (all.1, all.0, all.2, ap (λ (bytes : List ℕ). Some bytes) all.3)
 
 -- a read gives the pieces of the first line, and leaves the others
 pub read_gives : (old new : Reader Spaced) (told : Told) (more : List Told) (found : Bool) (fields : List (List ℕ)) → Awaits old (told ∷ more) → All (λ byte. byte ≢ 10) told.line
-    → ReadRecord spaced_left old new found fields → took_first new ≡ true → (fields ≡ pieces (32 ∷ told.line)) × Awaits new more
-read_gives old new told more found fields awaits h read first =
+    → ReadRecord spaced_left old new found fields → took_first new ≡ true → is_flexible new ≡ is_flexible old → (fields ≡ pieces (32 ∷ told.line)) × (found ≡ true) × Awaits new more
+read_gives old new told more found fields awaits h read first flexible =
     let given = gives_after told more (pending_of (spaced_left new.rdr) new) found fields new.state (rw (awaits.config, awaits.state, awaits.source) at read.0) h in (
       given.0,
+      given.1,
       record {
         config = read.2 ∙ awaits.config;
-        state = given.1;
+        state = given.2;
         trim = read.3 ∙ awaits.trim;
+        flexible = flexible ∙ awaits.flexible;
         ready = inl first;
-        source = rw read.1 given.2;
+        source = rw read.1 given.3;
       },
     )

@@ -4,8 +4,9 @@ use Rattle.std.specs.List.{flat_map, enumerate_from, list_all}
 use Rattle.std.specs.Option.{IfSome, option_copied}
 use Rattle.std.specs.Str.Lines.{strip_carriage_return}
 use Rattle.std.proofs.lemmas.List.{map-append}
-use Rattle.giv_files.specs.Rows.{Row, is_blank, before_comment, row_of, has_byte, lines, parts_of, parts_left, rows}
+use Rattle.giv_files.specs.Rows.{Row, is_blank, before_comment, row_of, has_byte, lines, parts_of, parts_left, rows, pieces, cleaned}
 use Rattle.giv_files.specs.Told.{Told, told_of, told_left, row_told, left_size}
+use Rattle.giv_files.proofs.FieldFacts.{cleaned_spaced}
 use Rattle.giv_files.proofs.RowsLeft.{no_parts, rest_smaller}
 
 -- where nothing is left no line is
@@ -64,3 +65,8 @@ rows_of_told (line ∷ lines) =
 pub rows_told : (text : List ℕ) → rows text ≡ map row_told (told_left 0 (parts_of text))
 unfolding rows told_left
 rows_told text = rows_of_told (enumerate_from 1 (filter has_byte (lines text)))
+
+-- the pieces of a line behind a space are the row of the line
+pub row_is : (number : ℕ) (told : Told) (found : List (List ℕ)) → told.number ≡ number → found ≡ pieces (32 ∷ told.line) → record { number = number; fields = cleaned found } ≡ row_told told
+row_is number told found same is =
+    ap₂ (λ (n : ℕ) (fields : List (List ℕ)). let row : Row = record { number = n; fields = fields } in row) (sym same) (ap cleaned is ∙ cleaned_spaced told.line)

@@ -1,4 +1,5 @@
 pub mod Columns
+pub mod InnerReading
 pub mod Inputs
 pub mod Keys
 pub mod NamedFiles

@@ -1,6 +1,6 @@
--- What csv is given of a text, and how it reads that.
+-- Inner words: what csv is given of a text, and how it reads that. A reader of the contracts of this crate needs none of them.
 use Rattle.std.specs.Prelude.{ℕ, ◌≡◌, List, [], ◌∷◌, ◌++◌, Option, Some, None, false, true}
-use Rattle.csv.specs.Reading.{Ready, reader_config, reader_state, reader_trim, source_of}
+use Rattle.csv.specs.Reading.{Ready, has_failed, is_flexible, reader_config, reader_state, reader_trim, source_of}
 use Rattle.csv.specs.declared.parser.Config.{Config}
 use Rattle.csv.specs.declared.parser.Terminator.TheVariants as term
 use Rattle.csv.specs.declared.parser.State.TheVariants as st
@@ -30,10 +30,15 @@ spaced_left spaced = Some (unread_onto spaced.line (spaced_lines spaced.lines))
 abbrev pub table_config : Config
 table_config = record { delimiter = 59; quote = 34; escape = None; double_quote = true; quoting = false; comment = None; terminator = term.Any 10 }
 
--- a reader of csv stands before these lines
+-- a reader of csv reads these lines next
 pub record Awaits (reader : Reader Spaced) (lines : List Told) : Type 0 where
   pub config : reader_config reader ≡ table_config
   pub state : reader_state reader ≡ st.StartRecord
   pub trim : reader_trim reader ≡ trim.None
+  pub flexible : is_flexible reader ≡ true
   pub ready : Ready reader
   pub source : source_of spaced_left reader ≡ Some (spaced_lines lines)
+
+-- it does so unless it has failed
+abbrev pub StandsBefore : Reader Spaced → List Told → Type 0
+StandsBefore reader lines = has_failed reader ≡ false → Awaits reader lines

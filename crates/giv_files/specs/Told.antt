@@ -1,4 +1,4 @@
--- The lines of a text that have rows.
+-- Inner words: the lines of a text that have rows. A reader of the contracts of this crate needs none of them.
 use Rattle.std.specs.Prelude.{ℕ, ◌+◌, if◌then◌else◌, List, [], ◌∷◌, length, filter, map, Option, Some, None}
 use Rattle.std.specs.List.{list_all, flat_map, enumerate_from}
 use Rattle.std.specs.Str.Lines.{strip_carriage_return}

@@ -3,7 +3,7 @@ ghost use Rattle.std.specs.Prelude.{◌≡◌, ◌∷◌, ◌≢◌, List, All, 
 ghost use Rattle.csv.specs.Records.{fields_of};
 ghost use Rattle.giv_files.specs.Rows.{parts_of, pieces};
 ghost use Rattle.giv_files.specs.Told.{Told, told_left};
-ghost use Rattle.giv_files.specs.Spaced.{Awaits};
+ghost use Rattle.giv_files.specs.Spaced.{StandsBefore};
 
 use crate::spaced::Spaced;
 use csv::{ByteRecord, Reader, ReaderBuilder, Terminator};
@@ -12,7 +12,7 @@ use std::alloc::Global;
 
 /// A reader of the lines of a text that have rows.
 pub(crate) fn pieces_reader(alloc: Global, text: &[u8]) -> Reader<Spaced<'_>>
-    ensures { Awaits result (told_left 0 (parts_of text.now)) }
+    ensures { StandsBefore result (told_left 0 (parts_of text.now)) }
 {
     ReaderBuilder::new()
         .delimiter(b';')
@@ -23,16 +23,19 @@ pub(crate) fn pieces_reader(alloc: Global, text: &[u8]) -> Reader<Spaced<'_>>
         .from_reader(alloc, Spaced::new(text))
 }
 
-/// Reads the pieces of the next line.
+/// Reads the pieces of the next line. After want of memory each further call answers that too.
 pub(crate) fn next_pieces(
     reader: &mut Reader<Spaced<'_>>,
     row: &mut ByteRecord,
 ) -> Result<(), NoMemory>
-    ensures { (told : Told) (more : List Told) → Awaits reader.old (told ∷ more) → All (λ byte. byte ≢ 10) told.line
-        → OnOk result ((fields_of row.new ≡ pieces (32 ∷ told.line)) × Awaits reader.new more) }
+    ensures read { (told : Told) (more : List Told) → StandsBefore reader.old (told ∷ more)
+        → All (λ byte. byte ≢ 10) told.line → OnOk result (fields_of row.new ≡ pieces (32 ∷ told.line)) }
+    ensures stands { (told : Told) (more : List Told) → StandsBefore reader.old (told ∷ more)
+        → All (λ byte. byte ≢ 10) told.line → StandsBefore reader.new more }
 {
     match reader.read_byte_record(row) {
-        Ok(_) => Ok(()),
+        Ok(true) => Ok(()),
+        Ok(false) => Err(NoMemory),
         Err(_) => Err(NoMemory),
     }
 }

@@ -1,8 +1,8 @@
 use Rattle.std.proofs.Common.{◌≡◌, List, ℕ, length, ap, ◌∙◌, sym, true, false, eqb, Bool}
 use Rattle.giv_files.specs.Rows.{without_blanks}
 use Rattle.giv_files.proofs.FieldFacts.{counts_less, counts_all, counts_one}
-use Rattle.giv_files.proofs.fields.cleaned_count.Goals as goal
-use Rattle.giv_files.proofs.fields.cleaned_count.Goals.{else-count-ge2-via-then-count-ge2+else-is_empty, else-count-ge2-via-else-count-ge2}
+use Rattle.giv_files.proofs.text_row.cleaned_count.Goals as goal
+use Rattle.giv_files.proofs.text_row.cleaned_count.Goals.{else-count-ge2-via-then-count-ge2+else-is_empty, else-count-ge2-via-else-count-ge2}
 
 -- the test of the last piece
 tested : (last trimmed piece : List ℕ) (answer told : Bool) → piece ≡ last → trimmed ≡ without_blanks piece → answer ≡ eqb (length trimmed) 0 → answer ≡ told → eqb (length (without_blanks last)) 0 ≡ told
