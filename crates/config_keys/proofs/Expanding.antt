@@ -1,9 +1,7 @@
 -- Reading a file goes row by row, and into the files that it includes.
-use Rattle.std.proofs.Common.{◌≡◌, ℕ, zero, suc, ◌+◌, ◌-◌, ◌<◌, ◌≤◌, Bool, true, false, List, [], ◌∷◌, ◌++◌, length, take, drop, get_or, Option, Some, None, IfSome, Result, Ok, Err, string_bytes, refl, ap, sym, subst, ◌∙◌, arith, append-nil}
+use Rattle.std.proofs.Common.{◌≡◌, ℕ, zero, suc, ◌-◌, ◌<◌, Bool, true, false, List, [], ◌∷◌, ◌++◌, Option, Some, None, IfSome, Result, Ok, Err, string_bytes, refl, subst, arith}
 use Rattle.std.proofs.Math.Numerals.{sub-one}
 use Rattle.std.specs.List.{flat_map}
-use Rattle.std.proofs.lemmas.List.{take_all, take_more, take-append-drop}
-use Rattle.std.proofs.lemmas.List.Concat.{flat_map-append}
 use Rattle.plan_files.specs.declared.store.Got.{Got}
 use Rattle.plan_files.specs.declared.store.Got.TheVariants.{Bytes}
 use Rattle.plan_files.specs.Folder.{Folder}
@@ -16,7 +14,7 @@ use Rattle.config_keys.specs.declared.reading.Reading.{Reading}
 use Rattle.config_keys.specs.Items.{Item, row_item, row_brings, brought, got_items, below, expanded, first_fault, look_in, config_items, config_name, most_levels}
 use Rattle.config_keys.specs.Said.{ReadOn, ReadGives}
 use Rattle.config_keys.specs.Parts.{RowsOf, Taken, Passed, TakeGives, FetchGives}
-use Rattle.config_keys.proofs.Steps.{read_none, read_more, gives_more, first_fault-stays}
+use Rattle.config_keys.proofs.Steps.{read_none, gives_more, first_fault-stays}
 
 -- a file that is included has one level less below it
 below_one : (look : List ℕ → Got) (left : ℕ) (path text : List ℕ) → 0 < left → below look left path text ≡ expanded look (left - 1) path text
@@ -102,52 +100,55 @@ text_refused (Some folder) left file text old new (Refused reason) result h e = 
 text_refused (Some folder) left file text old new FileFault result h e = absurd h
 text_refused (Some folder) left file text old new NoMemory result h e = rw e tt
 
--- at first nothing has been read
-pub rows_none : (contents : Option Folder) (reading : Reading) → IfSome contents (λ folder. ReadOn [] reading reading)
-rows_none None reading = tt
-rows_none (Some folder) reading = read_none reading
-
--- what one row more says and brings
-one_more : {X : Type 0} (f : X → List Item) (xs : List X) (i : ℕ) (x : X) → i < length xs → x ≡ get_or xs i x → flat_map f (take (i + 1) xs) ≡ flat_map f (take i xs) ++ f x
-one_more f xs i x h e = ap (flat_map f) (take_more xs i x h) ∙ flat_map-append f (take i xs) (get_or xs i x ∷ []) ∙ rw (← e, append-nil) refl
-
--- one row more has been read
-pub rows_more : (contents after : Option Folder) (left : ℕ) (file : List ℕ) (rows : List Row) (i : ℕ) (row : Row) (old mid new : Reading) → i < length rows → row ≡ get_or rows i row → after ≡ contents
-    → IfSome contents (λ folder. ReadOn (flat_map (row_brings (look_in folder) left file) (take i rows)) old mid)
-    → IfSome after (λ folder. ReadOn (row_brings (look_in folder) left file row) mid new)
-    → IfSome contents (λ folder. ReadOn (flat_map (row_brings (look_in folder) left file) (take (i + 1) rows)) old new)
-rows_more None after left file rows i row old mid new h e same k m = tt
-rows_more (Some folder) after left file rows i row old mid new h e same k m =
-    let next : ReadOn (row_brings (look_in folder) left file row) mid new = rw same at m in
-    rw (one_more (row_brings (look_in folder) left file) rows i row h e) (read_more _ (row_brings (look_in folder) left file row) old mid new k next)
-
+-- items that end the reading end it before more of them
 refused_among : (xs ys : List Item) (old new : Reading) (end : ConfigEnd) → ReadGives xs old new (Err end) → ReadGives (xs ++ ys) old new (Err end)
 refused_among xs ys old new (Refused reason) h = first_fault-stays old.includes xs ys reason h
 refused_among xs ys old new FileFault h = tt
 refused_among xs ys old new NoMemory h = tt
 
--- a row ends the reading of a text
-pub rows_refused : (contents after : Option Folder) (left : ℕ) (file text : List ℕ) (all : List Row) (i : ℕ) (row : Row) (old mid new : Reading) (end : ConfigEnd) (result : Result (Unit {0}) ConfigEnd) → i < length all → row ≡ get_or all i row → after ≡ contents
-    → has_mark text ≡ false → all ≡ rows text
-    → IfSome contents (λ folder. ReadOn (flat_map (row_brings (look_in folder) left file) (take i all)) old mid)
-    → IfSome after (λ folder. ReadGives (row_brings (look_in folder) left file row) mid new (Err end)) → result ≡ Err end
-    → IfSome contents (λ folder. ReadGives (expanded (look_in folder) left file text) old new result)
-rows_refused None after left file text all i row old mid new end result h e same plain told k m f = tt
-rows_refused (Some folder) after left file text all i row old mid new end result h e same plain told k m f =
-    let brings = row_brings (look_in folder) left file in
-    let next : ReadGives (brings row) mid new (Err end) = rw same at m in
-    let front = gives_more _ (brings row) old mid new (Err end) k next in
-    let whole : flat_map brings all ≡ (flat_map brings (take i all) ++ brings row) ++ flat_map brings (drop (i + 1) all) = ap (flat_map brings) (sym (take-append-drop (i + 1) all)) ∙ flat_map-append brings (take (i + 1) all) (drop (i + 1) all) ∙ ap (λ items. items ++ flat_map brings (drop (i + 1) all)) (one_more brings all i row h e) in
-    let items = expanded_rows (look_in folder) left file text plain ∙ ap (flat_map brings) (sym told) ∙ whole in
-    rw f (subst (λ some. ReadGives some old new (Err end)) (sym items) (refused_among _ (flat_map brings (drop (i + 1) all)) old new end front))
+-- what reading the rows that are left of a text gives is what reading the text gives
+abbrev pub Leads : Option Folder → ℕ → List ℕ → List ℕ → Reading → List Row → Reading → Type 0
+Leads contents left file text old rows mid =
+    IfSome contents (λ folder. (new : Reading) (result : Result (Unit {0}) ConfigEnd) → ReadGives (flat_map (row_brings (look_in folder) left file) rows) mid new result
+    → ReadGives (expanded (look_in folder) left file text) old new result)
 
--- all rows of a text have been read
-pub rows_all : (contents : Option Folder) (left : ℕ) (file text : List ℕ) (all : List Row) (i : ℕ) (old new : Reading) → length all ≤ i → has_mark text ≡ false → all ≡ rows text
-    → IfSome contents (λ folder. ReadOn (flat_map (row_brings (look_in folder) left file) (take i all)) old new)
-    → IfSome contents (λ folder. ReadOn (expanded (look_in folder) left file text) old new)
-rows_all None left file text all i old new h plain told k = tt
-rows_all (Some folder) left file text all i old new h plain told k =
-    rw (expanded_rows (look_in folder) left file text plain, ← told) (rw (take_all i all h) at k)
+module _ (contents : Option Folder) (left : ℕ) (file text : List ℕ) (old : Reading) where
+  -- at first all rows are left
+  pub rows_begin : (all : List Row) → has_mark text ≡ false → all ≡ rows text → Leads contents left file text old all old
+  rows_begin all plain told =
+      elim contents as (λ some. Leads some left file text old all old) [
+        | None ↦ tt
+        | Some folder ↦ λ new result gives. rw (expanded_rows (look_in folder) left file text plain, ← told) gives
+      ]
+
+  module _ (after : Option Folder) (all rest : List Row) (row : Row) (mid : Reading) (is : all ≡ row ∷ rest) (same : after ≡ contents) where
+    -- one row more has been read
+    pub rows_more : (next : Reading) → Leads contents left file text old all mid → IfSome after (λ folder. ReadOn (row_brings (look_in folder) left file row) mid next)
+        → Leads contents left file text old rest next
+    rows_more next leads read = more contents leads (rw same at read)
+      where
+        more : (some : Option Folder) → Leads some left file text old all mid → IfSome some (λ folder. ReadOn (row_brings (look_in folder) left file row) mid next) → Leads some left file text old rest next
+        more None leads read = tt
+        more (Some folder) leads read = λ new result gives. leads new result (rw is (gives_more _ _ mid next new result read gives))
+
+    -- a row ends the reading of a text
+    pub rows_refused : (new : Reading) (end : ConfigEnd) (result : Result (Unit {0}) ConfigEnd) → Leads contents left file text old all mid
+        → IfSome after (λ folder. ReadGives (row_brings (look_in folder) left file row) mid new (Err end)) → result ≡ Err end
+        → IfSome contents (λ folder. ReadGives (expanded (look_in folder) left file text) old new result)
+    rows_refused new end result leads read e = ends contents leads (rw same at read)
+      where
+        ends : (some : Option Folder) → Leads some left file text old all mid → IfSome some (λ folder. ReadGives (row_brings (look_in folder) left file row) mid new (Err end))
+            → IfSome some (λ folder. ReadGives (expanded (look_in folder) left file text) old new result)
+        ends None leads read = tt
+        ends (Some folder) leads read = leads new result (rw (is, e) (refused_among _ _ mid new end read))
+
+  -- all rows of a text have been read
+  pub rows_all : (all : List Row) (new : Reading) → all ≡ [] → Leads contents left file text old all new → IfSome contents (λ folder. ReadOn (expanded (look_in folder) left file text) old new)
+  rows_all all new none leads =
+      elim contents as (λ some. Leads some left file text old all new → IfSome some (λ folder. ReadOn (expanded (look_in folder) left file text) old new)) [
+        | None ↦ λ leads. tt
+        | Some folder ↦ λ leads. leads new (Ok tt) (rw none (read_none new))
+      ] leads
 
 -- a config file that cannot be read
 pub config_refused : (contents : Option Folder) (old new : Reading) (end : ConfigEnd) (result : Result (Unit {0}) ConfigEnd) → IfSome contents (λ folder. FetchGives true config_name (look_in folder config_name) (Err end)) → result ≡ Err end

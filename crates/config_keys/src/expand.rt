@@ -10,7 +10,7 @@ use crate::config_fault::ConfigFault;
 use crate::include::{inside, path_of};
 use crate::reading::Reading;
 use crate::word::is_word;
-use giv_files::{ReadFault, RowWhy, TextRow, TextRows, read_rows};
+use giv_files::{RowWhy, TextRow, TextRows};
 use plan_files::{Files, Got};
 use plan_num::Text;
 use std::alloc::Global;
@@ -70,9 +70,10 @@ fn read_text<F: Files>(
     ensures writes { F.writes files.new ≡ F.writes files.old }
     ensures faults { CountsEnd (F.faults files.old) (F.faults files.new) result }
 {
-    let rows = rows_of(alloc, name, text)?;
-    for row in rows.as_slice() {
-        read_row(alloc, files, reading, name, row, left)?;
+    let mut rows = rows_of(alloc, name, text)?;
+    let mut row = TextRow::new(alloc);
+    'rows: while rows.next_row(&mut row)? {
+        read_row(alloc, files, reading, name, &row, left)?;
     }
     Ok(())
 }
@@ -110,13 +111,12 @@ fn read_row<F: Files>(
 }
 
 // The rows of the text of a file.
-fn rows_of(alloc: Global, name: &str, text: &[u8]) -> Result<TextRows, ConfigEnd>
+fn rows_of<'a>(alloc: Global, name: &str, text: &'a [u8]) -> Result<TextRows<'a>, ConfigEnd>
     ensures { RowsOf name.now text.now result }
 {
-    match read_rows(alloc, text) {
+    match TextRows::new(alloc, text) {
         Ok(rows) => Ok(rows),
-        Err(ReadFault::NoMemory) => Err(ConfigEnd::NoMemory),
-        Err(ReadFault::Row(fault)) => Err(ConfigEnd::Refused(ConfigFault::BadRow {
+        Err(fault) => Err(ConfigEnd::Refused(ConfigFault::BadRow {
             name: Text::copy(alloc, name.as_bytes())?,
             row: fault.row,
             why: fault.why,
