@@ -14,6 +14,7 @@ pub mod RowFacts
 pub mod RowsLeft
 pub mod SettingFacts
 pub mod SplitFacts
+pub mod Skipping
 pub mod SpacedFacts
 pub mod StageCalls
 pub mod TableRows

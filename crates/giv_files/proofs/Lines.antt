@@ -1,5 +1,5 @@
 -- Parts of a line that are counted and then cut off.
-use Rattle.std.proofs.Common.{◌≡◌, ◌≢◌, ℕ, ◌+◌, ◌-◌, ◌<◌, ◌≤◌, List, [], ◌∷◌, length, take, drop, get_or, refl, ap, ◌∙◌, Bool, true, false, cond, not, eqb, ltb, reverse, All, Option, Some, None, arith, length-take, get_or-take}
+use Rattle.std.proofs.Common.{◌≡◌, ◌≢◌, ℕ, ◌+◌, ◌-◌, ◌<◌, ◌≤◌, List, [], ◌∷◌, length, take, drop, get_or, refl, ◌∙◌, Bool, true, false, cond, eqb, ltb, reverse, All, Option, Some, None, arith, length-take, get_or-take}
 use Rattle.std.specs.List.{take_while, position, position_or_len}
 use Rattle.std.specs.Option.{MatchOption}
 use Rattle.std.proofs.lemmas.Bool.{ltb-true, ltb-false, eqb-false}
@@ -7,11 +7,7 @@ use Rattle.std.proofs.lemmas.List.Sums.{fails_before_first}
 use Rattle.std.proofs.lemmas.List.Splits.{slice_split_none, slice_split_first}
 use Rattle.std.proofs.lemmas.List.{take_rest}
 use Rattle.std.proofs.lemmas.List.Folds.{length-prefix_len}
-use Rattle.giv_files.specs.Rows.{is_blank, without_blanks, before_comment, parts_of}
-
--- what stands before a comment, by its length
-pub cut_comment : (line : List ℕ) (place : ℕ) → place ≡ length (before_comment line) → take place line ≡ before_comment line
-cut_comment line place e = ap (λ n. take n line) (e ∙ length-prefix_len (λ byte. not (eqb byte 35)) line)
+use Rattle.giv_files.specs.Rows.{is_blank, without_blanks, parts_of}
 
 -- a field without the blanks round it, by how many there are at its front and at its end
 pub cut_blanks : (field : List ℕ) (before after : ℕ) → before ≡ length (take_while is_blank field)

@@ -7,6 +7,7 @@ mod column;
 mod columns;
 mod counted;
 mod file_id;
+mod find;
 mod input;
 mod key;
 mod key_kind;
