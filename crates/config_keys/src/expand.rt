@@ -1,7 +1,8 @@
 // Reading config files with their includes.
 ghost use Rattle.std.specs.Prelude.{◌≡◌, IfSome};
 ghost use Rattle.config_keys.specs.Ends.{CountsEnd};
-ghost use Rattle.config_keys.specs.Items.{look_in, config_items, expanded, row_brings, row_item, include_word, include_item};
+ghost use Rattle.config_keys.specs.Items.{look_in, config_items, expanded, row_brings, row_item};
+ghost use Rattle.config_keys.specs.Items.{include_word, include_item};
 ghost use Rattle.config_keys.specs.Said.{ReadGives};
 ghost use Rattle.config_keys.specs.Parts.{RowsOf, TakeGives, IncludeGives, FetchGives};
 
@@ -37,7 +38,8 @@ pub(crate) fn read_all<F: Files>(
     files: &mut F,
     reading: &mut Reading,
 ) -> Result<(), ConfigEnd>
-    ensures read { IfSome (F.contents files.old) (λ folder. ReadGives (config_items (look_in folder)) reading.old reading.new result) }
+    ensures read { IfSome (F.contents files.old)
+        (λ folder. ReadGives (config_items (look_in folder)) reading.old reading.new result) }
     ensures contents { F.contents files.new ≡ F.contents files.old }
     ensures writes { F.writes files.new ≡ F.writes files.old }
     ensures faults { CountsEnd (F.faults files.old) (F.faults files.new) result }
@@ -65,7 +67,9 @@ fn read_text<F: Files>(
     text: &[u8],
     left: u8,
 ) -> Result<(), ConfigEnd>
-    ensures read { IfSome (F.contents files.old) (λ folder. ReadGives (expanded (look_in folder) left name.now text.now) reading.old reading.new result) }
+    ensures read { IfSome (F.contents files.old)
+        (λ folder. ReadGives
+        (expanded (look_in folder) left name.now text.now) reading.old reading.new result) }
     ensures contents { F.contents files.new ≡ F.contents files.old }
     ensures writes { F.writes files.new ≡ F.writes files.old }
     ensures faults { CountsEnd (F.faults files.old) (F.faults files.new) result }
@@ -88,7 +92,9 @@ fn read_row<F: Files>(
     row: &TextRow,
     left: u8,
 ) -> Result<(), ConfigEnd>
-    ensures read { IfSome (F.contents files.old) (λ folder. ReadGives (row_brings (look_in folder) left name.now row.now) reading.old reading.new result) }
+    ensures read { IfSome (F.contents files.old)
+        (λ folder. ReadGives
+        (row_brings (look_in folder) left name.now row.now) reading.old reading.new result) }
     ensures contents { F.contents files.new ≡ F.contents files.old }
     ensures writes { F.writes files.new ≡ F.writes files.old }
     ensures faults { CountsEnd (F.faults files.old) (F.faults files.new) result }
@@ -131,7 +137,8 @@ fn fetch<F: Files>(
     path: &str,
     optional: bool,
 ) -> Result<Option<Text>, ConfigEnd>
-    ensures found { IfSome (F.contents files.old) (λ folder. FetchGives optional path.now (look_in folder path.now) result) }
+    ensures found { IfSome (F.contents files.old)
+        (λ folder. FetchGives optional path.now (look_in folder path.now) result) }
     ensures contents { F.contents files.new ≡ F.contents files.old }
     ensures writes { F.writes files.new ≡ F.writes files.old }
     ensures faults { CountsEnd (F.faults files.old) (F.faults files.new) result }
@@ -204,7 +211,8 @@ fn take_include(
     name: &[u8],
     left: u8,
 ) -> Result<Included, ConfigEnd>
-    ensures { IncludeGives left (include_item left file.now row optional name.now) reading.old reading.new result }
+    ensures { IncludeGives left
+        (include_item left file.now row optional name.now) reading.old reading.new result }
 {
     let name = match inside(name) {
         None => {

@@ -1,6 +1,8 @@
--- Inner words: what csv is given of a text, and how it reads that. A reader of the contracts of this crate needs none of them.
+-- Inner words: what csv is given of a text, and how it reads that. A reader of the contracts of
+-- this crate needs none of them.
 use Rattle.std.specs.Prelude.{ℕ, ◌≡◌, List, [], ◌∷◌, ◌++◌, Option, Some, None, false, true}
-use Rattle.csv.specs.Reading.{Ready, has_failed, is_flexible, reader_config, reader_state, reader_trim, source_of}
+use Rattle.csv.specs.Reading.{Ready, has_failed, is_flexible, reader_config, reader_state}
+use Rattle.csv.specs.Reading.{reader_trim, source_of}
 use Rattle.csv.specs.declared.parser.Config.{Config}
 use Rattle.csv.specs.declared.parser.Terminator.TheVariants as term
 use Rattle.csv.specs.declared.parser.State.TheVariants as st
@@ -28,7 +30,16 @@ spaced_left spaced = Some (unread_onto spaced.line (spaced_lines spaced.lines))
 
 -- semicolons between fields, no quotes, and only a line feed ends a record
 abbrev pub table_config : Config
-table_config = record { delimiter = 59; quote = 34; escape = None; double_quote = true; quoting = false; comment = None; terminator = term.Any 10 }
+table_config =
+    record {
+      delimiter = 59;
+      quote = 34;
+      escape = None;
+      double_quote = true;
+      quoting = false;
+      comment = None;
+      terminator = term.Any 10;
+    }
 
 -- a reader of csv reads these lines next
 pub record Awaits (reader : Reader Spaced) (lines : List Told) : Type 0 where

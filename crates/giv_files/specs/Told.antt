@@ -1,5 +1,7 @@
--- Inner words: the lines of a text that have rows. A reader of the contracts of this crate needs none of them.
-use Rattle.std.specs.Prelude.{ℕ, ◌+◌, if◌then◌else◌, List, [], ◌∷◌, length, filter, map, Option, Some, None}
+-- Inner words: the lines of a text that have rows. A reader of the contracts of this crate needs
+-- none of them.
+use Rattle.std.specs.Prelude.{ℕ, ◌+◌, if◌then◌else◌, List, [], ◌∷◌, length, filter, map, Option}
+use Rattle.std.specs.Prelude.{Some, None}
 use Rattle.std.specs.List.{list_all, flat_map, enumerate_from}
 use Rattle.std.specs.Str.Lines.{strip_carriage_return}
 use Rattle.giv_files.specs.Rows.{Row, is_blank, before_comment, has_byte, cleaned, pieces}
@@ -11,11 +13,15 @@ pub record Told : Type 0 where
 
 -- a line with only blanks before a comment has no row
 abbrev pub told_of : ℕ → List ℕ → List Told
-told_of number line = let told = before_comment line in if list_all is_blank told then [] else record { number = number; line = told } ∷ []
+told_of number line =
+    let told = before_comment line in if list_all is_blank told then [] else
+    record { number = number; line = told } ∷ []
 
 -- the lines that have rows, after so many that were numbered
 unfoldable pub told_left : ℕ → List (List ℕ) → List Told
-told_left number parts = flat_map (λ line. told_of line.0 line.1) (enumerate_from (number + 1) (filter has_byte (map strip_carriage_return parts)))
+told_left number parts =
+    flat_map (λ line. told_of line.0 line.1) (enumerate_from (number + 1)
+    (filter has_byte (map strip_carriage_return parts)))
 
 -- the row of such a line
 abbrev pub row_told : Told → Row

@@ -2,7 +2,8 @@
 ghost use Rattle.std.specs.Prelude.{◌≡◌, ◌==◌, ◌≤◌, length};
 ghost use Rattle.std.specs.List.{list_any, position_or_len};
 
-// How many bytes are tested at a time. A test of so many has no branch, so it takes a few steps of the machine.
+// How many bytes are tested at a time. A test of so many has no branch, so it takes a few steps of
+// the machine.
 const WIDTH: usize = 16;
 
 /// Where the byte stands first, or the length where it does not.

@@ -1,9 +1,11 @@
 // Parts of a line, and of its fields.
-ghost use Rattle.std.specs.Prelude.{◌≡◌, ◌≢◌, ◌==◌, ◌<◌, ◌∷◌, All, IfSome, length, position, reverse, take_while};
+ghost use Rattle.std.specs.Prelude.{◌≡◌, ◌≢◌, ◌==◌, ◌<◌, ◌∷◌, All, IfSome, length, position};
+ghost use Rattle.std.specs.Prelude.{reverse, take_while};
 ghost use Rattle.std.specs.Option.{option_copied};
 ghost use Rattle.std.specs.List.{list_all};
 ghost use Rattle.std.specs.Str.Lines.{strip_carriage_return};
-ghost use Rattle.giv_files.specs.Rows.{is_blank, parts_left, parts_of, without_blanks, without_quotes, before_comment};
+ghost use Rattle.giv_files.specs.Rows.{is_blank, parts_left, parts_of, without_blanks};
+ghost use Rattle.giv_files.specs.Rows.{without_quotes, before_comment};
 
 use crate::find::place_of_byte;
 

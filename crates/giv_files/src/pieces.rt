@@ -29,7 +29,8 @@ pub(crate) fn next_pieces(
     row: &mut ByteRecord,
 ) -> Result<(), NoMemory>
     ensures read { (told : Told) (more : List Told) → StandsBefore reader.old (told ∷ more)
-        → All (λ byte. byte ≢ 10) told.line → OnOk result (fields_of row.new ≡ pieces (32 ∷ told.line)) }
+        → All (λ byte. byte ≢ 10) told.line
+        → OnOk result (fields_of row.new ≡ pieces (32 ∷ told.line)) }
     ensures stands { (told : Told) (more : List Told) → StandsBefore reader.old (told ∷ more)
         → All (λ byte. byte ≢ 10) told.line → StandsBefore reader.new more }
 {

@@ -9,8 +9,8 @@ use crate::text_row::TextRow;
 use crate::text_rows::TextRows;
 use std::alloc::Global;
 
-/// Reads a text as a table whose columns hold what `kinds` says. A fault is the first of the text: rows in
-/// order, and in a row its number of fields and then its columns from the left.
+/// Reads a text as a table whose columns hold what `kinds` says. A fault is the first of the text:
+/// rows in order, and in a row its number of fields and then its columns from the left.
 pub fn read_table<const C: usize>(
     alloc: Global,
     bytes: &[u8],

@@ -46,7 +46,8 @@ impl<'a> RowLines<'a> {
 
     /// The next one.
     pub(crate) fn next(&mut self) -> Option<RowLine<'a>>
-        ensures next { MatchOption result ((self.old ≡ []) × (self.new ≡ [])) (λ row. self.old ≡ record { number = row.number; line = row.told.now } ∷ self.new) }
+        ensures next { MatchOption result ((self.old ≡ []) × (self.new ≡ []))
+            (λ row. self.old ≡ record { number = row.number; line = row.told.now } ∷ self.new) }
         ensures plain { IfSome result (λ row. All (λ byte. byte ≢ 10) row.told.now) }
     {
         'lines: while let Some(text) = self.left {

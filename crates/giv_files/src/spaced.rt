@@ -1,5 +1,6 @@
 // The lines of a text that have rows, as csv is given them.
-ghost use Rattle.std.specs.Prelude.{◌≡◌, ◌<◌, ◌≤◌, ◌++◌, ◌∷◌, [], List, ℕ, length, min, take, drop, Some, IsOk};
+ghost use Rattle.std.specs.Prelude.{◌≡◌, ◌<◌, ◌≤◌, ◌++◌, ◌∷◌, [], List, ℕ, length, min, take, drop};
+ghost use Rattle.std.specs.Prelude.{Some, IsOk};
 ghost use Rattle.std.specs.Io.{ReadsAtMost};
 ghost use Rattle.std.specs.Io.KnownBytes.{ReadConsumes};
 ghost use Rattle.giv_files.specs.Rows.{parts_of};
@@ -11,7 +12,8 @@ use crate::row_lines::RowLines;
 use std::io;
 use std::io::Read;
 
-// What is left to hand out of a line, which a line feed ends: all of it behind a space, its rest, or nothing.
+// What is left to hand out of a line, which a line feed ends: all of it behind a space, its rest,
+// or nothing.
 #[derive(Clone, Copy)]
 enum Unread<'a> {
     Line(&'a [u8]),
@@ -39,7 +41,8 @@ impl<'a> Spaced<'a> {
 
     // Takes the next line where the one before is handed out.
     fn advance(&mut self)
-        ensures same { unread_onto self.new.line (spaced_lines self.new.lines) ≡ unread_onto self.old.line (spaced_lines self.old.lines) }
+        ensures same { unread_onto self.new.line (spaced_lines self.new.lines)
+            ≡ unread_onto self.old.line (spaced_lines self.old.lines) }
         ensures end { self.new.line ≡ unread.Nothing → self.new.lines ≡ [] }
     {
         if let Unread::Nothing = self.line {
@@ -63,7 +66,8 @@ fn copy_front(from: &[u8], to: &mut [u8]) -> usize
 // Hands out a line and its line feed.
 fn hand_rest<'a>(line: &'a [u8], buffer: &mut [u8]) -> (usize, Unread<'a>)
     ensures bound { result.0 ≤ length buffer.new }
-    ensures given { (more : List ℕ) → line.now ++ 10 ∷ more ≡ take result.0 buffer.new ++ unread_onto result.1 more }
+    ensures given { (more : List ℕ)
+        → line.now ++ 10 ∷ more ≡ take result.0 buffer.new ++ unread_onto result.1 more }
     ensures some { 0 < length buffer.new → 0 < result.0 }
 {
     let count = copy_front(line, buffer);
@@ -78,7 +82,8 @@ fn hand_rest<'a>(line: &'a [u8], buffer: &mut [u8]) -> (usize, Unread<'a>)
 // Hands out what is left of a line.
 fn hand_out<'a>(line: Unread<'a>, buffer: &mut [u8]) -> (usize, Unread<'a>)
     ensures bound { result.0 ≤ length buffer.new }
-    ensures given { (more : List ℕ) → unread_onto line.entry more ≡ take result.0 buffer.new ++ unread_onto result.1 more }
+    ensures given { (more : List ℕ)
+        → unread_onto line.entry more ≡ take result.0 buffer.new ++ unread_onto result.1 more }
     ensures some { 0 < length buffer.new → result.0 ≡ 0 → line.entry ≡ unread.Nothing }
 {
     match line {
@@ -102,7 +107,8 @@ impl Read for Spaced<'_> {
 
     fn read(&mut self, buffer: &mut [u8]) -> io::Result<usize>
         ensures bound { ReadsAtMost result buffer.new }
-        ensures bytes { ReadConsumes (spaced_left self.old) (spaced_left self.new) result buffer.new }
+        ensures bytes { ReadConsumes
+            (spaced_left self.old) (spaced_left self.new) result buffer.new }
         ensures ok { IsOk result }
     {
         self.advance();

@@ -43,7 +43,8 @@ impl<const C: usize> Table<C> {
 
     /// One row more.
     pub fn push(&mut self, number: u64, cells: &[i64; C]) -> Result<(), NoMemory>
-        ensures ok { OnOk result (self.new ≡ self.old ++ record { number = number; cells = cells.now } ∷ []) }
+        ensures ok { OnOk result (self.new ≡ self.old
+            ++ record { number = number; cells = cells.now } ∷ []) }
         ensures err { OnErr result (self.new ≡ self.old) }
     {
         self.numbers.push(number)?;

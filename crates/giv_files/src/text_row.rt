@@ -1,5 +1,6 @@
 // A row of a text, with its fields as they are written.
-ghost use Rattle.std.specs.Prelude.{◌≡◌, ◌<◌, ◌≢◌, ◌∷◌, [], List, All, OnOk, length, slice_index_or};
+ghost use Rattle.std.specs.Prelude.{◌≡◌, ◌<◌, ◌≢◌, ◌∷◌, [], List, All, OnOk, length};
+ghost use Rattle.std.specs.Prelude.{slice_index_or};
 ghost use Rattle.csv.specs.Records.{fields_of};
 ghost use Rattle.giv_files.specs.Rows.{cleaned};
 ghost use Rattle.giv_files.specs.Told.{Told, row_told};
@@ -13,8 +14,8 @@ use plan_num::NoMemory;
 use std::alloc::Global;
 use std::marker::Model;
 
-/// A row of a text, which is read in the place of the row before it. Contracts see it as its number and the
-/// list of its fields.
+/// A row of a text, which is read in the place of the row before it. Contracts see it as its number
+/// and the list of its fields.
 #[derive(Drop)]
 pub struct TextRow {
     number: u64,
@@ -32,7 +33,10 @@ impl Model for TextRow {
 
 impl TextRow {
     /// Room for a row, before one is read.
-    pub fn new(alloc: Global) -> TextRow {
+    #[tactic(auto, unfolding(crate::specs::Rows::cleaned))]
+    pub fn new(alloc: Global) -> TextRow
+        ensures { result ≡ record { number = 0; fields = [] } }
+    {
         TextRow {
             number: 0,
             pieces: ByteRecord::new(alloc),
@@ -68,7 +72,8 @@ impl TextRow {
         reader: &mut Reader<Spaced<'_>>,
     ) -> Result<(), NoMemory>
         ensures read { (told : Told) (more : List Told) → StandsBefore reader.old (told ∷ more)
-            → All (λ byte. byte ≢ 10) told.line → told.number ≡ number → OnOk result (self.new ≡ row_told told) }
+            → All (λ byte. byte ≢ 10) told.line → told.number ≡ number
+            → OnOk result (self.new ≡ row_told told) }
         ensures stands { (told : Told) (more : List Told) → StandsBefore reader.old (told ∷ more)
             → All (λ byte. byte ≢ 10) told.line → StandsBefore reader.new more }
     {

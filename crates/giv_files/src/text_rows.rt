@@ -13,8 +13,9 @@ use plan_num::NoMemory;
 use std::alloc::Global;
 use std::marker::Model;
 
-/// The rows that are left of a text, in order. Contracts see them as the list of them. They take no memory but
-/// a buffer of a fixed size.
+/// The rows that are left of a text, in order. Contracts see them as the list of them. They take no
+/// memory but a buffer of a fixed size and the room for a row. After want of memory, which is told
+/// for each further row too, they are of no use.
 #[derive(Drop)]
 pub struct TextRows<'a> {
     lines: RowLines<'a>,
@@ -52,7 +53,8 @@ impl<'a> TextRows<'a> {
 
     /// Reads the next row, and says whether there was one.
     pub fn next_row(&mut self, row: &mut TextRow) -> Result<bool, NoMemory>
-        ensures { IfOk result (λ found. MatchBool found (self.old ≡ row.new ∷ self.new) (self.old ≡ [])) }
+        ensures { IfOk result (λ found.
+            MatchBool found (self.old ≡ row.new ∷ self.new) (self.old ≡ [])) }
     {
         match self.lines.next() {
             None => Ok(false),

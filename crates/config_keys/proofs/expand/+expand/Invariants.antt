@@ -1,4 +1,5 @@
--- Each level of includes is less than the one above it. What is left leads to what the text gives, and no file has changed.
+-- Each level of includes is less than the one above it. What is left leads to what the text gives,
+-- and no file has changed.
 use Rattle.std.proofs.Common.{◌≡◌, ◌+◌, ◌*◌, length}
 use Rattle.config_keys.proofs.Expanding.{Leads}
 use Rattle.config_keys.proofs.expand.+expand.Given as goal
@@ -18,5 +19,6 @@ invariant-read_text-rows g l =
       contents : g.F.Files.contents l.files ≡ g.F.Files.contents l.initial.files;
       writes : g.F.Files.writes l.files ≡ g.F.Files.writes l.initial.files;
       faults : g.F.Files.faults l.files ≡ g.F.Files.faults l.initial.files;
-      read : Leads (g.F.Files.contents l.initial.files) l.left l.name l.text l.initial.reading l.rows l.reading;
+      read : Leads l.left l.name l.text l.initial.reading
+          (g.F.Files.contents l.initial.files) l.rows l.reading;
     }

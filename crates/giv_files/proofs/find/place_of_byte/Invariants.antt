@@ -7,7 +7,8 @@ abbrev pub invariant-pieces : goal.invariant-pieces
 invariant-pieces l =
     record {
       within : length l.rest ≤ length l.text;
-      same : position_or_len (λ other. eqb other l.byte) l.text ≡ length l.text - length l.rest + position_or_len (λ other. eqb other l.byte) l.rest;
+      same : position_or_len (λ other. eqb other l.byte) l.text
+          ≡ length l.text - length l.rest + position_or_len (λ other. eqb other l.byte) l.rest;
     }
 
 abbrev pub decreases-pieces : goal.decreases-pieces

@@ -9,7 +9,8 @@ abbrev pub invariant-lines : goal.invariant-lines
 invariant-lines l =
     record {
       few : l.self-inside.number + left_size (option_copied l.self-inside.left) < 2 ^ 64;
-      same : told_left l.self-inside.number (parts_left (option_copied l.self-inside.left)) ≡ l.fn.self;
+      same : told_left l.self-inside.number (parts_left (option_copied l.self-inside.left))
+          ≡ l.fn.self;
     }
 
 abbrev pub decreases-lines : goal.decreases-lines

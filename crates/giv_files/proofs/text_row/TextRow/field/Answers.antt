@@ -8,4 +8,6 @@ pub returns : goal.returns
 returns c =
     let pieces = fields_of c.self.inside.pieces in
     let within : c.args.index < length (cleaned pieces) = rw (← c.self.view_is) at c.requires in
-    c.without_quotes.ensures ∙ ap without_quotes (c.without_blanks.ensures ∙ ap without_blanks c.piece.ensures) ∙ sym (get_cleaned pieces c.args.index within) ∙ rw (← c.self.view_is) refl
+    c.without_quotes.ensures ∙ ap without_quotes
+    (c.without_blanks.ensures ∙ ap without_blanks c.piece.ensures)
+    ∙ sym (get_cleaned pieces c.args.index within) ∙ rw (← c.self.view_is) refl
