@@ -1,5 +1,5 @@
 -- Settings depend on the files alone that a config can name.
-use Rattle.std.proofs.Common.{◌≡◌, ℕ, zero, suc, Bool, true, false, cond, eqb, List, [], ◌∷◌, length, Option, Some, None, refl, ap, sym, ◌∙◌, subst}
+use Rattle.std.proofs.Common.{◌≡◌, ℕ, zero, suc, Bool, true, false, eqb, List, [], ◌∷◌, length, Option, Some, None, refl, ap, sym, ◌∙◌}
 use Rattle.std.specs.Prelude.{if◌then◌else◌}
 use Rattle.std.specs.List.{flat_map}
 use Rattle.plan_files.specs.declared.store.Got.{Got}
@@ -9,7 +9,7 @@ use Rattle.giv_files.specs.declared.row_why.RowWhy.TheVariants as why
 use Rattle.config_keys.specs.declared.config_fault.ConfigFault.{ConfigFault}
 use Rattle.config_keys.specs.declared.config_fault.ConfigFault.TheVariants as fault
 use Rattle.config_keys.specs.Includes.{is_inside, path_of}
-use Rattle.config_keys.specs.Items.{Item, Setting, Include, Fault, include_item, include_word, pair_item, row_item, got_items, brought, row_items, text_items, below, expanded, config_items, config_name, most_levels}
+use Rattle.config_keys.specs.Items.{Item, Setting, Include, Fault, include_word, pair_item, row_item, got_items, brought, row_items, text_items, below, expanded, config_name, most_levels}
 use Rattle.config_keys.specs.Values.{effective, settings_of}
 
 -- an item includes a file of the same folder, if it includes one

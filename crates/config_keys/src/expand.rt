@@ -1,7 +1,8 @@
 // Reading config files with their includes.
 ghost use Rattle.std.specs.Prelude.{◌≡◌, IfSome};
 ghost use Rattle.config_keys.specs.Ends.{CountsEnd};
-ghost use Rattle.config_keys.specs.Items.{look_in, config_items, expanded, row_brings, row_item, include_word, include_item};
+ghost use Rattle.config_keys.specs.Items.{look_in, config_items, expanded, row_brings, row_item};
+ghost use Rattle.config_keys.specs.Items.{include_word, include_item};
 ghost use Rattle.config_keys.specs.Said.{ReadGives};
 ghost use Rattle.config_keys.specs.Parts.{RowsOf, TakeGives, IncludeGives, FetchGives};
 
@@ -10,7 +11,7 @@ use crate::config_fault::ConfigFault;
 use crate::include::{inside, path_of};
 use crate::reading::Reading;
 use crate::word::is_word;
-use giv_files::{ReadFault, RowWhy, TextRow, TextRows, read_rows};
+use giv_files::{RowWhy, TextRow, TextRows};
 use plan_files::{Files, Got};
 use plan_num::Text;
 use std::alloc::Global;
@@ -37,7 +38,8 @@ pub(crate) fn read_all<F: Files>(
     files: &mut F,
     reading: &mut Reading,
 ) -> Result<(), ConfigEnd>
-    ensures read { IfSome (F.contents files.old) (λ folder. ReadGives (config_items (look_in folder)) reading.old reading.new result) }
+    ensures read { IfSome (F.contents files.old)
+        (λ folder. ReadGives (config_items (look_in folder)) reading.old reading.new result) }
     ensures contents { F.contents files.new ≡ F.contents files.old }
     ensures writes { F.writes files.new ≡ F.writes files.old }
     ensures faults { CountsEnd (F.faults files.old) (F.faults files.new) result }
@@ -65,14 +67,17 @@ fn read_text<F: Files>(
     text: &[u8],
     left: u8,
 ) -> Result<(), ConfigEnd>
-    ensures read { IfSome (F.contents files.old) (λ folder. ReadGives (expanded (look_in folder) left name.now text.now) reading.old reading.new result) }
+    ensures read { IfSome (F.contents files.old)
+        (λ folder. ReadGives
+        (expanded (look_in folder) left name.now text.now) reading.old reading.new result) }
     ensures contents { F.contents files.new ≡ F.contents files.old }
     ensures writes { F.writes files.new ≡ F.writes files.old }
     ensures faults { CountsEnd (F.faults files.old) (F.faults files.new) result }
 {
-    let rows = rows_of(alloc, name, text)?;
-    for row in rows.as_slice() {
-        read_row(alloc, files, reading, name, row, left)?;
+    let mut rows = rows_of(alloc, name, text)?;
+    let mut row = TextRow::new(alloc);
+    'rows: while rows.next_row(&mut row)? {
+        read_row(alloc, files, reading, name, &row, left)?;
     }
     Ok(())
 }
@@ -87,7 +92,9 @@ fn read_row<F: Files>(
     row: &TextRow,
     left: u8,
 ) -> Result<(), ConfigEnd>
-    ensures read { IfSome (F.contents files.old) (λ folder. ReadGives (row_brings (look_in folder) left name.now row.now) reading.old reading.new result) }
+    ensures read { IfSome (F.contents files.old)
+        (λ folder. ReadGives
+        (row_brings (look_in folder) left name.now row.now) reading.old reading.new result) }
     ensures contents { F.contents files.new ≡ F.contents files.old }
     ensures writes { F.writes files.new ≡ F.writes files.old }
     ensures faults { CountsEnd (F.faults files.old) (F.faults files.new) result }
@@ -110,13 +117,12 @@ fn read_row<F: Files>(
 }
 
 // The rows of the text of a file.
-fn rows_of(alloc: Global, name: &str, text: &[u8]) -> Result<TextRows, ConfigEnd>
+fn rows_of<'a>(alloc: Global, name: &str, text: &'a [u8]) -> Result<TextRows<'a>, ConfigEnd>
     ensures { RowsOf name.now text.now result }
 {
-    match read_rows(alloc, text) {
+    match TextRows::new(alloc, text) {
         Ok(rows) => Ok(rows),
-        Err(ReadFault::NoMemory) => Err(ConfigEnd::NoMemory),
-        Err(ReadFault::Row(fault)) => Err(ConfigEnd::Refused(ConfigFault::BadRow {
+        Err(fault) => Err(ConfigEnd::Refused(ConfigFault::BadRow {
             name: Text::copy(alloc, name.as_bytes())?,
             row: fault.row,
             why: fault.why,
@@ -131,7 +137,8 @@ fn fetch<F: Files>(
     path: &str,
     optional: bool,
 ) -> Result<Option<Text>, ConfigEnd>
-    ensures found { IfSome (F.contents files.old) (λ folder. FetchGives optional path.now (look_in folder path.now) result) }
+    ensures found { IfSome (F.contents files.old)
+        (λ folder. FetchGives optional path.now (look_in folder path.now) result) }
     ensures contents { F.contents files.new ≡ F.contents files.old }
     ensures writes { F.writes files.new ≡ F.writes files.old }
     ensures faults { CountsEnd (F.faults files.old) (F.faults files.new) result }
@@ -204,7 +211,8 @@ fn take_include(
     name: &[u8],
     left: u8,
 ) -> Result<Included, ConfigEnd>
-    ensures { IncludeGives left (include_item left file.now row optional name.now) reading.old reading.new result }
+    ensures { IncludeGives left
+        (include_item left file.now row optional name.now) reading.old reading.new result }
 {
     let name = match inside(name) {
         None => {

@@ -1,5 +1,6 @@
 pub mod CellFacts
 pub mod CellTexts
+pub mod Failing
 pub mod FieldFacts
 pub mod Found
 pub mod Headers
@@ -13,7 +14,10 @@ pub mod RowFacts
 pub mod RowsLeft
 pub mod SettingFacts
 pub mod SplitFacts
+pub mod Skipping
+pub mod SpacedFacts
 pub mod StageCalls
 pub mod TableRows
+pub mod ToldFacts
 pub mod WriteFacts
 pub mod WrittenBack

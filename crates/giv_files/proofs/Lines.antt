@@ -1,5 +1,7 @@
 -- Parts of a line that are counted and then cut off.
-use Rattle.std.proofs.Common.{◌≡◌, ◌≢◌, ℕ, ◌+◌, ◌-◌, ◌<◌, ◌≤◌, List, [], ◌∷◌, length, take, drop, get_or, refl, ap, ◌∙◌, Bool, true, false, cond, not, eqb, ltb, reverse, All, Option, Some, None, arith, length-take, get_or-take}
+use Rattle.std.proofs.Common.{◌≡◌, ◌≢◌, ℕ, ◌+◌, ◌-◌, ◌<◌, ◌≤◌, List, [], ◌∷◌, length, take, drop}
+use Rattle.std.proofs.Common.{get_or, refl, ◌∙◌, Bool, true, false, cond, eqb, ltb, reverse, All}
+use Rattle.std.proofs.Common.{Option, Some, None, arith, length-take, get_or-take}
 use Rattle.std.specs.List.{take_while, position, position_or_len}
 use Rattle.std.specs.Option.{MatchOption}
 use Rattle.std.proofs.lemmas.Bool.{ltb-true, ltb-false, eqb-false}
@@ -7,46 +9,56 @@ use Rattle.std.proofs.lemmas.List.Sums.{fails_before_first}
 use Rattle.std.proofs.lemmas.List.Splits.{slice_split_none, slice_split_first}
 use Rattle.std.proofs.lemmas.List.{take_rest}
 use Rattle.std.proofs.lemmas.List.Folds.{length-prefix_len}
-use Rattle.giv_files.specs.Rows.{is_blank, without_blanks, before_comment, parts_of}
-
--- what stands before a comment, by its length
-pub cut_comment : (line : List ℕ) (place : ℕ) → place ≡ length (before_comment line) → take place line ≡ before_comment line
-cut_comment line place e = ap (λ n. take n line) (e ∙ length-prefix_len (λ byte. not (eqb byte 35)) line)
+use Rattle.giv_files.specs.Rows.{is_blank, without_blanks, parts_of}
 
 -- a field without the blanks round it, by how many there are at its front and at its end
 pub cut_blanks : (field : List ℕ) (before after : ℕ) → before ≡ length (take_while is_blank field)
-    → after ≡ length (take_while is_blank (reverse (take (length field - before) (drop before field))))
-    → take (length (take (length field - before) (drop before field)) - after) (take (length field - before) (drop before field)) ≡ without_blanks field
+    → after ≡ length (take_while is_blank (reverse
+    (take (length field - before) (drop before field))))
+    → take (length (take (length field - before) (drop before field)) - after)
+    (take (length field - before) (drop before field)) ≡ without_blanks field
 cut_blanks field before after e f =
     let start = e ∙ length-prefix_len is_blank field in
-    let end = f ∙ length-prefix_len is_blank (reverse (take (length field - before) (drop before field))) in
+    let end = f ∙ length-prefix_len is_blank (reverse
+    (take (length field - before) (drop before field))) in
     rw (end, take_rest field before, start) refl
 
 -- a byte is a line feed
 abbrev is_feed : ℕ → Bool
 is_feed byte = eqb byte 10
 
-found_or_not : (text : List ℕ) (end : Option ℕ) (t : Bool) → ltb (position_or_len is_feed text) (length text) ≡ t → end ≡ cond t (Some (position_or_len is_feed text)) None
-    → MatchOption end (length text ≤ position_or_len is_feed text) (λ at. (at ≡ position_or_len is_feed text) × (at < length text))
+found_or_not : (text : List ℕ) (end : Option ℕ) (t : Bool)
+    → ltb (position_or_len is_feed text) (length text) ≡ t
+    → end ≡ cond t (Some (position_or_len is_feed text)) None
+    → MatchOption end (length text ≤ position_or_len is_feed text)
+    (λ at. (at ≡ position_or_len is_feed text) × (at < length text))
 found_or_not text end true e f = rw f (refl, ltb-true _ _ e)
 found_or_not text end false e f = rw f (ltb-false _ _ e)
 
 -- the place of the first line feed, or that there is none
 place_of_feed : (text : List ℕ) (end : Option ℕ) → end ≡ position is_feed text
-    → MatchOption end (length text ≤ position_or_len is_feed text) (λ at. (at ≡ position_or_len is_feed text) × (at < length text))
-place_of_feed text end e = found_or_not text end (ltb (position_or_len is_feed text) (length text)) refl e
+    → MatchOption end (length text ≤ position_or_len is_feed text)
+    (λ at. (at ≡ position_or_len is_feed text) × (at < length text))
+place_of_feed text end e =
+    found_or_not text end (ltb (position_or_len is_feed text) (length text)) refl e
 
 -- without a line feed the text is one part
-pub one_part : (text : List ℕ) → None ≡ position is_feed text → (parts_of text ≡ text ∷ []) × All (λ byte. byte ≢ 10) text
+pub one_part : (text : List ℕ) → None ≡ position is_feed text → (parts_of text ≡ text ∷ [])
+    × All (λ byte. byte ≢ 10) text
 one_part text e =
-    let none : All (λ byte. is_feed byte ≡ false) text = λ k d h. fails_before_first is_feed text k d (omega (arith, place_of_feed text None e)) in
+    let none : All (λ byte. is_feed byte ≡ false) text = λ k d h. fails_before_first is_feed text k
+    d (omega (arith, place_of_feed text None e)) in
     (slice_split_none is_feed text none, λ k d h. eqb-false (get_or text k d) 10 (none k d h))
 
 -- with one the first part ends there
 pub first_of_parts : (text : List ℕ) (end : ℕ) → Some end ≡ position is_feed text
-    → (parts_of text ≡ take end text ∷ parts_of (take (length text - (end + 1)) (drop (end + 1) text))) × All (λ byte. byte ≢ 10) (take end text)
+    → (parts_of text ≡ take end text ∷ parts_of
+    (take (length text - (end + 1)) (drop (end + 1) text)))
+    × All (λ byte. byte ≢ 10) (take end text)
 first_of_parts text end e =
     let at = place_of_feed text (Some end) e in (
       rw (take_rest text (end + 1), at.0) (slice_split_first is_feed text 0 (omega (arith, at))),
-      λ k d h. let before : k < end = omega (arith, length-take end text) in eqb-false _ 10 (rw (get_or-take end text k d before) (fails_before_first is_feed text k d (omega (arith, at)))),
+      λ k d h. let before : k < end = omega (arith, length-take end text) in eqb-false _ 10
+          (rw (get_or-take end text k d before)
+          (fails_before_first is_feed text k d (omega (arith, at)))),
     )

@@ -1,4 +1,5 @@
 pub mod Columns
+pub mod InnerReading
 pub mod Inputs
 pub mod Keys
 pub mod NamedFiles
@@ -6,7 +7,9 @@ pub mod Names
 pub mod Reading
 pub mod Rows
 pub mod Settings
+pub mod Spaced
 pub mod StageCalls
 pub mod Stages
 pub mod Tables
+pub mod Told
 pub mod Writing

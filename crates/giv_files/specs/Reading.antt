@@ -1,5 +1,5 @@
 -- The table that a text is, and its faults.
-use Rattle.std.specs.Prelude.{ℕ, ℤ, pos, ◌≡◌, ◌+◌, ◌==◌, ◌&&◌, nat_eq, int_le, if◌then◌else◌, Bool, true, false, List, [], ◌∷◌, ◌++◌, length, map, position, slice_get, Option, Some, None, option_map, Result, Ok, Err, ⊤}
+use Rattle.std.specs.Prelude.{ℕ, ℤ, pos, ◌≡◌, ◌+◌, ◌==◌, ◌&&◌, nat_eq, int_le, if◌then◌else◌, Bool, true, false, List, [], ◌∷◌, length, map, position, slice_get, Option, Some, None, option_map, Result, Ok, Err, ⊤}
 use Rattle.std.specs.List.{flat_map, starts_with}
 use Rattle.std.specs.Option.{ok_or}
 use Rattle.std.specs.Str.{bytes_eq}
@@ -52,12 +52,6 @@ values (Err error ∷ rest) = values rest
 unfoldable pub row_whys : List ColumnKind → Row → List RowWhy
 row_whys kinds row = if length row.fields == length kinds then errors (cells_from 1 kinds row.fields) else why.FieldCount (length row.fields) ∷ []
 
--- what appending the cells of a row does
-abbrev pub CellsGive : ℕ → List (Result ℤ RowWhy) → List ℤ → List ℤ → Result (Unit {0}) ReadFault → Type 0
-CellsGive number made old new (Ok _) = (errors made ≡ []) × (new ≡ old ++ values made)
-CellsGive number made old new (Err (fault.Row first)) = slice_get (map (λ reason. record { row = number; why = reason }) (errors made)) 0 ≡ Some first
-CellsGive number made old new (Err fault.NoMemory) = ⊤
-
 -- the faults of a row
 abbrev pub row_faults : List ColumnKind → Row → List RowFault
 row_faults kinds row = map (λ reason. record { row = row.number; why = reason }) (row_whys kinds row)
@@ -84,14 +78,7 @@ ReadGives all table (Ok read) = (all ≡ []) × (read ≡ table)
 ReadGives all table (Err (fault.Row first)) = slice_get all 0 ≡ Some first
 ReadGives all table (Err fault.NoMemory) = ⊤
 
--- what reading one line more into a table does
-abbrev pub LineGives : List ColumnKind → List Row → List TableRow → List TableRow → Result (Unit {0}) ReadFault → Type 0
-LineGives kinds told old new (Ok _) = (flat_map (row_faults kinds) told ≡ []) × (new ≡ old ++ map (table_row kinds) told)
-LineGives kinds told old new (Err (fault.Row first)) = slice_get (flat_map (row_faults kinds) told) 0 ≡ Some first
-LineGives kinds told old new (Err fault.NoMemory) = ⊤
-
--- what reading the rows of a text gives: them, or the one fault of a text that begins with a byte order mark
-abbrev pub RowsGive : List ℕ → Result (List Row) ReadFault → Type 0
-RowsGive text (Ok read) = (has_mark text ≡ false) × (read ≡ rows text)
-RowsGive text (Err (fault.Row first)) = (has_mark text ≡ true) × (first ≡ record { row = 1; why = why.ByteOrderMark })
-RowsGive text (Err fault.NoMemory) = ⊤
+-- what beginning to read the rows of a text gives: them, or the one fault of a text that begins with a byte order mark
+abbrev pub RowsGive : List ℕ → Result (List Row) RowFault → Type 0
+RowsGive text (Ok left) = (has_mark text ≡ false) × (left ≡ rows text)
+RowsGive text (Err first) = (has_mark text ≡ true) × (first ≡ record { row = 1; why = why.ByteOrderMark })

@@ -1,9 +1,13 @@
 // Parts of a line, and of its fields.
-ghost use Rattle.std.specs.Prelude.{◌≡◌, ◌≢◌, ◌==◌, ◌<◌, ◌∷◌, All, IfSome, length, position, reverse, take_while};
+ghost use Rattle.std.specs.Prelude.{◌≡◌, ◌≢◌, ◌==◌, ◌<◌, ◌∷◌, All, IfSome, length, position};
+ghost use Rattle.std.specs.Prelude.{reverse, take_while};
 ghost use Rattle.std.specs.Option.{option_copied};
 ghost use Rattle.std.specs.List.{list_all};
 ghost use Rattle.std.specs.Str.Lines.{strip_carriage_return};
-ghost use Rattle.giv_files.specs.Rows.{is_blank, parts_left, parts_of, without_blanks, without_quotes, before_comment};
+ghost use Rattle.giv_files.specs.Rows.{is_blank, parts_left, parts_of, without_blanks};
+ghost use Rattle.giv_files.specs.Rows.{without_quotes, before_comment};
+
+use crate::find::place_of_byte;
 
 /// The first part of a text, up to a line feed, and what comes behind it where there is one.
 pub(crate) fn first_part(text: &[u8]) -> (&[u8], Option<&[u8]>)
@@ -21,7 +25,12 @@ pub(crate) fn first_part(text: &[u8]) -> (&[u8], Option<&[u8]>)
 fn line_feed(text: &[u8]) -> Option<usize>
     ensures { result ≡ position (λ byte. byte == 10) text.now }
 {
-    text.iter().position(|byte| *byte == b'\n')
+    let place = place_of_byte(text, b'\n');
+    if place < text.len() {
+        Some(place)
+    } else {
+        None
+    }
 }
 
 /// The line without one carriage return at its end.
@@ -38,14 +47,7 @@ pub(crate) fn without_return(line: &[u8]) -> &[u8]
 pub(crate) fn before_comment(line: &[u8]) -> &[u8]
     ensures { result.now ≡ before_comment line.now }
 {
-    &line[..comment_place(line)]
-}
-
-// Where a comment begins, or the length of the line.
-fn comment_place(line: &[u8]) -> usize
-    ensures { result ≡ length (before_comment line.now) }
-{
-    line.iter().take_while(|byte| **byte != b'#').count()
+    &line[..place_of_byte(line, b'#')]
 }
 
 // Whether the byte is a space or a tab.

@@ -1,34 +1,42 @@
-// The pieces of a line, as csv splits them.
-ghost use Rattle.std.specs.Prelude.{◌≡◌, ◌∷◌, ◌≢◌, All, OnOk};
+// The pieces of the lines of a text, as csv splits them.
+ghost use Rattle.std.specs.Prelude.{◌≡◌, ◌∷◌, ◌≢◌, List, All, OnOk};
 ghost use Rattle.csv.specs.Records.{fields_of};
-ghost use Rattle.giv_files.specs.Rows.{pieces};
+ghost use Rattle.giv_files.specs.Rows.{parts_of, pieces};
+ghost use Rattle.giv_files.specs.Told.{Told, told_left};
+ghost use Rattle.giv_files.specs.Spaced.{StandsBefore};
 
-use csv::{ByteRecord, ReaderBuilder, Terminator};
+use crate::spaced::Spaced;
+use csv::{ByteRecord, Reader, ReaderBuilder, Terminator};
 use plan_num::NoMemory;
 use std::alloc::Global;
 
-/// Splits one line at its semicolons, behind one space. The space keeps csv from dropping a byte order mark.
-pub(crate) fn split_line(
-    alloc: Global,
-    line: &[u8],
-    spaced: &mut Vec<u8>,
-    row: &mut ByteRecord,
-) -> Result<(), NoMemory>
-    requires { All (λ byte. byte ≢ 10) line.now }
-    ensures { OnOk result (fields_of row.new ≡ pieces (32 ∷ line.now)) }
+/// A reader of the lines of a text that have rows.
+pub(crate) fn pieces_reader(alloc: Global, text: &[u8]) -> Reader<Spaced<'_>>
+    ensures { StandsBefore result (told_left 0 (parts_of text.now)) }
 {
-    spaced.clear();
-    spaced.push(b' ')?;
-    spaced.extend_from_slice(line)?;
-    let mut reader = ReaderBuilder::new()
+    ReaderBuilder::new()
         .delimiter(b';')
         .quoting(false)
         .has_headers(false)
         .flexible(true)
         .terminator(Terminator::Any(b'\n'))
-        .from_reader(alloc, spaced.as_slice());
+        .from_reader(alloc, Spaced::new(text))
+}
+
+/// Reads the pieces of the next line. After want of memory each further call answers that too.
+pub(crate) fn next_pieces(
+    reader: &mut Reader<Spaced<'_>>,
+    row: &mut ByteRecord,
+) -> Result<(), NoMemory>
+    ensures read { (told : Told) (more : List Told) → StandsBefore reader.old (told ∷ more)
+        → All (λ byte. byte ≢ 10) told.line
+        → OnOk result (fields_of row.new ≡ pieces (32 ∷ told.line)) }
+    ensures stands { (told : Told) (more : List Told) → StandsBefore reader.old (told ∷ more)
+        → All (λ byte. byte ≢ 10) told.line → StandsBefore reader.new more }
+{
     match reader.read_byte_record(row) {
-        Ok(_) => Ok(()),
+        Ok(true) => Ok(()),
+        Ok(false) => Err(NoMemory),
         Err(_) => Err(NoMemory),
     }
 }

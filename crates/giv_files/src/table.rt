@@ -1,13 +1,13 @@
 // Tables of whole numbers.
 ghost use Rattle.std.specs.Prelude.{◌≡◌, ◌<◌, ◌^◌, ◌++◌, ◌∷◌, [], length, OnOk, OnErr};
-ghost use Rattle.giv_files.specs.Reading.{LineGives};
+ghost use Rattle.giv_files.specs.InnerReading.{RowGives};
 ghost use Rattle.giv_files.specs.Tables.{row_number, cell_at, Wide};
 
 use crate::column::ColumnKind;
-use crate::fields::Fields;
 use crate::read_fault::{ReadFault, RowFault};
 use crate::row_cells::push_cells;
 use crate::row_why::RowWhy;
+use crate::text_row::TextRow;
 use plan_num::NoMemory;
 use std::alloc::Global;
 use std::marker::Model;
@@ -43,7 +43,8 @@ impl<const C: usize> Table<C> {
 
     /// One row more.
     pub fn push(&mut self, number: u64, cells: &[i64; C]) -> Result<(), NoMemory>
-        ensures ok { OnOk result (self.new ≡ self.old ++ record { number = number; cells = cells.now } ∷ []) }
+        ensures ok { OnOk result (self.new ≡ self.old
+            ++ record { number = number; cells = cells.now } ∷ []) }
         ensures err { OnErr result (self.new ≡ self.old) }
     {
         self.numbers.push(number)?;
@@ -82,26 +83,26 @@ impl<const C: usize> Table<C> {
     /// One row more, of the cells that its fields make.
     pub(crate) fn read_row(
         &mut self,
-        number: u64,
-        fields: &Fields,
+        row: &TextRow,
         kinds: &[ColumnKind; C],
     ) -> Result<(), ReadFault>
         requires { C < 2 ^ 32 }
-        ensures { LineGives kinds.now (record { number = number; fields = fields.now } ∷ []) self.old self.new result }
+        ensures { RowGives kinds.now row.now self.old self.new result }
     {
-        let found = fields.len();
+        let found = row.len();
         if found != C {
             let why = RowWhy::FieldCount {
                 found: found as u64,
             };
-            return Err(ReadFault::Row(RowFault { row: number, why }));
+            let row = row.number();
+            return Err(ReadFault::Row(RowFault { row, why }));
         }
         let had = self.cells.len();
-        if let Err(fault) = push_cells(&mut self.cells, number, fields, kinds) {
+        if let Err(fault) = push_cells(&mut self.cells, row, kinds) {
             self.cells.truncate(had);
             return Err(fault);
         }
-        if self.numbers.push(number).is_err() {
+        if self.numbers.push(row.number()).is_err() {
             self.cells.truncate(had);
             return Err(ReadFault::NoMemory);
         }

@@ -1,150 +1,69 @@
-// The rows of a text, with their fields as they are written.
-ghost use Rattle.std.specs.Prelude.{◌≡◌, ◌≢◌, ◌<◌, ◌∷◌, ◌++◌, [], All, IfOk, OnOk, length, slice_index_or};
-ghost use Rattle.giv_files.specs.Rows.{row_of};
+// The rows of a text, one after the other.
+ghost use Rattle.std.specs.Prelude.{◌≡◌, ◌∷◌, [], IfOk, MatchBool};
 ghost use Rattle.giv_files.specs.Reading.{RowsGive};
 
-use crate::fields::Fields;
-use crate::line::{before_comment, first_part, is_all_blank, without_return};
-use crate::read_fault::{ReadFault, RowFault};
+use crate::pieces::pieces_reader;
+use crate::read_fault::RowFault;
+use crate::row_lines::RowLines;
 use crate::row_why::RowWhy;
-use plan_num::{NoMemory, Text};
+use crate::spaced::Spaced;
+use crate::text_row::TextRow;
+use csv::Reader;
+use plan_num::NoMemory;
 use std::alloc::Global;
 use std::marker::Model;
 
-/// A row of a text. Contracts see it as its number and the list of its fields.
-#[derive(Debug, Drop)]
-pub struct TextRow {
-    number: u64,
-    fields: Vec<Text>,
+/// The rows that are left of a text, in order. Contracts see them as the list of them. They take no
+/// memory but a buffer of a fixed size and the room for a row. After want of memory, which is told
+/// for each further row too, they are of no use.
+#[derive(Drop)]
+pub struct TextRows<'a> {
+    lines: RowLines<'a>,
+    reader: Reader<Spaced<'a>>,
 }
 
-impl Model for TextRow {
-    ghost use Rattle.giv_files.specs.Rows.{Row};
-
-    ghost Value = { Row };
-
-    ghost view = { λ row. record { number = row.number; fields = row.fields.items } };
-}
-
-impl TextRow {
-    /// Its number in the text, from 1.
-    pub fn number(&self) -> u64
-        ensures { result ≡ self.now.number }
-    {
-        self.number
-    }
-
-    /// How many fields there are.
-    pub fn len(&self) -> usize
-        ensures { result ≡ length self.now.fields }
-    {
-        self.fields.len()
-    }
-
-    /// The field at a place.
-    pub fn field(&self, index: usize) -> &[u8]
-        requires { index < length self.now.fields }
-        ensures { result.now ≡ slice_index_or self.now.fields index [] }
-    {
-        self.fields[index].as_bytes()
-    }
-}
-
-/// The rows of a text, in order. Contracts see them as the list of them.
-#[derive(Debug, Drop)]
-pub struct TextRows {
-    alloc: Global,
-    rows: Vec<TextRow>,
-}
-
-impl Model for TextRows {
-    ghost use Rattle.std.specs.Prelude.{List};
+impl<'a> Model for TextRows<'a> {
+    ghost use Rattle.std.specs.Prelude.{List, map};
     ghost use Rattle.giv_files.specs.Rows.{Row};
 
     ghost Value = { List Row };
 
-    ghost view = { λ rows. rows.rows.items };
+    ghost use Rattle.giv_files.specs.Told.{row_told};
+    ghost use Rattle.giv_files.specs.Spaced.{StandsBefore};
+
+    ghost view = { λ rows. map row_told rows.lines };
+
+    ghost invariant = { λ rows. StandsBefore rows.reader rows.lines };
 }
 
-impl TextRows {
-    // No row.
-    fn new(alloc: Global) -> TextRows
-        ensures { result ≡ [] }
+impl<'a> TextRows<'a> {
+    /// All rows of a text. The one fault is a byte order mark, which is refused as row 1.
+    pub fn new(alloc: Global, text: &'a [u8]) -> Result<TextRows<'a>, RowFault>
+        ensures { RowsGive text.now result }
     {
-        TextRows {
-            alloc,
-            rows: Vec::new(alloc),
+        if text.starts_with(b"\xEF\xBB\xBF") {
+            let why = RowWhy::ByteOrderMark;
+            return Err(RowFault { row: 1, why });
+        }
+        Ok(TextRows {
+            lines: RowLines::new(text),
+            reader: pieces_reader(alloc, text),
+        })
+    }
+
+    /// Reads the next row, and says whether there was one.
+    pub fn next_row(&mut self, row: &mut TextRow) -> Result<bool, NoMemory>
+        ensures { IfOk result (λ found.
+            MatchBool found (self.old ≡ row.new ∷ self.new) (self.old ≡ [])) }
+    {
+        match self.lines.next() {
+            None => Ok(false),
+            Some(line) => {
+                row.read(line.number, &mut self.reader)?;
+                Ok(true)
+            }
         }
     }
-
-    // One row more.
-    fn push(&mut self, number: u64, fields: &Fields) -> Result<(), NoMemory>
-        ensures { OnOk result (self.new ≡ self.old ++ record { number = number; fields = fields.now } ∷ []) }
-    {
-        let fields = texts_of(self.alloc, fields)?;
-        self.rows.push(TextRow { number, fields })?;
-        Ok(())
-    }
-
-    /// All of them, in order.
-    pub fn as_slice(&self) -> &[TextRow]
-        ensures { result.now ≡ self.now }
-    {
-        self.rows.as_slice()
-    }
-}
-
-// Copies of the fields.
-fn texts_of(alloc: Global, fields: &Fields) -> Result<Vec<Text>, NoMemory>
-    ensures { IfOk result (λ texts. texts.items ≡ fields.now) }
-{
-    let mut texts = Vec::new(alloc);
-    for index in 0..fields.len() {
-        texts.push(Text::copy(alloc, fields.get(index))?)?;
-    }
-    Ok(texts)
-}
-
-/// Reads the rows of a text. The one fault is a byte order mark, which is refused as row 1.
-pub fn read_rows(alloc: Global, bytes: &[u8]) -> Result<TextRows, ReadFault>
-    ensures { RowsGive bytes.now result }
-{
-    if bytes.starts_with(b"\xEF\xBB\xBF") {
-        let why = RowWhy::ByteOrderMark;
-        return Err(ReadFault::Row(RowFault { row: 1, why }));
-    }
-    let mut rows = TextRows::new(alloc);
-    let mut fields = Fields::new(alloc);
-    let mut number = 0;
-    let mut left = Some(bytes);
-    'lines: while let Some(text) = left {
-        let (part, rest) = first_part(text);
-        let line = without_return(part);
-        if !line.is_empty() {
-            number += 1;
-            push_line(&mut rows, number, line, &mut fields)?;
-        }
-        left = rest;
-    }
-    Ok(rows)
-}
-
-// Appends the row of one line, where the line has one.
-fn push_line(
-    rows: &mut TextRows,
-    number: u64,
-    line: &[u8],
-    fields: &mut Fields,
-) -> Result<(), NoMemory>
-    requires { All (λ byte. byte ≢ 10) line.now }
-    ensures { OnOk result (rows.new ≡ rows.old ++ row_of number line.now) }
-{
-    let told = before_comment(line);
-    if is_all_blank(told) {
-        return Ok(());
-    }
-    fields.split(told)?;
-    rows.push(number, fields)
 }
 
 #[cfg(test)]
@@ -155,24 +74,26 @@ mod tests {
     #[test]
     fn rows_have_numbers_and_fields(rt: HostRuntime) -> Result<(), Fail> {
         let text = b"1; 1;1 ;\r\n\r\n  # c\r\n2;2 ;\"3\"# x";
-        let rows = read_rows(rt.alloc(), text)?;
+        let mut rows = TextRows::new(rt.alloc(), text).map_err(|_| "refused")?;
+        let mut row = TextRow::new(rt.alloc());
         let expected: [(u64, [&[u8]; 3]); 2] = [(1, [b"1", b"1", b"1"]), (3, [b"2", b"2", b"3"])];
-        assert_eq!(rt; rows.as_slice().len(), expected.len());
-        for (row, (number, fields)) in rows.as_slice().iter().zip(&expected) {
+        for (number, fields) in &expected {
+            assert!(rt; rows.next_row(&mut row)?);
             assert_eq!(rt; row.number(), *number);
             assert_eq!(rt; row.len(), fields.len());
             for (index, field) in fields.iter().enumerate() {
                 assert_eq!(rt; row.field(index), *field);
             }
         }
-        let mark = read_rows(rt.alloc(), b"\xEF\xBB\xBF1;2\n");
+        assert!(rt; !rows.next_row(&mut row)?);
+        let mark = TextRows::new(rt.alloc(), b"\xEF\xBB\xBF1;2\n");
         assert!(rt;
             matches!(
                 &mark,
-                Err(ReadFault::Row(RowFault {
+                Err(RowFault {
                     row: 1,
                     why: RowWhy::ByteOrderMark
-                }))
+                })
             )
         );
         Ok(())

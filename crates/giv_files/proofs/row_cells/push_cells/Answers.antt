@@ -10,16 +10,27 @@ loop-index-init c = record { grows = omega arith; errors_left = refl; cells_left
 
 pub returns-in-Err-clause-gives : goal.returns-in-Err-clause-gives
 returns-in-Err-clause-gives c =
-    let inside : c.loop-index.index < length c.args.fields.now = omega arith in
-    let as_fault = λ (reason : RowWhy). let fault : RowFault = record { row = c.args.number; why = reason } in fault in
-    cell_refused c.args.kinds.now c.args.fields.now c.loop-index.index _ c.in-Err.why _ as_fault c.loop-index-test.true inside (sym (rw c.get.ensures at c.cell_of.ensures) ∙ c.in-Err.is) c.loop-index.invariant.errors_left
+    let inside : c.loop-index.index < length c.args.row.now.fields = omega arith in
+    let as_fault = λ (reason : RowWhy). let fault : RowFault = record {
+      row = c.args.row.now.number;
+      why = reason;
+    } in fault in
+    rw c.number-row.ensures (cell_refused c.args.kinds.now c.args.row.now.fields c.loop-index.index
+    _ c.in-Err.why _ as_fault c.loop-index-test.true inside
+    (sym (rw c.field.ensures at c.cell_of.ensures) ∙ c.in-Err.is)
+    c.loop-index.invariant.errors_left)
 
 pub loop-index-preserved : goal.loop-index-preserved
 loop-index-preserved c =
-    let inside : c.loop-index.index < length c.args.fields.now = omega arith in
-    let pushed : c.push.new.self.items ≡ c.loop-index.cells.items ++ c.in-Ok.cell ∷ [] = grind (arith, to_z-of_z) in
-    let next = cell_taken c.args.kinds.now c.args.fields.now c.loop-index.index _ c.in-Ok.cell _ _ _ _ c.loop-index-test.true inside (sym (rw c.get.ensures at c.cell_of.ensures) ∙ c.in-Ok.is) pushed c.loop-index.invariant.errors_left c.loop-index.invariant.cells_left in
+    let inside : c.loop-index.index < length c.args.row.now.fields = omega arith in
+    let pushed : c.push.new.self.items ≡ c.loop-index.cells.items
+    ++ c.in-Ok.cell ∷ [] = grind (arith, to_z-of_z) in
+    let next = cell_taken c.args.kinds.now c.args.row.now.fields c.loop-index.index _ c.in-Ok.cell _
+    _ _ _ c.loop-index-test.true inside (sym (rw c.field.ensures at c.cell_of.ensures)
+    ∙ c.in-Ok.is) pushed c.loop-index.invariant.errors_left c.loop-index.invariant.cells_left in
     record { grows = omega arith; errors_left = next.0; cells_left = next.1 }
 
 pub returns-clause-gives : goal.returns-clause-gives
-returns-clause-gives c = cells_whole c.args.kinds.now c.args.fields.now c.loop-index.index _ _ _ c.loop-index-test.false c.loop-index.invariant.errors_left c.loop-index.invariant.cells_left
+returns-clause-gives c =
+    cells_whole c.args.kinds.now c.args.row.now.fields c.loop-index.index _ _ _
+    c.loop-index-test.false c.loop-index.invariant.errors_left c.loop-index.invariant.cells_left

@@ -7,6 +7,9 @@ abbrev pub invariant-loop-index : goal.invariant-loop-index
 invariant-loop-index l =
     record {
       grows : vec_len l.initial.cells ≤ vec_len l.cells;
-      errors_left : errors (cells_from (l.index + 1) (drop l.index l.kinds) (drop l.index l.fields)) ≡ errors (cells_from 1 l.kinds l.fields);
-      cells_left : l.cells.items ++ values (cells_from (l.index + 1) (drop l.index l.kinds) (drop l.index l.fields)) ≡ l.initial.cells.items ++ values (cells_from 1 l.kinds l.fields);
+      errors_left : errors (cells_from (l.index + 1) (drop l.index l.kinds)
+          (drop l.index l.row.fields)) ≡ errors (cells_from 1 l.kinds l.row.fields);
+      cells_left : l.cells.items ++ values (cells_from (l.index + 1) (drop l.index l.kinds)
+          (drop l.index l.row.fields)) ≡ l.initial.cells.items
+          ++ values (cells_from 1 l.kinds l.row.fields);
     }

@@ -1,0 +1,99 @@
+-- The lines that have rows, one after the other.
+use Rattle.std.proofs.Common.{◌≡◌, ℕ, ◌+◌, ◌<◌, List, [], ◌∷◌, ◌++◌, length, map, refl, ap, ap₂}
+use Rattle.std.proofs.Common.{sym, ◌∙◌, Bool, true, false, eqb, arith, Bor, Option, Some, filter}
+use Rattle.std.specs.List.{flat_map, enumerate_from, list_all}
+use Rattle.std.specs.Option.{IfSome, option_copied}
+use Rattle.std.specs.Str.Lines.{strip_carriage_return}
+use Rattle.std.proofs.lemmas.List.{map-append}
+use Rattle.giv_files.specs.Rows.{Row, is_blank, before_comment, row_of, has_byte, lines, parts_of}
+use Rattle.giv_files.specs.Rows.{parts_left, rows, pieces, cleaned}
+use Rattle.giv_files.specs.Told.{Told, told_of, told_left, row_told, left_size}
+use Rattle.giv_files.proofs.FieldFacts.{cleaned_spaced}
+use Rattle.giv_files.proofs.RowsLeft.{no_parts, rest_smaller}
+
+-- where nothing is left no line is
+none_told : (number : ℕ) → told_left number [] ≡ []
+unfolding told_left
+none_told number = refl
+
+pub nothing_told : (number : ℕ) (left : Option (Bor (List ℕ)))
+    → ((text : Bor (List ℕ)) → left ≡ Some text → ⊥)
+    → told_left number (parts_left (option_copied left)) ≡ []
+nothing_told number left h =
+    ap (λ (parts : List (List ℕ)). told_left number parts) (no_parts left h) ∙ none_told number
+
+-- a line without a byte has no number
+empty_told : (number : ℕ) (part : List ℕ) (parts : List (List ℕ))
+    → eqb (length (strip_carriage_return part)) 0 ≡ true
+    → told_left number (part ∷ parts) ≡ told_left number parts
+unfolding told_left
+empty_told number part parts e = rw e refl
+
+-- any other has the next
+numbered_told : (number : ℕ) (part : List ℕ) (parts : List (List ℕ))
+    → eqb (length (strip_carriage_return part)) 0 ≡ false
+    → told_left number (part ∷ parts) ≡ told_of (number + 1) (strip_carriage_return part)
+    ++ told_left (number + 1) parts
+unfolding told_left
+numbered_told number part parts e = rw e refl
+
+module _ (number : ℕ) (part line : List ℕ) (left parts : List (List ℕ)) (all : List Told)
+    (is : left ≡ part ∷ parts) (same : line ≡ strip_carriage_return part)
+    (whole : told_left number left ≡ all) where
+  -- an empty line is passed over
+  pub told_empty : eqb (length line) 0 ≡ true → told_left number parts ≡ all
+  told_empty empty = sym (empty_told number part parts (rw same at empty)) ∙ rw is at whole
+
+  numbered : eqb (length line) 0 ≡ false → told_of (number + 1) line ++ told_left (number + 1) parts
+      ≡ all
+  numbered some = rw same (sym (numbered_told number part parts (rw same at some)) ∙ rw is at whole)
+
+  -- so is one with only blanks before a comment, which has a number
+  pub told_blank : eqb (length line) 0 ≡ false → (told : List ℕ) → told ≡ before_comment line
+      → list_all is_blank told ≡ true → told_left (number + 1) parts ≡ all
+  told_blank some told e blank = rw (rw e at blank) at (numbered some)
+
+  -- any other comes first of those that are left
+  pub told_first : eqb (length line) 0 ≡ false → (told : List ℕ) → told ≡ before_comment line
+      → list_all is_blank told ≡ false
+      → all ≡ record { number = number + 1; line = told } ∷ told_left (number + 1) parts
+  told_first some told e blank = rw e (sym (rw (rw e at blank) at (numbered some)))
+
+-- the count of numbered lines stays in its range
+pub told_few : (number limit : ℕ) (left rest : Option (Bor (List ℕ))) (text : Bor (List ℕ))
+    → left ≡ Some text → IfSome rest (λ after. length after.now < length text.now)
+    → number + left_size (option_copied left) < limit
+    → number + 1 + left_size (option_copied rest) < limit
+told_few number limit left rest text is shorter few =
+    omega (arith, rw is at few, rest_smaller rest text.now shorter)
+
+-- the row of a line
+row_of_told : (number : ℕ) (line : List ℕ) (t : Bool) → list_all is_blank (before_comment line) ≡ t
+    → row_of number line ≡ map row_told (told_of number line)
+row_of_told number line true e = rw e refl
+row_of_told number line false e = rw e refl
+
+rows_of_told : (lines : List (ℕ × List ℕ)) → flat_map (λ line. row_of line.0 line.1) lines
+    ≡ map row_told (flat_map (λ line. told_of line.0 line.1) lines)
+rows_of_told [] = refl
+rows_of_told (line ∷ lines) =
+    ap₂ (λ (here there : List Row). here ++ there)
+    (row_of_told line.0 line.1 (list_all is_blank (before_comment line.1)) refl)
+    (rows_of_told lines)
+    ∙ sym (map-append row_told (told_of line.0 line.1)
+    (flat_map (λ line. told_of line.0 line.1) lines))
+
+-- the rows of a text are those of its lines that have rows
+pub rows_told : (text : List ℕ) → rows text ≡ map row_told (told_left 0 (parts_of text))
+unfolding rows told_left
+rows_told text = rows_of_told (enumerate_from 1 (filter has_byte (lines text)))
+
+abbrev row_with : ℕ → List (List ℕ) → Row
+row_with number fields = record { number = number; fields = fields }
+
+-- the pieces of a line behind a space are the row of the line
+pub row_is : (number : ℕ) (told : Told) (found : List (List ℕ)) → told.number ≡ number
+    → found ≡ pieces (32 ∷ told.line) → record { number = number; fields = cleaned found }
+    ≡ row_told told
+row_is number told found same is =
+    ap₂ row_with (sym same) (ap cleaned is ∙ cleaned_spaced told.line)

@@ -1,6 +1,0 @@
-use Rattle.std.proofs.Common.{refl}
-use Rattle.giv_files.proofs.FieldFacts.{piece_is}
-use Rattle.giv_files.proofs.fields.piece.Goals as goal
-
-pub returns : goal.returns
-returns c = rw c.unwrap_or.ensures (piece_is _ _ _ c.args.index c.get.ensures.value refl)

@@ -1,0 +1,39 @@
+use Rattle.std.proofs.Common.{◌∙◌, List, ℕ, Some, inr, refl, ap}
+use Rattle.std.specs.Option.{option_map}
+use Rattle.csv.specs.Reading.{strip_bom}
+use Rattle.giv_files.proofs.SplitFacts.{no_mark_first}
+use Rattle.giv_files.proofs.pieces.pieces_reader.Goals as goal
+
+pub returns : goal.returns
+returns c fine =
+    let made = c.from_reader.ensures in
+    record {
+      config = made.config ∙ rw (
+        c.terminator.ensures,
+        c.flexible.ensures,
+        c.has_headers.ensures,
+        c.quoting.ensures,
+        c.delimiter.ensures,
+        c.new.ensures.config,
+      ) refl;
+      state = made.state;
+      trim = made.trim ∙ rw (
+        c.terminator.ensures,
+        c.flexible.ensures,
+        c.has_headers.ensures,
+        c.quoting.ensures,
+        c.delimiter.ensures,
+        c.new.ensures.trim,
+      ) refl;
+      flexible = made.flexible ∙ rw (c.terminator.ensures, c.flexible.ensures) refl;
+      ready = inr (inr (
+        made.has_headers ∙ rw (
+          c.terminator.ensures,
+          c.flexible.ensures,
+          c.has_headers.ensures,
+        ) refl,
+        made.headers,
+      ));
+      source = made.source ∙ ap (option_map strip_bom) c.new-2.ensures
+          ∙ ap (λ (bytes : List ℕ). Some bytes) (no_mark_first _);
+    }
