@@ -14,6 +14,7 @@ pub mod RowsLeft
 pub mod SettingFacts
 pub mod SplitFacts
 pub mod StageCalls
+pub mod StageKeys
 pub mod TableRows
 pub mod WriteFacts
 pub mod WrittenBack

@@ -1,5 +1,7 @@
 pub mod Columns
+pub mod CrossRules
 pub mod Inputs
+pub mod KeyKinds
 pub mod Keys
 pub mod NamedFiles
 pub mod Names

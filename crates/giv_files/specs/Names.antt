@@ -4,8 +4,6 @@ use Rattle.giv_files.specs.declared.stage.Stage.{Stage}
 use Rattle.giv_files.specs.declared.stage.Stage.TheVariants as stage
 use Rattle.giv_files.specs.declared.file_id.FileId.{FileId}
 use Rattle.giv_files.specs.declared.file_id.FileId.TheVariants as file
-use Rattle.giv_files.specs.declared.key.Key.{Key}
-use Rattle.giv_files.specs.declared.key.Key.TheVariants as key
 use Rattle.giv_files.specs.declared.words.WordTable.{WordTable}
 use Rattle.giv_files.specs.declared.words.WordTable.TheVariants as table
 use Rattle.giv_files.specs.declared.row_why.RowWhy.{RowWhy}
@@ -49,29 +47,6 @@ file_name file.Potential = codes "vehicle-scheduling/Vehicle_Schedules.cert"
 file_name file.Disposed = codes "delay-management/Timetable-disposition.tim"
 file_name file.Reasons = codes "delay-management/Timetable-disposition.cert"
 file_name file.Statistic = codes "statistic/statistic.sta"
-
--- a key as it is written in a config file
-abbrev pub key_name : Key → List ℕ
-key_name key.LastStage = codes "last_stage"
-key_name key.LoadSource = codes "load_source"
-key_name key.GenPassengersPerVehicle = codes "gen_passengers_per_vehicle"
-key_name key.LoadSpread = codes "load_spread"
-key_name key.LpoolCostsFixed = codes "lpool_costs_fixed"
-key_name key.LpoolCostsLength = codes "lpool_costs_length"
-key_name key.LpoolCostsEdges = codes "lpool_costs_edges"
-key_name key.ConceptBudget = codes "concept_budget"
-key_name key.PeriodLength = codes "period_length"
-key_name key.EanDefaultMinimalWaitingTime = codes "ean_default_minimal_waiting_time"
-key_name key.EanDefaultMaximalWaitingTime = codes "ean_default_maximal_waiting_time"
-key_name key.EanDefaultMinimalChangeTime = codes "ean_default_minimal_change_time"
-key_name key.EanDefaultMaximalChangeTime = codes "ean_default_maximal_change_time"
-key_name key.TimetableBudget = codes "timetable_budget"
-key_name key.DmEarliestTime = codes "DM_earliest_time"
-key_name key.DmLatestTime = codes "DM_latest_time"
-key_name key.VsTurnOverTime = codes "vs_turn_over_time"
-key_name key.VsVehicleCosts = codes "vs_vehicle_costs"
-key_name key.VsEmptyCosts = codes "vs_empty_costs"
-key_name key.DmWait = codes "dm_wait"
 
 -- the words of a table, by their places from 0
 abbrev pub table_words : WordTable → List (List ℕ)
