@@ -9,6 +9,7 @@ pub mod Lines
 pub mod Named
 pub mod PlainBytes
 pub mod Ranges
+pub mod ReportLines
 pub mod RowFacts
 pub mod RowsLeft
 pub mod SettingFacts

@@ -6,7 +6,7 @@ use Rattle.giv_files.specs.declared.key_kind.KeyKind.{KeyKind}
 use Rattle.giv_files.specs.declared.key_kind.KeyKind.TheVariants as kind
 use Rattle.giv_files.specs.declared.key_words.KeyWords.{KeyWords}
 use Rattle.giv_files.specs.declared.key_words.KeyWords.TheVariants as words
-use Rattle.giv_files.specs.Names.{stage_name}
+use Rattle.giv_files.specs.StageNames.{stage_name}
 use Rattle.giv_files.specs.Reading.{place_of}
 use Rattle.giv_files.specs.Stages.{all_stages}
 

@@ -2,7 +2,7 @@
 ghost use Rattle.std.specs.Prelude.{◌≡◌, length, position};
 ghost use Rattle.std.specs.Str.{bytes_eq};
 ghost use Rattle.giv_files.specs.KeyKinds.{key_words};
-ghost use Rattle.giv_files.specs.Names.{stage_name};
+ghost use Rattle.giv_files.specs.StageNames.{stage_name};
 ghost use Rattle.giv_files.specs.Reading.{place_of};
 ghost use Rattle.giv_files.specs.Stages.{all_stages};
 

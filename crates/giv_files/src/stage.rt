@@ -1,6 +1,6 @@
 // The stages of the chain.
 ghost use Rattle.std.specs.Prelude.{◌≡◌};
-ghost use Rattle.giv_files.specs.Names.{stage_name};
+ghost use Rattle.giv_files.specs.StageNames.{stage_name};
 ghost use Rattle.giv_files.specs.Keys.{has_key};
 ghost use Rattle.giv_files.specs.Stages.{all_stages, stage_place, stage_inputs, stage_makes};
 
