@@ -6,7 +6,6 @@ use Rattle.giv_files.specs.ReportLines.{marked}
 -- one part more
 pub part_more : (line mark part : List ℕ) (parts : List (List ℕ)) (i : ℕ) (all : List ℕ) → i < length parts → part ≡ get_or parts i part → line ++ marked mark (drop i parts) ≡ all
     → line ++ mark ++ part ++ marked (codes ", ") (drop (i + 1) parts) ≡ all
-unfolding marked
 part_more line mark part parts i all h is told =
     let rest = marked (codes ", ") (drop (i + 1) parts) in
     append_assoc (line ++ mark) part rest ∙ append_assoc line mark (part ++ rest)
@@ -16,5 +15,4 @@ part_more line mark part parts i all h is told =
 
 -- none is left
 pub no_part : (line mark : List ℕ) (parts : List (List ℕ)) (i : ℕ) (all : List ℕ) → length parts ≤ i → line ++ marked mark (drop i parts) ≡ all → line ≡ all
-unfolding marked
 no_part line mark parts i all h told = sym (append-nil line) ∙ ap (λ some. line ++ marked mark some) (sym (drop_all i parts h)) ∙ told

@@ -8,7 +8,7 @@ abbrev pub count_text : ℕ → List ℕ → List ℕ
 count_text count what = decimal count ++ codes " " ++ what
 
 -- parts: the first behind a mark, the others each behind a comma
-unfoldable pub marked : List ℕ → List (List ℕ) → List ℕ
+abbrev pub marked : List ℕ → List (List ℕ) → List ℕ
 marked mark [] = []
 marked mark (part ∷ parts) = mark ++ part ++ marked (codes ", ") parts
 
