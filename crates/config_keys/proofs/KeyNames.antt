@@ -5,9 +5,8 @@ use Rattle.std.proofs.lemmas.Slice.Eq.{bytes_eq-Decides}
 use Rattle.std.proofs.lemmas.Bool.{eqb-true}
 use Rattle.giv_files.specs.declared.key.Key.{Key}
 use Rattle.giv_files.specs.declared.key.Key.TheVariants as key
-use Rattle.giv_files.specs.Keys.{all_keys, key_place}
-use Rattle.giv_files.specs.Names.{key_name}
-use Rattle.giv_files.proofs.KeyPlaces.{same_key}
+use Rattle.giv_files.specs.Keys.{all_keys, key_place, key_name}
+use Rattle.giv_files.proofs.KeyPlaces.{key_there, same_key}
 use Rattle.config_keys.specs.Said.{is_named, key_named}
 
 -- a test that fails leads on
@@ -30,29 +29,6 @@ pub find_passes : {X : Type 0} (p : X → Bool) (xs : List X) (found : X) → fi
 find_passes p [] found e = cc
 find_passes p (x ∷ xs) found e = first_or_rest p x found (find p xs) (p x) refl e (find_passes p xs found)
 
--- each key stands at its place
-pub key_there : (k d : Key) → (get_or all_keys (key_place k) d ≡ k) × (key_place k < 20)
-key_there key.LastStage d = (refl, omega arith)
-key_there key.LoadSource d = (refl, omega arith)
-key_there key.GenPassengersPerVehicle d = (refl, omega arith)
-key_there key.LoadSpread d = (refl, omega arith)
-key_there key.LpoolCostsFixed d = (refl, omega arith)
-key_there key.LpoolCostsLength d = (refl, omega arith)
-key_there key.LpoolCostsEdges d = (refl, omega arith)
-key_there key.ConceptBudget d = (refl, omega arith)
-key_there key.PeriodLength d = (refl, omega arith)
-key_there key.EanDefaultMinimalWaitingTime d = (refl, omega arith)
-key_there key.EanDefaultMaximalWaitingTime d = (refl, omega arith)
-key_there key.EanDefaultMinimalChangeTime d = (refl, omega arith)
-key_there key.EanDefaultMaximalChangeTime d = (refl, omega arith)
-key_there key.TimetableBudget d = (refl, omega arith)
-key_there key.DmEarliestTime d = (refl, omega arith)
-key_there key.DmLatestTime d = (refl, omega arith)
-key_there key.VsTurnOverTime d = (refl, omega arith)
-key_there key.VsVehicleCosts d = (refl, omega arith)
-key_there key.VsEmptyCosts d = (refl, omega arith)
-key_there key.DmWait d = (refl, omega arith)
-
 -- the place of the first key that has a name
 place_named : List ℕ → ℕ
 place_named name = position_or_len (is_named name) all_keys
@@ -60,25 +36,7 @@ place_named name = position_or_len (is_named name) all_keys
 named_place : (k : Key) → place_named (key_name k) ≡ key_place k
 unfolding place_named
 named_place key.LastStage = refl
-named_place key.LoadSource = refl
-named_place key.GenPassengersPerVehicle = refl
-named_place key.LoadSpread = refl
-named_place key.LpoolCostsFixed = refl
-named_place key.LpoolCostsLength = refl
-named_place key.LpoolCostsEdges = refl
-named_place key.ConceptBudget = refl
-named_place key.PeriodLength = refl
-named_place key.EanDefaultMinimalWaitingTime = refl
-named_place key.EanDefaultMaximalWaitingTime = refl
-named_place key.EanDefaultMinimalChangeTime = refl
-named_place key.EanDefaultMaximalChangeTime = refl
-named_place key.TimetableBudget = refl
-named_place key.DmEarliestTime = refl
-named_place key.DmLatestTime = refl
-named_place key.VsTurnOverTime = refl
-named_place key.VsVehicleCosts = refl
-named_place key.VsEmptyCosts = refl
-named_place key.DmWait = refl
+named_place _ = refl
 
 -- a name that no key has
 pub unnamed : (name : List ℕ) (k : Key) → key_named name ≡ None → is_named name k ≡ false

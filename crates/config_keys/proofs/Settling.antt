@@ -1,24 +1,28 @@
 -- Values of keys that are settled, and what holds of them.
-use Rattle.std.proofs.Common.{◌≡◌, ℕ, ℤ, pos, ◌+◌, ◌<◌, ◌≤◌, Bool, true, false, cond, not, eqb, List, [], ◌∷◌, length, map, take, drop, get_or, Option, Some, None, is_some, unwrap_or, Ok, Err, refl, ap, sym, subst, ◌∙◌}
-use Rattle.std.specs.List.{find, list_all}
+use Rattle.std.proofs.Common.{◌≡◌, ℕ, ℤ, pos, ◌+◌, ◌<◌, ◌≤◌, Bool, true, false, cond, not, List, [], ◌∷◌, ◌++◌, length, map, take, drop, get_or, Option, Some, None, is_some, unwrap_or, Ok, Err, refl, ap, sym, subst, ◌∙◌}
+use Rattle.std.specs.List.{filter, find, list_all}
 use Rattle.std.specs.Option.{option_map, option_map_or}
 use Rattle.std.proofs.lemmas.Bool.{eqb-true}
-use Rattle.std.proofs.lemmas.List.{take_all, take_more, take-append-drop, get_or-map}
+use Rattle.std.proofs.lemmas.List.{take_all, take_more, take-append-drop, get_or-map, map-append, append-nil}
+use Rattle.std.proofs.lemmas.List.Elements.{filter_more}
 use Rattle.std.proofs.lemmas.List.Folds.{find-append}
 use Rattle.giv_files.specs.declared.key.Key.{Key}
 use Rattle.giv_files.specs.declared.key.Key.TheVariants as key
 use Rattle.giv_files.specs.declared.setting.Setting.{Setting}
 use Rattle.giv_files.specs.declared.stage.Stage.{Stage}
-use Rattle.giv_files.specs.Keys.{all_keys, key_place, key_kind, key_default, allows, floor_key, stage_keys}
-use Rattle.giv_files.specs.Settings.{SettingsFit, is_allowed, is_crossed, not_below, value_of, floor_value}
-use Rattle.giv_files.proofs.KeyPlaces.{same_key}
+use Rattle.giv_files.specs.declared.cross_rule.CrossRule.{CrossRule}
+use Rattle.giv_files.specs.CrossRules.{cross_rule, keeps_bound, keeps, keeps_rule}
+use Rattle.giv_files.specs.KeyKinds.{kept_if, spelled_as}
+use Rattle.giv_files.specs.Keys.{all_keys, key_place, is_key, key_kind, key_default, allows, has_key, stage_keys}
+use Rattle.giv_files.specs.Settings.{SettingsFit, is_allowed, is_uncrossed, value_of}
+use Rattle.giv_files.proofs.KeyPlaces.{key_there, same_key}
 use Rattle.plan_files.specs.declared.store.Got.{Got}
 use Rattle.config_keys.specs.declared.config_fault.ConfigFault.{ConfigFault}
 use Rattle.config_keys.specs.declared.config_fault.ConfigFault.TheVariants as fault
 use Rattle.config_keys.specs.Items.{config_items, first_fault}
-use Rattle.config_keys.specs.Values.{effective, settings_of, said_in, kept_if, spelled_as, own_value, floor_in, good_value, first_bad, values_in, settled}
-use Rattle.config_keys.specs.Config.{value_at, floor_at, AreSettings, part_of}
-use Rattle.config_keys.proofs.KeyNames.{key_there, find_none}
+use Rattle.config_keys.specs.Values.{effective, settings_of, said_in, own_value, own_in, good_value, first_bad, values_in, settled}
+use Rattle.config_keys.specs.Config.{value_at, setting_at, AreSettings, part_of}
+use Rattle.config_keys.proofs.KeyNames.{find_none}
 
 -- one more passes over
 pub none_more : {X : Type 0} (p : X → Bool) (xs : List X) (i : ℕ) (d : X) → i < length xs → find p (take i xs) ≡ None → p (get_or xs i d) ≡ false → find p (take (i + 1) xs) ≡ None
@@ -59,25 +63,7 @@ kept_some test (Some other) value e = at_test (test other) refl e
 
 default_allowed : (k : Key) → allows k (key_default k) ≡ true
 default_allowed key.LastStage = refl
-default_allowed key.LoadSource = refl
-default_allowed key.GenPassengersPerVehicle = refl
-default_allowed key.LoadSpread = refl
-default_allowed key.LpoolCostsFixed = refl
-default_allowed key.LpoolCostsLength = refl
-default_allowed key.LpoolCostsEdges = refl
-default_allowed key.ConceptBudget = refl
-default_allowed key.PeriodLength = refl
-default_allowed key.EanDefaultMinimalWaitingTime = refl
-default_allowed key.EanDefaultMaximalWaitingTime = refl
-default_allowed key.EanDefaultMinimalChangeTime = refl
-default_allowed key.EanDefaultMaximalChangeTime = refl
-default_allowed key.TimetableBudget = refl
-default_allowed key.DmEarliestTime = refl
-default_allowed key.DmLatestTime = refl
-default_allowed key.VsTurnOverTime = refl
-default_allowed key.VsVehicleCosts = refl
-default_allowed key.VsEmptyCosts = refl
-default_allowed key.DmWait = refl
+default_allowed _ = refl
 
 -- a key's own value is allowed
 own_allowed : (k : Key) (said : Option (List ℕ)) (value : ℤ) → own_value k said ≡ Some value → allows k value ≡ true
@@ -98,20 +84,21 @@ module _ (said : Key → Option (List ℕ)) (good : first_bad said ≡ None) whe
       let at = get_or-map (λ key. unwrap_or (good_value said key) (pos 0)) all_keys (key_place k) k (pos 0) there.1 in
       some ∙ ap Some (sym (at ∙ ap (λ (j : Key). unwrap_or (good_value said j) (pos 0)) there.0))
 
-  own_there : (k : Key) → (own_value k (said k) ≡ Some (value_at (values_in said) k)) × (not_below (floor_in said (floor_key k)) (value_at (values_in said) k) ≡ true)
+  own_there : (k : Key) → (own_in said k ≡ Some (value_at (values_in said) k)) × (keeps_rule (own_in said) k (value_at (values_in said) k) ≡ true)
   unfolding good_value
-  own_there k = kept_some (not_below (floor_in said (floor_key k))) (own_value k (said k)) (value_at (values_in said) k) (good_there k)
+  own_there k = kept_some (keeps_rule (own_in said) k) (own_in said k) (value_at (values_in said) k) (good_there k)
 
-  floor_there : (k : Option Key) → floor_in said k ≡ floor_at (values_in said) k
-  floor_there None = refl
-  floor_there (Some k) = (own_there k).0
+  -- a rule is kept by the values of the list
+  kept_there : (rule : Option CrossRule) (value : ℤ) → keeps (own_in said) rule value ≡ keeps (λ other. Some (value_at (values_in said) other)) rule value
+  kept_there None value = refl
+  kept_there (Some rule) value = ap (λ other. option_map_or (λ floor. keeps_bound rule.bound floor value) other true) (own_there rule.other).0
 
   -- settled values are settings
   pub are_settings : AreSettings (values_in said)
   are_settings = record {
     whole = refl;
     allowed = λ k. own_allowed k (said k) (value_at (values_in said) k) (own_there k).0;
-    floors = λ k. rw (← floor_there (floor_key k)) (own_there k).1;
+    uncrossed = λ k. sym (kept_there (cross_rule k) (value_at (values_in said) k)) ∙ (own_there k).1;
   }
 
 -- what holds of each holds of all
@@ -119,41 +106,48 @@ all_mapped : {X Y : Type 0} (p : Y → Bool) (f : X → Y) (xs : List X) → ((x
 all_mapped p f [] h = refl
 all_mapped p f (x ∷ xs) h = rw (h x) (all_mapped p f xs h)
 
-setting_at : List ℤ → Key → Setting
-setting_at values k = record { key = k; value = value_at values k }
+-- a key that a stage does not have is passed over
+pub passed_over : (stage : Stage) (keys : List Key) (i : ℕ) (d : Key) → i < length keys → has_key stage (get_or keys i d) ≡ false → filter (has_key stage) (take i keys) ≡ filter (has_key stage) (take (i + 1) keys)
+passed_over stage keys i d h not =
+    sym (filter_more (has_key stage) keys i d h ∙ ap (λ b. filter (has_key stage) (take i keys) ++ cond b (get_or keys i d ∷ []) []) not ∙ append-nil (filter (has_key stage) (take i keys)))
 
--- a value that is not below another is not below it among some of the settings
-floor_among : (values : List ℤ) (value : ℤ) (floor : Key) (keys : List Key) → not_below (Some (value_at values floor)) value ≡ true
-    → not_below (value_of (map (λ key. record { key = key; value = value_at values key }) keys) floor) value ≡ true
-floor_among values value floor [] h = refl
-floor_among values value floor (k ∷ keys) h = at_key (eqb (key_place k) (key_place floor)) refl (floor_among values value floor keys h)
-  where
-    at_key : (t : Bool) → eqb (key_place k) (key_place floor) ≡ t
-        → not_below (value_of (map (λ key. record { key = key; value = value_at values key }) keys) floor) value ≡ true
-        → not_below (option_map (λ (setting : Setting). setting.value) (cond t (Some (record { key = k; value = value_at values k })) (find (λ (setting : Setting). eqb (key_place setting.key) (key_place floor)) (map (λ key. record { key = key; value = value_at values key }) keys)))) value ≡ true
-    at_key true e rest = let same : k ≡ floor = same_key k floor (eqb-true _ _ e) in rw same h
-    at_key false e rest = rest
+module _ (values : List ℤ) where
+  -- the value of a key among some of the settings: none, or that of the key
+  value_among : (P : Option ℤ → Type 0) (k : Key) (keys : List Key) → P None → P (Some (value_at values k)) → P (value_of (map (setting_at values) keys) k)
+  value_among P k [] none some = none
+  value_among P k (j ∷ keys) none some = at_key (is_key k j) refl (value_among P k keys none some)
+    where
+      at_key : (t : Bool) → is_key k j ≡ t → P (value_of (map (setting_at values) keys) k)
+          → P (option_map (λ (setting : Setting). setting.value) (cond t (Some (setting_at values j)) (find (λ (setting : Setting). is_key k setting.key) (map (setting_at values) keys))))
+      at_key true e rest = let same : j ≡ k = same_key j k (eqb-true _ _ e) in subst (λ i. P (Some (value_at values i))) (sym same) some
+      at_key false e rest = rest
 
-crossed_among : (values : List ℤ) (value : ℤ) (floor : Option Key) (keys : List Key) → not_below (floor_at values floor) value ≡ true
-    → not_below (floor_value (map (λ key. record { key = key; value = value_at values key }) keys) floor) value ≡ true
-crossed_among values value None keys h = refl
-crossed_among values value (Some floor) keys h = floor_among values value floor keys h
+  kept_among : (value : ℤ) (rule : Option CrossRule) (keys : List Key) → keeps (λ other. Some (value_at values other)) rule value ≡ true → keeps (value_of (map (setting_at values) keys)) rule value ≡ true
+  kept_among value None keys h = refl
+  kept_among value (Some rule) keys h = value_among (λ other. option_map_or (λ floor. keeps_bound rule.bound floor value) other true ≡ true) rule.other keys refl h
 
-keys_are : (values : List ℤ) (keys : List Key) → map (λ (setting : Setting). setting.key) (map (λ key. record { key = key; value = value_at values key }) keys) ≡ keys
-keys_are values [] = refl
-keys_are values (k ∷ keys) = ap (λ rest. k ∷ rest) (keys_are values keys)
+  keys_are : (keys : List Key) → map (λ (setting : Setting). setting.key) (map (setting_at values) keys) ≡ keys
+  keys_are [] = refl
+  keys_are (k ∷ keys) = ap (λ rest. k ∷ rest) (keys_are keys)
 
--- the settings of a stage fit it
-pub part_fits : (values : List ℤ) (stage : Stage) → AreSettings values → SettingsFit stage (part_of values stage)
-part_fits values stage h = record {
-  keys = keys_are values (stage_keys stage);
-  allowed = all_mapped is_allowed (λ key. record { key = key; value = value_at values key }) (stage_keys stage) (λ k. h.allowed k);
-  crossed = all_mapped (is_crossed (part_of values stage)) (λ key. record { key = key; value = value_at values key }) (stage_keys stage) (λ k. crossed_among values (value_at values k) (floor_key k) (stage_keys stage) (h.floors k));
-}
+  -- the settings of a stage fit it
+  pub part_fits : (stage : Stage) → AreSettings values → SettingsFit stage (part_of values stage)
+  part_fits stage h = record {
+    keys = keys_are (stage_keys stage);
+    allowed = all_mapped is_allowed (setting_at values) (stage_keys stage) (λ k. h.allowed k);
+    uncrossed = all_mapped (is_uncrossed (part_of values stage)) (setting_at values) (stage_keys stage) (λ k. kept_among (value_at values k) (cross_rule k) (stage_keys stage) (h.uncrossed k));
+  }
 
-pub whole_fits : (values : List ℤ) (stage : Stage) (keys : List Key) (settings : List Setting) (i : ℕ) → keys ≡ stage_keys stage → length keys ≤ i → settings ≡ map (λ key. record { key = key; value = value_at values key }) (take i keys)
-    → AreSettings values → SettingsFit stage settings
-whole_fits values stage keys settings i e h told are = let whole = take_all i keys h ∙ e in rw (told, whole) (part_fits values stage are)
+  -- one key more, which the stage has
+  pub part_more : (stage : Stage) (keys : List Key) (i : ℕ) (d : Key) → i < length keys → has_key stage (get_or keys i d) ≡ true
+      → map (setting_at values) (filter (has_key stage) (take i keys)) ++ setting_at values (get_or keys i d) ∷ [] ≡ map (setting_at values) (filter (has_key stage) (take (i + 1) keys))
+  part_more stage keys i d h is =
+      sym (map-append (setting_at values) (filter (has_key stage) (take i keys)) (get_or keys i d ∷ []))
+      ∙ sym (ap (map (setting_at values)) (filter_more (has_key stage) keys i d h ∙ ap (λ b. filter (has_key stage) (take i keys) ++ cond b (get_or keys i d ∷ []) []) is))
+
+  pub part_whole : (stage : Stage) (settings : List Setting) (keys : List Key) (i : ℕ) → keys ≡ all_keys → length keys ≤ i → settings ≡ map (setting_at values) (filter (has_key stage) (take i keys)) → settings ≡ part_of values stage
+  unfolding stage_keys
+  part_whole stage settings keys i e h told = told ∙ ap (λ all. map (setting_at values) (filter (has_key stage) all)) (take_all i keys h ∙ e)
 
 -- ---- the settings of a dataset that are not refused
 

@@ -2,8 +2,7 @@
 use Rattle.std.proofs.Common.{◌≡◌, ℕ, ◌+◌, Bool, true, false, cond, eqb, List, [], ◌∷◌, ◌++◌, Option, Some, None, refl, ap, sym, ◌∙◌, arith, ltb, zero-add, add-zero, Result, Ok, Err}
 use Rattle.std.specs.Str.{bytes_eq}
 use Rattle.giv_files.specs.declared.key.Key.{Key}
-use Rattle.giv_files.specs.Keys.{key_place}
-use Rattle.giv_files.specs.Names.{key_name}
+use Rattle.giv_files.specs.Keys.{key_place, key_name}
 use Rattle.config_keys.specs.declared.config_fault.ConfigFault.{ConfigFault}
 use Rattle.config_keys.specs.declared.config_fault.ConfigFault.TheVariants as fault
 use Rattle.config_keys.specs.declared.config_end.ConfigEnd.{ConfigEnd}

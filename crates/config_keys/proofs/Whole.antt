@@ -2,7 +2,7 @@
 use Rattle.std.proofs.Common.{◌≡◌, ℤ, List, Option, Some, None, IfSome, Result, Ok, Err, refl, ap, sym, ◌∙◌}
 use Rattle.plan_files.specs.Folder.{Folder}
 use Rattle.giv_files.specs.declared.key.Key.{Key}
-use Rattle.giv_files.specs.Names.{key_name}
+use Rattle.giv_files.specs.Keys.{key_name}
 use Rattle.config_keys.specs.declared.config_end.ConfigEnd.{ConfigEnd}
 use Rattle.config_keys.specs.declared.config_end.ConfigEnd.TheVariants.{Refused, FileFault, NoMemory}
 use Rattle.config_keys.specs.declared.reading.Reading.{Reading}

@@ -1,12 +1,12 @@
 -- The settings of a dataset, as the list of the values of all keys.
-use Rattle.std.specs.Prelude.{ℕ, ℤ, pos, negsuc, ◌≡◌, true, List, length, map, get_or, Option, Some, None, Result, Ok, Err, ⊤}
+use Rattle.std.specs.Prelude.{ℕ, ℤ, pos, negsuc, ◌≡◌, true, List, length, map, get_or, Option, Some, Result, Ok, Err, ⊤}
 use Rattle.giv_files.specs.declared.key.Key.{Key}
 use Rattle.giv_files.specs.declared.key.Key.TheVariants.{LastStage}
 use Rattle.giv_files.specs.declared.setting.Setting.{Setting}
 use Rattle.giv_files.specs.declared.stage.Stage.{Stage}
 use Rattle.giv_files.specs.declared.stage.Stage.TheVariants.{Statistic}
-use Rattle.giv_files.specs.Keys.{key_place, allows, floor_key, stage_keys}
-use Rattle.giv_files.specs.Settings.{not_below}
+use Rattle.giv_files.specs.CrossRules.{keeps_rule}
+use Rattle.giv_files.specs.Keys.{all_keys, key_place, allows, stage_keys}
 use Rattle.giv_files.specs.Stages.{all_stages}
 use Rattle.config_keys.specs.declared.config_end.ConfigEnd.{ConfigEnd}
 use Rattle.config_keys.specs.declared.config_end.ConfigEnd.TheVariants.{Refused, FileFault, NoMemory}
@@ -16,20 +16,19 @@ use Rattle.config_keys.specs.Values.{settled}
 abbrev pub value_at : List ℤ → Key → ℤ
 value_at values key = get_or values (key_place key) (pos 0)
 
--- the value of a key that another may not be below
-abbrev pub floor_at : List ℤ → Option Key → Option ℤ
-floor_at values None = None
-floor_at values (Some key) = Some (value_at values key)
-
--- an allowed value for each key, none below the one that it may not be below
+-- an allowed value for each key, each of them keeping its rule
 pub record AreSettings (values : List ℤ) : Type 0 where
-  pub whole : length values ≡ 20
+  pub whole : length values ≡ length all_keys
   pub allowed : (key : Key) → allows key (value_at values key) ≡ true
-  pub floors : (key : Key) → not_below (floor_at values (floor_key key)) (value_at values key) ≡ true
+  pub uncrossed : (key : Key) → keeps_rule (λ other. Some (value_at values other)) key (value_at values key) ≡ true
+
+-- a key with its value
+abbrev pub setting_at : List ℤ → Key → Setting
+setting_at values key = record { key = key; value = value_at values key }
 
 -- the settings of a stage: its keys in their order with their values
 abbrev pub part_of : List ℤ → Stage → List Setting
-part_of values stage = map (λ key. record { key = key; value = value_at values key }) (stage_keys stage)
+part_of values stage = map (setting_at values) (stage_keys stage)
 
 -- the stage at a place
 abbrev pub stage_at : ℤ → Stage

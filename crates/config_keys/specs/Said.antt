@@ -4,8 +4,7 @@ use Rattle.std.specs.List.{find}
 use Rattle.std.specs.Str.{bytes_eq}
 use Rattle.indexmap.specs.IndexMap.{get}
 use Rattle.giv_files.specs.declared.key.Key.{Key}
-use Rattle.giv_files.specs.Keys.{all_keys, key_place}
-use Rattle.giv_files.specs.Names.{key_name}
+use Rattle.giv_files.specs.Keys.{all_keys, key_place, key_name}
 use Rattle.config_keys.specs.declared.config_end.ConfigEnd.{ConfigEnd}
 use Rattle.config_keys.specs.declared.config_end.ConfigEnd.TheVariants.{Refused, FileFault, NoMemory}
 use Rattle.config_keys.specs.declared.reading.Reading.{Reading}

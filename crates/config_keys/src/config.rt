@@ -1,10 +1,11 @@
 // The settings of a dataset.
-ghost use Rattle.std.specs.Prelude.{◌≡◌, true, IfOk};
-ghost use Rattle.giv_files.specs.Keys.{allows, floor_key};
-ghost use Rattle.giv_files.specs.Settings.{SettingsFit, not_below};
+ghost use Rattle.std.specs.Prelude.{◌≡◌, ◌∷◌, ◌++◌, [], true, IfOk, OnOk};
+ghost use Rattle.giv_files.specs.CrossRules.{keeps_rule};
+ghost use Rattle.giv_files.specs.Keys.{allows};
+ghost use Rattle.giv_files.specs.Settings.{SettingsFit};
 ghost use Rattle.config_keys.specs.Said.{said_of};
-ghost use Rattle.config_keys.specs.Values.{good_value, floor_in};
-ghost use Rattle.config_keys.specs.Config.{value_at, floor_at, part_of, last_stage_of, SettleGives};
+ghost use Rattle.config_keys.specs.Values.{good_value, own_in};
+ghost use Rattle.config_keys.specs.Config.{value_at, setting_at, part_of, last_stage_of, SettleGives};
 
 use crate::config_end::ConfigEnd;
 use crate::config_fault::ConfigFault;
@@ -52,7 +53,7 @@ impl Config {
     pub fn value(&self, key: Key) -> i64
         ensures value { result ≡ value_at self.now key }
         ensures allowed { allows key result ≡ true }
-        ensures floor { not_below (floor_at self.now (floor_key key)) result ≡ true }
+        ensures rule { keeps_rule (λ other. Some (value_at self.now other)) key result ≡ true }
     {
         self.values[key.place()]
     }
@@ -72,35 +73,41 @@ impl Config {
         // A read of a field, so that what holds of all values is known.
         let _ = &self.values;
         let mut settings = Settings::new(alloc);
-        for key in stage.keys() {
-            settings.push(*key, self.value(*key))?;
+        for key in Key::all() {
+            if stage.has_key(*key) {
+                self.push_to(&mut settings, *key)?;
+            }
         }
         Ok(settings)
     }
+
+    // Appends a key with its value.
+    fn push_to(&self, settings: &mut Settings, key: Key) -> Result<(), NoMemory>
+        ensures { OnOk result (settings.new ≡ settings.old ++ setting_at self.now key ∷ []) }
+    {
+        settings.push(key, self.value(key))
+    }
 }
 
-// The value of a key, where it is allowed and not below one that it may not be below.
+// The value of a key, where it is allowed and keeps the rule of the key.
 #[tactic(auto, unfolding(crate::specs::Values::good_value))]
 fn good_value(reading: &Reading, key: Key) -> Option<i64>
     ensures { result ≡ good_value (said_of reading.now) key }
 {
     let value = own_value(key, reading.said(key))?;
-    if is_above(reading, key.floor(), value) {
+    if keeps_rule(reading, key, value) {
         Some(value)
     } else {
         None
     }
 }
 
-// Whether a value is not below that of another key, where there is one.
-fn is_above(reading: &Reading, floor: Option<Key>, value: i64) -> bool
-    ensures { result ≡ not_below (floor_in (said_of reading.now) floor) value }
+// Whether a value keeps the rule of its key.
+fn keeps_rule(reading: &Reading, key: Key, value: i64) -> bool
+    ensures { result ≡ keeps_rule (own_in (said_of reading.now)) key value }
 {
-    match floor {
+    match key.cross_rule() {
         None => true,
-        Some(key) => match own_value(key, reading.said(key)) {
-            None => true,
-            Some(least) => least <= value,
-        },
+        Some(rule) => rule.keeps(value, own_value(rule.other, reading.said(rule.other))),
     }
 }

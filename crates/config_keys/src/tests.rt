@@ -1,6 +1,6 @@
 // Datasets with known settings or faults.
 use crate::*;
-use giv_files::{Key, KeyKind, Stage};
+use giv_files::{Bound, Key, KeyKind, KeyWords, Stage};
 use plan_files::{Files, SteadyFiles};
 use plan_num::Text;
 use std::alloc::{AllocError, Global};
@@ -412,17 +412,24 @@ fn settings_of_stages(rt: HostRuntime) -> Result<(), Fail> {
 // What the values of a key may be, in the words of the users' page.
 fn values_text(alloc: Global, key: Key) -> Result<String, Fail> {
     let mut text = match key.kind() {
-        KeyKind::StageName => format!(in alloc; "a stage")?,
-        KeyKind::Source => format!(in alloc; "`od` or `file`")?,
+        KeyKind::Word {
+            words: KeyWords::Stages,
+        } => format!(in alloc; "a stage")?,
+        KeyKind::Word {
+            words: KeyWords::LoadSources,
+        } => format!(in alloc; "`od` or `file`")?,
         KeyKind::Whole { min, max } => format!(in alloc; "whole {min} to {max}")?,
         KeyKind::Fixed { min, max } => {
             format!(in alloc; "fixed {} to {}", min / 1_000_000, max / 1_000_000)?
         }
         KeyKind::Wait { max } => format!(in alloc; "whole 0 to {max}, or `all` or `none`")?,
     };
-    if let Some(floor) = key.floor() {
-        text.push_str(", not below `")?;
-        text.push_str(floor.name())?;
+    if let Some(rule) = key.cross_rule() {
+        text.push_str(match rule.bound {
+            Bound::NotBelow => ", not below `",
+            Bound::TwiceAtMost => ", at most half of `",
+        })?;
+        text.push_str(rule.other.name())?;
         text.push_str("`")?;
     }
     Ok(text)
@@ -432,12 +439,16 @@ fn values_text(alloc: Global, key: Key) -> Result<String, Fail> {
 fn default_text(alloc: Global, key: Key) -> Result<String, Fail> {
     let value = key.default_value();
     Ok(match key.kind() {
-        KeyKind::StageName => {
+        KeyKind::Word {
+            words: KeyWords::Stages,
+        } => {
             let place = usize::try_from(value).ok().ok_or("no place")?;
             let stage = Stage::all().get(place).ok_or("no stage")?;
             format!(in alloc; "{}", stage.name())?
         }
-        KeyKind::Source => format!(in alloc; "{}", if value == 0 { "od" } else { "file" })?,
+        KeyKind::Word {
+            words: KeyWords::LoadSources,
+        } => { format!(in alloc; "{}", if value == 0 { "od" } else { "file" })? }
         KeyKind::Fixed { min: _, max: _ } => format!(in alloc; "{}", value / 1_000_000)?,
         KeyKind::Whole { min: _, max: _ } | KeyKind::Wait { max: _ } => format!(in alloc;
             "{value}"
@@ -449,11 +460,7 @@ fn default_text(alloc: Global, key: Key) -> Result<String, Fail> {
 fn stages_text(alloc: Global, key: Key) -> Result<String, Fail> {
     let mut text = String::new(alloc);
     for stage in Stage::all() {
-        if stage
-            .keys()
-            .iter()
-            .any(|other| other.place() == key.place())
-        {
+        if stage.has_key(key) {
             text.push_str(if text.is_empty() { "" } else { ", " })?;
             text.push_str(stage.name())?;
         }

@@ -1,13 +1,8 @@
 -- The stage of loads, from what each of its inputs gives.
-use Rattle.std.proofs.Common.{◌≡◌, ◌≢◌, ℕ, ℤ, pos, ◌≤◌, ◌≤ℤ◌, eqb, cond, true, false, List, [], ◌∷◌, ◌++◌, length, map, unsigned_abs, unwrap_or, option_map, ap, refl, subst, sym, ◌∙◌, arith, Ok, Err, Some}
-use Rattle.std.specs.Int.Signed.{le_z_yes}
-use Rattle.std.specs.List.{find}
-use Rattle.std.proofs.lemmas.Bool.{and_parts, ne_eqb, eq-eqb}
-use Rattle.std.proofs.lemmas.Float.{T_from_true}
-use Rattle.std.proofs.lemmas.Int.{ints}
+use Rattle.std.proofs.Common.{◌≡◌, ◌≢◌, ℕ, cond, true, false, List, [], ◌∷◌, ◌++◌, length, map, unwrap_or, ap, refl, subst, sym, ◌∙◌, Ok, Err}
+use Rattle.std.proofs.lemmas.Bool.{ne_eqb, eq-eqb}
 use Rattle.std.proofs.lemmas.List.{length-map}
 use Rattle.std.proofs.lemmas.List.FromFn.{length-map-range_with_len}
-use Rattle.giv_files.specs.declared.key.Key.{Key}
 use Rattle.giv_files.specs.declared.key.Key.TheVariants as key
 use Rattle.giv_files.specs.declared.made.Made.{Made}
 use Rattle.giv_files.specs.declared.refusal.Refusal.{Refusal}
@@ -16,11 +11,10 @@ use Rattle.giv_files.specs.declared.refusal.StageFault.TheVariants as fault
 use Rattle.giv_files.specs.declared.setting.Setting.{Setting}
 use Rattle.giv_files.specs.declared.stage.Stage.TheVariants as stage
 use Rattle.giv_files.specs.Inputs.{Refuses, or_else, input_faults, records_of}
-use Rattle.giv_files.specs.Keys.{key_place, stage_keys}
-use Rattle.giv_files.specs.Settings.{BundleParts, Fits, value_of, amount}
+use Rattle.giv_files.specs.Settings.{BundleParts, SettingsFit, Fits, amount}
 use Rattle.giv_files.specs.StageCalls.{input_text, StageGives}
 use Rattle.giv_files.proofs.Inputs.{refused_append}
-use Rattle.giv_files.proofs.SettingFacts.{value_allowed, abs_within, amount_within}
+use Rattle.giv_files.proofs.SettingFacts.{amount_within}
 use Rattle.giv_files.proofs.StageCalls.{stage_refused, stage_made}
 use Rattle.ptn_network.specs.Networks.{NetworkParts, network_of, network_faults}
 use Rattle.ptn_network.specs.declared.edge_load.EdgeLoad.{EdgeLoad}
@@ -31,36 +25,15 @@ use Rattle.ptn_network.proofs.LoadRows.{loads_count as edge_loads_count}
 use Rattle.demand_load.specs.LoadStage.{takes_demand, bounded, loads_by, text_faults, frequency_faults, load_faults, loads_in, load_stage}
 use Rattle.demand_load.specs.LoadTables.{loads_made, HasSpread}
 
--- ---- settings
-
--- the second setting of the stage is how many passengers a vehicle takes
-passengers : (settings : List Setting) → map (λ setting. setting.key) settings ≡ stage_keys stage.Load → (value : ℤ) × (value_of settings key.GenPassengersPerVehicle ≡ Some value)
-passengers [] keys = cc
-passengers (first ∷ []) keys = cc
-passengers (first ∷ second ∷ more) keys =
-    let source : first.key ≡ key.LoadSource = cc in
-    let own : second.key ≡ key.GenPassengersPerVehicle = cc in (
-      second.value,
-      ap (λ (k : Key). option_map (λ setting. setting.value) (cond (eqb (key_place k) 2) (Some first) (find (λ setting. eqb (key_place setting.key) 2) (second ∷ more)))) source
-          ∙ ap (λ (k : Key). option_map (λ setting. setting.value) (cond (eqb (key_place k) 2) (Some second) (find (λ setting. eqb (key_place setting.key) 2) more))) own,
-    )
-
-at_least : (value : ℤ) → pos 1 ≤ℤ value → 1 ≤ unsigned_abs value
-at_least value low = omega (arith, ints)
-
 -- the settings of a bundle that fits are within their ranges
 pub settings_fit : (bundle : BundleParts) → bundle.stage ≡ stage.Load → Fits bundle → HasSpread bundle.settings
 settings_fit bundle is fits =
-    let allowed = fits.settings.allowed in
-    let given = passengers bundle.settings (subst (λ of. map (λ setting. setting.key) bundle.settings ≡ stage_keys of) is fits.settings.keys) in
-    let within = and_parts _ _ (value_allowed bundle.settings key.GenPassengersPerVehicle given.0 allowed given.1) in
-    let low : pos 1 ≤ℤ given.0 = le_z_yes (T_from_true _ within.0) in
-    let high : given.0 ≤ℤ pos 100000 = le_z_yes (T_from_true _ within.1) in
-    let same : amount bundle.settings key.GenPassengersPerVehicle ≡ unsigned_abs given.0 = ap (λ o. unsigned_abs (unwrap_or o (pos 0))) given.1 in
+    let own = subst (λ of. SettingsFit of bundle.settings) is fits.settings in
+    let passengers = amount_within stage.Load bundle.settings key.GenPassengersPerVehicle _ _ own refl refl refl in
     record {
-      some = subst (λ n. 1 ≤ n) (sym same) (at_least given.0 low);
-      few = subst (λ n. n ≤ 100000) (sym same) (abs_within given.0 100000 (omega (arith, ints)) high);
-      spread = amount_within bundle.settings key.LoadSpread _ allowed refl refl;
+      some = passengers.0;
+      few = passengers.1;
+      spread = (amount_within stage.Load bundle.settings key.LoadSpread _ _ own refl refl refl).1;
     }
 
 -- ---- the source of loads

@@ -1,10 +1,12 @@
 -- The table of loads and of bounds of frequency.
-use Rattle.std.specs.Prelude.{ℕ, pos, ◌≤◌, ◌≤ℤ◌, List, [], ◌∷◌, ◌++◌, length, codes, decimal}
+use Rattle.std.specs.Prelude.{ℕ, pos, ◌≤◌, ◌≤ℤ◌, List, [], ◌∷◌, length, codes}
 use Rattle.giv_files.specs.declared.file_id.FileId.TheVariants as file
 use Rattle.giv_files.specs.declared.key.Key.TheVariants as key
 use Rattle.giv_files.specs.declared.made.Made.{Made}
 use Rattle.giv_files.specs.declared.setting.Setting.{Setting}
+use Rattle.giv_files.specs.declared.stage.Stage.TheVariants as stage
 use Rattle.giv_files.specs.Columns.{load_columns}
+use Rattle.giv_files.specs.ReportLines.{count_text, report_line}
 use Rattle.giv_files.specs.Settings.{amount}
 use Rattle.giv_files.specs.Tables.{TableRow}
 use Rattle.giv_files.specs.Writing.{table_text}
@@ -39,5 +41,5 @@ load_header = codes "# edge-id; load; minimal-frequency; maximal-frequency"
 abbrev pub loads_made : List Edge → List EdgeLoad → Made
 loads_made edges loads = record {
   files = record { file = file.Load; text = table_text load_header load_columns (load_rows edges loads) } ∷ [];
-  report = codes "load: " ++ decimal (length edges) ++ codes " edges";
+  report = report_line stage.Load (count_text (length edges) (codes "edges") ∷ []);
 }

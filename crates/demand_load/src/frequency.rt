@@ -1,7 +1,6 @@
 // The bounds of the frequency of an edge by its load.
 ghost use Rattle.std.specs.Prelude.{◌≡◌, ◌≤◌, map, All, IfOk, ⊤};
 ghost use Rattle.giv_files.specs.Inputs.{UnlessFault};
-ghost use Rattle.giv_files.specs.Settings.{amount};
 ghost use Rattle.demand_load.specs.LoadStage.{bounded, frequency_faults};
 ghost use Rattle.demand_load.specs.LoadTables.{HasSpread};
 
@@ -35,20 +34,13 @@ fn bounded(settings: &Settings, load: u64) -> EdgeLoad
     requires load { load ≤ 100000000000000000 }
     ensures { result ≡ bounded settings.now load }
 {
-    let places = amount(settings, Key::GenPassengersPerVehicle) * 1_000_000;
+    let places = settings.amount(Key::GenPassengersPerVehicle) * 1_000_000;
     let least = load.div_ceil(places);
     EdgeLoad {
         load: load as i64,
         least: least as i64,
-        most: (least + amount(settings, Key::LoadSpread)) as i64,
+        most: (least + settings.amount(Key::LoadSpread)) as i64,
     }
-}
-
-/// The value of a key.
-pub(crate) fn amount(settings: &Settings, key: Key) -> u64
-    ensures { result ≡ amount settings.now key }
-{
-    settings.value(key).unwrap_or(0).unsigned_abs()
 }
 
 /// Refuses the first maximal frequency that is too great.

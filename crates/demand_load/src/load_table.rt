@@ -1,11 +1,12 @@
 // The table of loads.
-ghost use Rattle.std.specs.Prelude.{◌≡◌, ◌++◌, ◌≤ℤ◌, pos, length, codes, decimal, [], ◌∷◌, All, IfOk, OnOk};
+ghost use Rattle.std.specs.Prelude.{◌≡◌, ◌++◌, ◌≤ℤ◌, pos, length, [], ◌∷◌, All, IfOk, OnOk};
 ghost use Rattle.ptn_network.specs.Loads.{IsBounded};
 ghost use Rattle.demand_load.specs.LoadTables.{load_row, load_rows, loads_made, HasId};
 
-use giv_files::{FileId, Made, MadeFile, MadeList, Table, columns, write_table};
-use itoa::Buffer;
-use plan_num::{NoMemory, Text};
+use giv_files::{
+    FileId, Made, MadeFile, MadeList, Stage, Table, columns, count_text, report_line, write_table,
+};
+use plan_num::NoMemory;
 use ptn_network::{Edge, EdgeLoad, Network};
 use std::alloc::Global;
 
@@ -35,7 +36,11 @@ pub(crate) fn loads_made(
     })?;
     Ok(Made {
         files,
-        report: report(alloc, network.edge_count())?,
+        report: report_line(
+            alloc,
+            Stage::Load,
+            &[count_text(alloc, network.edge_count(), "edges")?],
+        )?,
     })
 }
 
@@ -56,15 +61,4 @@ fn push_row(table: &mut Table<4>, edge: &Edge, load: &EdgeLoad) -> Result<(), No
     ensures { OnOk result (table.new ≡ table.old ++ load_row edge.now load.now ∷ []) }
 {
     table.push(0, &[edge.id, load.load, load.least, load.most])
-}
-
-// The line of the report.
-fn report(alloc: Global, edges: usize) -> Result<Text, NoMemory>
-    ensures { IfOk result (λ text. text ≡ codes "load: " ++ decimal edges ++ codes " edges") }
-{
-    let mut buffer = Buffer::new();
-    let mut text = Vec::from_slice(alloc, b"load: ")?;
-    text.extend_from_slice(buffer.format(edges).as_bytes())?;
-    text.extend_from_slice(b" edges")?;
-    Ok(Text::from_vec(text))
 }

@@ -11,7 +11,7 @@ ghost use Rattle.demand_load.specs.LoadTables.{HasSpread};
 ghost use Rattle.demand_load.specs.RightLoads.{LoadsAreRight};
 
 use crate::demand::read_demand;
-use crate::frequency::{amount, bounds_of, check_frequencies};
+use crate::frequency::{bounds_of, check_frequencies};
 use crate::load_table::loads_made;
 use giv_files::{Bundle, FileId, Key, Made, Settings, StageFault};
 use plan_num::{Ledger, Steps};
@@ -57,7 +57,7 @@ fn loads_of_text(
     requires { HasSpread settings.now }
     ensures { UnlessFault (text_faults settings.now network.now text.now) (λ loads. loads.items ≡ loads_by settings.now network.now text.now) result }
 {
-    if amount(settings, Key::LoadSource) != 0 {
+    if settings.amount(Key::LoadSource) != 0 {
         return read_given(alloc, network, text);
     }
     let loads = read_demand(alloc, network, text)?;

@@ -10,6 +10,7 @@ pub mod Lines
 pub mod Named
 pub mod PlainBytes
 pub mod Ranges
+pub mod ReportLines
 pub mod RowFacts
 pub mod RowsLeft
 pub mod SettingFacts
@@ -17,6 +18,7 @@ pub mod SplitFacts
 pub mod Skipping
 pub mod SpacedFacts
 pub mod StageCalls
+pub mod StageKeys
 pub mod TableRows
 pub mod ToldFacts
 pub mod WriteFacts

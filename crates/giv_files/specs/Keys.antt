@@ -1,122 +1,126 @@
--- Keys of settings: what their values may be, and which stage has which.
-use Rattle.std.specs.Prelude.{ℕ, ℤ, pos, negsuc, int_le, ◌&&◌, Bool, List, [], ◌∷◌, Option, Some, None}
+-- Keys of settings: one row for each, with its name, what its value may be, and the stages that have it.
+use Rattle.std.specs.Prelude.{ℕ, ℤ, pos, int_le, ◌&&◌, ◌*◌, ◌==◌, Bool, List, [], ◌∷◌, codes}
+use Rattle.std.specs.List.{filter, list_any}
+use denote.Enum.Declared.{tag_of}
+use Rattle.giv_files.specs.contracts.key.Key.{the_type}
 use Rattle.giv_files.specs.declared.key.Key.{Key}
 use Rattle.giv_files.specs.declared.key.Key.TheVariants as key
 use Rattle.giv_files.specs.declared.key_kind.KeyKind.{KeyKind}
 use Rattle.giv_files.specs.declared.key_kind.KeyKind.TheVariants as kind
+use Rattle.giv_files.specs.declared.key_words.KeyWords.TheVariants as words
 use Rattle.giv_files.specs.declared.stage.Stage.{Stage}
 use Rattle.giv_files.specs.declared.stage.Stage.TheVariants as stage
+use Rattle.giv_files.specs.KeyKinds.{least, greatest}
+use Rattle.giv_files.specs.Stages.{stage_place}
 
--- what the value of a key may be; costs and lengths are in millionths
-abbrev pub key_kind : Key → KeyKind
-key_kind key.LastStage = kind.StageName
-key_kind key.LoadSource = kind.Source
-key_kind key.GenPassengersPerVehicle = kind.Whole (pos 1) (pos 100000)
-key_kind key.LoadSpread = kind.Whole (pos 0) (pos 1000)
-key_kind key.LpoolCostsFixed = kind.Fixed (pos 0) (pos 1000000000000)
-key_kind key.LpoolCostsLength = kind.Fixed (pos 0) (pos 10000000000)
-key_kind key.LpoolCostsEdges = kind.Fixed (pos 0) (pos 1000000000000)
-key_kind key.ConceptBudget = kind.Whole (pos 1) (pos 20000)
-key_kind key.PeriodLength = kind.Whole (pos 1) (pos 720)
-key_kind key.EanDefaultMinimalWaitingTime = kind.Whole (pos 0) (pos 10000)
-key_kind key.EanDefaultMaximalWaitingTime = kind.Whole (pos 0) (pos 10000)
-key_kind key.EanDefaultMinimalChangeTime = kind.Whole (pos 0) (pos 10000)
-key_kind key.EanDefaultMaximalChangeTime = kind.Whole (pos 0) (pos 10000)
-key_kind key.TimetableBudget = kind.Whole (pos 1) (pos 1000000)
-key_kind key.DmEarliestTime = kind.Whole (pos 0) (pos 10080)
-key_kind key.DmLatestTime = kind.Whole (pos 0) (pos 10080)
-key_kind key.VsTurnOverTime = kind.Whole (pos 0) (pos 10000)
-key_kind key.VsVehicleCosts = kind.Fixed (pos 0) (pos 1000000000000)
-key_kind key.VsEmptyCosts = kind.Fixed (pos 0) (pos 1000000000000)
-key_kind key.DmWait = kind.Wait (pos 10000)
+-- the row of a key: how config files write it, what its value may be, its value where no file gives one, and the stages that have it
+pub record KeyRow : Type 0 where
+  pub name : List ℕ
+  pub kind : KeyKind
+  pub default : ℤ
+  pub stages : List Stage
 
--- the value of a key that no file gives
-abbrev pub key_default : Key → ℤ
-key_default key.LastStage = pos 8
-key_default key.LoadSource = pos 0
-key_default key.GenPassengersPerVehicle = pos 70
-key_default key.LoadSpread = pos 3
-key_default key.LpoolCostsFixed = pos 10000000
-key_default key.LpoolCostsLength = pos 1000000
-key_default key.LpoolCostsEdges = pos 0
-key_default key.ConceptBudget = pos 5000
-key_default key.PeriodLength = pos 60
-key_default key.EanDefaultMinimalWaitingTime = pos 1
-key_default key.EanDefaultMaximalWaitingTime = pos 3
-key_default key.EanDefaultMinimalChangeTime = pos 3
-key_default key.EanDefaultMaximalChangeTime = pos 62
-key_default key.TimetableBudget = pos 100000
-key_default key.DmEarliestTime = pos 300
-key_default key.DmLatestTime = pos 1380
-key_default key.VsTurnOverTime = pos 5
-key_default key.VsVehicleCosts = pos 100000000
-key_default key.VsEmptyCosts = pos 1000000
-key_default key.DmWait = pos 3
+-- a row whose default is not below 0
+abbrev pub row : List ℕ → KeyKind → ℕ → List Stage → KeyRow
+row name kind default stages = record { name = name; kind = kind; default = pos default; stages = stages }
+
+-- a whole number in a range
+abbrev pub whole : ℕ → ℕ → KeyKind
+whole min max = kind.Whole (pos min) (pos max)
+
+-- a number from 0 on in millionths, with a limit in units
+abbrev pub fixed : ℕ → KeyKind
+fixed max = kind.Fixed (pos 0) (pos (max * 1000000))
+
+-- the table of keys; the default of a fixed number is in millionths
+abbrev pub key_row : Key → KeyRow
+key_row key.LastStage = row (codes "last_stage") (kind.Word words.Stages) 8 []
+key_row key.LoadSource = row (codes "load_source") (kind.Word words.LoadSources) 0 (stage.Load ∷ [])
+key_row key.GenPassengersPerVehicle =
+    row (codes "gen_passengers_per_vehicle") (whole 1 100000) 70 (stage.Load ∷ [])
+key_row key.LoadSpread = row (codes "load_spread") (whole 0 1000) 3 (stage.Load ∷ [])
+key_row key.LpoolCostsFixed =
+    row (codes "lpool_costs_fixed") (fixed 1000000) 10000000 (stage.Cost ∷ [])
+key_row key.LpoolCostsLength =
+    row (codes "lpool_costs_length") (fixed 10000) 1000000 (stage.Cost ∷ [])
+key_row key.LpoolCostsEdges = row (codes "lpool_costs_edges") (fixed 1000000) 0 (stage.Cost ∷ [])
+key_row key.ConceptBudget = row (codes "concept_budget") (whole 1 20000) 5000 (stage.Concept ∷ [])
+key_row key.PeriodLength =
+    row (codes "period_length") (whole 1 720) 60
+    (stage.Ean ∷ stage.Timetable ∷ stage.Rollout ∷ stage.Statistic ∷ [])
+key_row key.EanDefaultMinimalWaitingTime =
+    row (codes "ean_default_minimal_waiting_time") (whole 0 10000) 1 (stage.Ean ∷ [])
+key_row key.EanDefaultMaximalWaitingTime =
+    row (codes "ean_default_maximal_waiting_time") (whole 0 10000) 3 (stage.Ean ∷ [])
+key_row key.EanDefaultMinimalChangeTime =
+    row (codes "ean_default_minimal_change_time") (whole 0 10000) 3 (stage.Ean ∷ [])
+key_row key.EanDefaultMaximalChangeTime =
+    row (codes "ean_default_maximal_change_time") (whole 0 10000) 62 (stage.Ean ∷ [])
+key_row key.TimetableBudget =
+    row (codes "timetable_budget") (whole 1 1000000) 100000 (stage.Timetable ∷ [])
+key_row key.DmEarliestTime =
+    row (codes "DM_earliest_time") (whole 0 10080) 300 (stage.Rollout ∷ [])
+key_row key.DmLatestTime = row (codes "DM_latest_time") (whole 0 10080) 1380 (stage.Rollout ∷ [])
+key_row key.VsTurnOverTime =
+    row (codes "vs_turn_over_time") (whole 0 10000) 5 (stage.Vehicles ∷ stage.Disposition ∷ [])
+key_row key.VsVehicleCosts =
+    row (codes "vs_vehicle_costs") (fixed 1000000) 100000000
+    (stage.Vehicles ∷ stage.Statistic ∷ [])
+key_row key.VsEmptyCosts =
+    row (codes "vs_empty_costs") (fixed 1000000) 1000000 (stage.Vehicles ∷ stage.Statistic ∷ [])
+key_row key.DmWait = row (codes "dm_wait") (kind.Wait (pos 10000)) 3 (stage.Disposition ∷ [])
 
 -- the keys in their order
 abbrev pub all_keys : List Key
-all_keys = key.LastStage ∷ key.LoadSource ∷ key.GenPassengersPerVehicle ∷ key.LoadSpread ∷ key.LpoolCostsFixed ∷ key.LpoolCostsLength ∷ key.LpoolCostsEdges
-    ∷ key.ConceptBudget ∷ key.PeriodLength ∷ key.EanDefaultMinimalWaitingTime ∷ key.EanDefaultMaximalWaitingTime ∷ key.EanDefaultMinimalChangeTime
-    ∷ key.EanDefaultMaximalChangeTime ∷ key.TimetableBudget ∷ key.DmEarliestTime ∷ key.DmLatestTime ∷ key.VsTurnOverTime ∷ key.VsVehicleCosts ∷ key.VsEmptyCosts ∷ key.DmWait ∷ []
+all_keys =
+    key.LastStage
+    ∷ key.LoadSource
+    ∷ key.GenPassengersPerVehicle
+    ∷ key.LoadSpread
+    ∷ key.LpoolCostsFixed
+    ∷ key.LpoolCostsLength
+    ∷ key.LpoolCostsEdges
+    ∷ key.ConceptBudget
+    ∷ key.PeriodLength
+    ∷ key.EanDefaultMinimalWaitingTime
+    ∷ key.EanDefaultMaximalWaitingTime
+    ∷ key.EanDefaultMinimalChangeTime
+    ∷ key.EanDefaultMaximalChangeTime
+    ∷ key.TimetableBudget
+    ∷ key.DmEarliestTime
+    ∷ key.DmLatestTime
+    ∷ key.VsTurnOverTime
+    ∷ key.VsVehicleCosts
+    ∷ key.VsEmptyCosts
+    ∷ key.DmWait
+    ∷ []
 
--- the place of a key in the order of keys
+-- the place of a key in the order of keys, which is that of the enum
 abbrev pub key_place : Key → ℕ
-key_place key.LastStage = 0
-key_place key.LoadSource = 1
-key_place key.GenPassengersPerVehicle = 2
-key_place key.LoadSpread = 3
-key_place key.LpoolCostsFixed = 4
-key_place key.LpoolCostsLength = 5
-key_place key.LpoolCostsEdges = 6
-key_place key.ConceptBudget = 7
-key_place key.PeriodLength = 8
-key_place key.EanDefaultMinimalWaitingTime = 9
-key_place key.EanDefaultMaximalWaitingTime = 10
-key_place key.EanDefaultMinimalChangeTime = 11
-key_place key.EanDefaultMaximalChangeTime = 12
-key_place key.TimetableBudget = 13
-key_place key.DmEarliestTime = 14
-key_place key.DmLatestTime = 15
-key_place key.VsTurnOverTime = 16
-key_place key.VsVehicleCosts = 17
-key_place key.VsEmptyCosts = 18
-key_place key.DmWait = 19
+key_place key = tag_of the_type key
 
--- the least value of a kind
-abbrev pub least : KeyKind → ℤ
-least (kind.Whole min max) = min
-least (kind.Fixed min max) = min
-least kind.StageName = pos 0
-least kind.Source = pos 0
-least (kind.Wait max) = negsuc 1
+-- one key is another
+abbrev pub is_key : Key → Key → Bool
+is_key key other = key_place other == key_place key
 
--- the greatest value of a kind
-abbrev pub greatest : KeyKind → ℤ
-greatest (kind.Whole min max) = max
-greatest (kind.Fixed min max) = max
-greatest kind.StageName = pos 8
-greatest kind.Source = pos 1
-greatest (kind.Wait max) = max
+-- what the row of a key says
+abbrev pub key_name : Key → List ℕ
+key_name key = (key_row key).name
+
+abbrev pub key_kind : Key → KeyKind
+key_kind key = (key_row key).kind
+
+abbrev pub key_default : Key → ℤ
+key_default key = (key_row key).default
 
 -- a key may have a value, apart from the values of other keys
 abbrev pub allows : Key → ℤ → Bool
 allows key value = int_le (least (key_kind key)) value && int_le value (greatest (key_kind key))
 
--- the key whose value that of another may not be below
-abbrev pub floor_key : Key → Option Key
-floor_key key.EanDefaultMaximalWaitingTime = Some key.EanDefaultMinimalWaitingTime
-floor_key key.EanDefaultMaximalChangeTime = Some key.EanDefaultMinimalChangeTime
-floor_key key.DmLatestTime = Some key.DmEarliestTime
-floor_key _ = None
+-- a stage has a key
+abbrev pub has_key : Stage → Key → Bool
+has_key stage key = list_any (λ other. stage_place other == stage_place stage) (key_row key).stages
 
 -- the keys of the settings of a stage, in the order of keys
-abbrev pub stage_keys : Stage → List Key
-stage_keys stage.Load = key.LoadSource ∷ key.GenPassengersPerVehicle ∷ key.LoadSpread ∷ []
-stage_keys stage.Cost = key.LpoolCostsFixed ∷ key.LpoolCostsLength ∷ key.LpoolCostsEdges ∷ []
-stage_keys stage.Concept = key.ConceptBudget ∷ []
-stage_keys stage.Ean = key.PeriodLength ∷ key.EanDefaultMinimalWaitingTime ∷ key.EanDefaultMaximalWaitingTime ∷ key.EanDefaultMinimalChangeTime ∷ key.EanDefaultMaximalChangeTime ∷ []
-stage_keys stage.Timetable = key.PeriodLength ∷ key.TimetableBudget ∷ []
-stage_keys stage.Rollout = key.PeriodLength ∷ key.DmEarliestTime ∷ key.DmLatestTime ∷ []
-stage_keys stage.Vehicles = key.VsTurnOverTime ∷ key.VsVehicleCosts ∷ key.VsEmptyCosts ∷ []
-stage_keys stage.Disposition = key.VsTurnOverTime ∷ key.DmWait ∷ []
-stage_keys stage.Statistic = key.PeriodLength ∷ key.VsVehicleCosts ∷ key.VsEmptyCosts ∷ []
+unfoldable pub stage_keys : Stage → List Key
+stage_keys stage = filter (has_key stage) all_keys

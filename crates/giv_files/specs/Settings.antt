@@ -1,44 +1,36 @@
 -- Settings of a stage, and whether they fit it.
-use Rattle.std.specs.Prelude.{ℕ, ℤ, pos, ◌≡◌, ◌==◌, int_le, unsigned_abs, unwrap_or, Bool, true, List, length, map, Option, Some, None}
+use Rattle.std.specs.Prelude.{ℕ, ℤ, pos, ◌≡◌, unsigned_abs, unwrap_or, Bool, true, List, length, map, Option}
 use Rattle.std.specs.List.{find, list_all}
 use Rattle.std.specs.Option.{option_map}
 use Rattle.giv_files.specs.declared.key.Key.{Key}
 use Rattle.giv_files.specs.declared.setting.Setting.{Setting}
 use Rattle.giv_files.specs.declared.stage.Stage.{Stage}
-use Rattle.giv_files.specs.Keys.{key_place, allows, floor_key, stage_keys}
+use Rattle.giv_files.specs.CrossRules.{keeps_rule}
+use Rattle.giv_files.specs.Keys.{is_key, allows, stage_keys}
 use Rattle.giv_files.specs.Stages.{stage_inputs}
 
 -- the value of the first setting with a key
 abbrev pub value_of : List Setting → Key → Option ℤ
-value_of settings key = option_map (λ setting. setting.value) (find (λ setting. key_place setting.key == key_place key) settings)
+value_of settings key =
+    option_map (λ setting. setting.value) (find (λ setting. is_key key setting.key) settings)
 
 -- the value of a key that is not below 0: 0 where the key is not there
 abbrev pub amount : List Setting → Key → ℕ
 amount settings key = unsigned_abs (unwrap_or (value_of settings key) (pos 0))
 
--- a value is not below that of another key, where that is there
-abbrev pub not_below : Option ℤ → ℤ → Bool
-not_below None value = true
-not_below (Some floor) value = int_le floor value
-
--- the value of the key that a setting may not be below
-abbrev pub floor_value : List Setting → Option Key → Option ℤ
-floor_value settings None = None
-floor_value settings (Some key) = value_of settings key
-
 -- a setting has a value that its key may have
 abbrev pub is_allowed : Setting → Bool
 is_allowed setting = allows setting.key setting.value
 
--- a setting is not below the one that it may not be below
-abbrev pub is_crossed : List Setting → Setting → Bool
-is_crossed settings setting = not_below (floor_value settings (floor_key setting.key)) setting.value
+-- a setting keeps the rule of its key among settings
+abbrev pub is_uncrossed : List Setting → Setting → Bool
+is_uncrossed settings setting = keeps_rule (value_of settings) setting.key setting.value
 
--- settings are exactly those of a stage: its keys in their order, each with a value that it may have, none below the one that it may not be below
+-- settings are exactly those of a stage: its keys in their order, each with a value that it may have and that keeps its rule
 pub record SettingsFit (stage : Stage) (settings : List Setting) : Type 0 where
   pub keys : map (λ setting. setting.key) settings ≡ stage_keys stage
   pub allowed : list_all is_allowed settings ≡ true
-  pub crossed : list_all (is_crossed settings) settings ≡ true
+  pub uncrossed : list_all (is_uncrossed settings) settings ≡ true
 
 -- a stage with its settings and its input texts
 pub record BundleParts : Type 0 where

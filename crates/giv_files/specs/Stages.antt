@@ -1,5 +1,7 @@
 -- Which files a stage takes and makes.
-use Rattle.std.specs.Prelude.{List, [], ◌∷◌}
+use Rattle.std.specs.Prelude.{ℕ, List, [], ◌∷◌}
+use denote.Enum.Declared.{tag_of}
+use Rattle.giv_files.specs.contracts.stage.Stage.{the_type}
 use Rattle.giv_files.specs.declared.file_id.FileId.{FileId}
 use Rattle.giv_files.specs.declared.file_id.FileId.TheVariants as file
 use Rattle.giv_files.specs.declared.stage.Stage.{Stage}
@@ -8,6 +10,10 @@ use Rattle.giv_files.specs.declared.stage.Stage.TheVariants as stage
 -- the stages in the order in which they run
 abbrev pub all_stages : List Stage
 all_stages = stage.Load ∷ stage.Cost ∷ stage.Concept ∷ stage.Ean ∷ stage.Timetable ∷ stage.Rollout ∷ stage.Vehicles ∷ stage.Disposition ∷ stage.Statistic ∷ []
+
+-- the place of a stage in the order in which the stages run, which is that of the enum
+abbrev pub stage_place : Stage → ℕ
+stage_place stage = tag_of the_type stage
 
 -- the inputs of a stage, in order; where loads are given, LoadGiven stands in the place of Od
 abbrev pub stage_inputs : Stage → List FileId

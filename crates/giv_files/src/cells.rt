@@ -27,15 +27,15 @@ fn place_of(words: WordTable, field: &[u8]) -> Option<usize>
     place_among(words.words(), field)
 }
 
-// The place of a word among words.
-fn place_among(words: &[&str], field: &[u8]) -> Option<usize>
+/// The place of a word among words.
+pub(crate) fn place_among(words: &[&str], field: &[u8]) -> Option<usize>
     ensures { result ≡ position (λ word. bytes_eq word.now field.now) words.now }
 {
     words.iter().position(|word| is_same(word, field))
 }
 
-// Whether the bytes are those of the word.
-fn is_same(word: &str, field: &[u8]) -> bool
+/// Whether the bytes are those of the word.
+pub(crate) fn is_same(word: &str, field: &[u8]) -> bool
     ensures { result ≡ bytes_eq word.now field.now }
 {
     word.as_bytes() == field

@@ -1,6 +1,6 @@
 // Lists that have a limit.
 ghost use Rattle.std.specs.Prelude.{Some};
-ghost use Rattle.giv_files.specs.Names.{counted_text};
+ghost use Rattle.giv_files.specs.CountedTexts.{counted_text};
 
 use std::fmt;
 

@@ -1,6 +1,6 @@
 // The files of a dataset.
 ghost use Rattle.std.specs.Prelude.{◌≡◌};
-ghost use Rattle.giv_files.specs.Names.{file_name};
+ghost use Rattle.giv_files.specs.FileNames.{file_name};
 
 /// A file of a dataset that a stage takes or makes.
 #[derive(Clone, Copy, Debug, PartialEq, Eq)]

@@ -1,9 +1,13 @@
 // The keys of the settings.
 ghost use Rattle.std.specs.Prelude.{◌≡◌};
-ghost use Rattle.giv_files.specs.Names.{key_name};
-ghost use Rattle.giv_files.specs.Keys.{key_kind, key_default, all_keys, key_place, allows, floor_key};
+ghost use Rattle.giv_files.specs.CrossRules.{cross_rule};
+ghost use Rattle.giv_files.specs.Keys.{key_row, key_name, key_kind, key_default, all_keys, key_place, allows};
 
+use crate::cross_rule::{Bound, CrossRule};
 use crate::key_kind::KeyKind;
+use crate::key_row::{KeyRow, fixed, row, whole, word};
+use crate::key_words::KeyWords;
+use crate::stage::Stage;
 
 /// A key of the settings, in the order in which settings are listed.
 #[derive(Clone, Copy, Debug, PartialEq, Eq)]
@@ -31,131 +35,163 @@ pub enum Key {
 }
 
 impl Key {
-    /// The key as it is written in a config file.
-    pub fn name(self) -> &'static str
-        ensures { result.now ≡ key_name self }
+    /// What is known of the key.
+    pub(crate) fn row(self) -> KeyRow
+        ensures name { result.name.now ≡ (key_row self).name }
+        ensures kind { result.kind ≡ (key_row self).kind }
+        ensures default { result.default_value ≡ (key_row self).default }
+        ensures stages { result.stages.now ≡ (key_row self).stages }
     {
         match self {
-            Key::LastStage => "last_stage",
-            Key::LoadSource => "load_source",
-            Key::GenPassengersPerVehicle => "gen_passengers_per_vehicle",
-            Key::LoadSpread => "load_spread",
-            Key::LpoolCostsFixed => "lpool_costs_fixed",
-            Key::LpoolCostsLength => "lpool_costs_length",
-            Key::LpoolCostsEdges => "lpool_costs_edges",
-            Key::ConceptBudget => "concept_budget",
-            Key::PeriodLength => "period_length",
-            Key::EanDefaultMinimalWaitingTime => "ean_default_minimal_waiting_time",
-            Key::EanDefaultMaximalWaitingTime => "ean_default_maximal_waiting_time",
-            Key::EanDefaultMinimalChangeTime => "ean_default_minimal_change_time",
-            Key::EanDefaultMaximalChangeTime => "ean_default_maximal_change_time",
-            Key::TimetableBudget => "timetable_budget",
-            Key::DmEarliestTime => "DM_earliest_time",
-            Key::DmLatestTime => "DM_latest_time",
-            Key::VsTurnOverTime => "vs_turn_over_time",
-            Key::VsVehicleCosts => "vs_vehicle_costs",
-            Key::VsEmptyCosts => "vs_empty_costs",
-            Key::DmWait => "dm_wait",
+            Key::LastStage => row("last_stage", word(KeyWords::Stages), 8, &[]),
+            Key::LoadSource => row(
+                "load_source",
+                word(KeyWords::LoadSources),
+                0,
+                &[Stage::Load],
+            ),
+            Key::GenPassengersPerVehicle => row(
+                "gen_passengers_per_vehicle",
+                whole(1, 100_000),
+                70,
+                &[Stage::Load],
+            ),
+            Key::LoadSpread => row("load_spread", whole(0, 1_000), 3, &[Stage::Load]),
+            Key::LpoolCostsFixed => row(
+                "lpool_costs_fixed",
+                fixed(1_000_000),
+                10_000_000,
+                &[Stage::Cost],
+            ),
+            Key::LpoolCostsLength => row(
+                "lpool_costs_length",
+                fixed(10_000),
+                1_000_000,
+                &[Stage::Cost],
+            ),
+            Key::LpoolCostsEdges => row("lpool_costs_edges", fixed(1_000_000), 0, &[Stage::Cost]),
+            Key::ConceptBudget => row("concept_budget", whole(1, 20_000), 5_000, &[Stage::Concept]),
+            Key::PeriodLength => row(
+                "period_length",
+                whole(1, 720),
+                60,
+                &[
+                    Stage::Ean,
+                    Stage::Timetable,
+                    Stage::Rollout,
+                    Stage::Statistic,
+                ],
+            ),
+            Key::EanDefaultMinimalWaitingTime => row(
+                "ean_default_minimal_waiting_time",
+                whole(0, 10_000),
+                1,
+                &[Stage::Ean],
+            ),
+            Key::EanDefaultMaximalWaitingTime => row(
+                "ean_default_maximal_waiting_time",
+                whole(0, 10_000),
+                3,
+                &[Stage::Ean],
+            ),
+            Key::EanDefaultMinimalChangeTime => row(
+                "ean_default_minimal_change_time",
+                whole(0, 10_000),
+                3,
+                &[Stage::Ean],
+            ),
+            Key::EanDefaultMaximalChangeTime => row(
+                "ean_default_maximal_change_time",
+                whole(0, 10_000),
+                62,
+                &[Stage::Ean],
+            ),
+            Key::TimetableBudget => row(
+                "timetable_budget",
+                whole(1, 1_000_000),
+                100_000,
+                &[Stage::Timetable],
+            ),
+            Key::DmEarliestTime => row(
+                "DM_earliest_time",
+                whole(0, 10_080),
+                300,
+                &[Stage::Rollout],
+            ),
+            Key::DmLatestTime => row("DM_latest_time", whole(0, 10_080), 1_380, &[Stage::Rollout]),
+            Key::VsTurnOverTime => row(
+                "vs_turn_over_time",
+                whole(0, 10_000),
+                5,
+                &[Stage::Vehicles, Stage::Disposition],
+            ),
+            Key::VsVehicleCosts => row(
+                "vs_vehicle_costs",
+                fixed(1_000_000),
+                100_000_000,
+                &[Stage::Vehicles, Stage::Statistic],
+            ),
+            Key::VsEmptyCosts => row(
+                "vs_empty_costs",
+                fixed(1_000_000),
+                1_000_000,
+                &[Stage::Vehicles, Stage::Statistic],
+            ),
+            Key::DmWait => row(
+                "dm_wait",
+                KeyKind::Wait { max: 10_000 },
+                3,
+                &[Stage::Disposition],
+            ),
         }
     }
 }
 
 impl Key {
+    /// The key as it is written in a config file.
+    pub fn name(self) -> &'static str
+        ensures { result.now ≡ key_name self }
+    {
+        self.row().name
+    }
+
     /// What its value may be.
     pub fn kind(self) -> KeyKind
         ensures { result ≡ key_kind self }
     {
-        match self {
-            Key::LastStage => KeyKind::StageName,
-            Key::LoadSource => KeyKind::Source,
-            Key::GenPassengersPerVehicle => KeyKind::Whole {
-                min: 1,
-                max: 100_000,
-            },
-            Key::LoadSpread => KeyKind::Whole { min: 0, max: 1_000 },
-            Key::LpoolCostsFixed | Key::LpoolCostsEdges | Key::VsVehicleCosts | Key::VsEmptyCosts =>
-                KeyKind::Fixed {
-                    min: 0,
-                    max: 1_000_000_000_000,
-                },
-            Key::LpoolCostsLength => KeyKind::Fixed {
-                min: 0,
-                max: 10_000_000_000,
-            },
-            Key::ConceptBudget => KeyKind::Whole {
-                min: 1,
-                max: 20_000,
-            },
-            Key::PeriodLength => KeyKind::Whole { min: 1, max: 720 },
-            Key::EanDefaultMinimalWaitingTime
-            | Key::EanDefaultMaximalWaitingTime
-            | Key::EanDefaultMinimalChangeTime
-            | Key::EanDefaultMaximalChangeTime
-            | Key::VsTurnOverTime => KeyKind::Whole {
-                min: 0,
-                max: 10_000,
-            },
-            Key::TimetableBudget => KeyKind::Whole {
-                min: 1,
-                max: 1_000_000,
-            },
-            Key::DmEarliestTime | Key::DmLatestTime => KeyKind::Whole {
-                min: 0,
-                max: 10_080,
-            },
-            Key::DmWait => KeyKind::Wait { max: 10_000 },
-        }
+        self.row().kind
     }
 
     /// Its value where no file gives one.
     pub fn default_value(self) -> i64
         ensures { result ≡ key_default self }
     {
-        match self {
-            Key::LastStage => 8,
-            Key::LoadSource | Key::LpoolCostsEdges => 0,
-            Key::GenPassengersPerVehicle => 70,
-            Key::LoadSpread
-            | Key::EanDefaultMaximalWaitingTime
-            | Key::EanDefaultMinimalChangeTime
-            | Key::DmWait => 3,
-            Key::LpoolCostsFixed => 10_000_000,
-            Key::LpoolCostsLength | Key::VsEmptyCosts => 1_000_000,
-            Key::ConceptBudget => 5_000,
-            Key::PeriodLength => 60,
-            Key::EanDefaultMinimalWaitingTime => 1,
-            Key::EanDefaultMaximalChangeTime => 62,
-            Key::TimetableBudget => 100_000,
-            Key::DmEarliestTime => 300,
-            Key::DmLatestTime => 1_380,
-            Key::VsTurnOverTime => 5,
-            Key::VsVehicleCosts => 100_000_000,
-        }
+        self.row().default_value
     }
 
     /// Whether its value may be this one, apart from the values of other keys.
     pub fn allows(self, value: i64) -> bool
         ensures { result ≡ allows self value }
     {
-        let (min, max) = match self.kind() {
-            KeyKind::Whole { min, max } | KeyKind::Fixed { min, max } => (min, max),
-            KeyKind::StageName => (0, 8),
-            KeyKind::Source => (0, 1),
-            KeyKind::Wait { max } => (-2, max),
-        };
-        min <= value && value <= max
+        let kind = self.kind();
+        kind.least() <= value && value <= kind.greatest()
     }
 
-    /// The key whose value this one's value may not be below, where there is such a key.
-    pub fn floor(self) -> Option<Key>
-        ensures { result ≡ floor_key self }
+    /// The rule that binds its value to that of another key, where there is one.
+    pub fn cross_rule(self) -> Option<CrossRule>
+        ensures { result ≡ cross_rule self }
     {
-        match self {
-            Key::EanDefaultMaximalWaitingTime => Some(Key::EanDefaultMinimalWaitingTime),
-            Key::EanDefaultMaximalChangeTime => Some(Key::EanDefaultMinimalChangeTime),
-            Key::DmLatestTime => Some(Key::DmEarliestTime),
-            _ => None,
-        }
+        let (bound, other) = match self {
+            Key::EanDefaultMaximalWaitingTime => {
+                (Bound::NotBelow, Key::EanDefaultMinimalWaitingTime)
+            }
+            Key::EanDefaultMaximalChangeTime => {
+                (Bound::NotBelow, Key::EanDefaultMinimalChangeTime)
+            }
+            Key::DmLatestTime => (Bound::NotBelow, Key::DmEarliestTime),
+            _ => return None,
+        };
+        Some(CrossRule { bound, other })
     }
 
     /// All keys, in their order.

@@ -1,6 +1,6 @@
 // Why a row of a file is refused.
 ghost use Rattle.std.specs.Prelude.{Some};
-ghost use Rattle.giv_files.specs.Names.{why_text};
+ghost use Rattle.giv_files.specs.WhyTexts.{why_text};
 
 use std::fmt;
 

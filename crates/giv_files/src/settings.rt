@@ -1,6 +1,8 @@
 // Settings of a stage.
-ghost use Rattle.std.specs.Prelude.{◌≡◌, ◌∷◌, ◌++◌, [], OnOk, OnErr};
-ghost use Rattle.giv_files.specs.Settings.{value_of};
+ghost use Rattle.std.specs.Prelude.{◌≡◌, ◌∷◌, ◌++◌, [], pos, IsTrue, OnOk, OnErr};
+ghost use Rattle.giv_files.specs.declared.stage.Stage.{Stage};
+ghost use Rattle.giv_files.specs.Keys.{allows, has_key};
+ghost use Rattle.giv_files.specs.Settings.{SettingsFit, value_of, amount};
 
 use crate::key::Key;
 use crate::setting::Setting;
@@ -47,6 +49,15 @@ impl Settings {
         ensures { result ≡ value_of self.now key }
     {
         value_among(&self.settings, key)
+    }
+
+    /// The value of a key without its sign, which is that of a whole or fixed number; 0 where the key is not there.
+    /// Among settings that fit a stage, each key of the stage has a value in its range.
+    pub fn amount(&self, key: Key) -> u64
+        ensures amount { result ≡ amount self.now key }
+        ensures range { (stage : Stage) → SettingsFit stage self.now → IsTrue (has_key stage key) → IsTrue (allows key (pos result)) }
+    {
+        self.value(key).unwrap_or(0).unsigned_abs()
     }
 
     /// All of them, in order.

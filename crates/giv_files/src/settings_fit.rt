@@ -1,7 +1,8 @@
 // Whether settings are those of a stage.
-ghost use Rattle.std.specs.Prelude.{◌≡◌, ◌↔◌, map, IsTrue};
+ghost use Rattle.std.specs.Prelude.{◌≡◌, ◌↔◌, map, slice_get, IsTrue};
 ghost use Rattle.std.specs.List.{list_all};
-ghost use Rattle.giv_files.specs.Settings.{SettingsFit, is_allowed, is_crossed};
+ghost use Rattle.giv_files.specs.Keys.{stage_keys};
+ghost use Rattle.giv_files.specs.Settings.{SettingsFit, is_allowed, is_uncrossed};
 
 use crate::key::Key;
 use crate::setting::Setting;
@@ -12,24 +13,35 @@ use crate::stage::Stage;
 pub(crate) fn settings_fit(stage: Stage, settings: &Settings) -> bool
     ensures { IsTrue result ↔ SettingsFit stage settings.now }
 {
-    has_keys(settings.as_slice(), stage.keys())
+    has_keys(settings.as_slice(), stage)
         && are_allowed(settings.as_slice())
-        && are_crossed(settings)
+        && are_uncrossed(settings)
 }
 
-// Whether the keys are these, in this order.
-fn has_keys(settings: &[Setting], keys: &[Key]) -> bool
-    ensures { IsTrue result ↔ (map (λ setting. setting.key) settings.now ≡ keys.now) }
+// Whether the keys are those of the stage, in their order.
+fn has_keys(settings: &[Setting], stage: Stage) -> bool
+    ensures { IsTrue result ↔ (map (λ setting. setting.key) settings.now ≡ stage_keys stage) }
 {
-    if settings.len() != keys.len() {
-        return false;
-    }
-    for (index, setting) in settings.iter().enumerate() {
-        if setting.key.place() != keys[index].place() {
-            return false;
+    let mut count = 0;
+    for key in Key::all() {
+        if stage.has_key(*key) {
+            if !is_at(settings, count, *key) {
+                return false;
+            }
+            count += 1;
         }
     }
-    true
+    count == settings.len()
+}
+
+// Whether the key stands at the place.
+fn is_at(settings: &[Setting], place: usize, key: Key) -> bool
+    ensures { IsTrue result ↔ (slice_get (map (λ setting. setting.key) settings.now) place ≡ Some key) }
+{
+    match settings.get(place) {
+        None => false,
+        Some(setting) => setting.key.place() == key.place(),
+    }
 }
 
 // Whether each value is one that its key may have.
@@ -41,25 +53,22 @@ fn are_allowed(settings: &[Setting]) -> bool
         .all(|setting| setting.key.allows(setting.value))
 }
 
-// Whether no value is below the one that it may not be below.
-fn are_crossed(settings: &Settings) -> bool
-    ensures { result ≡ list_all (is_crossed settings.now) settings.now }
+// Whether each value keeps the rule of its key.
+fn are_uncrossed(settings: &Settings) -> bool
+    ensures { result ≡ list_all (is_uncrossed settings.now) settings.now }
 {
     settings
         .as_slice()
         .iter()
-        .all(|setting| is_crossed(settings, setting))
+        .all(|setting| is_uncrossed(settings, setting))
 }
 
-// Whether the value is not below the one that it may not be below.
-fn is_crossed(settings: &Settings, setting: &Setting) -> bool
-    ensures { result ≡ is_crossed settings.now setting.now }
+// Whether the value keeps the rule of its key.
+fn is_uncrossed(settings: &Settings, setting: &Setting) -> bool
+    ensures { result ≡ is_uncrossed settings.now setting.now }
 {
-    match setting.key.floor() {
+    match setting.key.cross_rule() {
         None => true,
-        Some(key) => match settings.value(key) {
-            None => true,
-            Some(floor) => floor <= setting.value,
-        },
+        Some(rule) => rule.keeps(setting.value, settings.value(rule.other)),
     }
 }

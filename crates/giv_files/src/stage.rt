@@ -1,8 +1,8 @@
 // The stages of the chain.
 ghost use Rattle.std.specs.Prelude.{◌≡◌};
-ghost use Rattle.giv_files.specs.Names.{stage_name};
-ghost use Rattle.giv_files.specs.Keys.{stage_keys};
-ghost use Rattle.giv_files.specs.Stages.{all_stages, stage_inputs, stage_makes};
+ghost use Rattle.giv_files.specs.StageNames.{stage_name};
+ghost use Rattle.giv_files.specs.Keys.{has_key};
+ghost use Rattle.giv_files.specs.Stages.{all_stages, stage_place, stage_inputs, stage_makes};
 
 use crate::file_id::FileId;
 use crate::key::Key;
@@ -58,35 +58,21 @@ impl Stage {
         ]
     }
 
-    /// The keys of its settings, in their order.
-    pub fn keys(self) -> &'static [Key]
-        ensures { result.now ≡ stage_keys self }
+    /// Its place in the order of stages, from 0.
+    pub fn place(self) -> usize
+        ensures { result ≡ stage_place self }
     {
-        match self {
-            Stage::Load => &[
-                Key::LoadSource,
-                Key::GenPassengersPerVehicle,
-                Key::LoadSpread,
-            ],
-            Stage::Cost => &[
-                Key::LpoolCostsFixed,
-                Key::LpoolCostsLength,
-                Key::LpoolCostsEdges,
-            ],
-            Stage::Concept => &[Key::ConceptBudget],
-            Stage::Ean => &[
-                Key::PeriodLength,
-                Key::EanDefaultMinimalWaitingTime,
-                Key::EanDefaultMaximalWaitingTime,
-                Key::EanDefaultMinimalChangeTime,
-                Key::EanDefaultMaximalChangeTime,
-            ],
-            Stage::Timetable => &[Key::PeriodLength, Key::TimetableBudget],
-            Stage::Rollout => &[Key::PeriodLength, Key::DmEarliestTime, Key::DmLatestTime],
-            Stage::Vehicles => &[Key::VsTurnOverTime, Key::VsVehicleCosts, Key::VsEmptyCosts],
-            Stage::Disposition => &[Key::VsTurnOverTime, Key::DmWait],
-            Stage::Statistic => &[Key::PeriodLength, Key::VsVehicleCosts, Key::VsEmptyCosts],
-        }
+        self as usize
+    }
+
+    /// Whether its settings have the key.
+    pub fn has_key(self, key: Key) -> bool
+        ensures { result ≡ has_key self key }
+    {
+        key.row()
+            .stages
+            .iter()
+            .any(|stage| stage.place() == self.place())
     }
 
     /// The files that it takes, in order. Where loads are given, `LoadGiven` stands in the place of `Od`.

@@ -3,8 +3,9 @@ use Rattle.std.proofs.Common.{◌≡◌, List, [], ◌++◌, ap, refl, subst, sy
 use Rattle.giv_files.specs.declared.key.Key.TheVariants as key
 use Rattle.giv_files.specs.declared.made.Made.{Made}
 use Rattle.giv_files.specs.declared.refusal.StageFault.{StageFault}
+use Rattle.giv_files.specs.declared.stage.Stage.TheVariants as stage
 use Rattle.giv_files.specs.Inputs.{Refuses}
-use Rattle.giv_files.specs.Settings.{BundleParts, Fits}
+use Rattle.giv_files.specs.Settings.{BundleParts, SettingsFit, Fits}
 use Rattle.giv_files.specs.StageCalls.{input_text, StageGives}
 use Rattle.giv_files.proofs.Inputs.{refused_append}
 use Rattle.giv_files.proofs.SettingFacts.{amount_within}
@@ -15,13 +16,13 @@ use Rattle.line_pool.specs.LineCosts.{AreModest}
 use Rattle.line_pool.specs.Pools.{LineParts, pool_of, pool_faults}
 
 -- the settings of a bundle that fits are within their ranges
-pub settings_modest : (bundle : BundleParts) → Fits bundle → AreModest bundle.settings
-settings_modest bundle fits =
-    let allowed = fits.settings.allowed in
+pub settings_modest : (bundle : BundleParts) → bundle.stage ≡ stage.Cost → Fits bundle → AreModest bundle.settings
+settings_modest bundle is fits =
+    let own = subst (λ of. SettingsFit of bundle.settings) is fits.settings in
     record {
-      fixed = amount_within bundle.settings key.LpoolCostsFixed _ allowed refl refl;
-      by_length = amount_within bundle.settings key.LpoolCostsLength _ allowed refl refl;
-      by_edge = amount_within bundle.settings key.LpoolCostsEdges _ allowed refl refl;
+      fixed = (amount_within stage.Cost bundle.settings key.LpoolCostsFixed _ _ own refl refl refl).1;
+      by_length = (amount_within stage.Cost bundle.settings key.LpoolCostsLength _ _ own refl refl refl).1;
+      by_edge = (amount_within stage.Cost bundle.settings key.LpoolCostsEdges _ _ own refl refl refl).1;
     }
 
 module _ (bundle : BundleParts) where

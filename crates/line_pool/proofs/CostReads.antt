@@ -25,7 +25,7 @@ use Rattle.line_pool.proofs.SoundLines.{pool_sound}
 -- what the stage makes of inputs without a fault
 pub costs_are_right : (bundle : BundleParts) (made : Made) → bundle.stage ≡ stage.Cost → Fits bundle → cost_stage bundle ≡ Ok made → CostsAreRight bundle made
 unfolding cost_stage
-costs_are_right bundle made _ fits is =
+costs_are_right bundle made own fits is =
     let none = none_unless _ _ made is in
     let network = network_sound (input_text bundle 0) (input_text bundle 1) (front_none _ _ none) in
     let later = back_none (network_faults (input_text bundle 0) (input_text bundle 1)) (pool_faults (network_in bundle) (input_text bundle 2)) none in
@@ -35,7 +35,7 @@ costs_are_right bundle made _ fits is =
       files = ap (λ (made : Made). made.files) (sym (made_unless _ _ made is));
       reads =
           written_back cost_header pool_cost_columns (cost_rows bundle) (omega arith) columns_written
-          (rows_in_columns bundle.settings (network_in bundle).edges (settings_modest bundle fits) (lines_in bundle) lines)
+          (rows_in_columns bundle.settings (network_in bundle).edges (settings_modest bundle own fits) (lines_in bundle) lines)
           (refl, plain_header cost_header refl);
     }
 

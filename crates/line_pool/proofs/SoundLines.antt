@@ -1,5 +1,5 @@
 -- What holds of the lines of each text without a fault.
-use Rattle.std.proofs.Common.{◌≡◌, ℕ, ℤ, pos, ◌<◌, ◌≤◌, ◌≤ℤ◌, nat_lt, Bool, true, false, cond, List, [], ◌∷◌, ◌++◌, length, map, get_or, position, refl, ap, subst, sym, ◌∙◌, arith, append_assoc, Some, None, is_some, unwrap_or, option_map, lit<}
+use Rattle.std.proofs.Common.{◌≡◌, ℕ, ℤ, pos, negsuc, ◌<◌, ◌≤◌, ◌≤ℤ◌, nat_lt, Bool, true, false, cond, List, [], ◌∷◌, ◌++◌, length, map, get_or, position, refl, ap, subst, sym, ◌∙◌, arith, append_assoc, Some, None, is_some, unwrap_or, option_map, unsigned_abs, lit<}
 use Rattle.std.specs.List.{All, list_any, find, position_or_len, IsDistinct}
 use Rattle.std.specs.FinMap.{put}
 use Rattle.std.specs.FinMap.Entries.{by_order}
@@ -26,7 +26,6 @@ use Rattle.giv_files.specs.Reading.{table_of}
 use Rattle.giv_files.specs.Tables.{TableRow}
 use Rattle.giv_files.proofs.Inputs.{parts_sound, table_sound, sound_rows}
 use Rattle.giv_files.proofs.Ranges.{front_none, back_none, unmapped}
-use Rattle.giv_files.proofs.SettingFacts.{abs_within}
 use Rattle.giv_files.specs.Writing.{InColumns}
 use Rattle.giv_files.proofs.WriteFacts.{in_column}
 use Rattle.giv_files.proofs.Found.{any_mapped}
@@ -119,13 +118,18 @@ all_rising P (id ∷ ids) all = all_put P id tt (by_id (map (λ id. (id, tt {0})
 
 -- ---- the lengths of lines
 
+-- a number from 1 on, without its sign
+unsigned_within : (z : ℤ) (most : ℕ) → pos 1 ≤ℤ z → z ≤ℤ pos most → unsigned_abs z ≤ most
+unsigned_within (pos n) most low high = omega (arith, ints)
+unsigned_within (negsuc n) most low high = absurd (omega (arith, ints))
+
 short_edge : (stops : ℕ) (edges : List Edge) → All (IsEdge stops) edges → (index : ℕ) → index < length edges → length_at edges index ≤ 10000000000
 short_edge stops edges all index h =
     let edge = get_or edges index some_edge in
     let sound : IsEdge stops edge = All-get_or (IsEdge stops) edges index some_edge h all in
     let is : length_at edges index ≡ length_at (edge ∷ []) 0 = ap (λ o. unwrap_or (option_map (λ (edge : Edge). length_at (edge ∷ []) 0) o) 0) (slice_get-get_or edges index some_edge h) in
     let some : pos 1 ≤ℤ edge.length = sound.some_length in
-    subst (λ n. n ≤ 10000000000) (sym is) (abs_within edge.length 10000000000 (omega (arith, ints)) sound.short)
+    subst (λ n. n ≤ 10000000000) (sym is) (unsigned_within edge.length 10000000000 some sound.short)
 
 -- the cell of a line's id is one
 pub id_in : (kind : LineFile) (cells : List ℤ) → InColumns (columns_of kind) cells → (pos 1 ≤ℤ (line_row cells).line) × ((line_row cells).line ≤ℤ pos 1000000000)

@@ -1,11 +1,13 @@
 -- The cost of each line, and the stage that writes them.
-use Rattle.std.specs.Prelude.{ℕ, pos, ◌+◌, ◌*◌, ◌/◌, List, [], ◌∷◌, ◌++◌, length, map, sum, codes, decimal, option_map, unwrap_or, slice_get, Result}
+use Rattle.std.specs.Prelude.{ℕ, pos, ◌+◌, ◌*◌, ◌/◌, List, [], ◌∷◌, ◌++◌, length, map, sum, codes, option_map, unwrap_or, slice_get, Result}
 use Rattle.giv_files.specs.declared.file_id.FileId.TheVariants as file
 use Rattle.giv_files.specs.declared.key.Key.TheVariants as key
 use Rattle.giv_files.specs.declared.made.Made.{Made}
 use Rattle.giv_files.specs.declared.refusal.Refusal.{Refusal}
 use Rattle.giv_files.specs.declared.setting.Setting.{Setting}
+use Rattle.giv_files.specs.declared.stage.Stage.TheVariants as stage
 use Rattle.giv_files.specs.Columns.{pool_cost_columns}
+use Rattle.giv_files.specs.ReportLines.{count_text, report_line}
 use Rattle.giv_files.specs.Settings.{BundleParts, amount}
 use Rattle.giv_files.specs.StageCalls.{input_text, unless_fault}
 use Rattle.giv_files.specs.Tables.{TableRow}
@@ -39,7 +41,7 @@ cost_header = codes "# line-id; length; cost"
 abbrev pub costs_made : List Setting → List Edge → List LineParts → Made
 costs_made settings edges lines = record {
   files = record { file = file.PoolCost; text = table_text cost_header pool_cost_columns (map (cost_row settings edges) lines) } ∷ [];
-  report = codes "cost: " ++ decimal (length lines) ++ codes " lines";
+  report = report_line stage.Cost (count_text (length lines) (codes "lines") ∷ []);
 }
 
 -- the network of a bundle, whose inputs are the texts of stops, of edges and of the pool

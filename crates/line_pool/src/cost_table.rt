@@ -1,14 +1,16 @@
 // The table of the costs of lines.
-ghost use Rattle.std.specs.Prelude.{◌≡◌, ◌+◌, ◌*◌, ◌/◌, ◌<◌, ◌≤◌, ◌++◌, length, map, sum, codes, decimal, All, IfOk};
+ghost use Rattle.std.specs.Prelude.{◌≡◌, ◌+◌, ◌*◌, ◌/◌, ◌<◌, ◌≤◌, length, map, sum, All, IfOk};
 ghost use Rattle.giv_files.specs.declared.key.Key.TheVariants as key;
 ghost use Rattle.giv_files.specs.Settings.{amount};
 ghost use Rattle.line_pool.specs.CostStage.{length_at, cost_row, costs_made};
 ghost use Rattle.line_pool.specs.LineCosts.{IsModest, AreModest};
 
 use crate::pool::Pool;
-use giv_files::{FileId, Key, Made, MadeFile, MadeList, Settings, Table, columns, write_table};
-use itoa::Buffer;
-use plan_num::{NoMemory, Text};
+use giv_files::{
+    FileId, Key, Made, MadeFile, MadeList, Settings, Stage, Table, columns, count_text,
+    report_line, write_table,
+};
+use plan_num::NoMemory;
 use ptn_network::Network;
 use std::alloc::Global;
 
@@ -37,7 +39,11 @@ pub(crate) fn costs_of_pool(
     })?;
     Ok(Made {
         files,
-        report: report(alloc, pool.line_count())?,
+        report: report_line(
+            alloc,
+            Stage::Cost,
+            &[count_text(alloc, pool.line_count(), "lines")?],
+        )?,
     })
 }
 
@@ -82,26 +88,8 @@ fn cost_of(settings: &Settings, length: u128, edges: usize) -> u128
     ensures { result ≡ amount settings.now key.LpoolCostsFixed + amount settings.now key.LpoolCostsLength * length / 1000000
         + amount settings.now key.LpoolCostsEdges * edges }
 {
-    let fixed = amount(settings, Key::LpoolCostsFixed);
-    let by_length = amount(settings, Key::LpoolCostsLength) * length / 1_000_000;
-    let by_edge = amount(settings, Key::LpoolCostsEdges) * edges as u128;
+    let fixed = u128::from(settings.amount(Key::LpoolCostsFixed));
+    let by_length = u128::from(settings.amount(Key::LpoolCostsLength)) * length / 1_000_000;
+    let by_edge = u128::from(settings.amount(Key::LpoolCostsEdges)) * edges as u128;
     fixed + by_length + by_edge
-}
-
-// The value of a key.
-fn amount(settings: &Settings, key: Key) -> u128
-    ensures { result ≡ amount settings.now key }
-{
-    u128::from(settings.value(key).unwrap_or(0).unsigned_abs())
-}
-
-// The line of the report.
-fn report(alloc: Global, lines: usize) -> Result<Text, NoMemory>
-    ensures { IfOk result (λ text. text ≡ codes "cost: " ++ decimal lines ++ codes " lines") }
-{
-    let mut buffer = Buffer::new();
-    let mut text = Vec::from_slice(alloc, b"cost: ")?;
-    text.extend_from_slice(buffer.format(lines).as_bytes())?;
-    text.extend_from_slice(b" lines")?;
-    Ok(Text::from_vec(text))
 }

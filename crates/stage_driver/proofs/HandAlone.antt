@@ -10,7 +10,7 @@ use Rattle.giv_files.specs.declared.file_id.FileId.{FileId}
 use Rattle.giv_files.specs.declared.file_id.FileId.TheVariants as file
 use Rattle.giv_files.specs.declared.made.MadeFile.{MadeFile}
 use Rattle.giv_files.specs.declared.stage.Stage.{Stage}
-use Rattle.giv_files.specs.Names.{file_name}
+use Rattle.giv_files.specs.FileNames.{file_name}
 use Rattle.giv_files.specs.Stages.{stage_inputs}
 use Rattle.config_keys.specs.declared.config_fault.ConfigFault.{ConfigFault}
 use Rattle.config_keys.specs.Includes.{is_inside, path_of}

@@ -11,7 +11,7 @@ use Rattle.giv_files.specs.declared.file_id.FileId.{FileId}
 use Rattle.giv_files.specs.declared.stage.Stage.{Stage}
 use Rattle.giv_files.specs.declared.stage.Stage.TheVariants as stage
 use Rattle.giv_files.specs.NamedFiles.{NamesOnly}
-use Rattle.giv_files.specs.Names.{file_name}
+use Rattle.giv_files.specs.FileNames.{file_name}
 use Rattle.giv_files.specs.Settings.{BundleParts}
 use Rattle.giv_files.specs.Stages.{stage_inputs}
 use Rattle.config_keys.specs.declared.config_fault.ConfigFault.{ConfigFault}

@@ -9,7 +9,7 @@ use Rattle.plan_files.specs.declared.write.Write.TheVariants.{Removal}
 use Rattle.giv_files.specs.declared.file_id.FileId.{FileId}
 use Rattle.giv_files.specs.declared.made.MadeFile.{MadeFile}
 use Rattle.giv_files.specs.declared.stage.Stage.{Stage}
-use Rattle.giv_files.specs.Names.{file_name}
+use Rattle.giv_files.specs.FileNames.{file_name}
 use Rattle.giv_files.specs.Stages.{stage_makes}
 use Rattle.stage_driver.specs.Hand.{is_among, names_made_by}
 use Rattle.stage_driver.specs.Runs.{name_of, names_besides}

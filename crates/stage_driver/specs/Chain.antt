@@ -13,7 +13,7 @@ use Rattle.giv_files.specs.declared.made.MadeFile.{MadeFile}
 use Rattle.giv_files.specs.declared.refusal.Refusal.{Refusal}
 use Rattle.giv_files.specs.declared.stage.Stage.{Stage}
 use Rattle.giv_files.specs.declared.stage.Stage.TheVariants as stage
-use Rattle.giv_files.specs.Names.{file_name}
+use Rattle.giv_files.specs.FileNames.{file_name}
 use Rattle.giv_files.specs.Settings.{BundleParts}
 use Rattle.giv_files.specs.Stages.{stage_inputs}
 use Rattle.config_keys.specs.Config.{value_at, part_of, last_stage_of}

@@ -5,7 +5,8 @@ use Rattle.std.specs.Str.{bytes_eq}
 use Rattle.std.specs.FinMap as files
 use Rattle.plan_files.specs.Folder.{Folder}
 use Rattle.giv_files.specs.declared.stage.Stage.{Stage}
-use Rattle.giv_files.specs.Names.{file_name, stage_name}
+use Rattle.giv_files.specs.FileNames.{file_name}
+use Rattle.giv_files.specs.StageNames.{stage_name}
 use Rattle.giv_files.specs.Stages.{all_stages, stage_makes}
 
 -- a name is among others

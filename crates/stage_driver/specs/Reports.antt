@@ -4,7 +4,11 @@ use Rattle.std.specs.List.{flat_map}
 use Rattle.giv_files.specs.declared.refusal.Refusal.{Refusal}
 use Rattle.giv_files.specs.declared.refusal.Refusal.TheVariants as refusal
 use Rattle.giv_files.specs.declared.stage.Stage.{Stage}
-use Rattle.giv_files.specs.Names.{file_name, stage_name, key_name, why_text, counted_text}
+use Rattle.giv_files.specs.CountedTexts.{counted_text}
+use Rattle.giv_files.specs.FileNames.{file_name}
+use Rattle.giv_files.specs.Keys.{key_name}
+use Rattle.giv_files.specs.StageNames.{stage_name}
+use Rattle.giv_files.specs.WhyTexts.{why_text}
 use Rattle.config_keys.specs.declared.config_fault.ConfigFault.{ConfigFault}
 use Rattle.config_keys.specs.declared.config_fault.ConfigFault.TheVariants as fault
 use Rattle.stage_driver.specs.declared.outcome.RunEnd.{RunEnd}

@@ -7,7 +7,7 @@ use Rattle.plan_files.specs.declared.write.Write.TheVariants.{Put, Removal}
 use Rattle.plan_files.specs.Applied.{AreCutShort}
 use Rattle.plan_files.specs.Folder.{Folder}
 use Rattle.giv_files.specs.declared.made.MadeFile.{MadeFile}
-use Rattle.giv_files.specs.Names.{file_name}
+use Rattle.giv_files.specs.FileNames.{file_name}
 use Rattle.stage_driver.specs.declared.outcome.ChainFault.{ChainFault}
 use Rattle.stage_driver.specs.declared.outcome.Outcome.{Outcome}
 use Rattle.stage_driver.specs.Ends.{cause_of}

@@ -1,7 +1,7 @@
 // What a stage is given.
 ghost use Rattle.std.specs.Prelude.{◌≡◌, ℕ, IfSome, IfOk};
 ghost use Rattle.config_keys.specs.Items.{look_in};
-ghost use Rattle.giv_files.specs.Names.{file_name};
+ghost use Rattle.giv_files.specs.FileNames.{file_name};
 ghost use Rattle.giv_files.specs.Settings.{Fits};
 ghost use Rattle.giv_files.specs.Stages.{stage_inputs};
 ghost use Rattle.stage_driver.specs.Chain.{bundle_told, hand_text, input_text, made_text, texts_of};

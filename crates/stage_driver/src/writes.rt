@@ -1,6 +1,6 @@
 // The writes that bring a folder to what a chain made.
 ghost use Rattle.std.specs.Prelude.{◌≡◌, ◌++◌, map, IfOk, OnOk};
-ghost use Rattle.giv_files.specs.Names.{file_name};
+ghost use Rattle.giv_files.specs.FileNames.{file_name};
 ghost use Rattle.giv_files.specs.Stages.{stage_makes};
 ghost use Rattle.plan_files.specs.declared.write.Write.TheVariants.{Removal};
 ghost use Rattle.stage_driver.specs.Built.{built};

@@ -1,6 +1,6 @@
 use Rattle.std.proofs.Common.{◌++◌, codes, ap, sym, ◌∙◌, append_assoc}
 use Rattle.std.specs.Fmt.{decimal}
-use Rattle.giv_files.specs.Names.{counted_text}
+use Rattle.giv_files.specs.CountedTexts.{counted_text}
 use Rattle.stage_driver.proofs.report.push_refusal.Goals as goal
 
 pub returns-in_ok-extend_from_slice-in-TooMany : goal.returns-in_ok-extend_from_slice-in-TooMany

@@ -1,6 +1,6 @@
 use Rattle.std.proofs.Common.{◌≡◌, ◌++◌, map, take}
 use Rattle.plan_files.specs.declared.write.Write.TheVariants.{Removal}
-use Rattle.giv_files.specs.Names.{file_name}
+use Rattle.giv_files.specs.FileNames.{file_name}
 use Rattle.stage_driver.specs.Runs.{names_besides}
 use Rattle.stage_driver.proofs.writes.add_removals.Given as goal
 

@@ -1,5 +1,5 @@
 use Rattle.std.proofs.Common.{◌≡◌, drop, map}
-use Rattle.giv_files.specs.Names.{file_name}
+use Rattle.giv_files.specs.FileNames.{file_name}
 use Rattle.stage_driver.specs.Hand.{is_among}
 use Rattle.stage_driver.specs.Runs.{name_of}
 use Rattle.stage_driver.proofs.writes.is_among.Given as goal

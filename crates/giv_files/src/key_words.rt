@@ -1,0 +1,52 @@
+// Words that the value of a key may be.
+ghost use Rattle.std.specs.Prelude.{◌≡◌, length, position};
+ghost use Rattle.std.specs.Str.{bytes_eq};
+ghost use Rattle.giv_files.specs.KeyKinds.{key_words};
+ghost use Rattle.giv_files.specs.StageNames.{stage_name};
+ghost use Rattle.giv_files.specs.Reading.{place_of};
+ghost use Rattle.giv_files.specs.Stages.{all_stages};
+
+use crate::cells::{is_same, place_among};
+use crate::stage::Stage;
+
+const LOAD_SOURCES: &[&str] = &["od", "file"];
+
+/// A table of words that the value of a key may be.
+#[derive(Clone, Copy, Debug, PartialEq, Eq)]
+pub enum KeyWords {
+    /// The names of the stages.
+    Stages,
+    /// Where loads come from: `od` or `file`.
+    LoadSources,
+}
+
+impl KeyWords {
+    /// How many words there are.
+    pub(crate) fn count(self) -> usize
+        ensures { result ≡ length (key_words self) }
+    {
+        match self {
+            KeyWords::Stages => Stage::all().len(),
+            KeyWords::LoadSources => LOAD_SOURCES.len(),
+        }
+    }
+
+    /// The place of the word that the field is, from 0.
+    pub(crate) fn place_of(self, field: &[u8]) -> Option<usize>
+        ensures { result ≡ place_of (key_words self) field.now }
+    {
+        match self {
+            KeyWords::Stages => stage_place(field),
+            KeyWords::LoadSources => place_among(LOAD_SOURCES, field),
+        }
+    }
+}
+
+// The place of the stage that the field names.
+fn stage_place(field: &[u8]) -> Option<usize>
+    ensures { result ≡ position (λ stage. bytes_eq (stage_name stage) field.now) all_stages }
+{
+    Stage::all()
+        .iter()
+        .position(|stage| is_same(stage.name(), field))
+}
