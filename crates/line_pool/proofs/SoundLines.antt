@@ -119,7 +119,7 @@ all_rising P (id ∷ ids) all = all_put P id tt (by_id (map (λ id. (id, tt {0})
 -- ---- the lengths of lines
 
 -- a number from 1 on, without its sign
-unsigned_within : (z : ℤ) (most : ℕ) → pos 1 ≤ℤ z → z ≤ℤ pos most → unsigned_abs z ≤ most
+pub unsigned_within : (z : ℤ) (most : ℕ) → pos 0 ≤ℤ z → z ≤ℤ pos most → unsigned_abs z ≤ most
 unsigned_within (pos n) most low high = omega (arith, ints)
 unsigned_within (negsuc n) most low high = absurd (omega (arith, ints))
 
@@ -129,7 +129,7 @@ short_edge stops edges all index h =
     let sound : IsEdge stops edge = All-get_or (IsEdge stops) edges index some_edge h all in
     let is : length_at edges index ≡ length_at (edge ∷ []) 0 = ap (λ o. unwrap_or (option_map (λ (edge : Edge). length_at (edge ∷ []) 0) o) 0) (slice_get-get_or edges index some_edge h) in
     let some : pos 1 ≤ℤ edge.length = sound.some_length in
-    subst (λ n. n ≤ 10000000000) (sym is) (unsigned_within edge.length 10000000000 some sound.short)
+    subst (λ n. n ≤ 10000000000) (sym is) (unsigned_within edge.length 10000000000 (omega (arith, ints)) sound.short)
 
 -- the cell of a line's id is one
 pub id_in : (kind : LineFile) (cells : List ℤ) → InColumns (columns_of kind) cells → (pos 1 ≤ℤ (line_row cells).line) × ((line_row cells).line ≤ℤ pos 1000000000)

@@ -8,7 +8,6 @@ use Rattle.std.proofs.lemmas.Bool.{cases_Bool, eqb-true, false≢true}
 use Rattle.std.proofs.lemmas.Cmp.{int_eq_equiv}
 use Rattle.std.proofs.lemmas.List.Folds.{list_any_at}
 use Rattle.std.proofs.lemmas.Simd.{map-map}
-use Rattle.giv_files.proofs.SettingFacts.{abs_within}
 use Rattle.std.proofs.lemmas.List.{append-nil, length-map, get_or-map, map-id}
 use Rattle.std.proofs.lemmas.List.Elements.{All-head, All-tail, All-map, All-weaker, All-filter, All-get_or}
 use Rattle.std.proofs.lemmas.List.Quantifiers.{position-Some}
@@ -33,7 +32,7 @@ use Rattle.line_pool.specs.declared.line_file.LineFile.TheVariants as kinds
 use Rattle.line_pool.specs.declared.line_row.LineRow.{LineRow}
 use Rattle.line_pool.specs.Pools.{file_of, columns_of, line_row, line_rules, line_input, line_limit, edge_with, index_of, rows_of, walk_of, walk_from, or_walk, edges_of, first_frequency, line_of, lines_over, lines_of, line_faults, LineParts, IsLine, AreLines}
 use Rattle.line_pool.proofs.RowsOfLines.{some_edge, rows_other, found_at, found_nowhere}
-use Rattle.line_pool.proofs.SoundLines.{row_sound, all_rising, id_in, input_rows, own, known, there, apart}
+use Rattle.line_pool.proofs.SoundLines.{row_sound, all_rising, id_in, input_rows, own, known, there, apart, unsigned_within}
 
 -- ---- the edges of a line, by their indexes
 
@@ -178,7 +177,7 @@ served kinds.Pool (a ∷ b ∷ c ∷ []) within = omega arith
 served kinds.Pool (a ∷ b ∷ c ∷ d ∷ more) within = absurd within.1.1.1
 served kinds.Concept cells within =
     let cell = in_column concept_columns cells 3 column.Skip (pos 0) within (lit< tt) in
-    abs_within (line_row cells).frequency 1000 cell.0 cell.1
+    unsigned_within (line_row cells).frequency 1000 cell.0 cell.1
 
 first_served : (rows : List LineRow) → All IsServed rows → unsigned_abs (unwrap_or (first_frequency rows) (pos 0)) ≤ 1000
 first_served [] all = omega arith
