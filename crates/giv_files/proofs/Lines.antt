@@ -1,15 +1,15 @@
 -- Parts of a line that are counted and then cut off.
 use Rattle.std.proofs.Common.{◌≡◌, ◌≢◌, ℕ, ◌+◌, ◌-◌, ◌<◌, ◌≤◌, List, [], ◌∷◌, length, take, drop}
-use Rattle.std.proofs.Common.{get_or, refl, ◌∙◌, Bool, true, false, cond, eqb, ltb, reverse, All}
-use Rattle.std.proofs.Common.{Option, Some, None, arith, length-take, get_or-take}
-use Rattle.std.specs.List.{take_while, position, position_or_len}
+use Rattle.std.proofs.Common.{get_or, refl, sym, ◌∙◌, Bool, true, false, cond, eqb, ltb, reverse, All}
+use Rattle.std.proofs.Common.{Option, Some, None, arith, length-take, get_or-take, not, one-add}
+use Rattle.std.specs.List.{find, list_all, take_while, position, position_or_len}
 use Rattle.std.specs.Option.{MatchOption}
-use Rattle.std.proofs.lemmas.Bool.{ltb-true, ltb-false, eqb-false}
+use Rattle.std.proofs.lemmas.Bool.{ltb-true, ltb-false, eqb-false, eqb-true, false≢true}
 use Rattle.std.proofs.lemmas.List.Sums.{fails_before_first}
 use Rattle.std.proofs.lemmas.List.Splits.{slice_split_none, slice_split_first}
 use Rattle.std.proofs.lemmas.List.{take_rest}
 use Rattle.std.proofs.lemmas.List.Folds.{length-prefix_len}
-use Rattle.giv_files.specs.Rows.{is_blank, without_blanks, parts_of}
+use Rattle.giv_files.specs.Rows.{is_blank, without_blanks, before_comment, parts_of}
 
 -- a field without the blanks round it, by how many there are at its front and at its end
 pub cut_blanks : (field : List ℕ) (before after : ℕ) → before ≡ length (take_while is_blank field)
@@ -62,3 +62,27 @@ first_of_parts text end e =
           (rw (get_or-take end text k d before)
           (fails_before_first is_feed text k d (omega (arith, at)))),
     )
+
+-- no byte but blanks
+abbrev is_told : ℕ → Bool
+is_told byte = not (is_blank byte)
+
+told_at : (byte : ℕ) (line : List ℕ) (sign blank : Bool) → eqb byte 35 ≡ sign
+    → is_blank byte ≡ blank
+    → MatchOption (find is_told line) (list_all is_blank (before_comment line) ≡ true)
+    (λ first. list_all is_blank (before_comment line) ≡ eqb first 35)
+    → MatchOption (find is_told (byte ∷ line))
+    (list_all is_blank (before_comment (byte ∷ line)) ≡ true)
+    (λ first. list_all is_blank (before_comment (byte ∷ line)) ≡ eqb first 35)
+told_at byte line true true e f h = absurd (false≢true (rw (eqb-true byte 35 e) at f))
+told_at byte line true false e f h = rw (e, f) (sym e)
+told_at byte line false true e f h = rw (e, f, one-add) (rw f h)
+told_at byte line false false e f h = rw (e, f, one-add) (rw f (sym e))
+
+-- the first byte that is no blank says whether only blanks stand before a comment
+pub first_byte : (line : List ℕ)
+    → MatchOption (find is_told line) (list_all is_blank (before_comment line) ≡ true)
+    (λ first. list_all is_blank (before_comment line) ≡ eqb first 35)
+first_byte [] = refl
+first_byte (byte ∷ line) =
+    told_at byte line (eqb byte 35) (is_blank byte) refl refl (first_byte line)

@@ -1,9 +1,10 @@
 -- The lines that have rows, one after the other.
 use Rattle.std.proofs.Common.{◌≡◌, ℕ, ◌+◌, ◌<◌, List, [], ◌∷◌, ◌++◌, length, map, refl, ap, ap₂}
-use Rattle.std.proofs.Common.{sym, ◌∙◌, Bool, true, false, eqb, arith, Bor, Option, Some, filter}
+use Rattle.std.proofs.Common.{sym, ◌∙◌, Bool, true, false, not, eqb, arith, Bor, Option, Some, filter}
 use Rattle.std.specs.List.{flat_map, enumerate_from, list_all}
 use Rattle.std.specs.Option.{IfSome, option_copied}
 use Rattle.std.specs.Str.Lines.{strip_carriage_return}
+use Rattle.std.proofs.lemmas.Bool.{not-true, not-false}
 use Rattle.std.proofs.lemmas.List.{map-append}
 use Rattle.giv_files.specs.Rows.{Row, is_blank, before_comment, row_of, has_byte, lines, parts_of}
 use Rattle.giv_files.specs.Rows.{parts_left, rows, pieces, cleaned}
@@ -49,15 +50,17 @@ module _ (number : ℕ) (part line : List ℕ) (left parts : List (List ℕ)) (a
   numbered some = rw same (sym (numbered_told number part parts (rw same at some)) ∙ rw is at whole)
 
   -- so is one with only blanks before a comment, which has a number
-  pub told_blank : eqb (length line) 0 ≡ false → (told : List ℕ) → told ≡ before_comment line
-      → list_all is_blank told ≡ true → told_left (number + 1) parts ≡ all
-  told_blank some told e blank = rw (rw e at blank) at (numbered some)
+  pub told_blank : eqb (length line) 0 ≡ false
+      → not (list_all is_blank (before_comment line)) ≡ false
+      → told_left (number + 1) parts ≡ all
+  told_blank some blank = rw (not-false _ blank) at (numbered some)
 
   -- any other comes first of those that are left
-  pub told_first : eqb (length line) 0 ≡ false → (told : List ℕ) → told ≡ before_comment line
-      → list_all is_blank told ≡ false
-      → all ≡ record { number = number + 1; line = told } ∷ told_left (number + 1) parts
-  told_first some told e blank = rw e (sym (rw (rw e at blank) at (numbered some)))
+  pub told_first : eqb (length line) 0 ≡ false
+      → not (list_all is_blank (before_comment line)) ≡ true
+      → all ≡ record { number = number + 1; line = before_comment line }
+      ∷ told_left (number + 1) parts
+  told_first some told = sym (rw (not-true _ told) at (numbered some))
 
 -- the count of numbered lines stays in its range
 pub told_few : (number limit : ℕ) (left rest : Option (Bor (List ℕ))) (text : Bor (List ℕ))

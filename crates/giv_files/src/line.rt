@@ -1,8 +1,8 @@
 // Parts of a line, and of its fields.
 ghost use Rattle.std.specs.Prelude.{◌≡◌, ◌≢◌, ◌==◌, ◌<◌, ◌∷◌, All, IfSome, length, position};
-ghost use Rattle.std.specs.Prelude.{reverse, take_while};
+ghost use Rattle.std.specs.Prelude.{not, reverse, take_while};
 ghost use Rattle.std.specs.Option.{option_copied};
-ghost use Rattle.std.specs.List.{list_all};
+ghost use Rattle.std.specs.List.{find, list_all};
 ghost use Rattle.std.specs.Str.Lines.{strip_carriage_return};
 ghost use Rattle.giv_files.specs.Rows.{is_blank, parts_left, parts_of, without_blanks};
 ghost use Rattle.giv_files.specs.Rows.{without_quotes, before_comment};
@@ -57,11 +57,21 @@ fn is_blank(byte: u8) -> bool
     byte == b' ' || byte == b'\t'
 }
 
-/// Whether there are only spaces and tabs.
-pub(crate) fn is_all_blank(line: &[u8]) -> bool
-    ensures { result ≡ list_all is_blank line.now }
+/// Whether something but spaces and tabs stands before a comment.
+pub(crate) fn has_row(line: &[u8]) -> bool
+    ensures { result ≡ not (list_all is_blank (before_comment line.now)) }
 {
-    line.iter().all(|byte| is_blank(*byte))
+    match first_told(line) {
+        None => false,
+        Some(byte) => byte != b'#',
+    }
+}
+
+// The first byte that is neither a space nor a tab.
+fn first_told(line: &[u8]) -> Option<u8>
+    ensures { result ≡ find (λ byte. not (is_blank byte)) line.now }
+{
+    line.iter().copied().find(|byte| !is_blank(*byte))
 }
 
 /// The field without the blanks round it.

@@ -1,16 +1,25 @@
 // The lines of a text that have rows.
 ghost use Rattle.std.specs.Prelude.{◌≡◌, ◌≢◌, ◌∷◌, [], All, MatchOption, IfSome};
-ghost use Rattle.giv_files.specs.Rows.{parts_of};
+ghost use Rattle.giv_files.specs.Rows.{before_comment, parts_of};
 ghost use Rattle.giv_files.specs.Told.{told_left};
 
-use crate::line::{before_comment, first_part, is_all_blank, without_return};
+use crate::line::{before_comment, first_part, has_row, without_return};
 use std::marker::Model;
 
-/// A line that has a row: its number, and what stands before a comment.
+/// A line that has a row, with its number.
 #[derive(Clone, Copy)]
 pub(crate) struct RowLine<'a> {
     pub(crate) number: u64,
-    pub(crate) told: &'a [u8],
+    line: &'a [u8],
+}
+
+impl<'a> RowLine<'a> {
+    /// What stands before a comment.
+    pub(crate) fn told(self) -> &'a [u8]
+        ensures { result.now ≡ before_comment self.entry.line.now }
+    {
+        before_comment(self.line)
+    }
 }
 
 /// The lines of a text that have rows. Contracts see those that are left.
@@ -47,8 +56,10 @@ impl<'a> RowLines<'a> {
     /// The next one.
     pub(crate) fn next(&mut self) -> Option<RowLine<'a>>
         ensures next { MatchOption result ((self.old ≡ []) × (self.new ≡ []))
-            (λ row. self.old ≡ record { number = row.number; line = row.told.now } ∷ self.new) }
-        ensures plain { IfSome result (λ row. All (λ byte. byte ≢ 10) row.told.now) }
+            (λ row. self.old
+            ≡ record { number = row.number; line = before_comment row.line.now } ∷ self.new) }
+        ensures plain { IfSome result
+            (λ row. All (λ byte. byte ≢ 10) (before_comment row.line.now)) }
     {
         'lines: while let Some(text) = self.left {
             let (part, rest) = first_part(text);
@@ -56,11 +67,10 @@ impl<'a> RowLines<'a> {
             let line = without_return(part);
             if !line.is_empty() {
                 self.number += 1;
-                let told = before_comment(line);
-                if !is_all_blank(told) {
+                if has_row(line) {
                     return Some(RowLine {
                         number: self.number,
-                        told,
+                        line,
                     });
                 }
             }

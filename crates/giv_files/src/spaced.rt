@@ -47,7 +47,7 @@ impl<'a> Spaced<'a> {
     {
         if let Unread::Nothing = self.line {
             if let Some(row) = self.lines.next() {
-                self.line = Unread::Line(row.told);
+                self.line = Unread::Line(row.told());
             }
         }
     }

@@ -3,17 +3,16 @@ use Rattle.giv_files.proofs.RowsLeft.{parts_are, rest_smaller}
 use Rattle.giv_files.proofs.ToldFacts.{nothing_told, told_empty, told_blank, told_first, told_few}
 use Rattle.giv_files.proofs.row_lines.RowLines.next.Goals as goal
 
-pub returns-then-not-is_all_blank-clause-next : goal.returns-then-not-is_all_blank-clause-next
-returns-then-not-is_all_blank-clause-next c =
+pub returns-then-has_row-clause-next : goal.returns-then-has_row-clause-next
+returns-then-has_row-clause-next c =
     let parts = parts_are c.lines.self-inside.left c.in-Some.text _ c.in-Some.is
     c.first_part.ensures.parts in
     told_first c.lines.self-inside.number _ c.without_return-line.result.now _ _ _ parts
     c.without_return-line.ensures c.lines.invariant.same
-    (sym c.is_empty.ensures ∙ c.if-not-is_empty.true) c.before_comment-told.result.now
-    c.before_comment-told.ensures (sym c.is_all_blank.ensures ∙ c.if-not-is_all_blank.true)
+    (sym c.is_empty.ensures ∙ c.if-not-is_empty.true) (sym c.has_row.ensures ∙ c.if-has_row.true)
 
-pub lines-preserved-else-not-is_all_blank : goal.lines-preserved-else-not-is_all_blank
-lines-preserved-else-not-is_all_blank c =
+pub lines-preserved-else-has_row : goal.lines-preserved-else-has_row
+lines-preserved-else-has_row c =
     let parts = parts_are c.lines.self-inside.left c.in-Some.text _ c.in-Some.is
     c.first_part.ensures.parts in
     record {
@@ -22,9 +21,8 @@ lines-preserved-else-not-is_all_blank c =
       same =
           told_blank c.lines.self-inside.number _ c.without_return-line.result.now _ _ _ parts
           c.without_return-line.ensures c.lines.invariant.same
-          (sym c.is_empty.ensures ∙ c.if-not-is_empty.true) c.before_comment-told.result.now
-          c.before_comment-told.ensures (sym c.is_all_blank.ensures
-          ∙ c.if-not-is_all_blank.false);
+          (sym c.is_empty.ensures ∙ c.if-not-is_empty.true)
+          (sym c.has_row.ensures ∙ c.if-has_row.false);
     }
 
 pub lines-preserved : goal.lines-preserved
