@@ -84,21 +84,27 @@ module _ (said : Key → Option (List ℕ)) (good : first_bad said ≡ None) whe
       let at = get_or-map (λ key. unwrap_or (good_value said key) (pos 0)) all_keys (key_place k) k (pos 0) there.1 in
       some ∙ ap Some (sym (at ∙ ap (λ (j : Key). unwrap_or (good_value said j) (pos 0)) there.0))
 
-  own_there : (k : Key) → (own_in said k ≡ Some (value_at (values_in said) k)) × (keeps_rule (own_in said) k (value_at (values_in said) k) ≡ true)
+  own_there : (k : Key) → (own_in said k ≡ Some (value_at (values_in said) k))
+      × (keeps_rule (own_in said) k (value_at (values_in said) k) ≡ true)
   unfolding good_value
-  own_there k = kept_some (keeps_rule (own_in said) k) (own_in said k) (value_at (values_in said) k) (good_there k)
+  own_there k = kept_some (keeps_rule (own_in said) k) (own_in said k) (value_at (values_in said) k)
+      (good_there k)
 
   -- a rule is kept by the values of the list
-  kept_there : (rule : Option CrossRule) (value : ℤ) → keeps (own_in said) rule value ≡ keeps (λ other. Some (value_at (values_in said) other)) rule value
+  kept_there : (rule : Option CrossRule) (value : ℤ)
+      → keeps (own_in said) rule value ≡ keeps (λ other. Some (value_at (values_in said) other))
+      rule value
   kept_there None value = refl
-  kept_there (Some rule) value = ap (λ other. option_map_or (λ floor. keeps_bound rule.bound floor value) other true) (own_there rule.other).0
+  kept_there (Some rule) value = ap (λ other. option_map_or
+      (λ floor. keeps_bound rule.bound floor value) other true) (own_there rule.other).0
 
   -- settled values are settings
   pub are_settings : AreSettings (values_in said)
   are_settings = record {
     whole = refl;
     allowed = λ k. own_allowed k (said k) (value_at (values_in said) k) (own_there k).0;
-    uncrossed = λ k. sym (kept_there (cross_rule k) (value_at (values_in said) k)) ∙ (own_there k).1;
+    uncrossed = λ k. sym (kept_there (cross_rule k) (value_at (values_in said) k))
+        ∙ (own_there k).1;
   }
 
 -- what holds of each holds of all
@@ -107,26 +113,39 @@ all_mapped p f [] h = refl
 all_mapped p f (x ∷ xs) h = rw (h x) (all_mapped p f xs h)
 
 -- a key that a stage does not have is passed over
-pub passed_over : (stage : Stage) (keys : List Key) (i : ℕ) (d : Key) → i < length keys → has_key stage (get_or keys i d) ≡ false → filter (has_key stage) (take i keys) ≡ filter (has_key stage) (take (i + 1) keys)
+pub passed_over : (stage : Stage) (keys : List Key) (i : ℕ) (d : Key) → i < length keys
+    → has_key stage (get_or keys i d) ≡ false → filter (has_key stage) (take i keys)
+    ≡ filter (has_key stage) (take (i + 1) keys)
 passed_over stage keys i d h not =
-    sym (filter_more (has_key stage) keys i d h ∙ ap (λ b. filter (has_key stage) (take i keys) ++ cond b (get_or keys i d ∷ []) []) not ∙ append-nil (filter (has_key stage) (take i keys)))
+    sym (filter_more (has_key stage) keys i d h
+        ∙ ap (λ b. filter (has_key stage) (take i keys) ++ cond b (get_or keys i d ∷ []) []) not
+        ∙ append-nil (filter (has_key stage) (take i keys)))
 
 module _ (values : List ℤ) where
   -- the value of a key among some of the settings: none, or that of the key
-  value_among : (P : Option ℤ → Type 0) (k : Key) (keys : List Key) → P None → P (Some (value_at values k)) → P (value_of (map (setting_at values) keys) k)
+  value_among : (P : Option ℤ → Type 0) (k : Key) (keys : List Key) → P None
+      → P (Some (value_at values k)) → P (value_of (map (setting_at values) keys) k)
   value_among P k [] none some = none
   value_among P k (j ∷ keys) none some = at_key (is_key k j) refl (value_among P k keys none some)
     where
       at_key : (t : Bool) → is_key k j ≡ t → P (value_of (map (setting_at values) keys) k)
-          → P (option_map (λ (setting : Setting). setting.value) (cond t (Some (setting_at values j)) (find (λ (setting : Setting). is_key k setting.key) (map (setting_at values) keys))))
-      at_key true e rest = let same : j ≡ k = same_key j k (eqb-true _ _ e) in subst (λ i. P (Some (value_at values i))) (sym same) some
+          → P (option_map (λ (setting : Setting). setting.value)
+          (cond t (Some (setting_at values j))
+          (find (λ (setting : Setting). is_key k setting.key) (map (setting_at values) keys))))
+      at_key true e rest = let same : j ≡ k = same_key j k (eqb-true _ _ e) in
+          subst (λ i. P (Some (value_at values i))) (sym same) some
       at_key false e rest = rest
 
-  kept_among : (value : ℤ) (rule : Option CrossRule) (keys : List Key) → keeps (λ other. Some (value_at values other)) rule value ≡ true → keeps (value_of (map (setting_at values) keys)) rule value ≡ true
+  kept_among : (value : ℤ) (rule : Option CrossRule) (keys : List Key)
+      → keeps (λ other. Some (value_at values other)) rule value ≡ true
+      → keeps (value_of (map (setting_at values) keys)) rule value ≡ true
   kept_among value None keys h = refl
-  kept_among value (Some rule) keys h = value_among (λ other. option_map_or (λ floor. keeps_bound rule.bound floor value) other true ≡ true) rule.other keys refl h
+  kept_among value (Some rule) keys h = value_among
+      (λ other. option_map_or (λ floor. keeps_bound rule.bound floor value) other true ≡ true)
+      rule.other keys refl h
 
-  keys_are : (keys : List Key) → map (λ (setting : Setting). setting.key) (map (setting_at values) keys) ≡ keys
+  keys_are : (keys : List Key) → map (λ (setting : Setting). setting.key)
+      (map (setting_at values) keys) ≡ keys
   keys_are [] = refl
   keys_are (k ∷ keys) = ap (λ rest. k ∷ rest) (keys_are keys)
 
@@ -135,19 +154,30 @@ module _ (values : List ℤ) where
   part_fits stage h = record {
     keys = keys_are (stage_keys stage);
     allowed = all_mapped is_allowed (setting_at values) (stage_keys stage) (λ k. h.allowed k);
-    uncrossed = all_mapped (is_uncrossed (part_of values stage)) (setting_at values) (stage_keys stage) (λ k. kept_among (value_at values k) (cross_rule k) (stage_keys stage) (h.uncrossed k));
+    uncrossed = all_mapped (is_uncrossed (part_of values stage)) (setting_at values)
+        (stage_keys stage) (λ k. kept_among (value_at values k) (cross_rule k) (stage_keys stage)
+        (h.uncrossed k));
   }
 
   -- one key more, which the stage has
-  pub part_more : (stage : Stage) (keys : List Key) (i : ℕ) (d : Key) → i < length keys → has_key stage (get_or keys i d) ≡ true
-      → map (setting_at values) (filter (has_key stage) (take i keys)) ++ setting_at values (get_or keys i d) ∷ [] ≡ map (setting_at values) (filter (has_key stage) (take (i + 1) keys))
+  pub part_more : (stage : Stage) (keys : List Key) (i : ℕ) (d : Key) → i < length keys
+      → has_key stage (get_or keys i d) ≡ true
+      → map (setting_at values) (filter (has_key stage) (take i keys))
+      ++ setting_at values (get_or keys i d) ∷ []
+      ≡ map (setting_at values) (filter (has_key stage) (take (i + 1) keys))
   part_more stage keys i d h is =
-      sym (map-append (setting_at values) (filter (has_key stage) (take i keys)) (get_or keys i d ∷ []))
-      ∙ sym (ap (map (setting_at values)) (filter_more (has_key stage) keys i d h ∙ ap (λ b. filter (has_key stage) (take i keys) ++ cond b (get_or keys i d ∷ []) []) is))
+      sym (map-append (setting_at values) (filter (has_key stage) (take i keys))
+          (get_or keys i d ∷ []))
+      ∙ sym (ap (map (setting_at values)) (filter_more (has_key stage) keys i d h
+      ∙ ap (λ b. filter (has_key stage) (take i keys) ++ cond b (get_or keys i d ∷ []) []) is))
 
-  pub part_whole : (stage : Stage) (settings : List Setting) (keys : List Key) (i : ℕ) → keys ≡ all_keys → length keys ≤ i → settings ≡ map (setting_at values) (filter (has_key stage) (take i keys)) → settings ≡ part_of values stage
+  pub part_whole : (stage : Stage) (settings : List Setting) (keys : List Key) (i : ℕ)
+      → keys ≡ all_keys → length keys ≤ i → settings
+      ≡ map (setting_at values) (filter (has_key stage) (take i keys))
+      → settings ≡ part_of values stage
   unfolding stage_keys
-  part_whole stage settings keys i e h told = told ∙ ap (λ all. map (setting_at values) (filter (has_key stage) all)) (take_all i keys h ∙ e)
+  part_whole stage settings keys i e h told = told
+      ∙ ap (λ all. map (setting_at values) (filter (has_key stage) all)) (take_all i keys h ∙ e)
 
 -- ---- the settings of a dataset that are not refused
 

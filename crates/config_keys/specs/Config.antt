@@ -20,7 +20,8 @@ value_at values key = get_or values (key_place key) (pos 0)
 pub record AreSettings (values : List ℤ) : Type 0 where
   pub whole : length values ≡ length all_keys
   pub allowed : (key : Key) → allows key (value_at values key) ≡ true
-  pub uncrossed : (key : Key) → keeps_rule (λ other. Some (value_at values other)) key (value_at values key) ≡ true
+  pub uncrossed : (key : Key) → keeps_rule (λ other. Some (value_at values other)) key
+      (value_at values key) ≡ true
 
 -- a key with its value
 abbrev pub setting_at : List ℤ → Key → Setting

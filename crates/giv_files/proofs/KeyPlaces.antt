@@ -5,7 +5,8 @@ use Rattle.giv_files.specs.declared.key.Key.TheVariants as key
 use Rattle.giv_files.specs.Keys.{key_place, all_keys}
 
 -- each key stands at its place
-pub key_there : (k d : Key) → (get_or all_keys (key_place k) d ≡ k) × (key_place k < length all_keys)
+pub key_there : (k d : Key) → (get_or all_keys (key_place k) d ≡ k)
+    × (key_place k < length all_keys)
 key_there key.LastStage d = (refl, omega arith)
 key_there _ d = (refl, omega arith)
 

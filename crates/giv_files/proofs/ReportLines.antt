@@ -4,7 +4,8 @@ use Rattle.std.proofs.lemmas.List.{drop_more, drop_all, append_assoc, append-nil
 use Rattle.giv_files.specs.ReportLines.{marked}
 
 -- one part more
-pub part_more : (line mark part : List ℕ) (parts : List (List ℕ)) (i : ℕ) (all : List ℕ) → i < length parts → part ≡ get_or parts i part → line ++ marked mark (drop i parts) ≡ all
+pub part_more : (line mark part : List ℕ) (parts : List (List ℕ)) (i : ℕ) (all : List ℕ)
+    → i < length parts → part ≡ get_or parts i part → line ++ marked mark (drop i parts) ≡ all
     → line ++ mark ++ part ++ marked (codes ", ") (drop (i + 1) parts) ≡ all
 part_more line mark part parts i all h is told =
     let rest = marked (codes ", ") (drop (i + 1) parts) in
@@ -14,5 +15,7 @@ part_more line mark part parts i all h is told =
     ∙ ap (λ some. line ++ marked mark some) (sym (drop_more parts i part h)) ∙ told
 
 -- none is left
-pub no_part : (line mark : List ℕ) (parts : List (List ℕ)) (i : ℕ) (all : List ℕ) → length parts ≤ i → line ++ marked mark (drop i parts) ≡ all → line ≡ all
-no_part line mark parts i all h told = sym (append-nil line) ∙ ap (λ some. line ++ marked mark some) (sym (drop_all i parts h)) ∙ told
+pub no_part : (line mark : List ℕ) (parts : List (List ℕ)) (i : ℕ) (all : List ℕ) → length parts ≤ i
+    → line ++ marked mark (drop i parts) ≡ all → line ≡ all
+no_part line mark parts i all h told = sym (append-nil line)
+    ∙ ap (λ some. line ++ marked mark some) (sym (drop_all i parts h)) ∙ told

@@ -2,7 +2,7 @@
 use Rattle.std.proofs.Common.{◌≡◌, ℕ, ℤ, pos, negsuc, ◌≤◌, ◌≤ℤ◌, ◌||◌, Bool, eqb-true, cond, true, false, List, [], ◌∷◌, map, Some, int_le, unsigned_abs, unwrap_or, option_map, refl, ap, subst, sym, ◌∙◌, arith}
 use Rattle.std.specs.List.{find, list_all, list_any}
 use Rattle.std.specs.Int.Signed.{le_z_yes}
-use Rattle.std.proofs.lemmas.Bool.{and_parts, false≢true}
+use Rattle.std.proofs.lemmas.Bool.{and_parts}
 use Rattle.std.proofs.lemmas.Float.{T_from_true}
 use Rattle.std.proofs.lemmas.Int.{ints}
 use Rattle.std.proofs.lemmas.Map.Views.{any-filter_same}
@@ -17,11 +17,15 @@ use Rattle.giv_files.specs.Settings.{value_of, is_allowed, amount, SettingsFit}
 use Rattle.giv_files.proofs.KeyPlaces.{same_key}
 
 -- the value of a key is one that the key may have
-value_allowed : (settings : List Setting) (k : Key) (value : ℤ) → list_all is_allowed settings ≡ true → value_of settings k ≡ Some value → allows k value ≡ true
+value_allowed : (settings : List Setting) (k : Key) (value : ℤ)
+    → list_all is_allowed settings ≡ true → value_of settings k ≡ Some value → allows k value ≡ true
 value_allowed [] k value all is = cc
 value_allowed (first ∷ settings) k value all is =
     let parts = and_parts (is_allowed first) (list_all is_allowed settings) all in
-    elim (is_key k first.key) as (λ b. is_key k first.key ≡ b → option_map (λ setting. setting.value) (cond b (Some first) (find (λ setting. is_key k setting.key) settings)) ≡ Some value → allows k value ≡ true) [
+    elim (is_key k first.key) as (λ b. is_key k first.key ≡ b
+    → option_map (λ setting. setting.value)
+    (cond b (Some first) (find (λ setting. is_key k setting.key) settings)) ≡ Some value
+    → allows k value ≡ true) [
       | true ↦ λ own given.
           let same : first.value ≡ value = same_Some _ _ given in
           subst (λ j. allows j value ≡ true) (same_key first.key k (eqb-true _ _ own)) (ap (allows first.key) (sym same) ∙ parts.0)
@@ -29,51 +33,80 @@ value_allowed (first ∷ settings) k value all is =
     ] refl is
 
 -- a key that is among those of settings has a value there
-value_there : (settings : List Setting) (k : Key) → list_any (is_key k) (map (λ setting. setting.key) settings) ≡ true → (value : ℤ) × (value_of settings k ≡ Some value)
+value_there : (settings : List Setting) (k : Key)
+    → list_any (is_key k) (map (λ setting. setting.key) settings) ≡ true
+    → (value : ℤ) × (value_of settings k ≡ Some value)
 value_there [] k some = cc
-value_there (first ∷ settings) k some = at_first (is_key k first.key) refl some (value_there settings k)
+value_there (first ∷ settings) k some = at_first (is_key k first.key) refl some
+    (value_there settings k)
   where
-    at_first : (b : Bool) → is_key k first.key ≡ b → (b || list_any (is_key k) (map (λ setting. setting.key) settings)) ≡ true
-        → (list_any (is_key k) (map (λ setting. setting.key) settings) ≡ true → (value : ℤ) × (value_of settings k ≡ Some value))
+    at_first : (b : Bool) → is_key k first.key ≡ b
+        → (b || list_any (is_key k) (map (λ setting. setting.key) settings)) ≡ true
+        → (list_any (is_key k) (map (λ setting. setting.key) settings) ≡ true
+        → (value : ℤ) × (value_of settings k ≡ Some value))
         → (value : ℤ) × (value_of (first ∷ settings) k ≡ Some value)
-    at_first true own some rest = (first.value, ap (λ b. option_map (λ setting. setting.value) (cond b (Some first) (find (λ setting. is_key k setting.key) settings))) own)
+    at_first true own some rest = (
+      first.value,
+      ap
+          (λ b. option_map (λ setting. setting.value)
+          (cond b (Some first) (find (λ setting. is_key k setting.key) settings))) own,
+    )
     at_first false other some rest =
-        let later = rest some in
-        (later.0, ap (λ b. option_map (λ setting. setting.value) (cond b (Some first) (find (λ setting. is_key k setting.key) settings))) other ∙ later.1)
+        let later = rest some in (
+          later.0,
+          ap (λ b. option_map (λ setting. setting.value)
+              (cond b (Some first) (find (λ setting. is_key k setting.key) settings))) other
+              ∙ later.1,
+        )
 
 among_all : (k : Key) → list_any (is_key k) all_keys ≡ true
 among_all key.LastStage = refl
 among_all _ = refl
 
 -- a key that a stage has is among the keys of the stage
-among_keys : (stage : Stage) (k : Key) → has_key stage k ≡ true → list_any (is_key k) (stage_keys stage) ≡ true
+among_keys : (stage : Stage) (k : Key) → has_key stage k ≡ true
+    → list_any (is_key k) (stage_keys stage) ≡ true
 unfolding stage_keys
 among_keys stage k has =
-    any-filter_same (is_key k) (has_key stage) true (λ j same. subst (λ other. has_key stage other ≡ true) (sym (same_key j k (eqb-true _ _ same))) has) all_keys ∙ among_all k
+    any-filter_same (is_key k) (has_key stage) true
+    (λ j same. subst (λ other. has_key stage other ≡ true)
+    (sym (same_key j k (eqb-true _ _ same))) has) all_keys ∙ among_all k
 
 -- a key of a stage has a value among settings that fit the stage, and one that it may have
-pub key_there : (stage : Stage) (settings : List Setting) (k : Key) → SettingsFit stage settings → has_key stage k ≡ true → (value : ℤ) × (value_of settings k ≡ Some value) × (allows k value ≡ true)
+pub key_there : (stage : Stage) (settings : List Setting) (k : Key) → SettingsFit stage settings
+    → has_key stage k ≡ true → (value : ℤ) × (value_of settings k ≡ Some value)
+    × (allows k value ≡ true)
 key_there stage settings k fits has =
-    let there = value_there settings k (ap (list_any (is_key k)) fits.keys ∙ among_keys stage k has) in
+    let there = value_there settings k (ap (list_any (is_key k)) fits.keys
+    ∙ among_keys stage k has) in
     (there.0, there.1, value_allowed settings k there.0 fits.allowed there.1)
 
-unsigned_allowed : (k : Key) (value : ℤ) → allows k value ≡ true → allows k (pos (unsigned_abs value)) ≡ true
+unsigned_allowed : (k : Key) (value : ℤ) → allows k value ≡ true
+    → allows k (pos (unsigned_abs value)) ≡ true
 unsigned_allowed k (pos n) is = is
-unsigned_allowed key.DmWait (negsuc n) is = grind (arith, ints)
-unsigned_allowed key.LastStage (negsuc n) is = absurd (false≢true is)
-unsigned_allowed _ (negsuc n) is = absurd (false≢true is)
+unsigned_allowed key.LastStage (negsuc n) is = grind (arith, ints)
+unsigned_allowed _ (negsuc n) is = grind (arith, ints)
 
 -- so its amount is one that it may have
-pub amount_allowed : (stage : Stage) (settings : List Setting) (k : Key) → SettingsFit stage settings → has_key stage k ≡ true → allows k (pos (amount settings k)) ≡ true
+pub amount_allowed : (stage : Stage) (settings : List Setting) (k : Key)
+    → SettingsFit stage settings → has_key stage k ≡ true
+    → allows k (pos (amount settings k)) ≡ true
 amount_allowed stage settings k fits has =
     let there = key_there stage settings k fits has in
-    subst (λ o. allows k (pos (unsigned_abs (unwrap_or o (pos 0)))) ≡ true) (sym there.1) (unsigned_allowed k there.0 there.2)
+    subst (λ o. allows k (pos (unsigned_abs (unwrap_or o (pos 0)))) ≡ true) (sym there.1)
+    (unsigned_allowed k there.0 there.2)
 
 -- and lies in the range of the key, where that has no numbers below 0
-pub amount_within : (stage : Stage) (settings : List Setting) (k : Key) (low high : ℕ) → SettingsFit stage settings → has_key stage k ≡ true → least (key_kind k) ≡ pos low → greatest (key_kind k) ≡ pos high
+pub amount_within : (stage : Stage) (settings : List Setting) (k : Key) (low high : ℕ)
+    → SettingsFit stage settings → has_key stage k ≡ true → least (key_kind k) ≡ pos low
+    → greatest (key_kind k) ≡ pos high
     → (low ≤ amount settings k) × (amount settings k ≤ high)
 amount_within stage settings k low high fits has from to =
-    let within = and_parts (int_le (least (key_kind k)) (pos (amount settings k))) (int_le (pos (amount settings k)) (greatest (key_kind k))) (amount_allowed stage settings k fits has) in
-    let above : pos low ≤ℤ pos (amount settings k) = subst (λ z. z ≤ℤ pos (amount settings k)) from (le_z_yes (T_from_true _ within.0)) in
-    let below : pos (amount settings k) ≤ℤ pos high = subst (λ z. pos (amount settings k) ≤ℤ z) to (le_z_yes (T_from_true _ within.1)) in
+    let within = and_parts (int_le (least (key_kind k)) (pos (amount settings k)))
+    (int_le (pos (amount settings k)) (greatest (key_kind k)))
+    (amount_allowed stage settings k fits has) in
+    let above : pos low ≤ℤ pos (amount settings k) =
+    subst (λ z. z ≤ℤ pos (amount settings k)) from (le_z_yes (T_from_true _ within.0)) in
+    let below : pos (amount settings k) ≤ℤ pos high =
+    subst (λ z. pos (amount settings k) ≤ℤ z) to (le_z_yes (T_from_true _ within.1)) in
     (omega (arith, ints), omega (arith, ints))

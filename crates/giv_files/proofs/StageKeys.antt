@@ -7,7 +7,9 @@ use Rattle.std.proofs.lemmas.List.Elements.{filter_more, filter-append}
 use Rattle.std.proofs.lemmas.Option.{slice_get_within, get_or_from_slice_get, slice_get-get_or}
 use Rattle.std.proofs.Math.Seq.{get_or-append_seam}
 
-module _ {X : Type 0} (test : X → Bool) (all own : List X) (i count : ℕ) (d : X) (h : i < length all) (is : test (get_or all i d) ≡ true) (same : take count own ≡ filter test (take i all)) where
+module _ {X : Type 0} (test : X → Bool) (all own : List X) (i count : ℕ) (d : X)
+    (h : i < length all) (is : test (get_or all i d) ≡ true)
+    (same : take count own ≡ filter test (take i all)) where
   -- one more passes
   passes : filter test (take (i + 1) all) ≡ take count own ++ get_or all i d ∷ []
   passes =
@@ -16,39 +18,51 @@ module _ {X : Type 0} (test : X → Bool) (all own : List X) (i count : ℕ) (d 
       ∙ ap (λ front. front ++ get_or all i d ∷ []) (sym same)
 
   -- where it stands behind those before, one more is the same
-  pub one_more : slice_get own count ≡ Some (get_or all i d) → take (count + 1) own ≡ filter test (take (i + 1) all)
+  pub one_more : slice_get own count ≡ Some (get_or all i d)
+      → take (count + 1) own ≡ filter test (take (i + 1) all)
   one_more at =
       take_more own count d (slice_get_within own count (get_or all i d) at)
       ∙ ap (λ x. take count own ++ x ∷ []) (get_or_from_slice_get own count (get_or all i d) d at)
       ∙ sym passes
 
   -- and it does stand there where all are those that pass
-  pub stands : count ≤ length own → own ≡ filter test all → slice_get own count ≡ Some (get_or all i d)
+  pub stands : count ≤ length own → own ≡ filter test all
+      → slice_get own count ≡ Some (get_or all i d)
   stands few whole =
       let rest = filter test (drop (i + 1) all) in
       let parts : own ≡ take count own ++ (get_or all i d ∷ rest) =
-      whole ∙ ap (filter test) (sym (take-append-drop (i + 1) all)) ∙ filter-append test (take (i + 1) all) (drop (i + 1) all)
-      ∙ ap (λ front. front ++ rest) passes ∙ append_assoc (take count own) (get_or all i d ∷ []) rest in
+      whole ∙ ap (filter test) (sym (take-append-drop (i + 1) all))
+      ∙ filter-append test (take (i + 1) all) (drop (i + 1) all)
+      ∙ ap (λ front. front ++ rest) passes ∙ append_assoc (take count own) (get_or all i d ∷ [])
+      rest in
       let size : length (take count own) ≡ count = length-take-le count own few in
-      let longer : length own ≡ length (take count own) + length (get_or all i d ∷ rest) = ap length parts ∙ length-append (take count own) (get_or all i d ∷ rest) in
+      let longer : length own ≡ length (take count own) + length (get_or all i d ∷ rest) =
+      ap length parts ∙ length-append (take count own) (get_or all i d ∷ rest) in
       let at : get_or own count d ≡ get_or all i d =
-      ap (λ xs. get_or xs count d) parts ∙ ap (λ n. get_or (take count own ++ get_or all i d ∷ rest) n d) (sym size)
+      ap (λ xs. get_or xs count d) parts ∙ ap (λ n. get_or (take count own ++ get_or all i d ∷ rest)
+      n d) (sym size)
       ∙ get_or-append_seam (take count own) (get_or all i d) rest d in
       slice_get-get_or own count d (omega arith) ∙ ap Some at
 
-module _ {X : Type 0} (test : X → Bool) (all own : List X) (i count : ℕ) (same : take count own ≡ filter test (take i all)) where
+module _ {X : Type 0} (test : X → Bool) (all own : List X) (i count : ℕ)
+    (same : take count own ≡ filter test (take i all)) where
   -- one that does not pass is left out
-  pub passed_over : (d : X) → i < length all → test (get_or all i d) ≡ false → take count own ≡ filter test (take (i + 1) all)
-  passed_over d h not = same ∙ sym (filter_more test all i d h ∙ ap (λ b. filter test (take i all) ++ cond b (get_or all i d ∷ []) []) not ∙ append-nil (filter test (take i all)))
+  pub passed_over : (d : X) → i < length all → test (get_or all i d) ≡ false
+      → take count own ≡ filter test (take (i + 1) all)
+  passed_over d h not = same ∙ sym (filter_more test all i d h
+      ∙ ap (λ b. filter test (take i all) ++ cond b (get_or all i d ∷ []) []) not
+      ∙ append-nil (filter test (take i all)))
 
   whole : length all ≤ i → take count own ≡ filter test all
   whole h = same ∙ ap (filter test) (take_all i all h)
 
   -- at the end all are those that pass exactly where none is left
-  pub at_end : (given : List X) → all ≡ given → count ≤ length own → length all ≤ i → IsTrue (count == length own) ↔ (own ≡ filter test given)
+  pub at_end : (given : List X) → all ≡ given → count ≤ length own → length all ≤ i
+      → IsTrue (count == length own) ↔ (own ≡ filter test given)
   at_end given is few h =
       let taken : take count own ≡ filter test given = whole h ∙ ap (filter test) is in (
-        λ last. let none_left : count ≡ length own = eqb-true _ _ last in sym (take_all count own (omega arith)) ∙ taken,
+        λ last. let none_left : count ≡ length own = eqb-true _ _ last in
+            sym (take_all count own (omega arith)) ∙ taken,
         λ all_are.
             let size : length (take count own) ≡ length own = ap length (taken ∙ sym all_are) in
             eq-eqb _ _ (sym (length-take-le count own few) ∙ size),

@@ -1,4 +1,4 @@
--- Keys of settings: one row for each, with its name, what its value may be, and the stages that have it.
+-- Keys of settings: one row for each, and what the rows say.
 use Rattle.std.specs.Prelude.{ℕ, ℤ, pos, int_le, ◌&&◌, ◌*◌, ◌==◌, Bool, List, [], ◌∷◌, codes}
 use Rattle.std.specs.List.{filter, list_any}
 use denote.Enum.Declared.{tag_of}
@@ -13,7 +13,8 @@ use Rattle.giv_files.specs.declared.stage.Stage.TheVariants as stage
 use Rattle.giv_files.specs.KeyKinds.{least, greatest}
 use Rattle.giv_files.specs.Stages.{stage_place}
 
--- the row of a key: how config files write it, what its value may be, its value where no file gives one, and the stages that have it
+-- the row of a key: how config files write it, what its value may be, its value where no file gives
+-- one, and the stages that have it
 pub record KeyRow : Type 0 where
   pub name : List ℕ
   pub kind : KeyKind
@@ -22,7 +23,13 @@ pub record KeyRow : Type 0 where
 
 -- a row whose default is not below 0
 abbrev pub row : List ℕ → KeyKind → ℕ → List Stage → KeyRow
-row name kind default stages = record { name = name; kind = kind; default = pos default; stages = stages }
+row name kind default stages = record {
+  name = name;
+  kind = kind;
+  default = pos default;
+  stages =
+      stages;
+}
 
 -- a whole number in a range
 abbrev pub whole : ℕ → ℕ → KeyKind

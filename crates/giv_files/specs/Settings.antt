@@ -26,7 +26,8 @@ is_allowed setting = allows setting.key setting.value
 abbrev pub is_uncrossed : List Setting → Setting → Bool
 is_uncrossed settings setting = keeps_rule (value_of settings) setting.key setting.value
 
--- settings are exactly those of a stage: its keys in their order, each with a value that it may have and that keeps its rule
+-- settings are exactly those of a stage: its keys in their order, each with a value that it may have
+-- and that keeps its rule
 pub record SettingsFit (stage : Stage) (settings : List Setting) : Type 0 where
   pub keys : map (λ setting. setting.key) settings ≡ stage_keys stage
   pub allowed : list_all is_allowed settings ≡ true

@@ -34,7 +34,7 @@ pub struct CrossRule {
 }
 
 impl CrossRule {
-    /// Whether a value keeps the rule, by the value of the other key. Where the other key has no value, it does.
+    /// Whether a value keeps the rule, by the value of the other key. It does where the other key has none.
     pub fn keeps(self, value: i64, other: Option<i64>) -> bool
         ensures { result ≡ option_map_or (λ other. keeps_bound self.bound other value) other true }
     {

@@ -42,7 +42,8 @@ impl KeyKind {
         }
     }
 
-    /// The value that a field spells, apart from the range: a fixed number in millionths, a word by its place.
+    /// The value that a field spells, apart from the range: a fixed number in millionths, a word by
+    /// its place, `all` as -1 and `none` as -2.
     pub fn spelled_as(self, field: &[u8]) -> Option<i64>
         ensures { result ≡ spelled_as self field.now }
     {

@@ -7,8 +7,8 @@ use crate::key_kind::KeyKind;
 use crate::key_words::KeyWords;
 use crate::stage::Stage;
 
-/// What is known of a key: its name in config files, what its value may be, its value where no file gives one,
-/// and the stages that have it.
+/// What is known of a key: its name in config files, what its value may be, its value where no file
+/// gives one, and the stages that have it.
 #[derive(Clone, Copy, Debug)]
 pub(crate) struct KeyRow {
     pub name: &'static str,

@@ -18,7 +18,8 @@ pub fn count_text(alloc: Global, count: usize, what: &str) -> Result<Text, NoMem
     Ok(Text::from_vec(text))
 }
 
-/// The line of a stage in a report, without its end: the name of the stage, a colon, and the parts with commas between.
+/// The line of a stage in a report, without its end: the name of the stage, a colon, and the parts
+/// with commas between.
 pub fn report_line(alloc: Global, stage: Stage, parts: &[Text]) -> Result<Text, NoMemory>
     ensures { IfOk result (λ line. line ≡ report_line stage parts.now) }
 {

@@ -51,11 +51,12 @@ impl Settings {
         value_among(&self.settings, key)
     }
 
-    /// The value of a key without its sign, which is that of a whole or fixed number; 0 where the key is not there.
-    /// Among settings that fit a stage, each key of the stage has a value in its range.
+    /// The value of a key without its sign, which is that of a whole or fixed number; 0 where the key
+    /// is not there. Among settings that fit a stage, each key of the stage has a value in its range.
     pub fn amount(&self, key: Key) -> u64
         ensures amount { result ≡ amount self.now key }
-        ensures range { (stage : Stage) → SettingsFit stage self.now → IsTrue (has_key stage key) → IsTrue (allows key (pos result)) }
+        ensures range { (stage : Stage) → SettingsFit stage self.now → IsTrue (has_key stage key)
+            → IsTrue (allows key (pos result)) }
     {
         self.value(key).unwrap_or(0).unsigned_abs()
     }

@@ -36,7 +36,8 @@ fn has_keys(settings: &[Setting], stage: Stage) -> bool
 
 // Whether the key stands at the place.
 fn is_at(settings: &[Setting], place: usize, key: Key) -> bool
-    ensures { IsTrue result ↔ (slice_get (map (λ setting. setting.key) settings.now) place ≡ Some key) }
+    ensures { IsTrue result
+        ↔ (slice_get (map (λ setting. setting.key) settings.now) place ≡ Some key) }
 {
     match settings.get(place) {
         None => false,

@@ -16,13 +16,17 @@ use Rattle.line_pool.specs.LineCosts.{AreModest}
 use Rattle.line_pool.specs.Pools.{LineParts, pool_of, pool_faults}
 
 -- the settings of a bundle that fits are within their ranges
-pub settings_modest : (bundle : BundleParts) → bundle.stage ≡ stage.Cost → Fits bundle → AreModest bundle.settings
+pub settings_modest : (bundle : BundleParts) → bundle.stage ≡ stage.Cost → Fits bundle
+    → AreModest bundle.settings
 settings_modest bundle is fits =
     let own = subst (λ of. SettingsFit of bundle.settings) is fits.settings in
     record {
-      fixed = (amount_within stage.Cost bundle.settings key.LpoolCostsFixed _ _ own refl refl refl).1;
-      by_length = (amount_within stage.Cost bundle.settings key.LpoolCostsLength _ _ own refl refl refl).1;
-      by_edge = (amount_within stage.Cost bundle.settings key.LpoolCostsEdges _ _ own refl refl refl).1;
+      fixed = (amount_within stage.Cost bundle.settings key.LpoolCostsFixed _ _ own refl refl
+          refl).1;
+      by_length = (amount_within stage.Cost bundle.settings key.LpoolCostsLength _ _ own refl refl
+          refl).1;
+      by_edge = (amount_within stage.Cost bundle.settings key.LpoolCostsEdges _ _ own refl refl
+          refl).1;
     }
 
 module _ (bundle : BundleParts) where

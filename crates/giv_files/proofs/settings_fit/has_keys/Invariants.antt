@@ -8,5 +8,6 @@ abbrev pub invariant-loop-key : goal.invariant-loop-key
 invariant-loop-key l =
     record {
       few : l.count ≤ length (map (λ setting. setting.key) l.settings);
-      same : take l.count (map (λ setting. setting.key) l.settings) ≡ filter (has_key l.stage) (take l.key-index l.key-items);
+      same : take l.count (map (λ setting. setting.key) l.settings)
+          ≡ filter (has_key l.stage) (take l.key-index l.key-items);
     }

@@ -19,7 +19,8 @@ returns-in_err-pool c =
     rw (p.1, p.2) (pool_refused c.args.bundle.now c.in_ok-network.network network.0 network.1 c.in_err-pool.field-0.0 (rw c.input-3.ensures at c.in_err-pool.ensures.made))
 
 pub costs_of_pool-requires-clause-settings : goal.costs_of_pool-requires-clause-settings
-costs_of_pool-requires-clause-settings c = subst AreModest (sym c.settings.ensures) (settings_modest c.args.bundle.now c.requires.stage c.requires.fits)
+costs_of_pool-requires-clause-settings c = subst AreModest (sym c.settings.ensures)
+    (settings_modest c.args.bundle.now c.requires.stage c.requires.fits)
 
 pub costs_of_pool-requires-clause-lines : goal.costs_of_pool-requires-clause-lines
 costs_of_pool-requires-clause-lines c =
