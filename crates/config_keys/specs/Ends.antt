@@ -1,8 +1,7 @@
 -- How reading settings ends.
-use Rattle.std.specs.Prelude.{ℕ, ◌≡◌, Result, Ok, Err}
+use Rattle.std.specs.Prelude.{Bool, true, false, Result, Ok, Err}
 use Rattle.plan_files.specs.declared.file_fault.FileFault.{FileFault}
 use Rattle.plan_files.specs.declared.file_fault.FileFault.TheVariants as file_fault
-use Rattle.plan_files.specs.Counts.{Raised}
 use Rattle.config_keys.specs.declared.config_end.ConfigEnd.{ConfigEnd}
 use Rattle.config_keys.specs.declared.config_end.ConfigEnd.TheVariants.{Refused, FileFault as Broken, NoMemory}
 
@@ -11,9 +10,9 @@ abbrev pub end_of_fault : FileFault → ConfigEnd
 end_of_fault file_fault.Failed = Broken
 end_of_fault file_fault.NoMemory = NoMemory
 
--- the count of faults after reading: it rises where the end is a file fault, and only there
-abbrev pub CountsEnd : {T : Type 0} → ℕ → ℕ → Result T ConfigEnd → Type 0
-CountsEnd before now (Ok _) = now ≡ before
-CountsEnd before now (Err Broken) = Raised before now
-CountsEnd before now (Err (Refused _)) = now ≡ before
-CountsEnd before now (Err NoMemory) = now ≡ before
+-- reading ended at the fault of a file
+abbrev pub is_broken : {T : Type 0} → Result T ConfigEnd → Bool
+is_broken (Ok _) = false
+is_broken (Err Broken) = true
+is_broken (Err (Refused _)) = false
+is_broken (Err NoMemory) = false

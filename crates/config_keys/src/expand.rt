@@ -1,6 +1,7 @@
 // Reading config files with their includes.
 ghost use Rattle.std.specs.Prelude.{◌≡◌, IfSome};
-ghost use Rattle.config_keys.specs.Ends.{CountsEnd};
+ghost use Rattle.plan_files.specs.Reads.{OnlyReads};
+ghost use Rattle.config_keys.specs.Ends.{is_broken};
 ghost use Rattle.config_keys.specs.Items.{look_in, config_items, expanded, row_brings, row_item};
 ghost use Rattle.config_keys.specs.Items.{include_word, include_item};
 ghost use Rattle.config_keys.specs.Said.{ReadGives};
@@ -40,9 +41,8 @@ pub(crate) fn read_all<F: Files>(
 ) -> Result<(), ConfigEnd>
     ensures read { IfSome (F.contents files.old)
         (λ folder. ReadGives (config_items (look_in folder)) reading.old reading.new result) }
-    ensures contents { F.contents files.new ≡ F.contents files.old }
-    ensures writes { F.writes files.new ≡ F.writes files.old }
-    ensures faults { CountsEnd (F.faults files.old) (F.faults files.new) result }
+    ensures only_reads { OnlyReads F.contents F.writes F.faults files.old files.new
+        (is_broken result) }
 {
     match fetch(alloc, files, CONFIG_NAME, true)? {
         None => Ok(()),
@@ -70,9 +70,8 @@ fn read_text<F: Files>(
     ensures read { IfSome (F.contents files.old)
         (λ folder. ReadGives
         (expanded (look_in folder) left name.now text.now) reading.old reading.new result) }
-    ensures contents { F.contents files.new ≡ F.contents files.old }
-    ensures writes { F.writes files.new ≡ F.writes files.old }
-    ensures faults { CountsEnd (F.faults files.old) (F.faults files.new) result }
+    ensures only_reads { OnlyReads F.contents F.writes F.faults files.old files.new
+        (is_broken result) }
 {
     let mut rows = rows_of(alloc, name, text)?;
     let mut row = TextRow::new(alloc);
@@ -95,9 +94,8 @@ fn read_row<F: Files>(
     ensures read { IfSome (F.contents files.old)
         (λ folder. ReadGives
         (row_brings (look_in folder) left name.now row.now) reading.old reading.new result) }
-    ensures contents { F.contents files.new ≡ F.contents files.old }
-    ensures writes { F.writes files.new ≡ F.writes files.old }
-    ensures faults { CountsEnd (F.faults files.old) (F.faults files.new) result }
+    ensures only_reads { OnlyReads F.contents F.writes F.faults files.old files.new
+        (is_broken result) }
 {
     let included = match take_row(alloc, reading, name, row, left)? {
         None => return Ok(()),
@@ -139,9 +137,8 @@ fn fetch<F: Files>(
 ) -> Result<Option<Text>, ConfigEnd>
     ensures found { IfSome (F.contents files.old)
         (λ folder. FetchGives optional path.now (look_in folder path.now) result) }
-    ensures contents { F.contents files.new ≡ F.contents files.old }
-    ensures writes { F.writes files.new ≡ F.writes files.old }
-    ensures faults { CountsEnd (F.faults files.old) (F.faults files.new) result }
+    ensures only_reads { OnlyReads F.contents F.writes F.faults files.old files.new
+        (is_broken result) }
 {
     match files.get(alloc, path, FILE_LIMIT)? {
         Got::Bytes(text) => Ok(Some(text)),

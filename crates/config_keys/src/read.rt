@@ -1,6 +1,7 @@
 // Reading the settings of a dataset.
-ghost use Rattle.std.specs.Prelude.{◌≡◌, IfSome};
-ghost use Rattle.config_keys.specs.Ends.{CountsEnd};
+ghost use Rattle.std.specs.Prelude.{IfSome};
+ghost use Rattle.plan_files.specs.Reads.{OnlyReads};
+ghost use Rattle.config_keys.specs.Ends.{is_broken};
 ghost use Rattle.config_keys.specs.Items.{look_in};
 ghost use Rattle.config_keys.specs.Values.{effective};
 ghost use Rattle.config_keys.specs.Effective.{ConfigGives};
@@ -16,9 +17,8 @@ use std::alloc::Global;
 /// the first fault in reading order, or else for the first bad value in the order of keys. No file is changed.
 pub fn read_config<F: Files>(alloc: Global, files: &mut F) -> Result<Config, ConfigEnd>
     ensures config { IfSome (F.contents files.old) (λ folder. ConfigGives (effective (look_in folder)) result) }
-    ensures contents { F.contents files.new ≡ F.contents files.old }
-    ensures writes { F.writes files.new ≡ F.writes files.old }
-    ensures faults { CountsEnd (F.faults files.old) (F.faults files.new) result }
+    ensures only_reads { OnlyReads F.contents F.writes F.faults files.old files.new
+        (is_broken result) }
 {
     let mut reading = Reading::new(alloc);
     read_all(alloc, files, &mut reading)?;

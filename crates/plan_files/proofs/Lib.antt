@@ -1,3 +1,4 @@
 pub mod Applying
 pub mod OtherFiles
+pub mod Reading
 pub mod Writes

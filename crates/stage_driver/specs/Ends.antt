@@ -1,8 +1,7 @@
 -- What ends a chain early, and the count of faults.
-use Rattle.std.specs.Prelude.{ℕ, ◌≡◌, Result, Ok, Err, ⊤}
+use Rattle.std.specs.Prelude.{◌≡◌, Bool, true, false, Result, Ok, Err, ⊤}
 use Rattle.plan_files.specs.declared.file_fault.FileFault.{FileFault}
 use Rattle.plan_files.specs.declared.file_fault.FileFault.TheVariants as file_fault
-use Rattle.plan_files.specs.Counts.{Raised}
 use Rattle.config_keys.specs.declared.config_end.ConfigEnd.{ConfigEnd}
 use Rattle.config_keys.specs.declared.config_end.ConfigEnd.TheVariants as config
 use Rattle.stage_driver.specs.declared.chain_end.ChainEnd.{ChainEnd}
@@ -33,18 +32,18 @@ end_of_config (config.Refused reason) = end.Stopped (stop.BadConfig reason)
 end_of_config config.FileFault = end.FileFault
 end_of_config config.NoMemory = end.NoMemory
 
--- the count of faults over a part of a chain: it rises where a call on a file failed, and only there
-abbrev pub CountsEnd : {T : Type 0} → ℕ → ℕ → Result T ChainEnd → Type 0
-CountsEnd before now (Ok _) = now ≡ before
-CountsEnd before now (Err end.FileFault) = Raised before now
-CountsEnd before now (Err (end.Stopped _)) = now ≡ before
-CountsEnd before now (Err end.NoMemory) = now ≡ before
+-- a part of a chain ended at the fault of a file
+abbrev pub is_broken : {T : Type 0} → Result T ChainEnd → Bool
+is_broken (Ok _) = false
+is_broken (Err end.FileFault) = true
+is_broken (Err (end.Stopped _)) = false
+is_broken (Err end.NoMemory) = false
 
--- the count of faults over a run: it rises where the answer is the fault of a file, and only there
-abbrev pub CountsFault : {T : Type 0} → ℕ → ℕ → Result T ChainFault → Type 0
-CountsFault before now (Ok _) = now ≡ before
-CountsFault before now (Err fault.FileFault) = Raised before now
-CountsFault before now (Err fault.NoMemory) = now ≡ before
+-- a run answered the fault of a file
+abbrev pub has_failed : {T : Type 0} → Result T ChainFault → Bool
+has_failed (Ok _) = false
+has_failed (Err fault.FileFault) = true
+has_failed (Err fault.NoMemory) = false
 
 -- what a part of a chain gives: what was told, or why the chain stops there; other ends are free
 abbrev pub Gives : {T : Type 0} → Result T Stop → Result T ChainEnd → Type 0

@@ -1,10 +1,11 @@
 // The stages of a chain, one after the other.
 ghost use Rattle.std.specs.Prelude.{◌≡◌, ◌≤◌, [], IfSome};
+ghost use Rattle.plan_files.specs.Reads.{OnlyReads};
 ghost use Rattle.config_keys.specs.Items.{look_in};
 ghost use Rattle.config_keys.specs.Values.{effective};
 ghost use Rattle.stage_driver.specs.Built.{built, run_stage, trace_of};
 ghost use Rattle.stage_driver.specs.Chain.{chain_from, to_run, visit_of};
-ghost use Rattle.stage_driver.specs.Ends.{CountsEnd};
+ghost use Rattle.stage_driver.specs.Ends.{is_broken};
 ghost use Rattle.stage_driver.specs.Progress.{ChainGives, VisitGives, nothing};
 
 use crate::chain_end::ChainEnd;
@@ -28,9 +29,8 @@ pub(crate) fn run_built<F: Files, L: Ledger>(
 ) -> Result<(), ChainEnd>
     requires { progress.old ≡ nothing }
     ensures chain { IfSome (F.contents files.old) (λ folder. ChainGives (trace_of folder) progress.new steps.old steps.new result) }
-    ensures contents { F.contents files.new ≡ F.contents files.old }
-    ensures writes { F.writes files.new ≡ F.writes files.old }
-    ensures faults { CountsEnd (F.faults files.old) (F.faults files.new) result }
+    ensures only_reads { OnlyReads F.contents F.writes F.faults files.old files.new
+        (is_broken result) }
     ensures no_less { steps.old ≤ steps.new }
 {
     let config = read_config(alloc, files)?;
@@ -47,9 +47,8 @@ fn run_stages<F: Files, L: Ledger>(
 ) -> Result<(), ChainEnd>
     requires { progress.old ≡ nothing }
     ensures chain { IfSome (F.contents files.old) (λ folder. ChainGives (chain_from run_stage config.now folder [] (to_run config.now built)) progress.new steps.old steps.new result) }
-    ensures contents { F.contents files.new ≡ F.contents files.old }
-    ensures writes { F.writes files.new ≡ F.writes files.old }
-    ensures faults { CountsEnd (F.faults files.old) (F.faults files.new) result }
+    ensures only_reads { OnlyReads F.contents F.writes F.faults files.old files.new
+        (is_broken result) }
     ensures no_less { steps.old ≤ steps.new }
 {
     for stage in built() {
@@ -70,9 +69,8 @@ fn visit<F: Files, L: Ledger>(
     progress: &mut Progress,
 ) -> Result<(), ChainEnd>
     ensures visit { IfSome (F.contents files.old) (λ folder. VisitGives (visit_of run_stage config.now folder progress.old.files stage) progress.old progress.new steps.old steps.new result) }
-    ensures contents { F.contents files.new ≡ F.contents files.old }
-    ensures writes { F.writes files.new ≡ F.writes files.old }
-    ensures faults { CountsEnd (F.faults files.old) (F.faults files.new) result }
+    ensures only_reads { OnlyReads F.contents F.writes F.faults files.old files.new
+        (is_broken result) }
     ensures no_less { steps.old ≤ steps.new }
 {
     let bundle = gather(alloc, files, config, stage, progress.files())?;

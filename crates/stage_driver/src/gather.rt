@@ -1,11 +1,12 @@
 // What a stage is given.
-ghost use Rattle.std.specs.Prelude.{◌≡◌, ℕ, IfSome, IfOk};
+ghost use Rattle.std.specs.Prelude.{◌≡◌, false, IfSome, IfOk};
+ghost use Rattle.plan_files.specs.Reads.{OnlyReads};
 ghost use Rattle.config_keys.specs.Items.{look_in};
 ghost use Rattle.giv_files.specs.FileNames.{file_name};
 ghost use Rattle.giv_files.specs.Settings.{Fits};
 ghost use Rattle.giv_files.specs.Stages.{stage_inputs};
 ghost use Rattle.stage_driver.specs.Chain.{bundle_told, hand_text, input_text, made_text, texts_of};
-ghost use Rattle.stage_driver.specs.Ends.{CountsEnd, Gives};
+ghost use Rattle.stage_driver.specs.Ends.{is_broken, Gives};
 
 use crate::chain_end::ChainEnd;
 use crate::origin::{Origin, chosen, origin_of};
@@ -26,9 +27,8 @@ pub(crate) fn gather<F: Files>(
 ) -> Result<Bundle, ChainEnd>
     ensures bundle { IfSome (F.contents files.old) (λ folder. Gives (bundle_told config.now stage (texts_of config.now folder made.now (stage_inputs stage))) result) }
     ensures fits { IfOk result (λ bundle. Fits bundle) }
-    ensures contents { F.contents files.new ≡ F.contents files.old }
-    ensures writes { F.writes files.new ≡ F.writes files.old }
-    ensures faults { CountsEnd (F.faults files.old) (F.faults files.new) result }
+    ensures only_reads { OnlyReads F.contents F.writes F.faults files.old files.new
+        (is_broken result) }
 {
     let settings = config.stage_settings(alloc, stage)?;
     let mut bundle = Bundle::new(alloc, stage, settings);
@@ -47,9 +47,8 @@ fn input<F: Files>(
     made: &[MadeFile],
 ) -> Result<Text, ChainEnd>
     ensures text { IfSome (F.contents files.old) (λ folder. Gives (input_text folder made.now file) result) }
-    ensures contents { F.contents files.new ≡ F.contents files.old }
-    ensures writes { F.writes files.new ≡ F.writes files.old }
-    ensures faults { CountsEnd (F.faults files.old) (F.faults files.new) result }
+    ensures only_reads { OnlyReads F.contents F.writes F.faults files.old files.new
+        (is_broken result) }
 {
     match origin_of(file) {
         Origin::Needed => hand_text(alloc, files, file, false),
@@ -66,9 +65,8 @@ fn hand_text<F: Files>(
     optional: bool,
 ) -> Result<Text, ChainEnd>
     ensures text { IfSome (F.contents files.old) (λ folder. Gives (hand_text optional file (look_in folder (file_name file))) result) }
-    ensures contents { F.contents files.new ≡ F.contents files.old }
-    ensures writes { F.writes files.new ≡ F.writes files.old }
-    ensures faults { CountsEnd (F.faults files.old) (F.faults files.new) result }
+    ensures only_reads { OnlyReads F.contents F.writes F.faults files.old files.new
+        (is_broken result) }
 {
     match files.get(alloc, file.name(), FILE_LIMIT)? {
         Got::Bytes(text) => Ok(text),
@@ -81,7 +79,7 @@ fn hand_text<F: Files>(
 // The text of a file that a stage before made.
 fn made_text(alloc: Global, made: &[MadeFile], file: FileId) -> Result<Text, ChainEnd>
     ensures text { Gives (made_text made.now file) result }
-    ensures calm { (faults : ℕ) → CountsEnd faults faults result }
+    ensures calm { is_broken result ≡ false }
 {
     for other in made {
         if other.file.name() == file.name() {

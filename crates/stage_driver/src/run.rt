@@ -1,9 +1,11 @@
 // A run of the chain over the files of a dataset.
 ghost use Rattle.std.specs.Prelude.{◌≡◌, ◌≤◌, ◌+◌, ◌++◌, IfSome, IfOk, IfErr, OnOk, Some};
+ghost use Rattle.plan_files.specs.Counts.{Counts};
+ghost use Rattle.plan_files.specs.Reads.{OnlyReads};
 ghost use Rattle.plan_files.specs.Applied.{AreApplied};
 ghost use Rattle.plan_files.specs.Others.{AreOutside};
 ghost use Rattle.stage_driver.specs.Built.{made, trace_of};
-ghost use Rattle.stage_driver.specs.Ends.{CountsFault};
+ghost use Rattle.stage_driver.specs.Ends.{has_failed};
 ghost use Rattle.stage_driver.specs.Hand.{hand_of, is_hand};
 ghost use Rattle.stage_driver.specs.Progress.{EndGives, nothing};
 ghost use Rattle.stage_driver.specs.Reports.{last_line, end_of};
@@ -39,7 +41,7 @@ pub fn run_chain<F: Files, L: Ledger>(
     ensures no_more { IfSome (F.contents files.old) (λ folder. steps.new ≤ steps.old + (made (hand_of folder)).work) }
     ensures no_less { steps.old ≤ steps.new }
     ensures hand { SameHand (F.contents files.old) (F.contents files.new) }
-    ensures faults { CountsFault (F.faults files.old) (F.faults files.new) result }
+    ensures faults { Counts (has_failed result) (F.faults files.old) (F.faults files.new) }
 {
     // Nothing is kept yet, so both modes do the same.
     let _ = mode;
@@ -57,9 +59,8 @@ fn run_to_end<F: Files, L: Ledger>(
 ) -> Result<Option<Stop>, ChainFault>
     requires { progress.old ≡ nothing }
     ensures end { IfSome (F.contents files.old) (λ folder. EndGives (trace_of folder) progress.new steps.old steps.new result) }
-    ensures contents { F.contents files.new ≡ F.contents files.old }
-    ensures writes { F.writes files.new ≡ F.writes files.old }
-    ensures faults { CountsFault (F.faults files.old) (F.faults files.new) result }
+    ensures only_reads { OnlyReads F.contents F.writes F.faults files.old files.new
+        (has_failed result) }
     ensures no_less { steps.old ≤ steps.new }
 {
     match run_built(alloc, files, steps, progress) {
@@ -81,7 +82,7 @@ fn finish<F: Files>(
     ensures end { IfOk result (λ outcome. outcome.end ≡ end_of stop) }
     ensures left { OnOk result (AreApplied (writes_for progress.files) (F.contents files.old) (F.contents files.new) (F.writes files.old) (F.writes files.new)) }
     ensures unfinished { IfErr result (λ fault. AreNotAll fault (writes_for progress.files) (F.contents files.old) (F.contents files.new) (F.writes files.old) (F.writes files.new)) }
-    ensures faults { CountsFault (F.faults files.old) (F.faults files.new) result }
+    ensures faults { Counts (has_failed result) (F.faults files.old) (F.faults files.new) }
 {
     let (made, lines) = progress.into_parts();
     let outcome = outcome(alloc, lines, stop)?;

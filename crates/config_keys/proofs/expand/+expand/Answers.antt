@@ -1,4 +1,5 @@
 use Rattle.std.proofs.Common.{ap, ◌∙◌, Err, refl}
+use Rattle.plan_files.proofs.Reading.{nothing_read, both_read}
 use Rattle.std.proofs.lemmas.Result.{err_from_is_err_and}
 use Rattle.config_keys.proofs.Expanding.{row_refused, row_passed, row_unfound, row_alone}
 use Rattle.config_keys.proofs.Expanding.{row_included, text_refused, rows_begin, rows_more}
@@ -39,7 +40,7 @@ read_row-returns-clause-read g t c =
     row_included _ _ _ c.args.left c.args.name.now c.args.row.now c.args.reading.now
     c.take_row.new.reading _ c.in-Some.included c.as_str.result.now
     c.as_str-in-Some-2.result.now c.as_bytes.result.now _
-    refl c.in_ok-fetch.ensures.contents c.as_str.ensures.value c.as_str-in-Some-2.ensures.value
+    refl c.in_ok-fetch.ensures.only_reads.contents c.as_str.ensures.value c.as_str-in-Some-2.ensures.value
     (rw c.in-Some.is at c.in_ok-take_row.ensures)
     (rw c.as_bytes.ensures (rw c.in-Some-2.is at c.in_ok-fetch.ensures.found))
     c.read_text.ensures.read
@@ -52,9 +53,7 @@ read_text-returns-in_err-rows-clause-read g t c =
 
 pub read_text-rows-init : goal.read_text-rows-init
 read_text-rows-init g t c = record {
-  contents = refl;
-  writes = refl;
-  faults = refl;
+  reads = nothing_read _ _ _ _;
   read = rows_begin c.args.left c.args.name.now c.args.text.now c.args.reading.now _
       c.in_ok-rows.rows c.in_ok-rows.ensures.0 c.in_ok-rows.ensures.1;
 }
@@ -63,12 +62,10 @@ pub read_text-rows-preserved : goal.read_text-rows-preserved
 read_text-rows-preserved g t c =
     let next = rw c.if-branch.true at c.in_ok-next_row.ensures in
     record {
-      contents = c.in_ok-read_row.ensures.contents ∙ c.rows.invariant.contents;
-      writes = c.in_ok-read_row.ensures.writes ∙ c.rows.invariant.writes;
-      faults = c.in_ok-read_row.ensures.faults ∙ c.rows.invariant.faults;
+      reads = both_read _ _ _ _ _ _ _ c.rows.invariant.reads c.in_ok-read_row.ensures.only_reads;
       read = rows_more c.args.left c.args.name.now c.args.text.now c.args.reading.now _ _
           c.rows.rows c.next_row.new.self c.next_row.new.row c.rows.reading
-          c.read_row.new.reading next c.rows.invariant.contents c.rows.invariant.read
+          c.read_row.new.reading next c.rows.invariant.reads.contents c.rows.invariant.read
           c.in_ok-read_row.ensures.read;
     }
 
@@ -80,7 +77,7 @@ read_text-returns-in_err-read_row-clause-read g t c =
     c.from_residual-in_err-read_row.ensures.1 in
     rows_refused c.args.left c.args.name.now c.args.text.now c.args.reading.now _ _
     c.rows.rows c.next_row.new.self c.next_row.new.row c.rows.reading _
-    c.in_err-read_row.field-0.0 _ next c.rows.invariant.contents c.rows.invariant.read
+    c.in_err-read_row.field-0.0 _ next c.rows.invariant.reads.contents c.rows.invariant.read
     c.in_err-read_row.ensures.read (p.1 ∙ ap Err p.2)
 
 pub read_text-returns-clause-read : goal.read_text-returns-clause-read

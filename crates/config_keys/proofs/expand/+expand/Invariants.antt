@@ -1,6 +1,7 @@
 -- Each level of includes is less than the one above it. What is left leads to what the text gives,
 -- and no file has changed.
-use Rattle.std.proofs.Common.{◌≡◌, ◌+◌, ◌*◌, length}
+use Rattle.std.proofs.Common.{false, ◌+◌, ◌*◌, length}
+use Rattle.plan_files.specs.Reads.{OnlyReads}
 use Rattle.config_keys.proofs.Expanding.{Leads}
 use Rattle.config_keys.proofs.expand.+expand.Given as goal
 
@@ -16,9 +17,7 @@ decreases-read_text-rows g l = length l.rows
 abbrev pub invariant-read_text-rows : goal.invariant-read_text-rows
 invariant-read_text-rows g l =
     record {
-      contents : g.F.Files.contents l.files ≡ g.F.Files.contents l.initial.files;
-      writes : g.F.Files.writes l.files ≡ g.F.Files.writes l.initial.files;
-      faults : g.F.Files.faults l.files ≡ g.F.Files.faults l.initial.files;
+      reads : OnlyReads g.F.Files.contents g.F.Files.writes g.F.Files.faults l.initial.files l.files false;
       read : Leads l.left l.name l.text l.initial.reading
           (g.F.Files.contents l.initial.files) l.rows l.reading;
     }

@@ -13,4 +13,4 @@ returns-in-None-clause-read g c = config_absent _ c.args.reading.now (rw c.in-No
 
 pub returns-in-Some-clause-read : goal.returns-in-Some-clause-read
 returns-in-Some-clause-read g c =
-    config_read _ _ c.args.reading.now _ c.as_bytes.result.now _ c.in_ok-fetch.ensures.contents (rw c.as_bytes.ensures (rw c.in-Some.is at c.in_ok-fetch.ensures.found)) c.read_text.ensures.read
+    config_read _ _ c.args.reading.now _ c.as_bytes.result.now _ c.in_ok-fetch.ensures.only_reads.contents (rw c.as_bytes.ensures (rw c.in-Some.is at c.in_ok-fetch.ensures.found)) c.read_text.ensures.read

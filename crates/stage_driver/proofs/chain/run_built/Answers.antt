@@ -9,4 +9,4 @@ returns-in_err-config-clause-chain g c =
     refused _ c.in_err-config.field-0.0 c.args.progress.now c.args.steps.now _ c.requires c.in_err-config.ensures.config (p.1 ∙ ap Err p.2)
 
 pub returns-clause-chain : goal.returns-clause-chain
-returns-clause-chain g c = settled _ _ c.in_ok-config.config c.run_stages.new.progress c.args.steps.now c.run_stages.new.steps _ c.in_ok-config.ensures.contents c.in_ok-config.ensures.config c.run_stages.ensures.chain
+returns-clause-chain g c = settled _ _ c.in_ok-config.config c.run_stages.new.progress c.args.steps.now c.run_stages.new.steps _ c.in_ok-config.ensures.only_reads.contents c.in_ok-config.ensures.config c.run_stages.ensures.chain

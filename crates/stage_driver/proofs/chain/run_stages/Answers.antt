@@ -1,4 +1,5 @@
-use Rattle.std.proofs.Common.{◌≡◌, true, false, get_or, Err, ap, ◌∙◌, refl, arith}
+use Rattle.std.proofs.Common.{◌≡◌, true, false, get_or, Err, ap, ◌∙◌, arith}
+use Rattle.plan_files.proofs.Reading.{nothing_read, both_read}
 use Rattle.std.proofs.lemmas.Bool.{le-leb, lt-leb}
 use Rattle.std.proofs.lemmas.Result.{err_from_is_err_and}
 use Rattle.giv_files.specs.declared.stage.Stage.TheVariants.{Load}
@@ -9,9 +10,7 @@ use Rattle.stage_driver.proofs.chain.run_stages.Goals.{then-place_of+in_ok-visit
 
 pub loop-stage-init : goal.loop-stage-init
 loop-stage-init g c = record {
-  contents = refl;
-  writes = refl;
-  faults = refl;
+  reads = nothing_read _ _ _ _;
   least = omega arith;
   rest = told_first _ c.args.config.now c.built-stage-items.result.now c.args.progress.now c.args.steps.now c.requires;
 }
@@ -23,19 +22,15 @@ loop-stage-preserved g c =
       | then-place_of+in_ok-visit w ↦
           let is : in_time c.args.config.now (get_or c.built-stage-items.result.now c.loop-stage.stage-index Load) ≡ true = le-leb _ _ (omega (arith, c.place_of.ensures, last, w.if-place_of.true)) in
           rw (w.files-is, w.steps-is, w.progress-is) (record {
-            contents = w.in_ok-visit.ensures.contents ∙ c.loop-stage.invariant.contents;
-            writes = w.in_ok-visit.ensures.writes ∙ c.loop-stage.invariant.writes;
-            faults = w.in_ok-visit.ensures.faults ∙ c.loop-stage.invariant.faults;
+            reads = both_read _ _ _ _ _ _ _ c.loop-stage.invariant.reads w.in_ok-visit.ensures.only_reads;
             least = omega (arith, c.loop-stage.invariant.least, w.in_ok-visit.ensures.no_less);
             rest = told_more c.args.config.now c.built-stage-items.result.now c.loop-stage.stage-index Load c.loop-stage-test.true _ _ c.loop-stage.progress _ c.args.steps.now c.loop-stage.steps _
-                is c.loop-stage.invariant.contents w.in_ok-visit.ensures.visit c.loop-stage.invariant.rest;
+                is c.loop-stage.invariant.reads.contents w.in_ok-visit.ensures.visit c.loop-stage.invariant.rest;
           })
       | else-place_of w ↦
           let not : in_time c.args.config.now (get_or c.built-stage-items.result.now c.loop-stage.stage-index Load) ≡ false = lt-leb _ _ (omega (arith, c.place_of.ensures, last, w.if-place_of.false)) in
           rw (w.files-is, w.steps-is, w.progress-is) (record {
-            contents = c.loop-stage.invariant.contents;
-            writes = c.loop-stage.invariant.writes;
-            faults = c.loop-stage.invariant.faults;
+            reads = c.loop-stage.invariant.reads;
             least = c.loop-stage.invariant.least;
             rest = told_same c.args.config.now c.built-stage-items.result.now c.loop-stage.stage-index Load c.loop-stage-test.true _ c.loop-stage.progress c.args.steps.now c.loop-stage.steps not c.loop-stage.invariant.rest;
           })
@@ -47,7 +42,7 @@ returns-in_err-visit-clause-chain g c =
     let last = c.place_of-in-loop-stage.ensures ∙ ap stage_place c.last_stage.ensures in
     let in_time_is : in_time c.args.config.now (get_or c.built-stage-items.result.now c.loop-stage.stage-index Load) ≡ true = le-leb _ _ (omega (arith, c.place_of.ensures, last, c.if-place_of.true)) in
     told_ended c.args.config.now c.built-stage-items.result.now c.loop-stage.stage-index Load c.loop-stage-test.true _ c.built-stage-items.ensures _ _ c.loop-stage.progress c.visit.new.progress c.args.steps.now c.loop-stage.steps c.visit.new.steps c.in_err-visit.field-0.0 _
-    in_time_is c.loop-stage.invariant.contents c.loop-stage.invariant.least c.in_err-visit.ensures.visit c.loop-stage.invariant.rest (p.1 ∙ ap Err p.2)
+    in_time_is c.loop-stage.invariant.reads.contents c.loop-stage.invariant.least c.in_err-visit.ensures.visit c.loop-stage.invariant.rest (p.1 ∙ ap Err p.2)
 
 pub returns-clause-chain : goal.returns-clause-chain
 returns-clause-chain g c = told_finished _ c.args.config.now c.built-stage-items.result.now _ c.loop-stage.stage-index c.loop-stage.progress c.args.steps.now c.loop-stage.steps c.loop-stage-test.false c.built-stage-items.ensures c.loop-stage.invariant.rest

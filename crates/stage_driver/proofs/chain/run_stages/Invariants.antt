@@ -1,4 +1,5 @@
-use Rattle.std.proofs.Common.{◌≡◌, ◌≤◌, [], IfSome, drop}
+use Rattle.std.proofs.Common.{false, ◌≤◌, [], IfSome, drop}
+use Rattle.plan_files.specs.Reads.{OnlyReads}
 use Rattle.stage_driver.specs.Progress.{IsRest}
 use Rattle.stage_driver.proofs.Going.{still}
 use Rattle.stage_driver.proofs.chain.run_stages.Given as goal
@@ -6,9 +7,7 @@ use Rattle.stage_driver.proofs.chain.run_stages.Given as goal
 -- the stages so far and the rest make the chain, and no file has changed
 abbrev pub invariant-loop-stage : goal.invariant-loop-stage
 invariant-loop-stage g l = record {
-  contents : g.F.Files.contents l.files ≡ g.F.Files.contents l.initial.files;
-  writes : g.F.Files.writes l.files ≡ g.F.Files.writes l.initial.files;
-  faults : g.F.Files.faults l.files ≡ g.F.Files.faults l.initial.files;
+  reads : OnlyReads g.F.Files.contents g.F.Files.writes g.F.Files.faults l.initial.files l.files false;
   least : l.initial.steps ≤ l.steps;
   rest : IfSome (g.F.Files.contents l.initial.files) (λ folder. IsRest (still l.config folder [] l.stage-items) (still l.config folder l.progress.files (drop l.stage-index l.stage-items)) l.progress l.initial.steps l.steps);
 }

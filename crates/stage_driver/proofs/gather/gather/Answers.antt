@@ -1,4 +1,5 @@
 use Rattle.std.proofs.Common.{◌≡◌, ap, ◌∙◌, ◌++◌, ◌∷◌, [], ◌+◌, length, length-append}
+use Rattle.plan_files.proofs.Reading.{both_read}
 use Rattle.giv_files.specs.declared.file_id.FileId.TheVariants.{Stop}
 use Rattle.giv_files.specs.Settings.{BundleParts}
 use Rattle.stage_driver.specs.Chain.{bundle_for}
@@ -10,14 +11,12 @@ loop-file-preserved g c =
     let k = c.in_ok-push_input.ensures.ok in
     let inputs = c.loop-file.bundle.inputs in
     record {
-      contents = c.in_ok-text.ensures.contents ∙ c.loop-file.invariant.contents;
-      writes = c.in_ok-text.ensures.writes ∙ c.loop-file.invariant.writes;
-      faults = c.in_ok-text.ensures.faults ∙ c.loop-file.invariant.faults;
+      reads = both_read _ _ _ _ _ _ _ c.loop-file.invariant.reads c.in_ok-text.ensures.only_reads;
       stage = ap (λ (bundle : BundleParts). bundle.stage) k ∙ c.loop-file.invariant.stage;
       settings = ap (λ (bundle : BundleParts). bundle.settings) k ∙ c.loop-file.invariant.settings;
       count = ap (λ (bundle : BundleParts). length bundle.inputs) k ∙ length-append inputs (c.as_bytes.result.now ∷ []) ∙ ap (λ n. n + 1) c.loop-file.invariant.count;
       texts = told_more _ _ c.args.config.now c.args.made.now c.inputs-file-items.result.now c.loop-file.file-index Stop inputs c.push_input.new.self.inputs c.in_ok-text.text
-          c.loop-file-test.true c.loop-file.invariant.contents (rw c.chosen.ensures at c.in_ok-text.ensures.text)
+          c.loop-file-test.true c.loop-file.invariant.reads.contents (rw c.chosen.ensures at c.in_ok-text.ensures.text)
           (ap (λ (bundle : BundleParts). bundle.inputs) k ∙ ap (λ text. inputs ++ text ∷ []) c.as_bytes.ensures) c.loop-file.invariant.texts;
     }
 

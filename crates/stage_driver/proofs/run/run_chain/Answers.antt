@@ -7,10 +7,10 @@ pub returns-clause-outcome : goal.returns-clause-outcome
 returns-clause-outcome g c = outcome_is _ c.run_to_end.new.progress c.in_ok-stop.stop c.args.steps.now c.run_to_end.new.steps _ c.in_ok-stop.ensures.end c.finish.ensures.report c.finish.ensures.end
 
 pub returns-clause-left : goal.returns-clause-left
-returns-clause-left g c = left_is _ _ _ _ _ _ c.run_to_end.new.progress c.in_ok-stop.stop c.args.steps.now c.run_to_end.new.steps _ c.in_ok-stop.ensures.contents c.in_ok-stop.ensures.writes c.in_ok-stop.ensures.end c.finish.ensures.left
+returns-clause-left g c = left_is _ _ _ _ _ _ c.run_to_end.new.progress c.in_ok-stop.stop c.args.steps.now c.run_to_end.new.steps _ c.in_ok-stop.ensures.only_reads.contents c.in_ok-stop.ensures.only_reads.writes c.in_ok-stop.ensures.end c.finish.ensures.left
 
 pub returns-clause-unfinished : goal.returns-clause-unfinished
-returns-clause-unfinished g c = unfinished_is _ _ _ _ _ _ c.run_to_end.new.progress c.in_ok-stop.stop c.args.steps.now c.run_to_end.new.steps _ c.in_ok-stop.ensures.contents c.in_ok-stop.ensures.writes c.in_ok-stop.ensures.end c.finish.ensures.unfinished
+returns-clause-unfinished g c = unfinished_is _ _ _ _ _ _ c.run_to_end.new.progress c.in_ok-stop.stop c.args.steps.now c.run_to_end.new.steps _ c.in_ok-stop.ensures.only_reads.contents c.in_ok-stop.ensures.only_reads.writes c.in_ok-stop.ensures.end c.finish.ensures.unfinished
 
 pub returns-clause-work : goal.returns-clause-work
 returns-clause-work g c = work_told _ c.run_to_end.new.progress c.in_ok-stop.stop c.args.steps.now c.run_to_end.new.steps _ c.in_ok-stop.ensures.end
@@ -19,16 +19,16 @@ pub returns-clause-no_more : goal.returns-clause-no_more
 returns-clause-no_more g c = work_bound _ c.run_to_end.new.progress c.args.steps.now c.run_to_end.new.steps c.run_to_end.result c.run_to_end.ensures.end
 
 pub returns-clause-hand : goal.returns-clause-hand
-returns-clause-hand g c = hand_is _ _ _ _ _ c.run_to_end.new.progress c.in_ok-stop.stop c.args.steps.now c.run_to_end.new.steps _ c.in_ok-stop.ensures.contents c.in_ok-stop.ensures.end c.finish.ensures.left c.finish.ensures.unfinished
+returns-clause-hand g c = hand_is _ _ _ _ _ c.run_to_end.new.progress c.in_ok-stop.stop c.args.steps.now c.run_to_end.new.steps _ c.in_ok-stop.ensures.only_reads.contents c.in_ok-stop.ensures.end c.finish.ensures.left c.finish.ensures.unfinished
 
 pub returns-in_err-stop-clause-unfinished : goal.returns-in_err-stop-clause-unfinished
-returns-in_err-stop-clause-unfinished g c = untouched _ _ _ _ _ c.in_err-stop.ensures.contents c.in_err-stop.ensures.writes
+returns-in_err-stop-clause-unfinished g c = untouched _ _ _ _ _ c.in_err-stop.ensures.only_reads.contents c.in_err-stop.ensures.only_reads.writes
 
 pub returns-in_err-stop-clause-no_more : goal.returns-in_err-stop-clause-no_more
 returns-in_err-stop-clause-no_more g c = work_bound _ c.run_to_end.new.progress c.args.steps.now c.run_to_end.new.steps c.run_to_end.result c.run_to_end.ensures.end
 
 pub returns-in_err-stop-clause-hand : goal.returns-in_err-stop-clause-hand
-returns-in_err-stop-clause-hand g c = hand_untouched _ _ c.in_err-stop.ensures.contents
+returns-in_err-stop-clause-hand g c = hand_untouched _ _ c.in_err-stop.ensures.only_reads.contents
 
 pub returns-clause-right : goal.returns-clause-right
 returns-clause-right g c = told_right _
