@@ -118,8 +118,8 @@ pub passed_over : (stage : Stage) (keys : List Key) (i : ℕ) (d : Key) → i < 
     ≡ filter (has_key stage) (take (i + 1) keys)
 passed_over stage keys i d h not =
     sym (filter_more (has_key stage) keys i d h
-        ∙ ap (λ b. filter (has_key stage) (take i keys) ++ cond b (get_or keys i d ∷ []) []) not
-        ∙ append-nil (filter (has_key stage) (take i keys)))
+    ∙ ap (λ b. filter (has_key stage) (take i keys) ++ cond b (get_or keys i d ∷ []) []) not
+    ∙ append-nil (filter (has_key stage) (take i keys)))
 
 module _ (values : List ℤ) where
   -- the value of a key among some of the settings: none, or that of the key
@@ -167,7 +167,7 @@ module _ (values : List ℤ) where
       ≡ map (setting_at values) (filter (has_key stage) (take (i + 1) keys))
   part_more stage keys i d h is =
       sym (map-append (setting_at values) (filter (has_key stage) (take i keys))
-          (get_or keys i d ∷ []))
+      (get_or keys i d ∷ []))
       ∙ sym (ap (map (setting_at values)) (filter_more (has_key stage) keys i d h
       ∙ ap (λ b. filter (has_key stage) (take i keys) ++ cond b (get_or keys i d ∷ []) []) is))
 

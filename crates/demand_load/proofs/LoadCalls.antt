@@ -28,7 +28,7 @@ pub settings_fit : (bundle : BundleParts) → bundle.stage ≡ stage.Load → Fi
 settings_fit bundle is fits =
     let own = subst (λ of. SettingsFit of bundle.settings) is fits.settings in
     let passengers = amount_within stage.Load bundle.settings key.GenPassengersPerVehicle _ _ own
-        refl refl refl in
+    refl refl refl in
     record {
       some = passengers.0;
       few = passengers.1;

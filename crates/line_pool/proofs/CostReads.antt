@@ -35,7 +35,7 @@ costs_are_right bundle made own fits is =
       reads =
           written_back cost_header pool_cost_columns (cost_rows bundle) (omega arith) columns_written
           (rows_in_columns bundle.settings (network_in bundle).edges
-              (settings_modest bundle own fits) (lines_in bundle) lines)
+          (settings_modest bundle own fits) (lines_in bundle) lines)
           (refl, plain_header cost_header refl);
     }
 

@@ -22,11 +22,11 @@ loop-key-preserved c =
     elim c.if-has_key.branch [
       | then-has_key+in_ok-push_to w ↦
           rw w.settings-is (w.in_ok-push_to.ensures
-              ∙ ap (λ some. some ++ own (get_or keys i LastStage) ∷ []) c.loop-key.invariant
-              ∙ part_more c.args.self.now c.args.stage keys i LastStage c.loop-key-test.true
-              (sym c.has_key.ensures ∙ w.if-has_key.true))
+          ∙ ap (λ some. some ++ own (get_or keys i LastStage) ∷ []) c.loop-key.invariant
+          ∙ part_more c.args.self.now c.args.stage keys i LastStage c.loop-key-test.true
+          (sym c.has_key.ensures ∙ w.if-has_key.true))
       | else-has_key w ↦
           rw w.settings-is (c.loop-key.invariant
-              ∙ ap (map own) (passed_over c.args.stage keys i LastStage c.loop-key-test.true
-              (sym c.has_key.ensures ∙ w.if-has_key.false)))
+          ∙ ap (map own) (passed_over c.args.stage keys i LastStage c.loop-key-test.true
+          (sym c.has_key.ensures ∙ w.if-has_key.false)))
     ]
