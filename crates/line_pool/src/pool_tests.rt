@@ -79,3 +79,59 @@ fn lines_are_counted_before_rules(rt: HostRuntime) -> Result<(), Fail> {
     assert_eq!(rt; refused, Some(StageFault::Refused(want)));
     Ok(())
 }
+
+#[test]
+fn a_concept_has_the_frequency_of_each_line(rt: HostRuntime) -> Result<(), Fail> {
+    let network = Network::from_texts(rt.alloc(), STOPS, EDGES)?;
+    let text = b"9; 1; 2; 0\n3; 1; 1; 1000\n3; 2; 2; 1000\n9; 2; 7; 0\n1; 1; 3; 7\n";
+    let concept = Pool::from_concept(rt.alloc(), &network, text)?;
+    let lines: [(i64, &[usize], &[usize], u32); 3] = [
+        (1, &[2], &[3, 4], 7),
+        (3, &[0, 1], &[0, 1, 2], 1_000),
+        (9, &[1, 3], &[1, 2, 1], 0),
+    ];
+    assert_eq!(rt; concept.line_count(), lines.len());
+    for (place, (id, edges, stops, frequency)) in lines.iter().enumerate() {
+        assert!(rt; place < concept.line_count());
+        assert_eq!(rt; concept.line_id(place), *id);
+        assert_eq!(rt; concept.edges(place), *edges, "line {id}");
+        assert_eq!(rt; concept.stops(place), *stops, "line {id}");
+        assert_eq!(rt; concept.frequency(place), *frequency, "line {id}");
+    }
+    let pool = Pool::from_text(rt.alloc(), &network, b"5; 1; 1\n")?;
+    assert!(rt; 0 < pool.line_count());
+    assert_eq!(rt; pool.frequency(0), 0);
+    Ok(())
+}
+
+#[test]
+fn the_first_fault_of_a_concept_refuses(rt: HostRuntime) -> Result<(), Fail> {
+    let network = Network::from_texts(rt.alloc(), STOPS, EDGES)?;
+    let cases: [(&[u8], u64, RowWhy); 6] = [
+        (
+            b"1; 1; 1; 2\n# 3\n1; 2; 2; 3\n",
+            3,
+            RowWhy::FrequencyDiffers,
+        ),
+        // Two lines need not be driven equally often.
+        (
+            b"1; 1; 1; 2\n2; 1; 1; 3\n1; 2; 2; 0\n",
+            3,
+            RowWhy::FrequencyDiffers,
+        ),
+        (b"1; 1; 1; 2\n1; 2; 3; 3\n", 2, RowWhy::BrokenLine),
+        (b"1; 1; 1; 1001\n", 1, RowWhy::OutOfRange { column: 4 }),
+        (b"1; 1; 1; -1\n", 1, RowWhy::OutOfRange { column: 4 }),
+        (b"1; 1; 1\n", 1, RowWhy::FieldCount { found: 3 }),
+    ];
+    for (text, row, why) in &cases {
+        let refused = Pool::from_concept(rt.alloc(), &network, text).err();
+        let want = Refusal::BadRow {
+            file: FileId::Concept,
+            row: *row,
+            why: *why,
+        };
+        assert_eq!(rt; refused, Some(StageFault::Refused(want)), "row {row}");
+    }
+    Ok(())
+}
