@@ -1,6 +1,7 @@
 pub mod ById
 pub mod Labels
 mod LastEdges
+pub mod LastWalks
 pub mod LoadRows
 pub mod NamedFaults
 mod Partway

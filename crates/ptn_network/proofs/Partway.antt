@@ -1,10 +1,10 @@
 -- What holds of the labels of a network while the nearest stop is settled again and again.
-use Rattle.std.proofs.Common.{◌≡◌, ℕ, ◌+◌, ◌-◌, Vec, ◌<◌, ◌≤◌, Bool, true, false, cond, eqb, List, [], ◌∷◌, ◌++◌, length, map, sum, fold, set, refl, ap, sym, subst, ◌∙◌, Option, Some, None, All, Contains, inl, inr, arith}
+use Rattle.std.proofs.Common.{◌≡◌, ℕ, ◌+◌, ◌-◌, ◌*◌, Vec, ◌<◌, ◌≤◌, Bool, true, false, cond, eqb, List, [], ◌∷◌, ◌++◌, length, map, sum, fold, set, refl, ap, sym, subst, ◌∙◌, Option, Some, None, IfSome, All, Contains, inl, inr, arith}
 use Rattle.std.specs.Vec.{with_items}
 use Rattle.std.proofs.lemmas.Bool.{cases_lt}
 use Rattle.std.proofs.lemmas.Int.{ints}
 use Rattle.std.proofs.lemmas.List.{length-set, length_push, with_items_is, get_or_past}
-use Rattle.std.proofs.lemmas.List.Elements.{All-map, All-weaker, All-contains}
+use Rattle.std.proofs.lemmas.List.Elements.{All-map, All-weaker, All-contains, All-from_get_or}
 use Rattle.std.proofs.lemmas.List.Sums.{sum_by-set, count_by-le-length}
 use Rattle.ptn_network.specs.declared.edge.Edge.{Edge}
 use Rattle.ptn_network.specs.declared.label.Label.{Label}
@@ -13,7 +13,7 @@ use Rattle.ptn_network.specs.declared.weight.Weight.{Weight}
 use Rattle.ptn_network.specs.declared.weight.Weight.TheVariants as kind
 use Rattle.ptn_network.specs.Networks.{NetworkParts, IsEdge, IsNetwork}
 use Rattle.ptn_network.specs.Walks.{across, IsWalk, walk_sum, IsLeastSum, walks_within, least_sum}
-use Rattle.ptn_network.specs.Labels.{weight_of, sum_of, label_at, reach_over, settle, IsNearest, AreDone}
+use Rattle.ptn_network.specs.Labels.{weight_of, most_of, most_sum, sum_of, label_at, reach_over, settle, IsNearest, AreDone}
 use Rattle.ptn_network.proofs.Walks.{IsUpTo, begins, edge_last, staying_end, walk_sum-cons, walk_sum-push, walk_sum-small, within_all, within_there, least_of_is, Contains-map}
 use Rattle.ptn_network.proofs.Labels.{some_same, settled_same, sum_cases, reached_cases, settled_before, lowers, SettledUpTo, settled_up_to, at_set, is_settled, settled_count, over, over_size, over_count, keeps, meets}
 
@@ -177,20 +177,44 @@ round_more network weight from vec seen passed left stop sum sound so_far same_s
 -- ---- the last labels
 
 -- what an edge counts is not much
-weight_small : (weight : Weight) (stops : ℕ) (edge : Edge) → IsEdge stops edge → weight_of weight edge ≤ 10000000000
+weight_small : (weight : Weight) (stops : ℕ) (edge : Edge) → IsEdge stops edge → weight_of weight edge ≤ most_of weight
 weight_small kind.Length stops edge is = omega (arith, ints, is.some_length, is.short)
 weight_small kind.Time stops edge is = omega (arith, ints, is.some_time, is.in_order, is.soon)
+
+walk_small : (weight : Weight) (count : ℕ) → count ≤ 1000 → most_of weight * count ≤ most_sum weight
+walk_small kind.Length count few = omega arith
+walk_small kind.Time count few = omega arith
+
+pub most_small : (weight : Weight) → most_sum weight ≤ 10000000000000
+most_small kind.Length = omega arith
+most_small kind.Time = omega arith
+
+small_if_some : (most : ℕ) (some : Option ℕ) → ((sum : ℕ) → some ≡ Some sum → sum ≤ most) → IfSome some (λ sum. sum ≤ most)
+small_if_some most None h = tt
+small_if_some most (Some sum) h = h sum refl
 
 module _ (network : NetworkParts) (weight : Weight) (from : ℕ) (labels : List Label) (sound : IsNetwork network) (so_far : ArePartway network.edges (weight_of weight) from (length network.stops) labels) where
   few_settled : settled_count labels ≤ length network.stops
   few_settled = omega (arith, count_by-le-length is_settled labels, so_far.size)
 
   -- sums of labels are not large
-  pub sum_small : (to sum : ℕ) → sum_of (label_at labels to) ≡ Some sum → sum ≤ 10000000000000
+  sum_small : (to sum : ℕ) → sum_of (label_at labels to) ≡ Some sum → sum ≤ most_sum weight
   sum_small to sum is =
       let comes = so_far.comes to sum is in
-      let small = All-weaker (IsEdge (length network.stops)) (λ edge. weight_of weight edge ≤ 10000000000) (weight_small weight (length network.stops)) network.edges sound.edges in
-      omega (arith, walk_sum-small (weight_of weight) network.edges 10000000000 comes.walk small comes.is.there, comes.sums, comes.short, few_settled, sound.few_stops)
+      let small = All-weaker (IsEdge (length network.stops)) (λ edge. weight_of weight edge ≤ most_of weight)
+      (weight_small weight (length network.stops)) network.edges sound.edges in
+      let in_walk : walk_sum (weight_of weight) comes.walk ≤ most_of weight * length comes.walk =
+      walk_sum-small (weight_of weight) network.edges (most_of weight) comes.walk small comes.is.there in
+      let few : length comes.walk ≤ 1000 = omega (arith, comes.short, few_settled, sound.few_stops) in
+      omega (arith, in_walk, walk_small weight (length comes.walk) few, comes.sums)
+
+  pub sum_fits : (to sum : ℕ) → sum_of (label_at labels to) ≡ Some sum → sum ≤ 10000000000000
+  sum_fits to sum is = omega (arith, sum_small to sum is, most_small weight)
+
+  sums_small : All (λ label. IfSome (sum_of label) (λ sum. sum ≤ most_sum weight)) labels
+  sums_small =
+      All-from_get_or (λ label. IfSome (sum_of label) (λ sum. sum ≤ most_sum weight)) labels Unseen
+      (λ to within. small_if_some (most_sum weight) (sum_of (label_at labels to)) (sum_small to))
 
   module _ (none : (other far : ℕ) → other < length labels → label_at labels other ≡ Reached far → ⊥) where
     -- a label whose sum is not above a number is settled, with such a sum
@@ -245,5 +269,5 @@ module _ (network : NetworkParts) (weight : Weight) (from : ℕ) (labels : List 
         (Contains-map (walk_sum (weight_of weight)) walks comes.walk (within_there network.edges (length network.stops) from to comes.walk (omega (arith, comes.short, few_settled)) comes.is)))
 
     -- where no stop is reached that is not settled
-    pub partway_all : AreDone network (weight_of weight) from labels
-    partway_all = record { size = so_far.size; least = least_now; same = same_now; small = sum_small }
+    pub partway_all : AreDone network weight from labels
+    partway_all = record { size = so_far.size; least = least_now; same = same_now; small = sums_small }

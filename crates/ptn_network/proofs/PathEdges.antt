@@ -27,7 +27,7 @@ pub record IsStep (lengths : ℕ → Option ℕ) (to : ℕ) (edge : Edge) : Type
   pub came : lengths before ≡ Some near
   pub added : far ≡ near + edge_length edge
 
-is_step : (lengths : ℕ → Option ℕ) (to : ℕ) (edge : Edge) → ends_least lengths to edge ≡ true → IsStep lengths to edge
+pub is_step : (lengths : ℕ → Option ℕ) (to : ℕ) (edge : Edge) → ends_least lengths to edge ≡ true → IsStep lengths to edge
 is_step lengths to edge e =
     elim (across edge to) as (λ over. across edge to ≡ over → are_equal (lengths to) (option_map (λ near. near + edge_length edge) (option_and_then lengths over)) ≡ true → IsStep lengths to edge) [
       | None ↦ λ goes h. absurd (nothing (lengths to) h)

@@ -15,79 +15,39 @@ use Rattle.ptn_network.specs.Walks.{across, edge_length, walk_sum, least_sums, I
 use Rattle.ptn_network.proofs.Walks as walks
 use Rattle.ptn_network.specs.Paths.{are_equal, ends_least, last_edge, stop_before, path_within, path, length_to, edges_at, IsShortest}
 use Rattle.giv_files.proofs.Found.{any_is}
-use Rattle.ptn_network.proofs.PathEdges.{IsStep, ends_are, some_length, last_is_step, comes_from}
+use Rattle.ptn_network.proofs.LastWalks.{splits, across_back, starts_within, passes}
+use Rattle.ptn_network.proofs.PathEdges.{IsStep, some_length, last_is_step, comes_from}
 use Rattle.ptn_network.proofs.PathSteps.{no_edge, none_there, last_step}
 
--- ---- the last edge of a walk
-
-record Ends (edges : List Edge) (from to : ℕ) (walk : List Edge) : Type 0 where
+-- a walk with an edge has a last one
+record HasLast (walk : List Edge) : Type 0 where
   front : List Edge
   last : Edge
-  stop : ℕ
   is : walk ≡ front ++ last ∷ []
-  before : IsWalk edges from stop front
-  there : Contains edges last
-  over : across last stop ≡ Some to
 
-ends : (edges : List Edge) (from to : ℕ) (first : Edge) (rest : List Edge) → IsWalk edges from to (first ∷ rest) → Ends edges from to (first ∷ rest)
-ends edges from to first [] walk =
-    let b = walks.begins edges from to first [] walk in
-    record { front = []; last = first; stop = from; is = refl; before = walks.no_edge edges from; there = b.there; over = b.over ∙ ap Some (walks.staying_end edges b.next to b.on) }
-ends edges from to first (second ∷ rest) walk =
-    let b = walks.begins edges from to first (second ∷ rest) walk in
-    let e = ends edges b.next to second rest b.on in
-    record { front = first ∷ e.front; last = e.last; stop = e.stop; is = ap (λ more. first ∷ more) e.is; before = walks.edge_first edges from b.next e.stop first e.front b.there b.over e.before; there = e.there; over = e.over }
-
--- an edge leads back
-across_back : (edge : Edge) (stop next : ℕ) → edge.left ≢ edge.right → across edge stop ≡ Some next → across edge next ≡ Some stop
-across_back edge stop next apart over =
-    elim (ends_are edge stop next over) [
-      | inl p ↦ rw (ne_eqb edge.left next (λ e. apart (e ∙ sym p.1)), eq-eqb edge.right next p.1) (ap Some p.0)
-      | inr p ↦ rw (eq-eqb edge.left next p.1) (ap Some p.0)
-    ]
-
-starts_within : (n : ℕ) (edge : Edge) (stop next : ℕ) → IsEdge n edge → across edge stop ≡ Some next → stop < n
-starts_within n edge stop next sound over =
-    elim (ends_are edge stop next over) [
-      | inl p ↦ subst (λ q. q < n) p.0 sound.left
-      | inr p ↦ subst (λ q. q < n) p.0 sound.right
-    ]
+has_last_edge : (first : Edge) (rest : List Edge) → HasLast (first ∷ rest)
+has_last_edge first [] = record { front = []; last = first; is = refl }
+has_last_edge first (second ∷ rest) =
+    let e = has_last_edge second rest in
+    record { front = first ∷ e.front; last = e.last; is = ap (λ more. first ∷ more) e.is }
 
 module _ (edges : List Edge) (lengths : ℕ → Option ℕ) (n from : ℕ) (sound : All (IsEdge n) edges) (least : (to : ℕ) → to < n → IsLeastSum edges edge_length from to (lengths to)) where
   -- ---- an edge ends a least walk
 
-  module _ (at far : ℕ) (reached : lengths at ≡ Some far) (shortest : (other : List Edge) → IsWalk edges from at other → far ≤ walk_sum edge_length other) where
-    by_end : (walk : List Edge) → walk_sum edge_length walk ≡ far → Ends edges from at walk → list_any (ends_least lengths at) edges ≡ true
-    by_end walk sums e =
-        let edge = All-contains (IsEdge n) edges e.last sound e.there in
-        let within : e.stop < n = starts_within n e.last e.stop at edge e.over in
-        elim (lengths e.stop) as (λ told. lengths e.stop ≡ told → list_any (ends_least lengths at) edges ≡ true) [
-          | None ↦ λ none. absurd ((subst (IsLeastSum edges edge_length from e.stop) none (least e.stop within)) e.front e.before)
-          | Some near ↦ λ came.
-              let told = subst (IsLeastSum edges edge_length from e.stop) came (least e.stop within) in
-              let longer = shortest (told.0.0 ++ e.last ∷ []) (walks.edge_last edges from e.stop at told.0.0 e.last told.0.1 e.there e.over) in
-              let pushed = walks.walk_sum-push edge_length told.0.0 e.last in
-              let nearer = told.1 e.front e.before in
-              let whole = ap (walk_sum edge_length) e.is ∙ walks.walk_sum-push edge_length e.front e.last in
-              let nearest = told.0.2 in
-              let sum : far ≡ near + edge_length e.last = omega arith in
-              let passes : ends_least lengths at e.last ≡ true =
-              ap (λ length. are_equal length (option_map (λ before. before + edge_length e.last) (option_and_then lengths (across e.last at)))) reached
-              ∙ ap (λ over. are_equal (Some far) (option_map (λ before. before + edge_length e.last) (option_and_then lengths over))) (across_back e.last e.stop at edge.apart e.over)
-              ∙ ap (λ before. are_equal (Some far) (option_map (λ before. before + edge_length e.last) before)) came
-              ∙ eq-eqb far (near + edge_length e.last) sum in
-              list_any_at (ends_least lengths at) edges e.there.0 e.last e.there.1 (ap (ends_least lengths at) e.there.2 ∙ passes)
-        ] refl
-
-    by_walk : (walk : List Edge) → at ≢ from → walk_sum edge_length walk ≡ far → IsWalk edges from at walk → list_any (ends_least lengths at) edges ≡ true
-    by_walk [] apart sums walk = absurd (apart (sym (walks.staying_end edges from at walk)))
-    by_walk (first ∷ rest) apart sums walk = by_end (first ∷ rest) sums (ends edges from at first rest walk)
+  by_walk : (at far : ℕ) (walk : List Edge) → lengths at ≡ Some far → ((other : List Edge) → IsWalk edges from at other → far ≤ walk_sum edge_length other)
+      → at ≢ from → walk_sum edge_length walk ≡ far → IsWalk edges from at walk → list_any (ends_least lengths at) edges ≡ true
+  by_walk at far [] reached shortest apart sums walk = absurd (apart (sym (walks.staying_end edges from at walk)))
+  by_walk at far (first ∷ rest) reached shortest apart sums walk =
+      let h = has_last_edge first rest in
+      let e = splits edges from at h.front h.last (subst (IsWalk edges from at) h.is walk) in
+      let test = passes edges lengths n from sound least at far h.front h.last reached shortest (sym (ap (walk_sum edge_length) h.is) ∙ sums) e in
+      list_any_at (ends_least lengths at) edges e.there.0 h.last e.there.1 (ap (ends_least lengths at) e.there.2 ∙ test)
 
   -- a stop that is reached from another has a last edge
   has_last : (at far : ℕ) → at < n → at ≢ from → lengths at ≡ Some far → is_some (last_edge edges lengths at) ≡ true
   has_last at far within apart reached =
       let told = subst (IsLeastSum edges edge_length from at) reached (least at within) in
-      sym (any_is (ends_least lengths at) edges) ∙ by_walk at far reached told.1 told.0.0 apart told.0.2 told.0.1
+      sym (any_is (ends_least lengths at) edges) ∙ by_walk at far told.0.0 reached told.1 apart told.0.2 told.0.1
 
   -- ---- the whole path
 

@@ -4,11 +4,9 @@ use Rattle.std.specs.List.{flat_map}
 use Rattle.std.proofs.lemmas.Bool.Decides.{nat_tests}
 use Rattle.std.proofs.lemmas.List.{map-append}
 use Rattle.std.proofs.lemmas.List.Elements.{All-nil, All-cons, All-head, All-tail, All-append, All-push, All-map, All-contains, All-contains_itself, All-weaker, Contains-append_left, Contains-append_right}
-use Rattle.std.proofs.lemmas.List.FromFn.{length-map-range_with_len}
 use Rattle.std.proofs.lemmas.List.Sums.{sum_by-cons, sum_by-append, fold_push}
 use Rattle.ptn_network.specs.declared.edge.Edge.{Edge}
-use Rattle.ptn_network.specs.Networks.{NetworkParts}
-use Rattle.ptn_network.specs.Walks.{across, IsWalk, walk_sum, staying, behind, walks_within, or_less, least_of, least_sum, least_sums}
+use Rattle.ptn_network.specs.Walks.{across, IsWalk, walk_sum, staying, behind, walks_within, or_less, least_of}
 
 -- ---- lists
 
@@ -204,7 +202,3 @@ least_of_is numbers least lower there = go least (least_of numbers) refl refl
         let above : other ≤ own = subst (IsUpTo own) rest (All-contains (λ number. IsUpTo number (least_of numbers)) numbers own (least_of_all numbers) (there own is)) in
         let same : own ≡ other = omega arith in
         ap Some same
-
--- there is a sum for each stop
-pub sums_count : (network : NetworkParts) (weight : Edge → ℕ) (from : ℕ) (sums : List (Option ℤ)) → sums ≡ least_sums network weight from → length sums ≡ length network.stops
-sums_count network weight from sums are = ap length are ∙ length-map-range_with_len (λ to. option_map pos (least_sum network weight from to)) 0 (length network.stops)

@@ -1,5 +1,5 @@
 -- Labels of stops, while the nearest stop that is reached is settled, again and again.
-use Rattle.std.specs.Prelude.{ℕ, ◌+◌, ◌<◌, ◌≤◌, ◌≡◌, ◌≢◌, min, if◌then◌else◌, nat_lt, List, length, fold, slice_index_or, slice_set, Option, Some, None, MatchOption}
+use Rattle.std.specs.Prelude.{ℕ, ◌+◌, ◌<◌, ◌≤◌, ◌≡◌, ◌≢◌, min, if◌then◌else◌, nat_lt, List, length, fold, slice_index_or, slice_set, Option, Some, None, MatchOption, IfSome, All}
 use Rattle.ptn_network.specs.declared.edge.Edge.{Edge}
 use Rattle.ptn_network.specs.declared.label.Label.{Label}
 use Rattle.ptn_network.specs.declared.label.Label.TheVariants.{Unseen, Reached, Settled}
@@ -12,6 +12,15 @@ use Rattle.ptn_network.specs.Walks.{across, edge_length, edge_time, IsLeastSum, 
 abbrev pub weight_of : Weight → Edge → ℕ
 weight_of kind.Length = edge_length
 weight_of kind.Time = edge_time
+
+-- the most that an edge counts, and what no least sum exceeds: it has no more edges than there are stops
+abbrev pub most_of : Weight → ℕ
+most_of kind.Length = 10000000000
+most_of kind.Time = 10000
+
+abbrev pub most_sum : Weight → ℕ
+most_sum kind.Length = 10000000000000
+most_sum kind.Time = 10000000
 
 -- the sum of a label
 abbrev pub sum_of : Label → Option ℕ
@@ -62,8 +71,8 @@ nearer None stop (Reached sum) = Some (stop, sum)
 nearer (Some near) stop (Reached sum) = if nat_lt sum near.1 then Some (stop, sum) else Some near
 
 -- labels that have the least sums of walks from a stop
-pub record AreDone (network : NetworkParts) (weight : Edge → ℕ) (from : ℕ) (labels : List Label) : Type 0 where
+pub record AreDone (network : NetworkParts) (weight : Weight) (from : ℕ) (labels : List Label) : Type 0 where
   pub size : length labels ≡ length network.stops
-  pub least : (to : ℕ) → IsLeastSum network.edges weight from to (sum_of (label_at labels to))
-  pub same : (to : ℕ) → sum_of (label_at labels to) ≡ least_sum network weight from to
-  pub small : (to sum : ℕ) → sum_of (label_at labels to) ≡ Some sum → sum ≤ 10000000000000
+  pub least : (to : ℕ) → IsLeastSum network.edges (weight_of weight) from to (sum_of (label_at labels to))
+  pub same : (to : ℕ) → sum_of (label_at labels to) ≡ least_sum network (weight_of weight) from to
+  pub small : All (λ label. IfSome (sum_of label) (λ sum. sum ≤ most_sum weight)) labels

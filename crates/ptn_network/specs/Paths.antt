@@ -50,6 +50,20 @@ pub record IsShortest (network : NetworkParts) (from to : ℕ) (path : List ℕ)
   pub joins : IsWalk network.edges from to (edges_at network.edges path)
   pub shortest : (walk : List Edge) → IsWalk network.edges from to walk → walk_sum edge_length (edges_at network.edges path) ≤ walk_sum edge_length walk
 
+-- the edge of an index is the last one of a walk between two stops, and no walk between them is shorter
+pub record EndsLeastWalk (network : NetworkParts) (from to index : ℕ) : Type 0 where
+  pub front : List Edge
+  pub last : Edge
+  pub is : slice_get network.edges index ≡ Some last
+  pub joins : IsWalk network.edges from to (front ++ last ∷ [])
+  pub least : (walk : List Edge) → IsWalk network.edges from to walk
+      → walk_sum edge_length (front ++ last ∷ []) ≤ walk_sum edge_length walk
+
+-- the last edge of a path, where it has one, ends a least walk between its two stops, and no edge of a lesser index does
+abbrev pub EndsFirst : NetworkParts → ℕ → ℕ → List ℕ → Type 0
+EndsFirst network from to path = (front : List ℕ) (index : ℕ) → path ≡ front ++ index ∷ [] →
+    EndsLeastWalk network from to index × ((other : ℕ) → other < index → ¬ EndsLeastWalk network from to other)
+
 -- what is known of the paths from a stop: the least length to each stop, and the last edge of the path to it
 pub record PathParts : Type 0 where
   pub lengths : List (Option ℤ)

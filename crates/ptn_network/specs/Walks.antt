@@ -1,5 +1,5 @@
 -- Walks over the edges of a network, each driven either way, and least sums over them.
-use Rattle.std.specs.Prelude.{ℕ, ℤ, pos, zero, suc, ◌≡◌, ◌≤◌, ◌<◌, ◌==◌, if◌then◌else◌, min, List, [], ◌∷◌, ◌++◌, length, map, fold, sum, get_or, unsigned_abs, Option, Some, None, option_map, option_and_then, All, Contains}
+use Rattle.std.specs.Prelude.{ℕ, ℤ, pos, zero, suc, ◌≡◌, ◌≤◌, ◌<◌, ◌==◌, if◌then◌else◌, min, List, [], ◌∷◌, ◌++◌, length, map, fold, sum, get_or, unsigned_abs, Option, Some, None, option_map, option_and_then, All, Contains, IfSome, ◌≤ℤ◌}
 use Rattle.std.specs.List.{flat_map, range_with_len}
 use Rattle.ptn_network.specs.declared.edge.Edge.{Edge}
 use Rattle.ptn_network.specs.Networks.{NetworkParts}
@@ -69,3 +69,12 @@ least_sums network weight from = map (λ to. option_map pos (least_sum network w
 -- each of some sums, one for each stop, is the least over all walks from a stop to it
 abbrev pub AreLeastSums : NetworkParts → (Edge → ℕ) → ℕ → List (Option ℤ) → Type 0
 AreLeastSums network weight from sums = (to : ℕ) → to < length network.stops → IsLeastSum network.edges weight from to (option_map unsigned_abs (get_or sums to None))
+
+-- a sum that is not above a limit
+pub record IsSumUpTo (limit : ℕ) (sum : ℤ) : Type 0 where
+  pub low : pos 0 ≤ℤ sum
+  pub high : sum ≤ℤ pos limit
+
+-- each of some sums, where it is there, is not above a limit
+abbrev pub AreSumsUpTo : ℕ → List (Option ℤ) → Type 0
+AreSumsUpTo limit sums = All (λ sum. IfSome sum (IsSumUpTo limit)) sums

@@ -1,8 +1,8 @@
 // Least sums over walks: the nearest stop is settled again and again.
 ghost use Rattle.std.specs.Prelude.{◌≡◌, ◌<◌, ◌≤◌, pos, length, map, All, IfOk, IfSome};
 ghost use Rattle.std.specs.Option.{option_map};
-ghost use Rattle.ptn_network.specs.Labels.{weight_of, sum_of, settle, AreDone};
-ghost use Rattle.ptn_network.specs.Walks.{edge_length, edge_time, least_sums, AreLeastSums};
+ghost use Rattle.ptn_network.specs.Labels.{weight_of, most_sum, sum_of, settle, AreDone};
+ghost use Rattle.ptn_network.specs.Walks.{edge_length, edge_time, least_sums, AreLeastSums, AreSumsUpTo};
 
 use crate::label::{Label, nearest};
 use crate::network::Network;
@@ -17,6 +17,8 @@ impl Network {
         requires { from < length self.now.stops }
         ensures sums { IfOk result (λ reach. reach ≡ least_sums self.now edge_length from) }
         ensures least { IfOk result (λ reach. AreLeastSums self.now edge_length from reach) }
+        ensures size { IfOk result (λ reach. length reach ≡ length self.now.stops) }
+        ensures small { IfOk result (λ reach. AreSumsUpTo 10000000000000 reach) }
     {
         self.least_sums(alloc, Weight::Length, from)
     }
@@ -26,6 +28,8 @@ impl Network {
         requires { from < length self.now.stops }
         ensures sums { IfOk result (λ reach. reach ≡ least_sums self.now edge_time from) }
         ensures least { IfOk result (λ reach. AreLeastSums self.now edge_time from reach) }
+        ensures size { IfOk result (λ reach. length reach ≡ length self.now.stops) }
+        ensures small { IfOk result (λ reach. AreSumsUpTo 10000000 reach) }
     {
         self.least_sums(alloc, Weight::Time, from)
     }
@@ -35,6 +39,8 @@ impl Network {
         requires { from < length self.now.stops }
         ensures sums { IfOk result (λ reach. reach ≡ least_sums self.now (weight_of weight) from) }
         ensures least { IfOk result (λ reach. AreLeastSums self.now (weight_of weight) from reach) }
+        ensures size { IfOk result (λ reach. length reach ≡ length self.now.stops) }
+        ensures small { IfOk result (λ reach. AreSumsUpTo (most_sum weight) reach) }
     {
         let labels = self.settle_all(alloc, weight, from)?;
         let sums = sums_of(alloc, &labels)?;
@@ -44,7 +50,7 @@ impl Network {
     // The labels of all stops, where the nearest stop was settled again and again.
     fn settle_all(&self, alloc: Global, weight: Weight, from: usize) -> Result<Vec<Label>, NoMemory>
         requires { from < length self.now.stops }
-        ensures { IfOk result (λ labels. AreDone self.now (weight_of weight) from labels.items) }
+        ensures { IfOk result (λ labels. AreDone self.now weight from labels.items) }
     {
         let mut labels = vec![in alloc; Label::Unseen; self.stop_count()]?;
         labels[from] = Label::Reached(0);

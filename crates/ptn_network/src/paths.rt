@@ -1,8 +1,9 @@
 // Paths along least lengths.
-ghost use Rattle.std.specs.Prelude.{◌≡◌, ◌<◌, ◌+◌, is_some, true, length, map, reverse, slice_index_or, slice_set, vec_len, option_map, unsigned_abs, None, IfOk};
+ghost use Rattle.std.specs.Prelude.{◌≡◌, ◌<◌, ◌+◌, is_some, true, length, map, reverse, slice_index_or, slice_set, vec_len, option_map, unsigned_abs, None, IfOk, IfSome};
 ghost use Rattle.std.specs.List.{range_with_len};
 ghost use Rattle.ptn_network.specs.Networks.{IsNetwork};
-ghost use Rattle.ptn_network.specs.Paths.{are_equal, ends_least, last_edge, last_with, length_to, path, stop_before, ArePaths, IsShortest};
+ghost use Rattle.ptn_network.specs.Walks.{IsSumUpTo};
+ghost use Rattle.ptn_network.specs.Paths.{are_equal, ends_least, last_edge, last_with, length_to, path, stop_before, ArePaths, IsSimple, IsShortest, EndsFirst};
 
 use crate::edge::Edge;
 use crate::network::Network;
@@ -59,7 +60,9 @@ impl Paths {
         requires to { to < length network.now.stops }
         requires reached { is_some (slice_index_or self.now.lengths to None) ≡ true }
         ensures path { IfOk result (λ found. found.items ≡ path network.now from to) }
+        ensures simple { IfOk result (λ found. IsSimple network.now.edges found.items) }
         ensures shortest { IfOk result (λ found. IsShortest network.now from to found.items) }
+        ensures last { IfOk result (λ found. EndsFirst network.now from to found.items) }
     {
         let mut path = self.path_back(alloc, network, from, to)?;
         path.reverse();
@@ -158,12 +161,12 @@ fn ends_least(lengths: &Reach, edge: &Edge, to: usize) -> bool
 
 // Whether a length is another one with that of an edge.
 fn is_sum(whole: Option<i64>, before: Option<i64>, length: i64) -> bool
+    requires { IfSome before (IsSumUpTo 10000000000000) }
     ensures { result ≡ are_equal (option_map unsigned_abs whole) (option_map (λ near. near + unsigned_abs length) (option_map unsigned_abs before)) }
 {
     match (whole, before) {
         (Some(whole), Some(before)) => {
-            u128::from(whole.unsigned_abs())
-                == u128::from(before.unsigned_abs()) + u128::from(length.unsigned_abs())
+            whole.unsigned_abs() == before.unsigned_abs() + length.unsigned_abs()
         }
         _ => false,
     }
