@@ -1,15 +1,15 @@
 -- The last edges of least walks, by walks and by what the code tests.
-use Rattle.std.proofs.Common.{◌≡◌, ◌≢◌, ℕ, zero, suc, ◌+◌, ◌<◌, ◌≤◌, Bool, true, false, List, [], ◌∷◌, ◌++◌, length, get_or, slice_get, refl, ap, subst, sym, ◌∙◌, arith, Option, Some, None, option_map, option_and_then, inl, inr, All, Contains}
+use Rattle.std.proofs.Common.{◌≡◌, ◌≢◌, ℕ, zero, suc, ◌+◌, ◌<◌, ◌≤◌, true, List, [], ◌∷◌, ◌++◌, length, get_or, refl, ap, subst, sym, ◌∙◌, arith, Option, Some, None, option_map, option_and_then, inl, inr, All, Contains}
 use Rattle.std.proofs.lemmas.Bool.{ne_eqb, eq-eqb, cases_eq, false≢true}
 use Rattle.std.proofs.lemmas.List.{length_push, get_or_default, same_from_push}
 use Rattle.std.proofs.lemmas.List.Elements.{All-contains, All-get_or}
 use Rattle.std.proofs.lemmas.List.Quantifiers.{position-Some}
-use Rattle.std.proofs.lemmas.Option.{slice_get-get_or, slice_get_within, get_or_from_slice_get, same_Some}
+use Rattle.std.proofs.lemmas.Option.{slice_get-get_or, get_or_from_slice_get}
 use Rattle.ptn_network.specs.declared.edge.Edge.{Edge}
 use Rattle.ptn_network.specs.Networks.{NetworkParts, IsEdge, IsNetwork}
 use Rattle.ptn_network.specs.Walks.{across, edge_length, walk_sum, least_sums, IsWalk, IsLeastSum, AreLeastSums}
 use Rattle.ptn_network.specs.Paths.{are_equal, ends_least, last_edge, stop_before, path_within, path, length_to, EndsLeastWalk, EndsFirst}
-use Rattle.ptn_network.proofs.PathEdges.{IsStep, is_step, ends_are}
+use Rattle.ptn_network.proofs.PathEdges.{is_step, ends_are}
 use Rattle.ptn_network.proofs.PathSteps.{no_edge, none_there, none_before, last_step}
 use Rattle.ptn_network.proofs.Walks as walks
 

@@ -1,9 +1,12 @@
 pub mod ById
-pub mod Labels
+mod GoingOn
+pub mod Settling
 mod LastEdges
 pub mod LastWalks
+mod LeastFirst
 pub mod LoadRows
 pub mod NamedFaults
+mod Noting
 mod Partway
 pub mod PathEdges
 mod PathSteps

@@ -1,9 +1,8 @@
 -- What holds of the labels of a network while the nearest stop is settled again and again.
-use Rattle.std.proofs.Common.{◌≡◌, ℕ, ◌+◌, ◌-◌, ◌*◌, Vec, ◌<◌, ◌≤◌, Bool, true, false, cond, eqb, List, [], ◌∷◌, ◌++◌, length, map, sum, fold, set, refl, ap, sym, subst, ◌∙◌, Option, Some, None, IfSome, All, Contains, inl, inr, arith}
-use Rattle.std.specs.Vec.{with_items}
+use Rattle.std.proofs.Common.{◌≡◌, ℕ, ◌+◌, ◌-◌, ◌*◌, ◌<◌, ◌≤◌, Bool, true, false, cond, eqb, List, [], ◌∷◌, ◌++◌, length, map, sum, fold, set, refl, ap, sym, subst, ◌∙◌, Option, Some, None, IfSome, All, Contains, inl, inr, arith}
 use Rattle.std.proofs.lemmas.Bool.{cases_lt}
 use Rattle.std.proofs.lemmas.Int.{ints}
-use Rattle.std.proofs.lemmas.List.{length-set, length_push, with_items_is, get_or_past}
+use Rattle.std.proofs.lemmas.List.{length-set, length_push, get_or_past}
 use Rattle.std.proofs.lemmas.List.Elements.{All-map, All-weaker, All-contains, All-from_get_or}
 use Rattle.std.proofs.lemmas.List.Sums.{sum_by-set, count_by-le-length}
 use Rattle.ptn_network.specs.declared.edge.Edge.{Edge}
@@ -13,9 +12,9 @@ use Rattle.ptn_network.specs.declared.weight.Weight.{Weight}
 use Rattle.ptn_network.specs.declared.weight.Weight.TheVariants as kind
 use Rattle.ptn_network.specs.Networks.{NetworkParts, IsEdge, IsNetwork}
 use Rattle.ptn_network.specs.Walks.{across, IsWalk, walk_sum, IsLeastSum, walks_within, least_sum}
-use Rattle.ptn_network.specs.Labels.{weight_of, most_of, most_sum, sum_of, label_at, reach_over, settle, IsNearest, AreDone}
+use Rattle.ptn_network.specs.Labels.{weight_of, most_of, most_sum, sum_of, label_at, reach_over, IsNearest, AreDone, WentOn}
 use Rattle.ptn_network.proofs.Walks.{IsUpTo, begins, edge_last, staying_end, walk_sum-cons, walk_sum-push, walk_sum-small, within_all, within_there, least_of_is, Contains-map}
-use Rattle.ptn_network.proofs.Labels.{some_same, settled_same, sum_cases, reached_cases, settled_before, lowers, SettledUpTo, settled_up_to, at_set, is_settled, settled_count, over, over_size, over_count, keeps, meets}
+use Rattle.ptn_network.proofs.Settling.{some_same, settled_same, sum_cases, reached_cases, settled_before, lowers, SettledUpTo, settled_up_to, at_set, is_settled, settled_count, over, over_size, over_count, keeps, meets}
 
 -- a walk of at most so many edges that has a sum
 pub record Comes (edges : List Edge) (weight : Edge → ℕ) (from to most sum : ℕ) : Type 0 where
@@ -33,7 +32,7 @@ pub record ArePartway (edges : List Edge) (weight : Edge → ℕ) (from stops : 
   pub closed : (stop sum next : ℕ) (edge : Edge) → label_at labels stop ≡ Settled sum → Contains edges edge → across edge stop ≡ Some next → IsUpTo (sum + weight edge) (sum_of (label_at labels next))
 
 -- ends of edges are stops
-ends_within : (stops : ℕ) (edge : Edge) (stop next : ℕ) → IsEdge stops edge → across edge stop ≡ Some next → next < stops
+pub ends_within : (stops : ℕ) (edge : Edge) (stop next : ℕ) → IsEdge stops edge → across edge stop ≡ Some next → next < stops
 ends_within stops edge stop next is over = go (eqb edge.left stop) (eqb edge.right stop) over
   where
     go : (a b : Bool) → cond a (Some edge.right) (cond b (Some edge.left) None) ≡ Some next → next < stops
@@ -43,22 +42,26 @@ ends_within stops edge stop next is over = go (eqb edge.left stop) (eqb edge.rig
 
 -- ---- a stop more
 
-module _ (edges : List Edge) (weight : Edge → ℕ) (from stops : ℕ) (labels : List Label) (stop sum : ℕ) (sound : All (IsEdge stops) edges) (so_far : ArePartway edges weight from stops labels) (nearest : IsNearest labels (length labels) stop sum) where
+-- the nearest stop is settled, and the walk to it goes on over edges in some order, each edge that can be driven from it among them
+module _ (edges : List Edge) (weight : Edge → ℕ) (from stops : ℕ) (labels : List Label) (stop sum : ℕ) (sound : All (IsEdge stops) edges)
+    (so_far : ArePartway edges weight from stops labels) (nearest : IsNearest labels (length labels) stop sum)
+    (order : List Edge) (among : (edge : Edge) → Contains order edge → Contains edges edge)
+    (each : (edge : Edge) (next : ℕ) → Contains edges edge → across edge stop ≡ Some next → Contains order edge) where
   abbrev own : List Label
   own = set labels stop (Settled sum)
 
   abbrev after : List Label
-  after = fold (reach_over weight stop sum) own edges
+  after = fold (reach_over weight stop sum) own order
 
   size_after : length after ≡ stops
-  size_after = over_size weight stop sum own edges ∙ length-set labels stop (Settled sum) ∙ so_far.size
+  size_after = over_size weight stop sum own order ∙ length-set labels stop (Settled sum) ∙ so_far.size
 
   pub count_after : settled_count after ≡ settled_count labels + 1
   count_after =
       let one : Label → ℕ = λ label. cond (is_settled label) 1 0 in
       let counted = sum_by-set one labels stop (Settled sum) Unseen nearest.early in
       let open_before : one (label_at labels stop) ≡ 0 = ap one nearest.there in
-      omega (arith, over_count weight stop sum own edges, counted, open_before)
+      omega (arith, over_count weight stop sum own order, counted, open_before)
 
   weaker : (to most other : ℕ) → Comes edges weight from to most other → most ≤ settled_count after → Comes edges weight from to (settled_count after) other
   weaker to most other comes le = record { walk = comes.walk; is = comes.is; sums = comes.sums; short = omega (arith, comes.short) }
@@ -77,9 +80,9 @@ module _ (edges : List Edge) (weight : Edge → ℕ) (from stops : ℕ) (labels 
   comes_after : (to least : ℕ) → sum_of (label_at after to) ≡ Some least → Comes edges weight from to (settled_count after) least
   comes_after to least is =
       let Holds : Label → Type 0 = λ label. (least : ℕ) → sum_of label ≡ Some least → Comes edges weight from to (settled_count after) least in
-      keeps weight stop sum Holds to own edges
+      keeps weight stop sum Holds to own order
       (λ edge there over label before least is. elim (sum_cases (sum + weight edge) least label is) as (λ h. Comes edges weight from to (settled_count after) least) [
-        | inl h ↦ subst (Comes edges weight from to (settled_count after)) h (goes_on edge to there over)
+        | inl h ↦ subst (Comes edges weight from to (settled_count after)) h (goes_on edge to (among edge there) over)
         | inr h ↦ before least h
       ])
       (at_set Holds labels stop (Settled sum) to nearest.early
@@ -91,7 +94,7 @@ module _ (edges : List Edge) (weight : Edge → ℕ) (from stops : ℕ) (labels 
   up_to_after : (to number : ℕ) → IsUpTo number (sum_of (label_at labels to)) → IsUpTo number (sum_of (label_at after to))
   up_to_after to number before =
       let Holds : Label → Type 0 = λ label. IsUpTo number (sum_of label) in
-      keeps weight stop sum Holds to own edges (λ edge there over label h. lowers (sum + weight edge) number label h)
+      keeps weight stop sum Holds to own order (λ edge there over label h. lowers (sum + weight edge) number label h)
       (at_set Holds labels stop (Settled sum) to nearest.early
       (λ same. subst Holds (ap (label_at labels) same ∙ nearest.there) before)
       (λ apart. before))
@@ -99,7 +102,7 @@ module _ (edges : List Edge) (weight : Edge → ℕ) (from stops : ℕ) (labels 
   -- a stop that is settled after was settled before, or is the one that was settled now
   settled_after : (other least : ℕ) → label_at after other ≡ Settled least → (label_at own other ≡ Settled least)
   settled_after other least is =
-      keeps weight stop sum (λ label. (least : ℕ) → label ≡ Settled least → label_at own other ≡ Settled least) other own edges
+      keeps weight stop sum (λ label. (least : ℕ) → label ≡ Settled least → label_at own other ≡ Settled least) other own order
       (λ edge there over label before least is. before least (settled_before (sum + weight edge) least label is)) (λ least is. is) least is
 
   -- it is not farther than the one that was settled now
@@ -119,7 +122,7 @@ module _ (edges : List Edge) (weight : Edge → ℕ) (from stops : ℕ) (labels 
   far_after : (other far : ℕ) → label_at after other ≡ Reached far → sum ≤ far
   far_after other far is =
       let Holds : Label → Type 0 = λ label. (far : ℕ) → label ≡ Reached far → sum ≤ far in
-      keeps weight stop sum Holds other own edges
+      keeps weight stop sum Holds other own order
       (λ edge there over label before far is. elim (reached_cases (sum + weight edge) far label is) as (λ h. sum ≤ far) [
         | inl h ↦ omega arith
         | inr h ↦ before far h
@@ -132,7 +135,9 @@ module _ (edges : List Edge) (weight : Edge → ℕ) (from stops : ℕ) (labels 
       at_set (λ label. label ≡ Settled least → IsUpTo (least + weight edge) (sum_of (label_at after next))) labels stop (Settled sum) other nearest.early
       (λ same is.
       subst (λ n. IsUpTo (n + weight edge) (sum_of (label_at after next))) (settled_same sum least is)
-      (meets weight stop sum own edges edge next (omega (arith, length-set labels stop (Settled sum), so_far.size, ends_within stops edge other next (All-contains (IsEdge stops) edges edge sound there) over)) there (subst (λ some. across edge some ≡ Some next) same over) (settled_up next)))
+      (meets weight stop sum own order edge next
+      (omega (arith, length-set labels stop (Settled sum), so_far.size, ends_within stops edge other next (All-contains (IsEdge stops) edges edge sound there) over))
+      (each edge next there (subst (λ some. across edge some ≡ Some next) same over)) (subst (λ some. across edge some ≡ Some next) same over) (settled_up next)))
       (λ apart is. up_to_after next (least + weight edge) (so_far.closed other least next edge is there over))
       (settled_after other least is)
     where
@@ -142,7 +147,7 @@ module _ (edges : List Edge) (weight : Edge → ℕ) (from stops : ℕ) (labels 
           (λ same. omega arith)
           (λ apart. settled_up_to sum (label_at labels next) (λ least is. so_far.ordered next stop least sum is nearest.there))
 
-  partway_after : ArePartway edges weight from stops after
+  pub partway_after : ArePartway edges weight from stops after
   partway_after = record {
     size = size_after;
     comes = comes_after;
@@ -151,28 +156,24 @@ module _ (edges : List Edge) (weight : Edge → ℕ) (from stops : ℕ) (labels 
     closed = closed_after;
   }
 
-  -- settling the nearest stop keeps what holds, and one stop more is settled
-  pub partway_more : (ArePartway edges weight from stops (settle weight edges stop sum labels)) × (settled_count (settle weight edges stop sum labels) ≡ settled_count labels + 1)
-  unfolding settle
-  partway_more = (partway_after, count_after)
-
 -- how many stops are left
 abbrev pub left_count : List Label → ℕ
 left_count labels = length labels - settled_count labels
 
--- one round, in a vector
-pub round_more : {Z : Type 0} (network : NetworkParts) (weight : Weight) (from : ℕ) (vec : Vec Label Z) (seen passed left : List Label) (stop sum : ℕ) → IsNetwork network → ArePartway network.edges (weight_of weight) from (length network.stops) vec.items → seen ≡ vec.items → IsNearest seen (length seen) stop sum → passed ≡ vec.items → left ≡ settle (weight_of weight) network.edges stop sum passed → (ArePartway network.edges (weight_of weight) from (length network.stops) (with_items vec left).items) × (left_count (with_items vec left).items < left_count vec.items)
-round_more network weight from vec seen passed left stop sum sound so_far same_seen near same_passed same_left =
-    let labels = vec.items in
-    let after = settle (weight_of weight) network.edges stop sum labels in
-    let nearest = subst (λ some. IsNearest some (length some) stop sum) same_seen near in
-    let more = partway_more network.edges (weight_of weight) from (length network.stops) labels stop sum sound.edges so_far nearest in
-    let is : left ≡ after = same_left ∙ ap (settle (weight_of weight) network.edges stop sum) same_passed in
-    let kept : (with_items vec left).items ≡ after = with_items_is vec left (omega (arith, ap length is, more.0.size, so_far.size, vec.ok)) ∙ is in
-    let fewer : left_count after < left_count labels = omega (arith, more.1, more.0.size, so_far.size, count_by-le-length is_settled after) in (
-      subst (ArePartway network.edges (weight_of weight) from (length network.stops)) (sym kept) more.0,
-      subst (λ some. left_count some < left_count labels) (sym kept) fewer,
-    )
+-- one round: what holds stays, and one stop less is left
+pub round_more : (network : NetworkParts) (weight : Edge → ℕ) (from : ℕ) (labels settled after : List Label) (stop sum : ℕ) → IsNetwork network
+    → ArePartway network.edges weight from (length network.stops) labels → IsNearest labels (length labels) stop sum
+    → settled ≡ set labels stop (Settled sum) → WentOn weight network.edges stop sum settled after
+    → (ArePartway network.edges weight from (length network.stops) after) × (left_count after < left_count labels)
+round_more network weight from labels settled after stop sum sound so_far nearest own on =
+    let size = length network.stops in
+    let after_is : after ≡ fold (reach_over weight stop sum) (set labels stop (Settled sum)) on.order =
+    on.is ∙ ap (λ some. fold (reach_over weight stop sum) some on.order) own in
+    let holds = partway_after network.edges weight from size labels stop sum sound.edges so_far nearest on.order on.own on.all in
+    let more = count_after network.edges weight from size labels stop sum sound.edges so_far nearest on.order on.own on.all in
+    let now = subst (ArePartway network.edges weight from size) (sym after_is) holds in
+    let count : settled_count after ≡ settled_count labels + 1 = ap settled_count after_is ∙ more in
+    (now, omega (arith, count, now.size, so_far.size, count_by-le-length is_settled after))
 
 -- ---- the last labels
 

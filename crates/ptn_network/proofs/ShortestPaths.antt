@@ -1,19 +1,19 @@
 -- A path goes to its end, and no walk there is shorter.
-use Rattle.std.proofs.Common.{◌≡◌, ◌≢◌, ℕ, ℤ, unsigned_abs, zero, suc, ◌+◌, ◌<◌, ◌≤◌, Bool, true, false, ◌||◌, nat_eq, List, [], ◌∷◌, ◌++◌, length, get_or, slice_get, refl, ap, subst, sym, ◌∙◌, arith, Option, Some, None, option_map, option_and_then, is_some, inl, inr, ◌⊎◌, All, Contains}
+use Rattle.std.proofs.Common.{◌≡◌, ◌≢◌, ℕ, ℤ, unsigned_abs, zero, suc, ◌+◌, ◌<◌, ◌≤◌, Bool, true, false, ◌||◌, nat_eq, List, [], ◌∷◌, ◌++◌, length, get_or, slice_get, refl, ap, subst, sym, ◌∙◌, arith, Option, Some, None, option_map, is_some, inl, inr, ◌⊎◌, All, Contains}
 use Rattle.std.specs.List.{IsDistinct, list_any, cons_option}
-use Rattle.std.proofs.lemmas.Bool.{ne_eqb, eq-eqb, eqb-true, cases_Bool, cases_eq}
+use Rattle.std.proofs.lemmas.Bool.{eqb-true, cases_Bool, cases_eq}
 use Rattle.std.proofs.lemmas.Cmp.{nat_eq_equiv}
 use Rattle.std.proofs.lemmas.List.{length_push, get_or_default}
-use Rattle.std.proofs.lemmas.List.Elements.{All-contains, All-get_or, filter_map-append}
+use Rattle.std.proofs.lemmas.List.Elements.{All-get_or, filter_map-append}
 use Rattle.std.proofs.lemmas.List.Folds.{list_any_at, list_any-append}
 use Rattle.std.proofs.lemmas.Map.Keys.{IsDistinct-push}
 use Rattle.std.proofs.lemmas.Map.Steps.{length-le_from_distinct_below}
 use Rattle.std.proofs.lemmas.Option.{slice_get-get_or, same_Some}
 use Rattle.ptn_network.specs.declared.edge.Edge.{Edge}
 use Rattle.ptn_network.specs.Networks.{NetworkParts, IsEdge, IsNetwork}
-use Rattle.ptn_network.specs.Walks.{across, edge_length, walk_sum, least_sums, IsWalk, IsLeastSum, AreLeastSums}
+use Rattle.ptn_network.specs.Walks.{edge_length, walk_sum, least_sums, IsWalk, IsLeastSum, AreLeastSums}
 use Rattle.ptn_network.proofs.Walks as walks
-use Rattle.ptn_network.specs.Paths.{are_equal, ends_least, last_edge, stop_before, path_within, path, length_to, edges_at, IsShortest}
+use Rattle.ptn_network.specs.Paths.{ends_least, last_edge, stop_before, path_within, path, length_to, edges_at, IsShortest}
 use Rattle.giv_files.proofs.Found.{any_is}
 use Rattle.ptn_network.proofs.LastWalks.{splits, across_back, starts_within, passes}
 use Rattle.ptn_network.proofs.PathEdges.{IsStep, some_length, last_is_step, comes_from}

@@ -4,7 +4,6 @@ use Rattle.std.proofs.lemmas.List.{length-map, get_or-map}
 use Rattle.std.proofs.lemmas.List.FromFn.{fill_by_all}
 use Rattle.std.proofs.lemmas.List.Elements.{All-map, All-weaker}
 use Rattle.std.proofs.lemmas.Int.{ints}
-use Rattle.ptn_network.specs.declared.edge.Edge.{Edge}
 use Rattle.ptn_network.specs.declared.label.Label.{Label}
 use Rattle.ptn_network.specs.declared.label.Label.TheVariants.{Unseen}
 use Rattle.ptn_network.specs.Networks.{NetworkParts}
@@ -33,28 +32,28 @@ module _ (network : NetworkParts) (weight : Weight) (from : ℕ) (labels : List 
   sum_at to within = get_or-map number labels to Unseen None (omega (arith, done.size))
 
   -- they are the sums that the definition computes
-  pub sums_same : (seen : List Label) (sums : List (Option ℤ)) → seen ≡ labels → sums ≡ map number seen → sums ≡ least_sums network (weight_of weight) from
-  sums_same seen sums same are =
-      are ∙ ap (map number) same
+  pub sums_same : (sums : List (Option ℤ)) → sums ≡ map number labels → sums ≡ least_sums network (weight_of weight) from
+  sums_same sums are =
+      are
       ∙ fill_by_all (λ to. option_map pos (least_sum network (weight_of weight) from to)) (map number labels) (length network.stops) None (length-map labels number ∙ done.size)
       (λ to within. sum_at to within ∙ ap (option_map pos) (done.same to))
 
   -- and each is the least over all walks
-  pub sums_least : (seen : List Label) (sums : List (Option ℤ)) → seen ≡ labels → sums ≡ map number seen → AreLeastSums network (weight_of weight) from sums
-  sums_least seen sums same are = λ to within.
+  pub sums_least : (sums : List (Option ℤ)) → sums ≡ map number labels → AreLeastSums network (weight_of weight) from sums
+  sums_least sums are = λ to within.
       let is : option_map unsigned_abs (get_or sums to None) ≡ sum_of (label_at labels to) =
-      ap (λ some. option_map unsigned_abs (get_or some to None)) (are ∙ ap (map number) same) ∙ ap (option_map unsigned_abs) (sum_at to within) ∙ back_again (sum_of (label_at labels to)) in
+      ap (λ some. option_map unsigned_abs (get_or some to None)) (are) ∙ ap (option_map unsigned_abs) (sum_at to within) ∙ back_again (sum_of (label_at labels to)) in
       subst (IsLeastSum network.edges (weight_of weight) from to) (sym is) (done.least to)
 
   -- none of them exceeds the most that it can be
-  pub sums_limited : (seen : List Label) (sums : List (Option ℤ)) → seen ≡ labels → sums ≡ map number seen → AreSumsUpTo (most_sum weight) sums
-  sums_limited seen sums same are =
-      subst (AreSumsUpTo (most_sum weight)) (sym (are ∙ ap (map number) same))
+  pub sums_limited : (sums : List (Option ℤ)) → sums ≡ map number labels → AreSumsUpTo (most_sum weight) sums
+  sums_limited sums are =
+      subst (AreSumsUpTo (most_sum weight)) (sym (are))
       (All-map (λ sum. IfSome sum (IsSumUpTo (most_sum weight))) number labels
       (All-weaker (λ label. IfSome (sum_of label) (λ sum. sum ≤ most_sum weight)) (λ label. IfSome (number label) (IsSumUpTo (most_sum weight)))
       (λ label. limited (most_sum weight) (sum_of label)) labels done.small))
 
-  pub sums_fit : (seen : List Label) (sums : List (Option ℤ)) → seen ≡ labels → sums ≡ map number seen → AreSumsUpTo 10000000000000 sums
-  sums_fit seen sums same are =
+  pub sums_fit : (sums : List (Option ℤ)) → sums ≡ map number labels → AreSumsUpTo 10000000000000 sums
+  sums_fit sums are =
       All-weaker (λ sum. IfSome sum (IsSumUpTo (most_sum weight))) (λ sum. IfSome sum (IsSumUpTo 10000000000000))
-      (λ sum. higher (most_sum weight) 10000000000000 sum (most_small weight)) sums (sums_limited seen sums same are)
+      (λ sum. higher (most_sum weight) 10000000000000 sum (most_small weight)) sums (sums_limited sums are)

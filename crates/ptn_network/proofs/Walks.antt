@@ -1,5 +1,5 @@
 -- Walks: how they begin and go on, their sums, and the list of all walks of so many edges.
-use Rattle.std.proofs.Common.{◌≡◌, ℕ, ℤ, pos, zero, suc, ◌+◌, ◌*◌, ◌≤◌, min, Bool, true, false, cond, eqb, List, [], ◌∷◌, ◌++◌, length, map, sum, fold, refl, ap, sym, subst, ◌∙◌, Option, Some, None, ◌⊎◌, inl, inr, option_map, option_and_then, All, Contains, arith}
+use Rattle.std.proofs.Common.{◌≡◌, ℕ, zero, suc, ◌+◌, ◌*◌, ◌≤◌, min, Bool, true, false, cond, eqb, List, [], ◌∷◌, ◌++◌, length, map, sum, fold, refl, ap, sym, subst, ◌∙◌, Option, Some, None, ◌⊎◌, inl, inr, option_map, option_and_then, All, Contains, arith}
 use Rattle.std.specs.List.{flat_map}
 use Rattle.std.proofs.lemmas.Bool.Decides.{nat_tests}
 use Rattle.std.proofs.lemmas.List.{map-append}

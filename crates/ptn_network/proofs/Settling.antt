@@ -1,24 +1,59 @@
 -- Labels of stops: what settling the nearest stop keeps.
-use Rattle.std.proofs.Common.{◌≡◌, ◌≢◌, ℕ, ◌+◌, ◌<◌, ◌≤◌, min, Bool, true, false, cond, eqb, List, [], ◌∷◌, length, take, fold, set, slice_get, refl, ap, sym, subst, ◌∙◌, Option, Some, None, Contains, ◌⊎◌, inl, inr, arith}
+use Rattle.std.proofs.Common.{◌≡◌, ◌≢◌, ℕ, ◌+◌, ◌<◌, ◌≤◌, min, Bool, true, false, cond, eqb, List, [], ◌∷◌, ◌++◌, length, map, take, fold, set, get_or, slice_get, refl, ap, sym, subst, ◌∙◌, Option, Some, None, Contains, ◌⊎◌, inl, inr, arith}
 use Rattle.std.specs.List.{count_by}
 use Rattle.std.proofs.lemmas.Bool.{cases_lt}
 use Rattle.std.proofs.lemmas.Bool.Decides.{nat_tests}
-use Rattle.std.proofs.lemmas.List.{length-set, get_or-set_same, get_or-set_other, set_past}
-use Rattle.std.proofs.lemmas.List.Sums.{fold_more, sum_by-set}
-use Rattle.std.proofs.lemmas.Option.{slice_get_within, get_or_from_slice_get}
+use Rattle.std.proofs.lemmas.List.{length-set, get_or-set_same, get_or-set_other, set_past, take_more, map-append, get_or_default}
+use Rattle.std.proofs.lemmas.List.Sums.{fold_push, sum_by-set}
+use Rattle.std.proofs.lemmas.Option.{get_or_from_slice_get, slice_get-get_or, slice_get_within}
+use Rattle.std.proofs.lemmas.List.Elements.{All-contains, All-contains_itself, All-map, All-weaker}
 use Rattle.ptn_network.specs.declared.edge.Edge.{Edge}
 use Rattle.ptn_network.specs.declared.label.Label.{Label}
 use Rattle.ptn_network.specs.declared.label.Label.TheVariants.{Unseen, Reached, Settled}
 use Rattle.ptn_network.specs.Walks.{across}
-use Rattle.ptn_network.specs.Labels.{sum_of, label_at, reached, reach, reach_over}
-use Rattle.ptn_network.proofs.Walks.{IsUpTo, Contains-cons, Contains-rec}
+use Rattle.ptn_network.specs.Labels.{sum_of, label_at, reached, reach, reach_over, WentOn}
+use Rattle.ptn_network.specs.StopEdges.{CanLeave, AreEdgesAt}
+use Rattle.ptn_network.proofs.PathSteps.{no_edge}
+use Rattle.ptn_network.proofs.Walks.{IsUpTo, Contains-cons, Contains-rec, Contains-map}
 
--- one edge more
-pub over_more : (weight : Edge → ℕ) (stop sum : ℕ) (edges : List Edge) (i : ℕ) (edge : Edge) (next : Option ℕ) (initial labels after : List Label) → slice_get edges i ≡ Some edge → next ≡ across edge stop → labels ≡ fold (reach_over weight stop sum) initial (take i edges) → after ≡ reach (sum + weight edge) labels next → after ≡ fold (reach_over weight stop sum) initial (take (i + 1) edges)
-over_more weight stop sum edges i edge next initial labels after at is so_far now =
-    let over = reach_over weight stop sum in
-    now ∙ ap (reach (sum + weight edge) labels) is ∙ ap (λ some. over some edge) so_far
-    ∙ sym (fold_more over initial edges i edge (slice_get_within edges i edge at) ∙ ap (over (fold over initial (take i edges))) (get_or_from_slice_get edges i edge edge at))
+-- the edge of an index among those at a stop, one more of which the walk goes on over
+abbrev pub edge_of_index : List Edge → ℕ → Edge
+edge_of_index edges index = get_or edges index no_edge
+
+pub over_more : (weight : Edge → ℕ) (stop sum : ℕ) (edges : List Edge) (near : List ℕ) (i index : ℕ) (edge : Edge) (next : Option ℕ) (initial labels after : List Label)
+    → i < length near → index ≡ get_or near i index → slice_get edges index ≡ Some edge → next ≡ across edge stop
+    → labels ≡ fold (reach_over weight stop sum) initial (map (edge_of_index edges) (take i near)) → after ≡ reach (sum + weight edge) labels next
+    → after ≡ fold (reach_over weight stop sum) initial (map (edge_of_index edges) (take (i + 1) near))
+over_more weight stop sum edges near i index edge next initial labels after early at found over so_far now =
+    let go = reach_over weight stop sum in
+    let each = edge_of_index edges in
+    now ∙ ap (reach (sum + weight edge) labels) over ∙ ap (λ some. go some edge) so_far
+    ∙ sym (ap (λ some. fold go initial (map each some)) (take_more near i index early ∙ ap (λ some. take i near ++ some ∷ []) (sym at))
+    ∙ ap (fold go initial) (map-append each (take i near) (index ∷ []))
+    ∙ fold_push go initial (map each (take i near)) (each index)
+    ∙ ap (λ some. go (fold go initial (map each (take i near))) some) (get_or_from_slice_get edges index edge no_edge found))
+
+-- the walk went on over all edges at the stop
+pub went_on : (weight : Edge → ℕ) (edges : List Edge) (stop sum : ℕ) (near : List ℕ) (initial labels : List Label) → AreEdgesAt edges stop near
+    → labels ≡ fold (reach_over weight stop sum) initial (map (edge_of_index edges) near) → WentOn weight edges stop sum initial labels
+went_on weight edges stop sum near initial labels at is = record {
+  order = map (edge_of_index edges) near;
+  own = λ edge there. All-contains (Contains edges) (map (edge_of_index edges) near) edge
+      (All-map (Contains edges) (edge_of_index edges) near
+      (All-weaker (Contains near) (λ index. Contains edges (edge_of_index edges index)) (λ index there. of_index index (at.own index there)) near (All-contains_itself near)))
+      there;
+  all = λ edge next there over.
+      let found : slice_get edges there.0 ≡ Some edge = slice_get-get_or edges there.0 edge there.1 ∙ ap Some there.2 in
+      let leave : CanLeave edges stop there.0 = record { edge = edge; is = found; next = next; over = over } in
+      subst (Contains (map (edge_of_index edges) near)) (get_or_from_slice_get edges there.0 edge no_edge found)
+      (Contains-map (edge_of_index edges) near there.0 (at.all there.0 leave));
+  is = is;
+}
+  where
+    of_index : (index : ℕ) → CanLeave edges stop index → Contains edges (edge_of_index edges index)
+    of_index index leave =
+        let within = slice_get_within edges index leave.edge leave.is in
+        (index, within, get_or_default edges index (edge_of_index edges index) no_edge within)
 
 -- ---- one label
 
