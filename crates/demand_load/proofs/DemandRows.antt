@@ -13,7 +13,7 @@ use Rattle.std.proofs.Math.ListN.{get_or-append}
 use Rattle.giv_files.specs.declared.row_why.RowWhy.TheVariants as why
 use Rattle.giv_files.specs.Inputs.{broken_whys}
 use Rattle.giv_files.proofs.Found.{any_is}
-use Rattle.ptn_network.specs.Inputs.{is_unknown}
+use Rattle.ptn_network.specs.Ids.{is_unknown}
 use Rattle.ptn_network.specs.Networks.{NetworkParts, IsNetwork, index_in}
 use Rattle.ptn_network.specs.Walks.{edge_length, least_sum}
 use Rattle.demand_load.specs.declared.demand_row.DemandRow.{DemandRow}

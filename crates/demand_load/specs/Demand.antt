@@ -1,12 +1,12 @@
 -- Demand between stops, and the loads of edges by it.
-use Rattle.std.specs.Prelude.{ℕ, ℤ, pos, ◌≡◌, nat_eq, Bool, ◌&&◌, ◌||◌, not, is_some, int_lt, if◌then◌else◌, List, [], ◌∷◌, length, map, get_or, unsigned_abs}
+use Rattle.std.specs.Prelude.{ℕ, ℤ, pos, ◌≡◌, nat_eq, Bool, ◌&&◌, not, is_some, int_lt, if◌then◌else◌, List, [], ◌∷◌, length, map, get_or, unsigned_abs}
 use Rattle.std.specs.List.{list_any, range_with_len, sum_by}
 use Rattle.giv_files.specs.declared.counted.Counted.TheVariants as counted
 use Rattle.giv_files.specs.declared.file_id.FileId.TheVariants as file
 use Rattle.giv_files.specs.declared.row_why.RowWhy.TheVariants as why
 use Rattle.giv_files.specs.Columns.{od_columns}
 use Rattle.giv_files.specs.Inputs.{Input, RowRule, row_limit}
-use Rattle.ptn_network.specs.Inputs.{is_unknown}
+use Rattle.ptn_network.specs.Ids.{known_stops}
 use Rattle.ptn_network.specs.Networks.{NetworkParts, index_in}
 use Rattle.ptn_network.specs.Walks.{edge_length, least_sum}
 use Rattle.demand_load.specs.declared.demand_row.DemandRow.{DemandRow}
@@ -15,10 +15,6 @@ use Rattle.ptn_network.specs.Paths.{path, IsSimple}
 -- the demand of a row: two stops, and the customers in millionths
 abbrev pub demand_row : List ℤ → DemandRow
 demand_row cells = record { left = get_or cells 0 (pos 0); right = get_or cells 1 (pos 0); customers = get_or cells 2 (pos 0) }
-
--- the rule that both ends are stops
-abbrev pub known_stops : List ℤ → RowRule DemandRow
-known_stops stops = record { is_broken = λ _ row. is_unknown stops row.left || is_unknown stops row.right; why = why.UnknownStop }
 
 -- a walk joins the two stops of a row
 abbrev pub is_joined : NetworkParts → DemandRow → Bool
@@ -35,7 +31,7 @@ demand_input network = record {
   columns = od_columns;
   read = demand_row;
   limits = row_limit counted.DemandRows 100000 ∷ [];
-  row_rules = known_stops network.stops ∷ joined_stops network ∷ [];
+  row_rules = known_stops (λ row. row.left) (λ row. row.right) network.stops ∷ joined_stops network ∷ [];
   table_rules = [];
 }
 

@@ -1,6 +1,6 @@
 pub mod ById
+pub mod EdgeIds
 mod GoingOn
-pub mod Settling
 mod LastEdges
 pub mod LastWalks
 mod LeastFirst
@@ -9,8 +9,9 @@ pub mod NamedFaults
 mod Noting
 mod Partway
 pub mod PathEdges
-mod PathSteps
+pub mod PathSteps
 mod Rows
+pub mod Settling
 pub mod ShortestPaths
 pub mod Sound
 mod Sums

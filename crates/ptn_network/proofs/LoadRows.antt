@@ -1,5 +1,5 @@
 -- Rows of given loads, one after the other.
-use Rattle.std.proofs.Common.{◌≡◌, ◌≢◌, ℕ, ℤ, pos, ◌<◌, int_lt, Bool, true, false, T, lit<, not, cond, List, [], ◌∷◌, ◌++◌, length, map, get_or, set, slice_get, refl, ap, subst, sym, ◌∙◌, arith, Option, Some, None, option_map, is_some, unwrap_or, position, inl, inr, get_or-set_other, get_or-set_same}
+use Rattle.std.proofs.Common.{◌≡◌, ◌≢◌, ℕ, ℤ, pos, ◌<◌, int_lt, Bool, true, false, T, lit<, not, cond, List, [], ◌∷◌, ◌++◌, length, map, get_or, set, slice_get, refl, ap, subst, sym, ◌∙◌, arith, Option, Some, None, option_map, is_some, unwrap_or, inl, inr, get_or-set_other, get_or-set_same}
 use Rattle.std.specs.List.{All, list_any, find}
 use Rattle.std.specs.Int.Signed.{lt_z_no}
 use Rattle.std.proofs.lemmas.Int.{ints}
@@ -14,9 +14,8 @@ use Rattle.std.proofs.lemmas.Bool.Decides.{Decides-int_eq}
 use Rattle.std.proofs.lemmas.Cmp.{int_cmp_total}
 use Rattle.std.proofs.lemmas.List.{length-map, get_or-map, length-set, same_lists}
 use Rattle.std.proofs.lemmas.List.Folds.{find-append}
-use Rattle.std.proofs.lemmas.List.Quantifiers.{position-Some}
 use Rattle.std.proofs.lemmas.Map.Keys.{Less-from_sorted}
-use Rattle.std.proofs.lemmas.Option.{slice_get-get_or, same_Some}
+use Rattle.std.proofs.lemmas.Option.{same_Some}
 use Rattle.std.proofs.lemmas.Simd.{map-map}
 use Rattle.giv_files.specs.declared.row_why.RowWhy.TheVariants as why
 use Rattle.giv_files.specs.declared.file_id.FileId.{FileId}
@@ -30,57 +29,36 @@ use Rattle.giv_files.specs.Writing.{InColumns}
 use Rattle.giv_files.proofs.WriteFacts.{in_column}
 use Rattle.giv_files.proofs.Inputs.{sound_rows, refused_whole, no_faults, whole_rule_broken, whole_rule_kept}
 use Rattle.giv_files.specs.Tables.{TableRow}
-use Rattle.giv_files.proofs.Found.{any_mapped, any_is, any_found}
+use Rattle.giv_files.proofs.Found.{any_mapped, any_found}
 use Rattle.ptn_network.specs.declared.edge.Edge.{Edge}
 use Rattle.ptn_network.specs.declared.edge_load.EdgeLoad.{EdgeLoad}
 use Rattle.ptn_network.specs.declared.load_row.LoadRow.{LoadRow}
-use Rattle.ptn_network.specs.Networks.{StandsAt}
+use Rattle.ptn_network.specs.Ids.{edge_with, StandsAt}
 use Rattle.ptn_network.specs.Loads.{load_input, load_row_of, load_rules, given_for, loads_of, loads_over, no_load, IsLoad}
+use Rattle.ptn_network.proofs.EdgeIds.{stands_within, own_id_at}
 use Rattle.ptn_network.proofs.PathSteps.{no_edge}
 
 same_ids : (x y : ℤ) → int_eq x y ≡ true → x ≡ y
 same_ids x y e = (Decides-int_eq x y).0 e
 
--- ---- the edge of a row
-
-module _ (edges : List Edge) (id : ℤ) where
-  any_edge : list_any (λ edge. int_eq id edge.id) edges ≡ is_some (position (int_eq id) (map (λ edge. edge.id) edges))
-  any_edge = sym (any_mapped (int_eq id) (λ (edge : Edge). edge.id) edges) ∙ any_is (int_eq id) (map (λ edge. edge.id) edges)
-
-  pub no_such_edge : position (int_eq id) (map (λ edge. edge.id) edges) ≡ None → list_any (λ edge. int_eq id edge.id) edges ≡ false
-  no_such_edge none = any_edge ∙ ap is_some none
-
-  pub such_edge : (index : ℕ) → position (int_eq id) (map (λ edge. edge.id) edges) ≡ Some index → list_any (λ edge. int_eq id edge.id) edges ≡ true
-  such_edge index at = any_edge ∙ ap is_some at
-
-  pub stands_at : (index : ℕ) → position (int_eq id) (map (λ edge. edge.id) edges) ≡ Some index → StandsAt edges id index
-  stands_at index at =
-      let p = position-Some (int_eq id) (map (λ edge. edge.id) edges) index (pos 0) at in
-      let within : index < length edges = omega (arith, length-map edges (λ (edge : Edge). edge.id)) in
-      let same : id ≡ (get_or edges index no_edge).id = same_ids _ _ p.1 ∙ get_or-map (λ (edge : Edge). edge.id) edges index no_edge (pos 0) within in
-      record { within = within; own = ap (option_map (λ edge. edge.id)) (slice_get-get_or edges index no_edge within) ∙ ap Some (sym same) }
-
-  own_id_at : (index : ℕ) → StandsAt edges id index → (get_or edges index no_edge).id ≡ id
-  own_id_at index at = same_Some _ _ (sym (ap (option_map (λ edge. edge.id)) (slice_get-get_or edges index no_edge at.within)) ∙ at.own)
-
 -- ---- the rules of a row
 
 module _ (edges : List Edge) (before : List LoadRow) (row : LoadRow) where
-  pub unknown : list_any (λ edge. int_eq row.edge edge.id) edges ≡ false → slice_get (broken_whys (load_rules edges) before row) 0 ≡ Some why.UnknownEdge
+  pub unknown : edge_with edges row.edge ≡ None → slice_get (broken_whys (load_rules edges) before row) 0 ≡ Some why.UnknownEdge
   unknown none = rw none refl
 
-  pub repeated : list_any (λ edge. int_eq row.edge edge.id) edges ≡ true → list_any (λ other. int_eq row.edge other.edge) before ≡ true → slice_get (broken_whys (load_rules edges) before row) 0 ≡ Some why.RepeatedId
+  pub repeated : is_some (edge_with edges row.edge) ≡ true → list_any (λ other. int_eq row.edge other.edge) before ≡ true → slice_get (broken_whys (load_rules edges) before row) 0 ≡ Some why.RepeatedId
   repeated there twice = rw (there, twice) refl
 
-  pub crossed : list_any (λ edge. int_eq row.edge edge.id) edges ≡ true → list_any (λ other. int_eq row.edge other.edge) before ≡ false → int_lt row.load.most row.load.least ≡ true → slice_get (broken_whys (load_rules edges) before row) 0 ≡ Some why.BoundsCrossed
+  pub crossed : is_some (edge_with edges row.edge) ≡ true → list_any (λ other. int_eq row.edge other.edge) before ≡ false → int_lt row.load.most row.load.least ≡ true → slice_get (broken_whys (load_rules edges) before row) 0 ≡ Some why.BoundsCrossed
   crossed there new cross = rw (there, new, cross) refl
 
-  pub fits : list_any (λ edge. int_eq row.edge edge.id) edges ≡ true → list_any (λ other. int_eq row.edge other.edge) before ≡ false → int_lt row.load.most row.load.least ≡ false → broken_whys (load_rules edges) before row ≡ []
+  pub fits : is_some (edge_with edges row.edge) ≡ true → list_any (λ other. int_eq row.edge other.edge) before ≡ false → int_lt row.load.most row.load.least ≡ false → broken_whys (load_rules edges) before row ≡ []
   fits there new order = rw (there, new, order) refl
 
   -- a row that breaks no rule is the first of its edge
   pub own_row : broken_whys (load_rules edges) before row ≡ [] → (list_any (λ other. int_eq row.edge other.edge) before ≡ false) × (int_lt row.load.most row.load.least ≡ false)
-  own_row none = kept (list_any (λ edge. int_eq row.edge edge.id) edges) (list_any (λ other. int_eq row.edge other.edge) before) (int_lt row.load.most row.load.least) none
+  own_row none = kept (is_some (edge_with edges row.edge)) (list_any (λ other. int_eq row.edge other.edge) before) (int_lt row.load.most row.load.least) none
     where
       kept : (known repeated cross : Bool) → cond (not known) (why.UnknownEdge ∷ []) [] ++ (cond repeated (why.RepeatedId ∷ []) [] ++ (cond cross (why.BoundsCrossed ∷ []) [] ++ [])) ≡ [] → (repeated ≡ false) × (cross ≡ false)
       kept false repeated cross e = cc
@@ -90,13 +68,13 @@ module _ (edges : List Edge) (before : List LoadRow) (row : LoadRow) where
 
   module _ (given : List (Option EdgeLoad)) (index : ℕ) (are : given ≡ map (given_for before) edges) (at : StandsAt edges row.edge index) where
     pub place_within : index < length given
-    place_within = omega (arith, ap length are, length-map edges (given_for before), at.within)
+    place_within = omega (arith, ap length are, length-map edges (given_for before), stands_within edges row.edge index at)
 
     -- a load is given where a row before has the same edge
     pub is_given : is_some (get_or given index None) ≡ list_any (λ other. int_eq row.edge other.edge) before
     is_given =
         ap (λ (some : List (Option EdgeLoad)). is_some (get_or some index None)) are
-        ∙ ap is_some (get_or-map (given_for before) edges index no_edge None at.within)
+        ∙ ap is_some (get_or-map (given_for before) edges index no_edge None (stands_within edges row.edge index at))
         ∙ any_found (λ other. int_eq (get_or edges index no_edge).id other.edge) (λ other. other.load) before
         ∙ ap (λ id. list_any (λ other. int_eq id other.edge) before) (own_id_at edges row.edge index at)
 
@@ -164,12 +142,12 @@ given_more edges before row given index rise are at new =
     elim (cases_eq k index) [
       | inl e ↦
           subst (λ n. get_or (set given index (Some row.load)) n d ≡ given_for (before ++ row ∷ []) (get_or edges n no_edge)) (sym e)
-          (get_or-set_same given index (Some row.load) d (omega (arith, at.within)) ∙ sym (given_now before row (get_or edges index no_edge) (own_id_at edges row.edge index at) new))
+          (get_or-set_same given index (Some row.load) d (omega (arith, stands_within edges row.edge index at)) ∙ sym (given_now before row (get_or edges index no_edge) (own_id_at edges row.edge index at) new))
           ∙ sym now
       | inr apart ↦
           get_or-set_other given index k (Some row.load) d apart
           ∙ ap (λ (some : List (Option EdgeLoad)). get_or some k d) are ∙ get_or-map (given_for before) edges k no_edge d within
-          ∙ sym (given_before before row (get_or edges k no_edge) (λ same. ids_apart edges k index rise within at.within apart (same ∙ sym (own_id_at edges row.edge index at))))
+          ∙ sym (given_before before row (get_or edges k no_edge) (λ same. ids_apart edges k index rise within (stands_within edges row.edge index at) apart (same ∙ sym (own_id_at edges row.edge index at))))
           ∙ sym now
     ])
 

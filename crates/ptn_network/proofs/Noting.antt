@@ -1,7 +1,7 @@
 -- The edges at each stop, noted edge by edge.
-use Rattle.std.proofs.Common.{◌≡◌, ◌≢◌, ℕ, ◌+◌, ◌<◌, ◌≤◌, List, [], ◌∷◌, ◌++◌, length, get_or, slice_get, refl, ap, sym, subst, ◌∙◌, Some, All, Contains, ◌⊎◌, inl, inr, arith}
+use Rattle.std.proofs.Common.{◌≡◌, ◌≢◌, ℕ, ◌+◌, ◌<◌, ◌≤◌, List, [], ◌∷◌, ◌++◌, length, get_or, slice_get, refl, ap, sym, subst, ◌∙◌, Some, Contains, ◌⊎◌, inl, inr, arith}
 use Rattle.std.proofs.lemmas.Bool.{cases_eq, cases_lt, eq-eqb, ne_eqb}
-use Rattle.std.proofs.lemmas.List.{length-set, get_or-set_same, get_or-set_other, get_or_past}
+use Rattle.std.proofs.lemmas.List.{length-set, get_or-set_same, get_or-set_other}
 use Rattle.std.proofs.lemmas.List.Elements.{Contains-push, Contains-append_left, Contains-push_cases}
 use Rattle.std.proofs.lemmas.Option.{slice_get_within, same_Some}
 use Rattle.ptn_network.specs.declared.edge.Edge.{Edge}
@@ -52,23 +52,6 @@ pub record NotedTo (edges : List Edge) (stops i : ℕ) (rows : List (List ℕ)) 
   pub size : length rows ≡ stops
   pub own : (stop index : ℕ) → Contains (get_or rows stop []) index → CanLeave edges stop index
   pub all : (stop index : ℕ) → index < i → CanLeave edges stop index → Contains (get_or rows stop []) index
-
--- before the first
-pub noted_none : (edges : List Edge) (stops : ℕ) (rows : List (List ℕ)) → length rows ≡ stops → All (λ row. row ≡ []) rows → NotedTo edges stops 0 rows
-noted_none edges stops rows size empty = record {
-  size = size;
-  own = λ stop index there. absurd (nothing stop index there);
-  all = λ stop index early leave. absurd (omega arith);
-}
-  where
-    none : (stop : ℕ) → get_or rows stop [] ≡ []
-    none stop = elim (cases_lt stop (length rows)) as (λ h. get_or rows stop [] ≡ []) [
-      | inl h ↦ empty stop [] h
-      | inr h ↦ get_or_past rows stop [] h
-    ]
-
-    nothing : (stop index : ℕ) → Contains (get_or rows stop []) index → ⊥
-    nothing stop index there = let size : length (get_or rows stop []) ≡ 0 = ap length (none stop) in omega (arith, there.1)
 
 -- one edge more
 module _ (edges : List Edge) (stops i : ℕ) (edge : Edge) (rows first both : List (List ℕ)) (at : slice_get edges i ≡ Some edge) (sound : IsEdge stops edge)

@@ -1,4 +1,5 @@
 pub mod Frontier
+pub mod Ids
 pub mod Inputs
 pub mod Labels
 pub mod Loads

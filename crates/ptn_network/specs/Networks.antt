@@ -1,5 +1,5 @@
 -- Networks: stops, and edges between them.
-use Rattle.std.specs.Prelude.{◌≡◌, ◌≢◌, ℕ, ℤ, pos, ◌<◌, ◌≤◌, ◌≤ℤ◌, List, [], ◌∷◌, ◌++◌, length, map, position, slice_get, option_map, Some}
+use Rattle.std.specs.Prelude.{◌≡◌, ◌≢◌, ℕ, ℤ, pos, ◌<◌, ◌≤◌, ◌≤ℤ◌, List, [], ◌∷◌, ◌++◌, length, map, position}
 use Rattle.std.specs.List.{All}
 use Rattle.std.specs.List.Sorted.{IsStrictlySortedBy}
 use Rattle.std.specs.Option.{unwrap_or}
@@ -8,6 +8,8 @@ use Rattle.std.specs.FinMap.{put}
 use Rattle.std.specs.Map.{keys_of, values_of}
 use Rattle.giv_files.specs.declared.refusal.Refusal.{Refusal}
 use Rattle.giv_files.specs.Inputs.{records_of, input_faults}
+use Rattle.giv_files.specs.Settings.{BundleParts}
+use Rattle.giv_files.specs.StageCalls.{input_text}
 use Rattle.ptn_network.specs.declared.edge.Edge.{Edge}
 use Rattle.ptn_network.specs.declared.edge_row.EdgeRow.{EdgeRow}
 use Rattle.ptn_network.specs.Inputs.{stop_input, edge_input}
@@ -53,11 +55,6 @@ rising ids = keys_of (by_id (map (λ id. (id, tt {0})) ids))
 abbrev pub index_in : List ℤ → ℤ → ℕ
 index_in stops id = unwrap_or (position (int_eq id) stops) 0
 
--- the edge of an id stands at an index
-pub record StandsAt (edges : List Edge) (id : ℤ) (index : ℕ) : Type 0 where
-  pub within : index < length edges
-  pub own : option_map (λ edge. edge.id) (slice_get edges index) ≡ Some id
-
 -- the edge of a row between the stops of two indexes
 abbrev pub edge_between : ℕ → ℕ → EdgeRow → Edge
 edge_between left right row = record {
@@ -92,3 +89,7 @@ network_of stops_text edges_text = network_over (stops_of stops_text) (records_o
 -- every fault of the texts of stops and of edges, in order
 unfoldable pub network_faults : List ℕ → List ℕ → List Refusal
 network_faults stops_text edges_text = input_faults stop_input stops_text ++ input_faults (edge_input (stops_of stops_text)) edges_text
+
+-- the network of a bundle whose first inputs are the texts of stops and of edges
+abbrev pub network_in : BundleParts → NetworkParts
+network_in bundle = network_of (input_text bundle 0) (input_text bundle 1)
