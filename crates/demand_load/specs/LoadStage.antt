@@ -39,26 +39,40 @@ bounded settings load = record {
   most = pos (least_frequency settings load + amount settings key.LoadSpread);
 }
 
--- the loads of the edges of a network by the text of demand or of given loads, and the faults of that text
+-- the loads of the edges of a network by the text of demand or of given loads, and the faults of
+-- that text
 unfoldable pub loads_by : List Setting → NetworkParts → List ℕ → List EdgeLoad
 loads_by settings network text =
-    if takes_demand settings then map (bounded settings) (demand_loads network (records_of (demand_input network) text)) else loads_of file.LoadGiven network.edges text
+    if takes_demand settings
+    then map (bounded settings) (demand_loads network (records_of (demand_input network) text))
+    else loads_of file.LoadGiven network.edges text
 
 unfoldable pub text_faults : List Setting → NetworkParts → List ℕ → List Refusal
-text_faults settings network text = if takes_demand settings then input_faults (demand_input network) text else input_faults (load_input file.LoadGiven network.edges) text
+text_faults settings network text =
+    if takes_demand settings
+    then input_faults (demand_input network) text
+    else input_faults (load_input file.LoadGiven network.edges) text
 
 -- the maximal frequencies that are too great, in the order of the edges
 abbrev pub frequency_faults : List EdgeLoad → List Refusal
-frequency_faults loads = flat_map (λ load. if int_lt (pos 1000) load.most then refusal.TooMany counted.Frequency (unsigned_abs load.most) ∷ [] else []) loads
+frequency_faults loads =
+    flat_map (λ load. if int_lt (pos 1000) load.most
+    then refusal.TooMany counted.Frequency (unsigned_abs load.most) ∷ [] else []) loads
 
 -- every fault of the texts of a bundle, in the order of its inputs
 abbrev pub load_faults : BundleParts → List Refusal
-load_faults bundle = network_faults (input_text bundle 0) (input_text bundle 1) ++ text_faults bundle.settings (network_in bundle) (input_text bundle 2)
+load_faults bundle =
+    network_faults (input_text bundle 0) (input_text bundle 1)
+    ++ text_faults bundle.settings (network_in bundle) (input_text bundle 2)
 
 -- the loads of a bundle
 abbrev pub loads_in : BundleParts → List EdgeLoad
 loads_in bundle = loads_by bundle.settings (network_in bundle) (input_text bundle 2)
 
--- the stage, whose inputs are the texts of stops, of edges, and of demand or given loads: from settings and input texts to what is made, or the first fault; frequencies count where the texts have none
+-- the stage, whose inputs are the texts of stops, of edges, and of demand or given loads: from
+-- settings and input texts to what is made, or the first fault; frequencies count where the texts
+-- have none
 unfoldable pub load_stage : BundleParts → Result Made Refusal
-load_stage bundle = unless_fault (or_else (load_faults bundle) (frequency_faults (loads_in bundle))) (loads_made (network_in bundle).edges (loads_in bundle))
+load_stage bundle =
+    unless_fault (or_else (load_faults bundle) (frequency_faults (loads_in bundle)))
+    (loads_made (network_in bundle).edges (loads_in bundle))

@@ -15,9 +15,12 @@ not_below x y rest least = elim (cases_lt y x) as (λ h. x ≤ y) [
 ]
 
 -- no sum is below that of a greatest entry
-pub least_sum_first : (entry : Reverse (ℕ × ℕ)) (entries : List (Reverse (ℕ × ℕ))) → IsUpperBound by_sum entry entries
+pub least_sum_first : (entry : Reverse (ℕ × ℕ)) (entries : List (Reverse (ℕ × ℕ)))
+    → IsUpperBound by_sum entry entries
     → All (λ (walk : ℕ × ℕ). entry.0.0 ≤ walk.0) (map (λ (some : Reverse (ℕ × ℕ)). some.0) entries)
 least_sum_first entry [] greatest = All-nil (λ (walk : ℕ × ℕ). entry.0.0 ≤ walk.0)
 least_sum_first entry (first ∷ entries) greatest =
-    All-cons (λ (walk : ℕ × ℕ). entry.0.0 ≤ walk.0) first.0 (map (λ (some : Reverse (ℕ × ℕ)). some.0) entries)
-    (not_below entry.0.0 first.0.0 (nat_cmp first.0.1 entry.0.1) greatest.0) (least_sum_first entry entries greatest.1)
+    All-cons (λ (walk : ℕ × ℕ). entry.0.0 ≤ walk.0) first.0
+    (map (λ (some : Reverse (ℕ × ℕ)). some.0) entries)
+    (not_below entry.0.0 first.0.0 (nat_cmp first.0.1 entry.0.1) greatest.0)
+    (least_sum_first entry entries greatest.1)

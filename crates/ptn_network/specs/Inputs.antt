@@ -41,11 +41,17 @@ two_ends = record { is_broken = λ _ row. int_eq row.left row.right; why = why.L
 
 -- the rule that an edge has a length, and that a drive takes time
 abbrev pub some_length : RowRule EdgeRow
-some_length = record { is_broken = λ _ row. int_eq row.length (pos 0) || int_eq row.lower (pos 0); why = why.ZeroBound }
+some_length = record {
+  is_broken = λ _ row. int_eq row.length (pos 0) || int_eq row.lower (pos 0);
+  why = why.ZeroBound;
+}
 
 -- the rule that the greatest time of a drive is not below the least one
 abbrev pub bounds_in_order : RowRule EdgeRow
-bounds_in_order = record { is_broken = λ _ row. int_lt row.upper row.lower; why = why.BoundsCrossed }
+bounds_in_order = record {
+  is_broken = λ _ row. int_lt row.upper row.lower;
+  why = why.BoundsCrossed;
+}
 
 -- the rules of an edge by itself, in their order
 abbrev pub own_rules : List (RowRule EdgeRow)
@@ -53,7 +59,8 @@ own_rules = two_ends ∷ some_length ∷ bounds_in_order ∷ []
 
 -- the rules of an edge in their order, over the ids of the stops
 abbrev pub edge_rules : List ℤ → List (RowRule EdgeRow)
-edge_rules stops = own_id (λ row. row.id) ∷ known_stops (λ row. row.left) (λ row. row.right) stops ∷ own_rules
+edge_rules stops =
+    own_id (λ row. row.id) ∷ known_stops (λ row. row.left) (λ row. row.right) stops ∷ own_rules
 
 -- the file of edges over the ids of the stops
 abbrev pub edge_input : List ℤ → Input EdgeRow

@@ -13,7 +13,8 @@ abbrev pub weight_of : Weight → Edge → ℕ
 weight_of kind.Length = edge_length
 weight_of kind.Time = edge_time
 
--- the most that an edge counts, and what no least sum exceeds: it has no more edges than there are stops
+-- the most that an edge counts, and what no least sum exceeds: it has no more edges than there are
+-- stops
 abbrev pub most_of : Weight → ℕ
 most_of kind.Length = 10000000000
 most_of kind.Time = 10000
@@ -59,11 +60,14 @@ reach sum labels (Some next) = slice_set labels next (reached sum (label_at labe
 abbrev pub reach_over : (Edge → ℕ) → ℕ → ℕ → List Label → Edge → List Label
 reach_over weight stop sum labels edge = reach (sum + weight edge) labels (across edge stop)
 
--- labels, where the walk to a stop went on over each edge that can be driven from there, in some order
-pub record WentOn (weight : Edge → ℕ) (edges : List Edge) (stop sum : ℕ) (old new : List Label) : Type 0 where
+-- labels, where the walk to a stop went on over each edge that can be driven from there, in some
+-- order
+pub record WentOn (weight : Edge → ℕ) (edges : List Edge) (stop sum : ℕ)
+    (old new : List Label) : Type 0 where
   pub order : List Edge
   pub own : (edge : Edge) → Contains order edge → Contains edges edge
-  pub all : (edge : Edge) (next : ℕ) → Contains edges edge → across edge stop ≡ Some next → Contains order edge
+  pub all : (edge : Edge) (next : ℕ) → Contains edges edge → across edge stop ≡ Some next
+      → Contains order edge
   pub is : new ≡ fold (reach_over weight stop sum) old order
 
 -- a stop that is reached and not settled, of least sum among the first labels
@@ -78,14 +82,17 @@ IsNearestOf labels count best = MatchOption best
     ((other far : ℕ) → other < count → label_at labels other ≢ Reached far)
     (λ near. IsNearest labels count near.0 near.1)
 
--- walks that go on, each with its sum and its stop: of each stop that is reached and not settled its nearest walk is there
+-- walks that go on, each with its sum and its stop: of each stop that is reached and not settled
+-- its nearest walk is there
 pub record GoesOn (labels : List Label) (walks : List (ℕ × ℕ)) : Type 0 where
   pub within : All (λ walk. walk.1 < length labels) walks
   pub reached : (stop sum : ℕ) → label_at labels stop ≡ Reached sum → Contains walks (sum, stop)
 
 -- labels that have the least sums of walks from a stop
-pub record AreDone (network : NetworkParts) (weight : Weight) (from : ℕ) (labels : List Label) : Type 0 where
+pub record AreDone (network : NetworkParts) (weight : Weight) (from : ℕ)
+    (labels : List Label) : Type 0 where
   pub size : length labels ≡ length network.stops
-  pub least : (to : ℕ) → IsLeastSum network.edges (weight_of weight) from to (sum_of (label_at labels to))
+  pub least : (to : ℕ) → IsLeastSum network.edges (weight_of weight) from to
+      (sum_of (label_at labels to))
   pub same : (to : ℕ) → sum_of (label_at labels to) ≡ least_sum network (weight_of weight) from to
   pub small : All (λ label. IfSome (sum_of label) (λ sum. sum ≤ most_sum weight)) labels

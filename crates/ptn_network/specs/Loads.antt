@@ -36,11 +36,13 @@ given_for rows edge = option_map (λ row. row.load) (find (λ row. int_eq edge.i
 -- the rule that each edge has a row
 abbrev pub all_given : List Edge → TableRule LoadRow
 all_given edges =
-    whole_rule (λ rows. list_any (λ edge. not (is_some (given_for rows edge))) edges) why.MissingEdge
+    whole_rule (λ rows. list_any (λ edge. not (is_some (given_for rows edge))) edges)
+    why.MissingEdge
 
 -- the rules of a row, in their order
 abbrev pub load_rules : List Edge → List (RowRule LoadRow)
-load_rules edges = known_edge (λ row. row.edge) edges ∷ own_id (λ row. row.edge) ∷ bounds_in_order ∷ []
+load_rules edges =
+    known_edge (λ row. row.edge) edges ∷ own_id (λ row. row.edge) ∷ bounds_in_order ∷ []
 
 -- a file of loads over the edges of a network: the one that people write, or the one that is made
 abbrev pub load_input : FileId → List Edge → Input LoadRow

@@ -19,7 +19,8 @@ pub record NetworkParts : Type 0 where
   pub stops : List ℤ
   pub edges : List Edge
 
--- what holds of an edge over so many stops: it joins two of them, and has a length and minutes that are some and not too many
+-- what holds of an edge over so many stops: it joins two of them, and has a length and minutes that
+-- are some and not too many
 pub record IsEdge (stops : ℕ) (edge : Edge) : Type 0 where
   pub left : edge.left < stops
   pub right : edge.right < stops
@@ -30,7 +31,8 @@ pub record IsEdge (stops : ℕ) (edge : Edge) : Type 0 where
   pub in_order : edge.lower ≤ℤ edge.upper
   pub soon : edge.upper ≤ℤ pos 10000
 
--- what holds of a network: ids rise, stops and edges are within their limits, and each edge is one over the stops
+-- what holds of a network: ids rise, stops and edges are within their limits, and each edge is one
+-- over the stops
 pub record IsNetwork (network : NetworkParts) : Type 0 where
   pub stops_rise : IsStrictlySortedBy int_cmp network.stops
   pub edges_rise : IsStrictlySortedBy int_cmp (map (λ edge. edge.id) network.edges)
@@ -76,7 +78,8 @@ edge_entry stops row = (row.id, edge_of stops row)
 
 -- the network of stops and of rows of edges
 abbrev pub network_over : List ℤ → List EdgeRow → NetworkParts
-network_over stops rows = record { stops = stops; edges = values_of (by_id (map (edge_entry stops) rows)) }
+network_over stops rows =
+    record { stops = stops; edges = values_of (by_id (map (edge_entry stops) rows)) }
 
 -- the ids of the stops of a text, rising
 unfoldable pub stops_of : List ℕ → List ℤ
@@ -84,11 +87,14 @@ stops_of stops_text = rising (records_of stop_input stops_text)
 
 -- the network of the texts of stops and of edges
 unfoldable pub network_of : List ℕ → List ℕ → NetworkParts
-network_of stops_text edges_text = network_over (stops_of stops_text) (records_of (edge_input (stops_of stops_text)) edges_text)
+network_of stops_text edges_text =
+    network_over (stops_of stops_text) (records_of (edge_input (stops_of stops_text)) edges_text)
 
 -- every fault of the texts of stops and of edges, in order
 unfoldable pub network_faults : List ℕ → List ℕ → List Refusal
-network_faults stops_text edges_text = input_faults stop_input stops_text ++ input_faults (edge_input (stops_of stops_text)) edges_text
+network_faults stops_text edges_text =
+    input_faults stop_input stops_text
+    ++ input_faults (edge_input (stops_of stops_text)) edges_text
 
 -- the network of a bundle whose first inputs are the texts of stops and of edges
 abbrev pub network_in : BundleParts → NetworkParts

@@ -8,8 +8,8 @@ use std::cmp::Reverse;
 use std::collections::BinaryHeap;
 use std::marker::Model;
 
-/// Sums of walks, each with the index of the stop to which the walk comes. The least sum comes first. Contracts
-/// see it as the list of these pairs, in any order.
+/// Sums of walks, each with the index of the stop to which the walk comes. The least sum comes
+/// first. Contracts see it as the list of these pairs, in any order.
 #[derive(Drop)]
 pub(crate) struct Frontier {
     heap: BinaryHeap<Reverse<(u64, usize)>>,

@@ -3,7 +3,8 @@ ghost use Rattle.std.specs.Prelude.{◌≡◌, ◌≤◌, pos, IfSome};
 ghost use Rattle.std.specs.Option.{option_map};
 ghost use Rattle.ptn_network.specs.Labels.{sum_of, is_nearer, is_reached_with};
 
-/// What is known of a stop: nothing, the least sum of the walks so far, or the least sum of all walks.
+/// What is known of a stop: nothing, the least sum of the walks so far, or the least sum of all
+/// walks.
 #[derive(Clone, Copy, Debug, PartialEq, Eq)]
 pub(crate) enum Label {
     Unseen,

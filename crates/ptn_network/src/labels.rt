@@ -33,7 +33,8 @@ impl Labels {
     /// The labels of so many stops, where one of them is reached by the walk without an edge.
     pub(crate) fn from_stop(alloc: Global, stops: usize, from: usize) -> Result<Labels, NoMemory>
         requires { from < stops }
-        ensures { IfOk result (λ labels. labels ≡ slice_set (replicate stops Unseen) from (Reached 0)) }
+        ensures { IfOk result
+            (λ labels. labels ≡ slice_set (replicate stops Unseen) from (Reached 0)) }
     {
         let mut labels = vec![in alloc; Label::Unseen; stops]?;
         labels[from] = Label::Reached(0);
@@ -54,11 +55,12 @@ impl Labels {
         Ok(())
     }
 
-    /// Settles the nearest stop that is reached and not settled, where there is one. Walks to stops that were
-    /// reached by nearer ones since are passed over.
+    /// Settles the nearest stop that is reached and not settled, where there is one. Walks to stops
+    /// that were reached by nearer ones since are passed over.
     pub(crate) fn settle_nearest(&mut self) -> Option<(usize, u64)>
         ensures nearest { IsNearestOf self.old (length self.old) result }
-        ensures settled { IfSome result (λ near. self.new ≡ slice_set self.old near.0 (Settled near.1)) }
+        ensures settled { IfSome result
+            (λ near. self.new ≡ slice_set self.old near.0 (Settled near.1)) }
         ensures none { IfNone result (self.new ≡ self.old) }
     {
         while let Some((sum, stop)) = self.frontier.pop() {
@@ -73,7 +75,8 @@ impl Labels {
     /// The sums of the labels.
     pub(crate) fn sums(&self, alloc: Global) -> Result<Vec<Option<i64>>, NoMemory>
         requires { All (λ label. IfSome (sum_of label) (λ sum. sum ≤ 10000000000000)) self.now }
-        ensures { IfOk result (λ sums. sums.items ≡ map (λ label. option_map pos (sum_of label)) self.now) }
+        ensures { IfOk result
+            (λ sums. sums.items ≡ map (λ label. option_map pos (sum_of label)) self.now) }
     {
         let mut sums = Vec::with_capacity(alloc, self.labels.len())?;
         for label in &self.labels {

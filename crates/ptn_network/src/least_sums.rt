@@ -69,7 +69,8 @@ impl Network {
         requires all { length labels.old ≡ length self.now.stops }
         requires there { stop < length self.now.stops }
         requires small { sum ≤ 10000000000000 }
-        ensures { OnOk result (WentOn (weight_of weight) self.now.edges stop sum labels.old labels.new) }
+        ensures { OnOk result
+            (WentOn (weight_of weight) self.now.edges stop sum labels.old labels.new) }
     {
         for index in self.edges_at(stop) {
             let edge = self.edge(*index);

@@ -40,7 +40,8 @@ impl Model for Network {
 impl Network {
     /// The network of the texts of stops and of edges, or the first fault of the texts.
     pub fn from_texts(alloc: Global, stops: &[u8], edges: &[u8]) -> Result<Network, StageFault>
-        ensures { UnlessFault (network_faults stops.now edges.now) (λ network. network ≡ network_of stops.now edges.now) result }
+        ensures { UnlessFault (network_faults stops.now edges.now)
+            (λ network. network ≡ network_of stops.now edges.now) result }
     {
         let stops = read_stops(alloc, stops)?;
         let edges = read_edges(alloc, &stops, edges)?;

@@ -4,8 +4,9 @@ ghost use Rattle.ptn_network.specs.Walks.{IsSumUpTo};
 
 use std::marker::Model;
 
-/// The least sums over the walks from one stop to each stop, in the order of the stops: lengths in millionths, or
-/// minutes. Contracts see it as their list. A stop to which no walk goes has none, and no sum is above 10^13.
+/// The least sums over the walks from one stop to each stop, in the order of the stops: lengths in
+/// millionths, or minutes. Contracts see it as their list. A stop to which no walk goes has none,
+/// and no sum is above 10^13.
 #[derive(Debug, Drop)]
 pub struct Reach {
     pub(crate) sums: Vec<Option<i64>>,

@@ -10,7 +10,8 @@ use plan_num::NoMemory;
 use std::alloc::Global;
 use std::marker::Model;
 
-/// Of each stop the indexes of the edges that can be driven from it. Contracts see it as a list for each stop.
+/// Of each stop the indexes of the edges that can be driven from it. Contracts see it as a list for
+/// each stop.
 #[derive(Drop)]
 pub(crate) struct StopEdges {
     rows: Vec<Vec<usize>>,
@@ -59,7 +60,8 @@ impl StopEdges {
 fn note_edge(rows: &mut Vec<Vec<usize>>, stop: usize, index: usize) -> Result<(), NoMemory>
     requires { stop < vec_len rows.old }
     ensures size { vec_len rows.new ≡ vec_len rows.old }
-    ensures noted { OnOk result (NotesAt stop index (map (λ row. row.items) rows.old.items) (map (λ row. row.items) rows.new.items)) }
+    ensures noted { OnOk result (NotesAt stop index (map (λ row. row.items) rows.old.items)
+        (map (λ row. row.items) rows.new.items)) }
 {
     rows[stop].push(index)?;
     Ok(())

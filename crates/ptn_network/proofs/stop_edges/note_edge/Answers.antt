@@ -9,4 +9,6 @@ returns-clause-noted c =
     let items : Vec ℕ Global → List ℕ = λ row. row.items in
     map-set items rows.items stop c.push.new.self
     ∙ ap (set (map items rows.items) stop) (c.in_ok-push.ensures.items
-    ∙ ap (λ row. row ++ c.args.index ∷ []) (ap items c.index_mut.ensures.value ∙ sym (get_or-map items rows.items stop c.index_mut.result.now [] (omega (arith, rows.ok, c.requires)))))
+    ∙ ap (λ row. row ++ c.args.index ∷ []) (ap items c.index_mut.ensures.value ∙ sym
+    (get_or-map items rows.items stop c.index_mut.result.now []
+    (omega (arith, rows.ok, c.requires)))))

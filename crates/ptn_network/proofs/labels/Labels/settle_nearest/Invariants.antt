@@ -1,4 +1,5 @@
--- No label has changed, and each stop that is reached and not settled has its walk among those that are left.
+-- No label has changed, and each stop that is reached and not settled has its walk among those that
+-- are left.
 use Rattle.std.proofs.Common.{◌≡◌, length}
 use Rattle.ptn_network.specs.Labels.{GoesOn}
 use Rattle.ptn_network.proofs.labels.Labels.settle_nearest.Given as goal

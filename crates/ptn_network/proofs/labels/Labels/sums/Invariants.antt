@@ -5,4 +5,5 @@ use Rattle.ptn_network.specs.Labels.{sum_of}
 use Rattle.ptn_network.proofs.labels.Labels.sums.Given as goal
 
 abbrev pub invariant-loop-label : goal.invariant-loop-label
-invariant-loop-label l = l.sums.items ≡ map (λ label. option_map pos (sum_of label)) (take l.label-index l.self)
+invariant-loop-label l = l.sums.items ≡ map (λ label. option_map pos (sum_of label))
+    (take l.label-index l.self)

@@ -6,4 +6,5 @@ use Rattle.ptn_network.proofs.network.Network.go_on.Given as goal
 
 abbrev pub invariant-loop-index : goal.invariant-loop-index
 invariant-loop-index l =
-    l.labels ≡ fold (reach_over (weight_of l.weight) l.stop l.sum) l.initial.labels (map (edge_of_index l.self.edges) (take l.index-index l.index-items))
+    l.labels ≡ fold (reach_over (weight_of l.weight) l.stop l.sum) l.initial.labels
+    (map (edge_of_index l.self.edges) (take l.index-index l.index-items))

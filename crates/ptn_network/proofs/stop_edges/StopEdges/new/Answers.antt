@@ -15,9 +15,13 @@ loop-index-preserved c =
     let items : Vec ℕ Global → List ℕ = λ row. row.items in
     let at : slice_get edges c.loop-index.index ≡ Some edge = c.index-edge.ensures in
     let i = c.loop-index.index in
-    let sound = subst (IsEdge c.args.stops) (get_or_from_slice_get edges i edge edge at) (All-get_or (IsEdge c.args.stops) edges i edge (slice_get_within edges i edge at) c.requires) in
-    noted_more edges c.args.stops c.loop-index.index edge (map items c.loop-index.rows.items) (map items c.note_edge.new.rows.items) (map items c.note_edge-in-loop-index.new.rows.items)
-    at sound c.loop-index.invariant c.in_ok-note_edge.ensures.noted c.in_ok-note_edge-2.ensures.noted
+    let sound = subst (IsEdge c.args.stops) (get_or_from_slice_get edges i edge edge at)
+    (All-get_or (IsEdge c.args.stops) edges i edge
+    (slice_get_within edges i edge at) c.requires) in
+    noted_more edges c.args.stops c.loop-index.index edge (map items c.loop-index.rows.items)
+    (map items c.note_edge.new.rows.items) (map items c.note_edge-in-loop-index.new.rows.items)
+    at sound c.loop-index.invariant c.in_ok-note_edge.ensures.noted
+    c.in_ok-note_edge-2.ensures.noted
 
 pub returns : goal.returns
 returns c =
@@ -25,4 +29,5 @@ returns c =
     let second : ℤ × Edge → Edge = λ entry. entry.1 in
     let items : Vec ℕ Global → List ℕ = λ row. row.items in
     noted_all edges c.args.stops c.loop-index.index (map items c.loop-index.rows.items)
-    (omega (arith, length-map c.args.edges.now.entries second, c.len-index-end.ensures.len)) c.loop-index.invariant
+    (omega (arith, length-map c.args.edges.now.entries second, c.len-index-end.ensures.len))
+    c.loop-index.invariant

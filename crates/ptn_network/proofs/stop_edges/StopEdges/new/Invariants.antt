@@ -12,4 +12,5 @@ invariant-loop-stop l =
     }
 
 abbrev pub invariant-loop-index : goal.invariant-loop-index
-invariant-loop-index l = NotedTo (values_of l.edges.entries) l.stops l.index (map (λ row. row.items) l.rows.items)
+invariant-loop-index l = NotedTo (values_of l.edges.entries) l.stops l.index
+    (map (λ row. row.items) l.rows.items)
