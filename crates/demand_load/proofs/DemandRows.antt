@@ -13,7 +13,7 @@ use Rattle.std.proofs.Math.ListN.{get_or-append}
 use Rattle.giv_files.specs.declared.row_why.RowWhy.TheVariants as why
 use Rattle.giv_files.specs.Inputs.{broken_whys}
 use Rattle.giv_files.proofs.Found.{any_is}
-use Rattle.ptn_network.specs.Inputs.{is_unknown}
+use Rattle.ptn_network.specs.Ids.{is_unknown}
 use Rattle.ptn_network.specs.Networks.{NetworkParts, IsNetwork, index_in}
 use Rattle.ptn_network.specs.Walks.{edge_length, least_sum}
 use Rattle.demand_load.specs.declared.demand_row.DemandRow.{DemandRow}
@@ -24,74 +24,95 @@ use Rattle.ptn_network.proofs.PathEdges.{path_simple}
 -- ---- known paths
 
 -- one more place without paths
-pub none_more : (known : List (Option PathParts)) (from : ℕ) → ((at : ℕ) → get_or known at None ≡ None) → get_or (known ++ None ∷ []) from None ≡ None
+pub none_more : (known : List (Option PathParts)) (from : ℕ)
+    → ((at : ℕ) → get_or known at None ≡ None) → get_or (known ++ None ∷ []) from None ≡ None
 none_more known from none =
     elim (cases_lt from (length known)) [
       | inl lt ↦ get_or-append known (None ∷ []) None from lt ∙ none from
       | inr ge ↦ elim (cases_lt (length known) from) [
-        | inl past ↦ get_or_past (known ++ None ∷ []) from None (omega (arith, length_push known None))
+        | inl past ↦ get_or_past (known ++ None ∷ []) from None
+            (omega (arith, length_push known None))
         | inr same ↦ get_or_push known None None from (omega arith)
       ]
     ]
 
 module _ (network : NetworkParts) (from : ℕ) where
   -- a length is known of each stop
-  pub lengths_known : (paths : PathParts) → paths ≡ paths_from network from → length paths.lengths ≡ length network.stops
+  pub lengths_known : (paths : PathParts) → paths ≡ paths_from network from
+      → length paths.lengths ≡ length network.stops
   lengths_known paths is =
-      ap (λ (some : PathParts). length some.lengths) is ∙ length-map-range_with_len (λ to. option_map pos (least_sum network edge_length from to)) 0 (length network.stops)
+      ap (λ (some : PathParts). length some.lengths) is
+      ∙ length-map-range_with_len (λ to. option_map pos (least_sum network edge_length from to))
+      0 (length network.stops)
 
   some_mapped : (sum : Option ℕ) → is_some (option_map pos sum) ≡ is_some sum
   some_mapped None = refl
   some_mapped (Some sum) = refl
 
   -- a stop is reached where a walk goes there
-  pub is_reached : (paths : PathParts) (to : ℕ) → paths ≡ paths_from network from → to < length network.stops → is_some (get_or paths.lengths to None) ≡ is_some (least_sum network edge_length from to)
+  pub is_reached : (paths : PathParts) (to : ℕ) → paths ≡ paths_from network from
+      → to < length network.stops → is_some (get_or paths.lengths to None)
+      ≡ is_some (least_sum network edge_length from to)
   is_reached paths to is within =
       ap (λ (some : PathParts). is_some (get_or some.lengths to None)) is
-      ∙ ap is_some (get_or-map-range_with_len (λ to. option_map pos (least_sum network edge_length from to)) 0 (length network.stops) to to None within (omega arith))
+      ∙ ap is_some (get_or-map-range_with_len (λ to. option_map pos
+      (least_sum network edge_length from to)) 0 (length network.stops) to to None within
+      (omega arith))
       ∙ some_mapped (least_sum network edge_length from to)
 
-  pub no_way : (to : ℕ) → is_some (least_sum network edge_length from to) ≡ false → None ≡ way network from to
+  pub no_way : (to : ℕ) → is_some (least_sum network edge_length from to) ≡ false
+      → None ≡ way network from to
   no_way to none = sym (ap (λ b. cond b (Some (path network from to)) None) none)
 
-  pub way_is : (to : ℕ) (found : List ℕ) → is_some (least_sum network edge_length from to) ≡ true → found ≡ path network from to → Some found ≡ way network from to
-  way_is to found there is = ap Some is ∙ sym (ap (λ b. cond b (Some (path network from to)) None) there)
+  pub way_is : (to : ℕ) (found : List ℕ) → is_some (least_sum network edge_length from to) ≡ true
+      → found ≡ path network from to → Some found ≡ way network from to
+  way_is to found there is =
+      ap Some is ∙ sym (ap (λ b. cond b (Some (path network from to)) None) there)
 
   -- and back
   no_path_there : (b : Bool) (found : List ℕ) → None ≡ cond b (Some found) None → b ≡ false
   no_path_there true found e = cc
   no_path_there false found e = refl
 
-  path_there : (b : Bool) (found other : List ℕ) → Some other ≡ cond b (Some found) None → (b ≡ true) × (other ≡ found)
+  path_there : (b : Bool) (found other : List ℕ) → Some other ≡ cond b (Some found) None
+      → (b ≡ true) × (other ≡ found)
   path_there true found other e = (refl, same_Some other found e)
   path_there false found other e = cc
 
-  pub unjoined : (to : ℕ) → None ≡ way network from to → is_some (least_sum network edge_length from to) ≡ false
+  pub unjoined : (to : ℕ) → None ≡ way network from to
+      → is_some (least_sum network edge_length from to) ≡ false
   unjoined to e = no_path_there _ _ e
 
-  pub joined : (to : ℕ) (found : List ℕ) → Some found ≡ way network from to → (is_some (least_sum network edge_length from to) ≡ true) × (found ≡ path network from to)
+  pub joined : (to : ℕ) (found : List ℕ) → Some found ≡ way network from to
+      → (is_some (least_sum network edge_length from to) ≡ true) × (found ≡ path network from to)
   joined to found e = path_there _ _ _ e
 
 -- ---- the stops of a row
 
 -- a stop without an index is unknown
-pub unknown : (stops : List ℤ) (id : ℤ) → position (int_eq id) stops ≡ None → is_unknown stops id ≡ true
+pub unknown : (stops : List ℤ) (id : ℤ) → position (int_eq id) stops ≡ None
+    → is_unknown stops id ≡ true
 unknown stops id none = ap not (any_is (int_eq id) stops ∙ ap is_some none)
 
 -- and one with an index is known
-pub known : (stops : List ℤ) (id : ℤ) (index : ℕ) → position (int_eq id) stops ≡ Some index → is_unknown stops id ≡ false
+pub known : (stops : List ℤ) (id : ℤ) (index : ℕ) → position (int_eq id) stops ≡ Some index
+    → is_unknown stops id ≡ false
 known stops id index at = ap not (any_is (int_eq id) stops ∙ ap is_some at)
 
 -- ---- the rules of a row
 
 module _ (network : NetworkParts) (row : DemandRow) where
-  pub no_left : is_unknown network.stops row.left ≡ true → slice_get (broken_whys (demand_input network).row_rules [] row) 0 ≡ Some why.UnknownStop
+  pub no_left : is_unknown network.stops row.left ≡ true
+      → slice_get (broken_whys (demand_input network).row_rules [] row) 0 ≡ Some why.UnknownStop
   no_left e = rw e refl
 
-  pub no_right : is_unknown network.stops row.left ≡ false → is_unknown network.stops row.right ≡ true → slice_get (broken_whys (demand_input network).row_rules [] row) 0 ≡ Some why.UnknownStop
+  pub no_right : is_unknown network.stops row.left ≡ false
+      → is_unknown network.stops row.right ≡ true
+      → slice_get (broken_whys (demand_input network).row_rules [] row) 0 ≡ Some why.UnknownStop
   no_right left e = rw (left, e) refl
 
-  module _ (left right : ℕ) (from : position (int_eq row.left) network.stops ≡ Some left) (to : position (int_eq row.right) network.stops ≡ Some right) where
+  module _ (left right : ℕ) (from : position (int_eq row.left) network.stops ≡ Some left)
+      (to : position (int_eq row.right) network.stops ≡ Some right) where
     -- the path of the row joins the stops of the two indexes
     at_left : index_in network.stops row.left ≡ left
     at_left = ap (λ o. unwrap_or o 0) from
@@ -100,40 +121,73 @@ module _ (network : NetworkParts) (row : DemandRow) where
     at_right = ap (λ o. unwrap_or o 0) to
 
     same_joined : is_joined network row ≡ is_some (least_sum network edge_length left right)
-    same_joined = ap (λ start. is_some (least_sum network edge_length start (index_in network.stops row.right))) at_left ∙ ap (λ end. is_some (least_sum network edge_length left end)) at_right
+    same_joined = ap (λ start. is_some (least_sum network edge_length start
+        (index_in network.stops row.right))) at_left ∙ ap (λ end. is_some
+        (least_sum network edge_length left end)) at_right
 
-    pub no_path : int_lt (pos 0) row.customers ≡ true → is_some (least_sum network edge_length left right) ≡ false → slice_get (broken_whys (demand_input network).row_rules [] row) 0 ≡ Some why.NoPath
-    no_path some none = rw (known network.stops row.left left from, known network.stops row.right right to, some, same_joined, none) refl
+    pub no_path : int_lt (pos 0) row.customers ≡ true
+        → is_some (least_sum network edge_length left right) ≡ false
+        → slice_get (broken_whys (demand_input network).row_rules [] row) 0 ≡ Some why.NoPath
+    no_path some none = rw (
+      known network.stops row.left left from,
+      known network.stops row.right right to,
+      some,
+      same_joined,
+      none,
+    ) refl
 
-    pub nobody_fits : int_lt (pos 0) row.customers ≡ false → broken_whys (demand_input network).row_rules [] row ≡ []
-    nobody_fits none = rw (known network.stops row.left left from, known network.stops row.right right to, none) refl
+    pub nobody_fits : int_lt (pos 0) row.customers ≡ false
+        → broken_whys (demand_input network).row_rules [] row ≡ []
+    nobody_fits none = rw (
+      known network.stops row.left left from,
+      known network.stops row.right right to,
+      none,
+    ) refl
 
-    pub row_fits : is_some (least_sum network edge_length left right) ≡ true → broken_whys (demand_input network).row_rules [] row ≡ []
-    row_fits there = rw (known network.stops row.left left from, known network.stops row.right right to, same_joined, there) (either (int_lt (pos 0) row.customers))
+    pub row_fits : is_some (least_sum network edge_length left right) ≡ true
+        → broken_whys (demand_input network).row_rules [] row ≡ []
+    row_fits there = rw (
+      known network.stops row.left left from,
+      known network.stops row.right right to,
+      same_joined,
+      there,
+    )
+        (either (int_lt (pos 0) row.customers))
       where
         either : (b : Bool) → cond (b && false) (why.NoPath ∷ []) [] ++ [] ≡ []
         either true = refl
         either false = refl
 
     -- the path between the two stops bears the customers
-    pub bears : (found : List ℕ) → IsNetwork network → found ≡ path network left right → BearsRow network row found
+    pub bears : (found : List ℕ) → IsNetwork network → found ≡ path network left right
+        → BearsRow network row found
     bears found sound is =
-        let same : path network (index_in network.stops row.left) (index_in network.stops row.right) ≡ found =
-        ap (λ start. path network start (index_in network.stops row.right)) at_left ∙ ap (path network left) at_right ∙ sym is in
+        let same : path network (index_in network.stops row.left) (index_in network.stops row.right)
+        ≡ found =
+        ap (λ start. path network start (index_in network.stops row.right)) at_left
+        ∙ ap (path network left) at_right ∙ sym is in
         record {
           simple = subst (IsSimple network.edges) (sym is) (path_simple network left right sound);
-          loads = λ index. ap (λ some. cond (list_any (nat_eq index) some) (unsigned_abs row.customers) 0) (sym same);
+          loads = λ index. ap (λ some. cond (list_any (nat_eq index) some)
+              (unsigned_abs row.customers) 0) (sym same);
         }
 
   -- nobody goes over no edge
-  pub bears_nobody : int_lt (pos 0) row.customers ≡ false → pos 0 ≤ℤ row.customers → BearsRow network row []
+  pub bears_nobody : int_lt (pos 0) row.customers ≡ false → pos 0 ≤ℤ row.customers
+      → BearsRow network row []
   unfolding IsDistinct
   bears_nobody none low =
       let high : row.customers ≤ℤ pos 0 = lt_z_no (subst (λ b. T (not b)) (sym none) tt) in
       let zero_customers : unsigned_abs row.customers ≡ 0 = omega (arith, ints) in
       record {
-        simple = record { apart = tt; there = All-nil (λ (index : ℕ). index < length network.edges) };
-        loads = λ index. sym (ap (λ n. cond (list_any (nat_eq index) (path network (index_in network.stops row.left) (index_in network.stops row.right))) n 0) zero_customers ∙ either (list_any (nat_eq index) (path network (index_in network.stops row.left) (index_in network.stops row.right))));
+        simple = record {
+          apart = tt;
+          there = All-nil (λ (index : ℕ). index < length network.edges);
+        };
+        loads = λ index. sym (ap (λ n. cond (list_any (nat_eq index)
+            (path network (index_in network.stops row.left) (index_in network.stops row.right))) n
+            0) zero_customers ∙ either (list_any (nat_eq index)
+            (path network (index_in network.stops row.left) (index_in network.stops row.right))));
       }
     where
       either : (b : Bool) → cond {A = ℕ} b 0 0 ≡ 0

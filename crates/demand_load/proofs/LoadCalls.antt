@@ -26,7 +26,8 @@ use Rattle.demand_load.specs.LoadStage.{takes_demand, bounded, loads_by, text_fa
 use Rattle.demand_load.specs.LoadTables.{loads_made, HasSpread}
 
 -- the settings of a bundle that fits are within their ranges
-pub settings_fit : (bundle : BundleParts) → bundle.stage ≡ stage.Load → Fits bundle → HasSpread bundle.settings
+pub settings_fit : (bundle : BundleParts) → bundle.stage ≡ stage.Load → Fits bundle
+    → HasSpread bundle.settings
 settings_fit bundle is fits =
     let own = subst (λ of. SettingsFit of bundle.settings) is fits.settings in
     let passengers = amount_within stage.Load bundle.settings key.GenPassengersPerVehicle _ _ own
@@ -44,13 +45,17 @@ module _ (settings : List Setting) (network : NetworkParts) (text : List ℕ) wh
     other : takes_demand settings ≡ false
     other = ne_eqb (amount settings key.LoadSource) 0 given
 
-    pub given_faults : input_faults (load_input file.LoadGiven network.edges) text ≡ text_faults settings network text
+    pub given_faults : input_faults (load_input file.LoadGiven network.edges) text
+        ≡ text_faults settings network text
     unfolding text_faults
-    given_faults = sym (ap (λ b. cond b (input_faults (demand_input network) text) (input_faults (load_input file.LoadGiven network.edges) text)) other)
+    given_faults = sym (ap (λ b. cond b (input_faults (demand_input network) text)
+        (input_faults (load_input file.LoadGiven network.edges) text)) other)
 
     pub loads_given : loads_of file.LoadGiven network.edges text ≡ loads_by settings network text
     unfolding loads_by
-    loads_given = sym (ap (λ b. cond b (map (bounded settings) (demand_loads network (records_of (demand_input network) text))) (loads_of file.LoadGiven network.edges text)) other)
+    loads_given = sym (ap (λ b. cond b (map (bounded settings)
+        (demand_loads network (records_of (demand_input network) text)))
+        (loads_of file.LoadGiven network.edges text)) other)
 
   module _ (none : amount settings key.LoadSource ≡ 0) where
     own : takes_demand settings ≡ true
@@ -58,60 +63,92 @@ module _ (settings : List Setting) (network : NetworkParts) (text : List ℕ) wh
 
     pub demand_faults : input_faults (demand_input network) text ≡ text_faults settings network text
     unfolding text_faults
-    demand_faults = sym (ap (λ b. cond b (input_faults (demand_input network) text) (input_faults (load_input file.LoadGiven network.edges) text)) own)
+    demand_faults = sym (ap (λ b. cond b (input_faults (demand_input network) text)
+        (input_faults (load_input file.LoadGiven network.edges) text)) own)
 
-    pub loads_of_demand : map (bounded settings) (demand_loads network (records_of (demand_input network) text)) ≡ loads_by settings network text
+    pub loads_of_demand : map (bounded settings) (demand_loads network
+        (records_of (demand_input network) text)) ≡ loads_by settings network text
     unfolding loads_by
-    loads_of_demand = sym (ap (λ b. cond b (map (bounded settings) (demand_loads network (records_of (demand_input network) text))) (loads_of file.LoadGiven network.edges text)) own)
+    loads_of_demand = sym (ap
+        (λ b. cond b (map (bounded settings) (demand_loads network
+        (records_of (demand_input network) text))) (loads_of file.LoadGiven network.edges text))
+        own)
 
   -- each edge has a load
   pub loads_count : length (loads_by settings network text) ≡ length network.edges
   unfolding loads_by
   loads_count =
-      elim (takes_demand settings) as (λ b. length (cond b (map (bounded settings) (demand_loads network (records_of (demand_input network) text))) (loads_of file.LoadGiven network.edges text)) ≡ length network.edges) [
-        | true ↦ length-map (demand_loads network (records_of (demand_input network) text)) (bounded settings) ∙ length-map-range_with_len (load_of network (records_of (demand_input network) text)) 0 (length network.edges)
+      elim (takes_demand settings) as
+      (λ b. length (cond b (map (bounded settings) (demand_loads network
+      (records_of (demand_input network) text))) (loads_of file.LoadGiven network.edges text))
+      ≡ length network.edges) [
+        | true ↦ length-map (demand_loads network (records_of (demand_input network) text))
+            (bounded settings) ∙ length-map-range_with_len
+            (load_of network (records_of (demand_input network) text)) 0 (length network.edges)
         | false ↦ edge_loads_count file.LoadGiven network.edges text
       ]
 
 -- ---- the stage
 
-refused_first : (all others : List Refusal) (reason : StageFault) → Refuses all reason → Refuses (or_else all others) reason
+refused_first : (all others : List Refusal) (reason : StageFault) → Refuses all reason
+    → Refuses (or_else all others) reason
 refused_first [] others (fault.Refused first) h = cc
 refused_first (x ∷ all) others (fault.Refused first) h = h
 refused_first all others fault.NoMemory h = tt
 
 module _ (bundle : BundleParts) where
   -- texts that give no network
-  pub network_refused : (reason : StageFault) → Refuses (network_faults (input_text bundle 0) (input_text bundle 1)) reason → StageGives (load_stage bundle) (Err reason)
+  pub network_refused : (reason : StageFault)
+      → Refuses (network_faults (input_text bundle 0) (input_text bundle 1)) reason
+      → StageGives (load_stage bundle) (Err reason)
   unfolding load_stage
-  network_refused reason h = stage_refused (or_else (load_faults bundle) _) _ reason (refused_first (load_faults bundle) _ reason (refused_append (network_faults (input_text bundle 0) (input_text bundle 1)) _ reason h))
+  network_refused reason h = stage_refused (or_else (load_faults bundle) _) _ reason
+      (refused_first (load_faults bundle) _ reason (refused_append
+      (network_faults (input_text bundle 0) (input_text bundle 1)) _ reason h))
 
-  module _ (network : NetworkParts) (none : network_faults (input_text bundle 0) (input_text bundle 1) ≡ []) (is : network ≡ network_of (input_text bundle 0) (input_text bundle 1)) where
+  module _ (network : NetworkParts) (none : network_faults (input_text bundle 0)
+      (input_text bundle 1) ≡ []) (is : network ≡ network_of (input_text bundle 0)
+      (input_text bundle 1)) where
     later : text_faults bundle.settings network (input_text bundle 2) ≡ load_faults bundle
     later =
         ap (λ some. text_faults bundle.settings some (input_text bundle 2)) is
-        ∙ ap (λ first. first ++ text_faults bundle.settings (network_of (input_text bundle 0) (input_text bundle 1)) (input_text bundle 2)) (sym none)
+        ∙ ap (λ first. first ++ text_faults bundle.settings
+        (network_of (input_text bundle 0) (input_text bundle 1)) (input_text bundle 2))
+        (sym none)
 
     -- a text that gives no loads
-    pub text_refused : (reason : StageFault) → Refuses (text_faults bundle.settings network (input_text bundle 2)) reason → StageGives (load_stage bundle) (Err reason)
+    pub text_refused : (reason : StageFault)
+        → Refuses (text_faults bundle.settings network (input_text bundle 2)) reason
+        → StageGives (load_stage bundle) (Err reason)
     unfolding load_stage
-    text_refused reason h = stage_refused (or_else (load_faults bundle) _) _ reason (refused_first (load_faults bundle) _ reason (subst (λ all. Refuses all reason) later h))
+    text_refused reason h = stage_refused (or_else (load_faults bundle) _) _ reason
+        (refused_first (load_faults bundle) _ reason (subst (λ all. Refuses all reason) later h))
 
-    module _ (loads : List EdgeLoad) (faultless : text_faults bundle.settings network (input_text bundle 2) ≡ []) (read : loads ≡ loads_by bundle.settings network (input_text bundle 2)) where
+    module _ (loads : List EdgeLoad) (faultless : text_faults bundle.settings network
+        (input_text bundle 2) ≡ []) (read : loads ≡ loads_by bundle.settings network
+        (input_text bundle 2)) where
       loads_are : loads ≡ loads_in bundle
       loads_are = read ∙ ap (λ some. loads_by bundle.settings some (input_text bundle 2)) is
 
-      all_faults : frequency_faults loads ≡ or_else (load_faults bundle) (frequency_faults (loads_in bundle))
-      all_faults = ap frequency_faults loads_are ∙ ap (λ first. or_else first (frequency_faults (loads_in bundle))) (sym faultless ∙ later)
+      all_faults : frequency_faults loads ≡ or_else (load_faults bundle)
+          (frequency_faults (loads_in bundle))
+      all_faults = ap frequency_faults loads_are ∙ ap (λ first. or_else first
+          (frequency_faults (loads_in bundle))) (sym faultless ∙ later)
 
       -- a frequency that is too great
-      pub frequency_refused : (reason : StageFault) → Refuses (frequency_faults loads) reason → StageGives (load_stage bundle) (Err reason)
+      pub frequency_refused : (reason : StageFault) → Refuses (frequency_faults loads) reason
+          → StageGives (load_stage bundle) (Err reason)
       unfolding load_stage
-      frequency_refused reason h = stage_refused (or_else (load_faults bundle) (frequency_faults (loads_in bundle))) _ reason (subst (λ all. Refuses all reason) all_faults h)
+      frequency_refused reason h = stage_refused (or_else (load_faults bundle)
+          (frequency_faults (loads_in bundle))) _ reason
+          (subst (λ all. Refuses all reason) all_faults h)
 
       -- texts without a fault
-      pub stage_given : (made : Made) → frequency_faults loads ≡ [] → made ≡ loads_made network.edges loads → StageGives (load_stage bundle) (Ok made)
+      pub stage_given : (made : Made) → frequency_faults loads ≡ []
+          → made ≡ loads_made network.edges loads → StageGives (load_stage bundle) (Ok made)
       unfolding load_stage
       stage_given made rare given =
-          stage_made (or_else (load_faults bundle) (frequency_faults (loads_in bundle))) _ made (sym all_faults ∙ rare)
-          (given ∙ ap (loads_made network.edges) loads_are ∙ ap (λ some. loads_made some.edges (loads_in bundle)) is)
+          stage_made (or_else (load_faults bundle) (frequency_faults (loads_in bundle))) _ made
+          (sym all_faults ∙ rare)
+          (given ∙ ap (loads_made network.edges) loads_are
+          ∙ ap (λ some. loads_made some.edges (loads_in bundle)) is)

@@ -9,6 +9,9 @@ use Rattle.giv_files.proofs.StageCalls.{made_unless}
 use Rattle.demand_load.specs.LoadStage.{load_stage}
 
 -- they are those that the stage is to make
-pub load_stage_makes : (bundle : BundleParts) (made : Made) → load_stage bundle ≡ Ok made → map (λ (file : MadeFile). file.file) made.files ≡ stage_makes stage.Load
+pub load_stage_makes : (bundle : BundleParts) (made : Made) → load_stage bundle ≡ Ok made
+    → map (λ (file : MadeFile). file.file) made.files ≡ stage_makes stage.Load
 unfolding load_stage
-load_stage_makes bundle made is = sym (ap (λ (made : Made). map (λ (file : MadeFile). file.file) made.files) (made_unless _ _ made is))
+load_stage_makes bundle made is = sym
+    (ap (λ (made : Made). map (λ (file : MadeFile). file.file) made.files)
+    (made_unless _ _ made is))

@@ -28,12 +28,15 @@ none_first [] others none = (refl, none)
 none_first (first ∷ all) others none = cc
 
 -- what the stage makes of inputs without a fault
-pub loads_are_right : (bundle : BundleParts) (made : Made) → bundle.stage ≡ stage.Load → Fits bundle → load_stage bundle ≡ Ok made → LoadsAreRight bundle made
+pub loads_are_right : (bundle : BundleParts) (made : Made) → bundle.stage ≡ stage.Load → Fits bundle
+    → load_stage bundle ≡ Ok made → LoadsAreRight bundle made
 unfolding load_stage
 loads_are_right bundle made _ _ is =
-    let none = none_first (load_faults bundle) (frequency_faults (loads_in bundle)) (none_unless _ _ made is) in
+    let none = none_first (load_faults bundle) (frequency_faults (loads_in bundle))
+    (none_unless _ _ made is) in
     let edges = edges_named (input_text bundle 0) (input_text bundle 1) (front_none _ _ none.0) in
-    let later = back_none (network_faults (input_text bundle 0) (input_text bundle 1)) (text_faults bundle.settings (network_in bundle) (input_text bundle 2)) none.0 in
+    let later = back_none (network_faults (input_text bundle 0) (input_text bundle 1))
+    (text_faults bundle.settings (network_in bundle) (input_text bundle 2)) none.0 in
     let loads = loads_sound bundle.settings (network_in bundle) (input_text bundle 2) later in
     let rows = load_rows (network_in bundle).edges (loads_in bundle) in
     record {
@@ -42,11 +45,14 @@ loads_are_right bundle made _ _ is =
       files = ap (λ (made : Made). made.files) (sym (made_unless _ _ made is));
       reads =
           written_back load_header load_columns rows (omega arith) columns_written
-          (rows_in_columns (network_in bundle).edges (loads_in bundle) edges loads (all_rare (loads_in bundle) none.1))
+          (rows_in_columns (network_in bundle).edges (loads_in bundle) edges loads
+          (all_rare (loads_in bundle) none.1))
           (refl, plain_header load_header refl);
     }
 
 -- what a call gives that meets the stage
-pub right_given : (bundle : BundleParts) (result : Result Made StageFault) → bundle.stage ≡ stage.Load → Fits bundle → StageGives (load_stage bundle) result → IfOk result (λ made. LoadsAreRight bundle made)
+pub right_given : (bundle : BundleParts) (result : Result Made StageFault)
+    → bundle.stage ≡ stage.Load → Fits bundle → StageGives (load_stage bundle) result
+    → IfOk result (λ made. LoadsAreRight bundle made)
 right_given bundle (Ok made) own fits given = loads_are_right bundle made own fits given
 right_given bundle (Err fault) own fits given = tt

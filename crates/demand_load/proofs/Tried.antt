@@ -24,7 +24,14 @@ use Rattle.demand_load.specs.LoadTables.{load_header}
 use Rattle.demand_load.specs.LoadStage.{loads_by, text_faults, load_stage}
 
 abbrev edge : ℕ → ℕ → ℕ → ℕ → Edge
-edge id left right length = record { id = pos id; left = left; right = right; length = pos length; lower = pos 1; upper = pos 1 }
+edge id left right length = record {
+  id = pos id;
+  left = left;
+  right = right;
+  length = pos length;
+  lower = pos 1;
+  upper = pos 1;
+}
 
 -- two ways from stop 0 to stop 3, equally long
 abbrev square : NetworkParts
@@ -46,11 +53,13 @@ nowhere : path square 2 2 ≡ []
 unfolding path_within least_sum walks_within least_of
 nowhere = refl
 
--- the same ways, where the first edges of the one have greater ids than those of the other, but its last one a lesser id
+-- the same ways, where the first edges of the one have greater ids than those of the other, but its
+-- last one a lesser id
 abbrev turned : NetworkParts
 turned = record {
   stops = pos 1 ∷ pos 2 ∷ pos 3 ∷ pos 4 ∷ [];
-  edges = edge 1 1 0 1000000 ∷ edge 2 3 2 1000000 ∷ edge 3 2 0 1000000 ∷ edge 4 3 1 1000000 ∷ edge 5 1 0 1000000 ∷ [];
+  edges = edge 1 1 0 1000000 ∷ edge 2 3 2 1000000 ∷ edge 3 2 0 1000000 ∷ edge 4 3 1 1000000
+      ∷ edge 5 1 0 1000000 ∷ [];
 }
 
 by_last : path turned 0 3 ≡ 2 ∷ 1 ∷ []
@@ -62,7 +71,9 @@ by_last = refl
 abbrev bundle : ℕ → List (List ℕ) → BundleParts
 bundle source inputs = record {
   stage = stage.Load;
-  settings = record { key = key.LoadSource; value = pos source } ∷ record { key = key.GenPassengersPerVehicle; value = pos 70 } ∷ record { key = key.LoadSpread; value = pos 3 } ∷ [];
+  settings = record { key = key.LoadSource; value = pos source }
+      ∷ record { key = key.GenPassengersPerVehicle; value = pos 70 }
+      ∷ record { key = key.LoadSpread; value = pos 3 } ∷ [];
   inputs = inputs;
 }
 
@@ -73,24 +84,56 @@ abbrev ways : List ℕ
 ways = codes "1; 1; 2; 1; 1; 1\n2; 2; 4; 1; 1; 1\n3; 1; 3; 1; 1; 1\n4; 3; 4; 1; 1; 1\n"
 
 abbrev made : List ℕ → Made
-made table = record { files = record { file = file.Load; text = load_header ++ 10 ∷ table } ∷ []; report = codes "load: 4 edges" }
+made table = record {
+  files = record { file = file.Load; text = load_header ++ 10 ∷ table } ∷ [];
+  report = codes "load: 4 edges";
+}
 
-demand : load_stage (bundle 0 (four ∷ ways ∷ codes "1; 4; 150.5\n" ∷ [])) ≡ Ok (made (codes "1; 150.5; 3; 6\n2; 150.5; 3; 6\n3; 0; 0; 3\n4; 0; 0; 3\n"))
-unfolding digits digits_at load_stage loads_by loads_of text_faults path_within least_sum walks_within least_of network_of network_faults stops_of input_faults row_faults faults by_id table_of cells_from cell_of values errors row_whys rows cleaned spelling_of value_of value_at fixed_of whole_of cell_text cell_texts joined table_text
+demand : load_stage (bundle 0 (four ∷ ways ∷ codes "1; 4; 150.5\n" ∷ []))
+    ≡ Ok (made (codes "1; 150.5; 3; 6\n2; 150.5; 3; 6\n3; 0; 0; 3\n4; 0; 0; 3\n"))
+unfolding digits digits_at load_stage loads_by loads_of text_faults path_within least_sum
+    walks_within least_of network_of network_faults stops_of input_faults row_faults faults by_id
+    table_of cells_from cell_of values errors row_whys rows cleaned spelling_of value_of value_at
+    fixed_of whole_of cell_text cell_texts joined table_text
 demand = refl
 
-too_often : load_stage (bundle 0 (four ∷ ways ∷ codes "1; 4; 70000\n" ∷ [])) ≡ Err (refusal.TooMany counted.Frequency 1003)
-unfolding digits digits_at load_stage loads_by loads_of text_faults path_within least_sum walks_within least_of network_of network_faults stops_of input_faults row_faults faults by_id table_of cells_from cell_of values errors row_whys rows cleaned spelling_of value_of value_at fixed_of whole_of
+too_often : load_stage (bundle 0 (four ∷ ways ∷ codes "1; 4; 70000\n" ∷ []))
+    ≡ Err (refusal.TooMany counted.Frequency 1003)
+unfolding digits digits_at load_stage loads_by loads_of text_faults path_within least_sum
+    walks_within least_of network_of network_faults stops_of input_faults row_faults faults by_id
+    table_of cells_from cell_of values errors row_whys rows cleaned spelling_of value_of value_at
+    fixed_of whole_of
 too_often = refl
 
-no_way : load_stage (bundle 0 (codes "1;;;;;\n2;;;;;\n" ∷ [] ∷ codes "1; 1; 5\n1; 2; 0\n1; 2; 1\n" ∷ [])) ≡ Err (refusal.BadRow file.Od 3 why.NoPath)
-unfolding digits digits_at load_stage loads_by loads_of text_faults path_within least_sum walks_within least_of network_of network_faults stops_of input_faults row_faults faults by_id table_of cells_from cell_of values errors row_whys rows cleaned spelling_of value_of value_at fixed_of whole_of
+no_way : load_stage (bundle 0 (codes "1;;;;;\n2;;;;;\n" ∷ [] ∷ codes "1; 1; 5\n1; 2; 0\n1; 2; 1\n"
+    ∷ [])) ≡ Err (refusal.BadRow file.Od 3 why.NoPath)
+unfolding digits digits_at load_stage loads_by loads_of text_faults path_within least_sum
+    walks_within least_of network_of network_faults stops_of input_faults row_faults faults by_id
+    table_of cells_from cell_of values errors row_whys rows cleaned spelling_of value_of value_at
+    fixed_of whole_of
 no_way = refl
 
-given : load_stage (bundle 1 (codes "1;;;;;\n2;;;;;\n" ∷ codes "7; 1; 2; 1; 1; 1\n5; 1; 2; 1; 1; 1\n" ∷ codes "7; 140; 2; 5\n5; 0.25; 1; 1\n" ∷ [])) ≡ Ok (record { files = record { file = file.Load; text = load_header ++ 10 ∷ codes "5; 0.25; 1; 1\n7; 140; 2; 5\n" } ∷ []; report = codes "load: 2 edges" })
-unfolding digits digits_at load_stage loads_by loads_of text_faults network_of network_faults stops_of input_faults row_faults faults by_id table_of cells_from cell_of values errors row_whys rows cleaned spelling_of value_of value_at fixed_of whole_of cell_text cell_texts joined table_text
+given : load_stage (bundle 1
+    (codes "1;;;;;\n2;;;;;\n" ∷ codes "7; 1; 2; 1; 1; 1\n5; 1; 2; 1; 1; 1\n"
+    ∷ codes "7; 140; 2; 5\n5; 0.25; 1; 1\n" ∷ []))
+    ≡ Ok (record {
+      files = record {
+        file = file.Load;
+        text = load_header ++ 10
+            ∷ codes "5; 0.25; 1; 1\n7; 140; 2; 5\n";
+      } ∷ [];
+      report = codes "load: 2 edges";
+    })
+unfolding digits digits_at load_stage loads_by loads_of text_faults network_of network_faults
+    stops_of input_faults row_faults faults by_id table_of cells_from cell_of values errors row_whys
+    rows cleaned spelling_of value_of value_at fixed_of whole_of cell_text cell_texts joined
+    table_text
 given = refl
 
-missing : load_stage (bundle 1 (codes "1;;;;;\n2;;;;;\n" ∷ codes "7; 1; 2; 1; 1; 1\n5; 1; 2; 1; 1; 1\n" ∷ codes "7; 140; 2; 5\n" ∷ [])) ≡ Err (refusal.BadRow file.LoadGiven 0 why.MissingEdge)
-unfolding digits digits_at load_stage loads_by loads_of text_faults network_of network_faults stops_of input_faults row_faults faults by_id table_of cells_from cell_of values errors row_whys rows cleaned spelling_of value_of value_at fixed_of whole_of
+missing : load_stage (bundle 1 (codes "1;;;;;\n2;;;;;\n"
+    ∷ codes "7; 1; 2; 1; 1; 1\n5; 1; 2; 1; 1; 1\n" ∷ codes "7; 140; 2; 5\n" ∷ []))
+    ≡ Err (refusal.BadRow file.LoadGiven 0 why.MissingEdge)
+unfolding digits digits_at load_stage loads_by loads_of text_faults network_of network_faults
+    stops_of input_faults row_faults faults by_id table_of cells_from cell_of values errors row_whys
+    rows cleaned spelling_of value_of value_at fixed_of whole_of
 missing = refl

@@ -6,4 +6,5 @@ use Rattle.ptn_network.specs.Paths.{PathParts, ArePaths}
 -- of each stop of a network the paths from it, where they are known
 pub record AreKnown (network : NetworkParts) (known : List (Option PathParts)) : Type 0 where
   pub size : length known ≡ length network.stops
-  pub right : (from : ℕ) → from < length network.stops → IfSome (get_or known from None) (ArePaths network from)
+  pub right : (from : ℕ) → from < length network.stops
+      → IfSome (get_or known from None) (ArePaths network from)

@@ -11,7 +11,8 @@ use Rattle.giv_files.specs.declared.setting.Setting.{Setting}
 use Rattle.giv_files.specs.Inputs.{input_faults, records_of, or_else}
 use Rattle.giv_files.specs.Settings.{BundleParts, amount}
 use Rattle.giv_files.specs.StageCalls.{input_text, unless_fault}
-use Rattle.ptn_network.specs.Networks.{NetworkParts, network_of, network_faults}
+use Rattle.ptn_network.specs.Networks.{NetworkParts, network_faults}
+pub use Rattle.ptn_network.specs.Networks.{network_in}
 use Rattle.ptn_network.specs.declared.edge_load.EdgeLoad.{EdgeLoad}
 use Rattle.demand_load.specs.Demand.{demand_input, demand_loads}
 use Rattle.giv_files.specs.declared.file_id.FileId.TheVariants as file
@@ -38,30 +39,40 @@ bounded settings load = record {
   most = pos (least_frequency settings load + amount settings key.LoadSpread);
 }
 
--- the loads of the edges of a network by the text of demand or of given loads, and the faults of that text
+-- the loads of the edges of a network by the text of demand or of given loads, and the faults of
+-- that text
 unfoldable pub loads_by : List Setting → NetworkParts → List ℕ → List EdgeLoad
 loads_by settings network text =
-    if takes_demand settings then map (bounded settings) (demand_loads network (records_of (demand_input network) text)) else loads_of file.LoadGiven network.edges text
+    if takes_demand settings
+    then map (bounded settings) (demand_loads network (records_of (demand_input network) text))
+    else loads_of file.LoadGiven network.edges text
 
 unfoldable pub text_faults : List Setting → NetworkParts → List ℕ → List Refusal
-text_faults settings network text = if takes_demand settings then input_faults (demand_input network) text else input_faults (load_input file.LoadGiven network.edges) text
+text_faults settings network text =
+    if takes_demand settings
+    then input_faults (demand_input network) text
+    else input_faults (load_input file.LoadGiven network.edges) text
 
 -- the maximal frequencies that are too great, in the order of the edges
 abbrev pub frequency_faults : List EdgeLoad → List Refusal
-frequency_faults loads = flat_map (λ load. if int_lt (pos 1000) load.most then refusal.TooMany counted.Frequency (unsigned_abs load.most) ∷ [] else []) loads
-
--- the network of a bundle, whose inputs are the texts of stops, of edges, and of demand or given loads
-abbrev pub network_in : BundleParts → NetworkParts
-network_in bundle = network_of (input_text bundle 0) (input_text bundle 1)
+frequency_faults loads =
+    flat_map (λ load. if int_lt (pos 1000) load.most
+    then refusal.TooMany counted.Frequency (unsigned_abs load.most) ∷ [] else []) loads
 
 -- every fault of the texts of a bundle, in the order of its inputs
 abbrev pub load_faults : BundleParts → List Refusal
-load_faults bundle = network_faults (input_text bundle 0) (input_text bundle 1) ++ text_faults bundle.settings (network_in bundle) (input_text bundle 2)
+load_faults bundle =
+    network_faults (input_text bundle 0) (input_text bundle 1)
+    ++ text_faults bundle.settings (network_in bundle) (input_text bundle 2)
 
 -- the loads of a bundle
 abbrev pub loads_in : BundleParts → List EdgeLoad
 loads_in bundle = loads_by bundle.settings (network_in bundle) (input_text bundle 2)
 
--- the stage: from settings and input texts to what is made, or the first fault; frequencies count where the texts have none
+-- the stage, whose inputs are the texts of stops, of edges, and of demand or given loads: from
+-- settings and input texts to what is made, or the first fault; frequencies count where the texts
+-- have none
 unfoldable pub load_stage : BundleParts → Result Made Refusal
-load_stage bundle = unless_fault (or_else (load_faults bundle) (frequency_faults (loads_in bundle))) (loads_made (network_in bundle).edges (loads_in bundle))
+load_stage bundle =
+    unless_fault (or_else (load_faults bundle) (frequency_faults (loads_in bundle)))
+    (loads_made (network_in bundle).edges (loads_in bundle))

@@ -15,7 +15,10 @@ use Rattle.ptn_network.specs.declared.edge_load.EdgeLoad.{EdgeLoad}
 
 -- the row of an edge: its id, its load and its bounds of frequency
 abbrev pub load_row : Edge → EdgeLoad → TableRow
-load_row edge load = record { number = 0; cells = edge.id ∷ load.load ∷ load.least ∷ load.most ∷ [] }
+load_row edge load = record {
+  number = 0;
+  cells = edge.id ∷ load.load ∷ load.least ∷ load.most ∷ [];
+}
 
 -- the rows of edges, each with its load
 abbrev pub load_rows : List Edge → List EdgeLoad → List TableRow
@@ -40,6 +43,9 @@ load_header = codes "# edge-id; load; minimal-frequency; maximal-frequency"
 -- what is made of the loads of edges: their table, and the line of the report
 abbrev pub loads_made : List Edge → List EdgeLoad → Made
 loads_made edges loads = record {
-  files = record { file = file.Load; text = table_text load_header load_columns (load_rows edges loads) } ∷ [];
+  files = record {
+    file = file.Load;
+    text = table_text load_header load_columns (load_rows edges loads);
+  } ∷ [];
   report = report_line stage.Load (count_text (length edges) (codes "edges") ∷ []);
 }

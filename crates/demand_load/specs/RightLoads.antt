@@ -8,7 +8,8 @@ use Rattle.giv_files.specs.Writing.{ReadsBack}
 use Rattle.demand_load.specs.LoadStage.{network_in, loads_in}
 use Rattle.demand_load.specs.LoadTables.{load_rows}
 
--- one file is made: a table without a fault, which read again has the load of each edge over the inputs, with its bounds of frequency
+-- one file is made: a table without a fault, which read again has the load of each edge over the
+-- inputs, with its bounds of frequency
 pub record LoadsAreRight (bundle : BundleParts) (made : Made) : Type 0 where
   pub each : length (loads_in bundle) ≡ length (network_in bundle).edges
   pub text : List ℕ

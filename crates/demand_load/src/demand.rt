@@ -17,14 +17,16 @@ use std::alloc::Global;
 
 const MOST_ROWS: usize = 100_000;
 
-/// How many customers, in millionths, go over each edge by the demand of a text, or the first fault of the text.
+/// How many customers, in millionths, go over each edge by the demand of a text, or the first fault
+/// of the text.
 pub(crate) fn read_demand(
     alloc: Global,
     network: &Network,
     text: &[u8],
 ) -> Result<Vec<u64>, StageFault>
     ensures { UnlessFault (input_faults (demand_input network.now) text.now)
-        (λ loads. loads.items ≡ demand_loads network.now (records_of (demand_input network.now) text.now)) result }
+        (λ loads. loads.items ≡ demand_loads network.now
+        (records_of (demand_input network.now) text.now)) result }
 {
     let table = read_input(alloc, FileId::Od, text, &columns!(Od))?;
     loads_of_table(alloc, network, &table)
@@ -38,7 +40,8 @@ fn loads_of_table(
 ) -> Result<Vec<u64>, StageFault>
     requires { All (λ row. InColumns od_columns row.cells) table.now }
     ensures { UnlessFault (table_faults (demand_input network.now) table.now)
-        (λ loads. loads.items ≡ demand_loads network.now (records (demand_input network.now) table.now)) result }
+        (λ loads. loads.items ≡ demand_loads network.now
+        (records (demand_input network.now) table.now)) result }
 {
     if table.len() > MOST_ROWS {
         return Err(StageFault::Refused(Refusal::TooMany {
@@ -55,7 +58,8 @@ fn loads_of_rows(alloc: Global, network: &Network, table: &Table<3>) -> Result<V
     requires few { length table.now ≤ 100000 }
     requires cells { All (λ row. InColumns od_columns row.cells) table.now }
     ensures { UnlessFault (table_row_faults (demand_input network.now) table.now)
-        (λ loads. loads.items ≡ demand_loads network.now (records (demand_input network.now) table.now)) result }
+        (λ loads. loads.items ≡ demand_loads network.now
+        (records (demand_input network.now) table.now)) result }
 {
     let mut loads = vec![in alloc; 0; network.edge_count()]?;
     let mut known = KnownPaths::new(alloc, network)?;
@@ -75,7 +79,8 @@ fn loads_of_rows(alloc: Global, network: &Network, table: &Table<3>) -> Result<V
     Ok(loads)
 }
 
-// The path of the customers of a row, or why the row is refused. A row without customers needs no path.
+// The path of the customers of a row, or why the row is refused. A row without customers needs no
+// path.
 fn path_of_row(
     alloc: Global,
     network: &Network,
@@ -87,8 +92,10 @@ fn path_of_row(
     requires customers { pos 0 ≤ℤ row.now.customers }
     ensures known { OnOk result (AreKnown network.now known.new) }
     ensures path { IfOk result (λ found. MatchResult found
-        (λ path. (broken_whys (demand_input network.now).row_rules [] row.now ≡ []) × BearsRow network.now row.now path.items)
-        (λ why. slice_get (broken_whys (demand_input network.now).row_rules [] row.now) 0 ≡ Some why)) }
+        (λ path. (broken_whys (demand_input network.now).row_rules [] row.now ≡ [])
+        × BearsRow network.now row.now path.items)
+        (λ why. slice_get (broken_whys (demand_input network.now).row_rules [] row.now) 0
+        ≡ Some why)) }
 {
     let Some(left) = network.stop_index(row.left) else {
         return Ok(Err(RowWhy::UnknownStop));
@@ -112,7 +119,8 @@ fn add_along(path: &[usize], customers: u64, loads: &mut Vec<u64>)
     requires room { All (λ load. load + customers < 2 ^ 64) loads.old.items }
     ensures size { vec_len loads.new ≡ vec_len loads.old }
     ensures added { (index : ℕ) → index < vec_len loads.old → slice_index loads.new.items index
-        ≡ slice_index loads.old.items index + (if list_any (nat_eq index) path.now then customers else 0) }
+        ≡ slice_index loads.old.items index
+        + (if list_any (nat_eq index) path.now then customers else 0) }
 {
     for index in path {
         loads[*index] += customers;

@@ -9,7 +9,8 @@ use ptn_network::{Network, Paths};
 use std::alloc::Global;
 use std::marker::Model;
 
-/// The paths from each stop, where they were asked for. Contracts see it as the list of them, by stop.
+/// The paths from each stop, where they were asked for. Contracts see it as the list of them, by
+/// stop.
 #[derive(Drop)]
 pub(crate) struct KnownPaths {
     paths: Vec<Option<Paths>>,
@@ -36,7 +37,8 @@ impl KnownPaths {
         Ok(KnownPaths { paths })
     }
 
-    /// The path between two stops, where a walk joins them. The paths from its stop are known from then on.
+    /// The path between two stops, where a walk joins them. The paths from its stop are known from
+    /// then on.
     pub(crate) fn way(
         &mut self,
         alloc: Global,
@@ -49,8 +51,10 @@ impl KnownPaths {
         requires from { from < length network.now.stops }
         requires to { to < length network.now.stops }
         ensures known { OnOk result (AreKnown network.now self.new) }
-        ensures way { IfOk result (λ found. option_map (λ path. path.items) found ≡ way network.now from to) }
-        ensures shortest { IfOk result (λ found. IfSome found (λ path. IsShortest network.now from to path.items)) }
+        ensures way { IfOk result (λ found.
+            option_map (λ path. path.items) found ≡ way network.now from to) }
+        ensures shortest { IfOk result (λ found. IfSome found
+            (λ path. IsShortest network.now from to path.items)) }
     {
         self.learn(alloc, network, from)?;
         match &self.paths[from] {
@@ -86,8 +90,10 @@ fn way_among(
     requires network { IsNetwork network.now }
     requires paths { ArePaths network.now from paths.now }
     requires to { to < length network.now.stops }
-    ensures way { IfOk result (λ found. option_map (λ path. path.items) found ≡ way network.now from to) }
-    ensures shortest { IfOk result (λ found. IfSome found (λ path. IsShortest network.now from to path.items)) }
+    ensures way { IfOk result (λ found.
+        option_map (λ path. path.items) found ≡ way network.now from to) }
+    ensures shortest { IfOk result (λ found. IfSome found
+        (λ path. IsShortest network.now from to path.items)) }
 {
     if !paths.reaches(to) {
         return Ok(None);

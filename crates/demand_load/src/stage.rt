@@ -18,8 +18,8 @@ use plan_num::{Ledger, Steps};
 use ptn_network::{EdgeLoad, Loads, Network};
 use std::alloc::Global;
 
-/// The loads of edges with the bounds of their frequencies, from the settings and the texts of stops, edges, and
-/// demand or given loads. It takes one step.
+/// The loads of edges with the bounds of their frequencies, from the settings and the texts of
+/// stops, edges, and demand or given loads. It takes one step.
 pub fn make_load<L: Ledger>(
     alloc: Global,
     bundle: &Bundle,
@@ -55,7 +55,8 @@ fn loads_of_text(
     text: &[u8],
 ) -> Result<Vec<EdgeLoad>, StageFault>
     requires { HasSpread settings.now }
-    ensures { UnlessFault (text_faults settings.now network.now text.now) (λ loads. loads.items ≡ loads_by settings.now network.now text.now) result }
+    ensures { UnlessFault (text_faults settings.now network.now text.now)
+        (λ loads. loads.items ≡ loads_by settings.now network.now text.now) result }
 {
     if settings.amount(Key::LoadSource) != 0 {
         return read_given(alloc, network, text);

@@ -10,7 +10,8 @@ const STOPS: &[u8] = b"1; A; A; 0; 0\n2; B; B; 0; 0\n3; C; C; 0; 0\n4; D; D; 0; 
 // Two ways from stop 1 to stop 4, equally long.
 const SQUARE: &[u8] = b"1; 1; 2; 1; 1; 1\n2; 2; 4; 1; 1; 1\n3; 1; 3; 1; 1; 1\n4; 3; 4; 1; 1; 1\n";
 
-// The same, where the way with the edge of least id at its start has that of greatest id at its end.
+// The same, where the way with the edge of least id at its start has that of greatest id at its
+// end.
 const TURNED: &[u8] = b"1; 2; 1; 1; 1; 1\n2; 4; 3; 1; 1; 1\n3; 3; 1; 1; 1; 1\n4; 4; 2; 1; 1; 1\n";
 
 // Two edges between each two of three stops in a row.
@@ -21,7 +22,8 @@ const BY_DEMAND: [i64; 3] = [0, 70, 3];
 
 const BY_FILE: [i64; 3] = [1, 70, 3];
 
-// What the stage gives for the values of its keys and the texts of edges and of demand or given loads.
+// What the stage gives for the values of its keys and the texts of edges and of demand or given
+// loads.
 fn run(
     alloc: Global,
     values: &[i64; 3],
@@ -79,7 +81,8 @@ fn loads_of_edges(rt: HostRuntime) -> Result<(), Fail> {
             b"1; 3; 69.999999\n3; 1; 0.000002\n2; 1; 3\n",
             b"5; 73.000001; 2; 5\n6; 0; 0; 3\n7; 70.000001; 2; 5\n9; 0; 0; 3\n",
         ),
-        // A row from a stop to itself, one without customers and without a way, and two rows of one pair.
+        // A row from a stop to itself, one without customers and without a way, and two rows of one
+        // pair.
         (
             [0, 1, 0],
             SQUARE,

@@ -1,66 +1,26 @@
 -- Lines and their rows, one row of a pool after the other.
 use Rattle.std.proofs.Common.{◌≡◌, ℕ, ℤ, pos, ◌+◌, ◌<◌, Bool, true, false, not, ◌||◌, ◌&&◌, cond, List, [], ◌∷◌, ◌++◌, length, map, get_or, set, take, slice_get, position, refl, ap, subst, sym, ◌∙◌, arith, Option, Some, None, is_some, unwrap_or, inl, inr, ◌≢◌}
-use Rattle.std.specs.List.{list_any, find, filter_map, cons_option, position_or_len, IsDistinct}
+use Rattle.std.specs.List.{list_any, filter_map, cons_option, IsDistinct}
 use Rattle.std.specs.Option.{option_or}
 use Rattle.std.specs.Ordering.{int_eq}
 use Rattle.std.proofs.lemmas.Bool.Decides.{Decides-int_eq}
-use Rattle.std.proofs.lemmas.Bool.{ltb-false, cases_order}
-use Rattle.std.proofs.lemmas.Option.{cond_some, slice_get_past, slice_get-get_or}
+use Rattle.std.proofs.lemmas.Bool.{cases_order}
 use Rattle.std.proofs.lemmas.List.Quantifiers.{position-Some}
 use Rattle.std.proofs.lemmas.Map.Keys.{apart_from_distinct}
 use Rattle.std.proofs.lemmas.Cmp.{int_eq_equiv}
 use Rattle.std.proofs.lemmas.List.{append-nil, map_push, length-map, length-set, take_more, same_lists, get_or-map, get_or-set_same, get_or-set_other}
 use Rattle.std.proofs.lemmas.List.Elements.{filter-append, filter_map-append}
-use Rattle.std.proofs.lemmas.List.Folds.{list_any-append, list_any_at, find_at}
+use Rattle.std.proofs.lemmas.List.Folds.{list_any-append, list_any_at}
 use Rattle.giv_files.specs.declared.row_why.RowWhy.{RowWhy}
 use Rattle.giv_files.specs.declared.row_why.RowWhy.TheVariants as why
 use Rattle.giv_files.specs.Inputs.{broken_whys}
 use Rattle.giv_files.specs.Tables.{TableRow, no_row, cell_at}
-use Rattle.giv_files.proofs.CellFacts.{position-map}
 use Rattle.ptn_network.specs.declared.edge.Edge.{Edge}
 use Rattle.line_pool.specs.declared.ends.Ends.{Ends}
 use Rattle.line_pool.specs.declared.line_row.LineRow.{LineRow}
 use Rattle.line_pool.specs.Pools.{line_row, edge_with, index_of, rows_of, edges_of, walk_of, line_rules, first_frequency, differs}
 use Rattle.line_pool.specs.LinesSoFar.{ends_of, next_ends, LineEdges, no_line, with_edge, line_so_far, lines_in, StandsAt}
 use Rattle.line_pool.proofs.Walks.{ends_more, has_walk}
-
--- ---- an edge and its index
-
-nothing_chosen : {X : Type 0} (b : Bool) (x : X) → cond b (Some x) None ≡ None → b ≡ false
-nothing_chosen true x e = cc
-nothing_chosen false x e = refl
-
--- what stands at the first place is found
-pub found_at : {X : Type 0} (p : X → Bool) (xs : List X) (place : ℕ) → position p xs ≡ Some place → find p xs ≡ slice_get xs place
-found_at p xs place e = find_at p xs ∙ ap (slice_get xs) (cond_some _ (position_or_len p xs) place e).1
-
--- where there is no first place nothing is found
-pub found_nowhere : {X : Type 0} (p : X → Bool) (xs : List X) → position p xs ≡ None → find p xs ≡ None
-found_nowhere p xs e = find_at p xs ∙ slice_get_past xs (position_or_len p xs) (ltb-false _ _ (nothing_chosen _ (position_or_len p xs) e))
-
-pub some_edge : Edge
-some_edge = record { id = pos 0; left = 0; right = 0; length = pos 0; lower = pos 0; upper = pos 0 }
-
-module _ (edges : List Edge) (id : ℤ) where
-  -- the edge at the index of its id
-  pub edge_at : (index : ℕ) (edge : Edge) → StandsAt edges id index → slice_get edges index ≡ Some edge → edge_with edges id ≡ Some edge
-  edge_at index edge stands is = found_at (λ edge. int_eq id edge.id) edges index stands ∙ is
-
-  -- an index among ids is one among edges
-  pub stands_at : (index : ℕ) → position (int_eq id) (map (λ edge. edge.id) edges) ≡ Some index → StandsAt edges id index
-  stands_at index e = sym (position-map (int_eq id) (λ (edge : Edge). edge.id) edges) ∙ e
-
-  -- it is within
-  pub stands_within : (index : ℕ) → StandsAt edges id index → index < length edges
-  stands_within index stands = (position-Some (λ edge. int_eq id edge.id) edges index some_edge stands).0
-
-  -- there is an edge of the id
-  pub is_known : (index : ℕ) → StandsAt edges id index → is_some (edge_with edges id) ≡ true
-  is_known index stands = ap is_some (found_at (λ edge. int_eq id edge.id) edges index stands ∙ slice_get-get_or edges index some_edge (stands_within index stands))
-
-  -- no edge has the id
-  pub no_edge : position (int_eq id) (map (λ edge. edge.id) edges) ≡ None → edge_with edges id ≡ None
-  no_edge e = found_nowhere (λ edge. int_eq id edge.id) edges (sym (position-map (int_eq id) (λ (edge : Edge). edge.id) edges) ∙ e)
 
 -- ---- the rows of a line
 

@@ -37,7 +37,8 @@ use Rattle.line_pool.specs.declared.line_row.LineRow.{LineRow}
 use Rattle.line_pool.specs.CostStage.{length_at, line_length}
 use Rattle.line_pool.specs.LineCosts.{IsModest}
 use Rattle.line_pool.specs.Pools.{file_of, columns_of, line_row, line_rules, line_input, edge_with, index_of, rows_of, walk_of, edges_of, first_frequency, differs, line_of, lines_over, lines_of, line_faults}
-use Rattle.line_pool.proofs.RowsOfLines.{some_edge, whys, rows_own, rows_other}
+use Rattle.line_pool.proofs.RowsOfLines.{whys, rows_own, rows_other}
+use Rattle.ptn_network.proofs.PathSteps.{no_edge as some_edge}
 
 -- ---- rows that break no rule
 

@@ -31,7 +31,9 @@ use Rattle.line_pool.specs.declared.line_file.LineFile.{LineFile}
 use Rattle.line_pool.specs.declared.line_file.LineFile.TheVariants as kinds
 use Rattle.line_pool.specs.declared.line_row.LineRow.{LineRow}
 use Rattle.line_pool.specs.Pools.{file_of, columns_of, line_row, line_rules, line_input, line_limit, edge_with, index_of, rows_of, walk_of, walk_from, or_walk, edges_of, first_frequency, line_of, lines_over, lines_of, line_faults, LineParts, IsLine, AreLines}
-use Rattle.line_pool.proofs.RowsOfLines.{some_edge, rows_other, found_at, found_nowhere}
+use Rattle.line_pool.proofs.RowsOfLines.{rows_other}
+use Rattle.ptn_network.proofs.EdgeIds.{found_at, found_nowhere}
+use Rattle.ptn_network.proofs.PathSteps.{no_edge as some_edge}
 use Rattle.line_pool.proofs.SoundLines.{row_sound, all_rising, id_in, input_rows, own, known, there, apart, unsigned_within}
 
 -- ---- the edges of a line, by their indexes

@@ -13,7 +13,8 @@ use Rattle.giv_files.specs.StageCalls.{input_text, unless_fault}
 use Rattle.giv_files.specs.Tables.{TableRow}
 use Rattle.giv_files.specs.Writing.{table_text}
 use Rattle.ptn_network.specs.declared.edge.Edge.{Edge}
-use Rattle.ptn_network.specs.Networks.{NetworkParts, network_of, network_faults}
+use Rattle.ptn_network.specs.Networks.{network_faults}
+pub use Rattle.ptn_network.specs.Networks.{network_in}
 use Rattle.ptn_network.specs.Walks.{edge_length}
 use Rattle.line_pool.specs.Pools.{LineParts, pool_of, pool_faults}
 
@@ -44,11 +45,7 @@ costs_made settings edges lines = record {
   report = report_line stage.Cost (count_text (length lines) (codes "lines") ∷ []);
 }
 
--- the network of a bundle, whose inputs are the texts of stops, of edges and of the pool
-abbrev pub network_in : BundleParts → NetworkParts
-network_in bundle = network_of (input_text bundle 0) (input_text bundle 1)
-
--- every fault of a bundle, in the order of its inputs
+-- every fault of a bundle, in the order of its inputs: the texts of stops, of edges and of the pool
 abbrev pub cost_faults : BundleParts → List Refusal
 cost_faults bundle = network_faults (input_text bundle 0) (input_text bundle 1) ++ pool_faults (network_in bundle) (input_text bundle 2)
 

@@ -1,9 +1,9 @@
 -- What is known of the lines of a pool after some of its rows.
-use Rattle.std.specs.Prelude.{ℕ, ℤ, pos, ◌≡◌, ◌++◌, List, [], ◌∷◌, map, position, unsigned_abs, Option, Some, None, option_and_then, unwrap_or}
+use Rattle.std.specs.Prelude.{ℕ, ℤ, pos, ◌++◌, List, [], ◌∷◌, map, unsigned_abs, Option, Some, None, option_and_then, unwrap_or}
 use Rattle.std.specs.Option.{option_or}
-use Rattle.std.specs.Ordering.{int_eq}
 use Rattle.giv_files.specs.Tables.{TableRow}
 use Rattle.ptn_network.specs.declared.edge.Edge.{Edge}
+pub use Rattle.ptn_network.specs.Ids.{StandsAt}
 use Rattle.ptn_network.specs.Walks.{across, end_from}
 use Rattle.line_pool.specs.declared.ends.Ends.{Ends}
 use Rattle.line_pool.specs.declared.line_row.LineRow.{LineRow}
@@ -63,7 +63,3 @@ whole_line line = record {
 -- the lines of the rows of a table, row by row
 abbrev pub lines_in : List TableRow → List ℤ
 lines_in rows = map (λ row. row.line) (map (λ row. line_row row.cells) rows)
-
--- the edge of an id stands first at an index
-abbrev pub StandsAt : List Edge → ℤ → ℕ → Type 0
-StandsAt edges id index = position (λ edge. int_eq id edge.id) edges ≡ Some index

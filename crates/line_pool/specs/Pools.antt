@@ -1,6 +1,6 @@
 -- Lines over a network, in a pool or in a line concept: their file, its rules, and each line as a walk.
 use Rattle.std.specs.Prelude.{ℕ, ℤ, pos, ◌≡◌, ◌+◌, ◌≤◌, ◌<◌, ◌≤ℤ◌, nat_eq, Bool, false, not, is_some, List, [], ◌∷◌, ◌++◌, length, map, filter, filter_map, get_or, position, unsigned_abs, Option, Some, None, option_map, option_and_then, unwrap_or}
-use Rattle.std.specs.List.{All, IsDistinct, list_any, find}
+use Rattle.std.specs.List.{All, IsDistinct, list_any}
 use Rattle.std.specs.List.Sorted.{IsStrictlySortedBy}
 use Rattle.std.specs.Ordering.{int_eq, int_cmp}
 use Rattle.giv_files.specs.declared.column.ColumnKind.{ColumnKind}
@@ -12,6 +12,8 @@ use Rattle.giv_files.specs.declared.refusal.Refusal.{Refusal}
 use Rattle.giv_files.specs.Columns.{pool_columns, concept_columns}
 use Rattle.giv_files.specs.Inputs.{Input, Limit, RowRule, records_of, input_faults}
 use Rattle.ptn_network.specs.declared.edge.Edge.{Edge}
+use Rattle.ptn_network.specs.Ids.{known_edge}
+pub use Rattle.ptn_network.specs.Ids.{edge_with}
 use Rattle.ptn_network.specs.Networks.{NetworkParts, rising}
 use Rattle.ptn_network.specs.Paths.{edges_at}
 use Rattle.ptn_network.specs.Walks.{across}
@@ -28,10 +30,6 @@ line_row cells = record {
   edge = get_or cells 2 (pos 0);
   frequency = get_or cells 3 (pos 0);
 }
-
--- the edge of an id
-abbrev pub edge_with : List Edge → ℤ → Option Edge
-edge_with edges id = find (λ edge. int_eq id edge.id) edges
 
 -- the rows of a line
 abbrev pub rows_of : ℤ → List LineRow → List LineRow
@@ -55,10 +53,6 @@ or_walk (Some stops) other = Some stops
 abbrev pub walk_of : List Edge → Option (List ℕ)
 walk_of [] = Some []
 walk_of (edge ∷ edges) = or_walk (walk_from edge.left (edge ∷ edges)) (walk_from edge.right (edge ∷ edges))
-
--- the rule that the edge of a row is there
-abbrev pub known_edge : List Edge → RowRule LineRow
-known_edge edges = record { is_broken = λ _ row. not (is_some (edge_with edges row.edge)); why = why.UnknownEdge }
 
 -- the rule that a row's place is one more than the number of rows of its line before it
 abbrev pub next_place : RowRule LineRow
@@ -109,7 +103,7 @@ columns_of kind.Concept = concept_columns
 -- the rules of a row, in their order; that of frequencies is never broken in a pool
 abbrev pub line_rules : List Edge → List (RowRule LineRow)
 line_rules edges =
-    known_edge edges ∷ next_place ∷ new_edge ∷ joined_edges edges ∷ one_frequency ∷ []
+    known_edge (λ row. row.edge) edges ∷ next_place ∷ new_edge ∷ joined_edges edges ∷ one_frequency ∷ []
 
 -- a file of lines over the edges of a network
 abbrev pub line_input : LineFile → List Edge → Input LineRow

@@ -1,12 +1,17 @@
 pub mod ById
-pub mod Labels
+pub mod EdgeIds
+mod GoingOn
 mod LastEdges
+pub mod LastWalks
+mod LeastFirst
 pub mod LoadRows
 pub mod NamedFaults
+mod Noting
 mod Partway
 pub mod PathEdges
-mod PathSteps
+pub mod PathSteps
 mod Rows
+pub mod Settling
 pub mod ShortestPaths
 pub mod Sound
 mod Sums

@@ -1,5 +1,5 @@
 -- Rows of given loads, one after the other.
-use Rattle.std.proofs.Common.{◌≡◌, ◌≢◌, ℕ, ℤ, pos, ◌<◌, int_lt, Bool, true, false, T, lit<, not, cond, List, [], ◌∷◌, ◌++◌, length, map, get_or, set, slice_get, refl, ap, subst, sym, ◌∙◌, arith, Option, Some, None, option_map, is_some, unwrap_or, position, inl, inr, get_or-set_other, get_or-set_same}
+use Rattle.std.proofs.Common.{◌≡◌, ◌≢◌, ℕ, ℤ, pos, ◌<◌, int_lt, Bool, true, false, T, lit<, not, cond, List, [], ◌∷◌, ◌++◌, length, map, get_or, set, slice_get, refl, ap, subst, sym, ◌∙◌, arith, Option, Some, None, option_map, is_some, unwrap_or, inl, inr, get_or-set_other, get_or-set_same}
 use Rattle.std.specs.List.{All, list_any, find}
 use Rattle.std.specs.Int.Signed.{lt_z_no}
 use Rattle.std.proofs.lemmas.Int.{ints}
@@ -14,9 +14,8 @@ use Rattle.std.proofs.lemmas.Bool.Decides.{Decides-int_eq}
 use Rattle.std.proofs.lemmas.Cmp.{int_cmp_total}
 use Rattle.std.proofs.lemmas.List.{length-map, get_or-map, length-set, same_lists}
 use Rattle.std.proofs.lemmas.List.Folds.{find-append}
-use Rattle.std.proofs.lemmas.List.Quantifiers.{position-Some}
 use Rattle.std.proofs.lemmas.Map.Keys.{Less-from_sorted}
-use Rattle.std.proofs.lemmas.Option.{slice_get-get_or, same_Some}
+use Rattle.std.proofs.lemmas.Option.{same_Some}
 use Rattle.std.proofs.lemmas.Simd.{map-map}
 use Rattle.giv_files.specs.declared.row_why.RowWhy.TheVariants as why
 use Rattle.giv_files.specs.declared.file_id.FileId.{FileId}
@@ -30,83 +29,91 @@ use Rattle.giv_files.specs.Writing.{InColumns}
 use Rattle.giv_files.proofs.WriteFacts.{in_column}
 use Rattle.giv_files.proofs.Inputs.{sound_rows, refused_whole, no_faults, whole_rule_broken, whole_rule_kept}
 use Rattle.giv_files.specs.Tables.{TableRow}
-use Rattle.giv_files.proofs.Found.{any_mapped, any_is, any_found}
+use Rattle.giv_files.proofs.Found.{any_mapped, any_found}
 use Rattle.ptn_network.specs.declared.edge.Edge.{Edge}
 use Rattle.ptn_network.specs.declared.edge_load.EdgeLoad.{EdgeLoad}
 use Rattle.ptn_network.specs.declared.load_row.LoadRow.{LoadRow}
-use Rattle.ptn_network.specs.Networks.{StandsAt}
+use Rattle.ptn_network.specs.Ids.{edge_with, StandsAt}
 use Rattle.ptn_network.specs.Loads.{load_input, load_row_of, load_rules, given_for, loads_of, loads_over, no_load, IsLoad}
+use Rattle.ptn_network.proofs.EdgeIds.{stands_within, own_id_at}
 use Rattle.ptn_network.proofs.PathSteps.{no_edge}
 
 same_ids : (x y : ℤ) → int_eq x y ≡ true → x ≡ y
 same_ids x y e = (Decides-int_eq x y).0 e
 
--- ---- the edge of a row
-
-module _ (edges : List Edge) (id : ℤ) where
-  any_edge : list_any (λ edge. int_eq id edge.id) edges ≡ is_some (position (int_eq id) (map (λ edge. edge.id) edges))
-  any_edge = sym (any_mapped (int_eq id) (λ (edge : Edge). edge.id) edges) ∙ any_is (int_eq id) (map (λ edge. edge.id) edges)
-
-  pub no_such_edge : position (int_eq id) (map (λ edge. edge.id) edges) ≡ None → list_any (λ edge. int_eq id edge.id) edges ≡ false
-  no_such_edge none = any_edge ∙ ap is_some none
-
-  pub such_edge : (index : ℕ) → position (int_eq id) (map (λ edge. edge.id) edges) ≡ Some index → list_any (λ edge. int_eq id edge.id) edges ≡ true
-  such_edge index at = any_edge ∙ ap is_some at
-
-  pub stands_at : (index : ℕ) → position (int_eq id) (map (λ edge. edge.id) edges) ≡ Some index → StandsAt edges id index
-  stands_at index at =
-      let p = position-Some (int_eq id) (map (λ edge. edge.id) edges) index (pos 0) at in
-      let within : index < length edges = omega (arith, length-map edges (λ (edge : Edge). edge.id)) in
-      let same : id ≡ (get_or edges index no_edge).id = same_ids _ _ p.1 ∙ get_or-map (λ (edge : Edge). edge.id) edges index no_edge (pos 0) within in
-      record { within = within; own = ap (option_map (λ edge. edge.id)) (slice_get-get_or edges index no_edge within) ∙ ap Some (sym same) }
-
-  own_id_at : (index : ℕ) → StandsAt edges id index → (get_or edges index no_edge).id ≡ id
-  own_id_at index at = same_Some _ _ (sym (ap (option_map (λ edge. edge.id)) (slice_get-get_or edges index no_edge at.within)) ∙ at.own)
-
 -- ---- the rules of a row
 
 module _ (edges : List Edge) (before : List LoadRow) (row : LoadRow) where
-  pub unknown : list_any (λ edge. int_eq row.edge edge.id) edges ≡ false → slice_get (broken_whys (load_rules edges) before row) 0 ≡ Some why.UnknownEdge
+  pub unknown : edge_with edges row.edge ≡ None
+      → slice_get (broken_whys (load_rules edges) before row) 0 ≡ Some why.UnknownEdge
   unknown none = rw none refl
 
-  pub repeated : list_any (λ edge. int_eq row.edge edge.id) edges ≡ true → list_any (λ other. int_eq row.edge other.edge) before ≡ true → slice_get (broken_whys (load_rules edges) before row) 0 ≡ Some why.RepeatedId
+  pub repeated : is_some (edge_with edges row.edge) ≡ true
+      → list_any (λ other. int_eq row.edge other.edge) before ≡ true
+      → slice_get (broken_whys (load_rules edges) before row) 0 ≡ Some why.RepeatedId
   repeated there twice = rw (there, twice) refl
 
-  pub crossed : list_any (λ edge. int_eq row.edge edge.id) edges ≡ true → list_any (λ other. int_eq row.edge other.edge) before ≡ false → int_lt row.load.most row.load.least ≡ true → slice_get (broken_whys (load_rules edges) before row) 0 ≡ Some why.BoundsCrossed
+  pub crossed : is_some (edge_with edges row.edge) ≡ true
+      → list_any (λ other. int_eq row.edge other.edge) before ≡ false
+      → int_lt row.load.most row.load.least ≡ true
+      → slice_get (broken_whys (load_rules edges) before row) 0 ≡ Some why.BoundsCrossed
   crossed there new cross = rw (there, new, cross) refl
 
-  pub fits : list_any (λ edge. int_eq row.edge edge.id) edges ≡ true → list_any (λ other. int_eq row.edge other.edge) before ≡ false → int_lt row.load.most row.load.least ≡ false → broken_whys (load_rules edges) before row ≡ []
+  pub fits : is_some (edge_with edges row.edge) ≡ true
+      → list_any (λ other. int_eq row.edge other.edge) before ≡ false
+      → int_lt row.load.most row.load.least ≡ false → broken_whys (load_rules edges) before row ≡ []
   fits there new order = rw (there, new, order) refl
 
   -- a row that breaks no rule is the first of its edge
-  pub own_row : broken_whys (load_rules edges) before row ≡ [] → (list_any (λ other. int_eq row.edge other.edge) before ≡ false) × (int_lt row.load.most row.load.least ≡ false)
-  own_row none = kept (list_any (λ edge. int_eq row.edge edge.id) edges) (list_any (λ other. int_eq row.edge other.edge) before) (int_lt row.load.most row.load.least) none
+  pub own_row : broken_whys (load_rules edges) before row ≡ []
+      → (list_any (λ other. int_eq row.edge other.edge) before ≡ false)
+      × (int_lt row.load.most row.load.least ≡ false)
+  own_row none = kept (is_some (edge_with edges row.edge))
+      (list_any (λ other. int_eq row.edge other.edge) before)
+      (int_lt row.load.most row.load.least) none
     where
-      kept : (known repeated cross : Bool) → cond (not known) (why.UnknownEdge ∷ []) [] ++ (cond repeated (why.RepeatedId ∷ []) [] ++ (cond cross (why.BoundsCrossed ∷ []) [] ++ [])) ≡ [] → (repeated ≡ false) × (cross ≡ false)
+      kept : (known repeated cross : Bool)
+          → cond (not known) (why.UnknownEdge ∷ []) [] ++ (cond repeated (why.RepeatedId ∷ []) []
+          ++ (cond cross (why.BoundsCrossed ∷ []) [] ++ [])) ≡ []
+          → (repeated ≡ false) × (cross ≡ false)
       kept false repeated cross e = cc
       kept true true cross e = cc
       kept true false true e = cc
       kept true false false e = (refl, refl)
 
-  module _ (given : List (Option EdgeLoad)) (index : ℕ) (are : given ≡ map (given_for before) edges) (at : StandsAt edges row.edge index) where
+  module _ (given : List (Option EdgeLoad)) (index : ℕ) (are : given ≡ map (given_for before) edges)
+      (at : StandsAt edges row.edge index) where
     pub place_within : index < length given
-    place_within = omega (arith, ap length are, length-map edges (given_for before), at.within)
+    place_within = omega (
+      arith,
+      ap length are,
+      length-map edges (given_for before),
+      stands_within edges row.edge index at,
+    )
 
     -- a load is given where a row before has the same edge
-    pub is_given : is_some (get_or given index None) ≡ list_any (λ other. int_eq row.edge other.edge) before
+    pub is_given : is_some (get_or given index None)
+        ≡ list_any (λ other. int_eq row.edge other.edge) before
     is_given =
         ap (λ (some : List (Option EdgeLoad)). is_some (get_or some index None)) are
-        ∙ ap is_some (get_or-map (given_for before) edges index no_edge None at.within)
-        ∙ any_found (λ other. int_eq (get_or edges index no_edge).id other.edge) (λ other. other.load) before
-        ∙ ap (λ id. list_any (λ other. int_eq id other.edge) before) (own_id_at edges row.edge index at)
+        ∙ ap is_some (get_or-map (given_for before) edges index no_edge None
+        (stands_within edges row.edge index at))
+        ∙ any_found (λ other. int_eq (get_or edges index no_edge).id other.edge)
+        (λ other. other.load) before
+        ∙ ap (λ id. list_any (λ other. int_eq id other.edge) before)
+        (own_id_at edges row.edge index at)
 
 -- ---- one row more
 
 module _ (before : List LoadRow) (row : LoadRow) (edge : Edge) where
-  found_more : given_for (before ++ row ∷ []) edge ≡ option_map (λ row. row.load) (option_or (find (λ other. int_eq edge.id other.edge) before) (cond (int_eq edge.id row.edge) (Some row) None))
-  found_more = ap (option_map (λ row. row.load)) (find-append (λ other. int_eq edge.id other.edge) before (row ∷ []))
+  found_more : given_for (before ++ row ∷ []) edge ≡ option_map (λ row. row.load) (option_or
+      (find (λ other. int_eq edge.id other.edge) before)
+      (cond (int_eq edge.id row.edge) (Some row) None))
+  found_more = ap (option_map (λ row. row.load)) (find-append
+      (λ other. int_eq edge.id other.edge) before (row ∷ []))
 
-  nothing : (found : Option LoadRow) → is_some (option_map (λ row. row.load) found) ≡ false → found ≡ None
+  nothing : (found : Option LoadRow) → is_some (option_map (λ row. row.load) found) ≡ false
+      → found ≡ None
   nothing None e = refl
   nothing (Some x) e = cc
 
@@ -115,18 +122,32 @@ module _ (before : List LoadRow) (row : LoadRow) (edge : Edge) where
   no_more (Some x) = refl
 
   -- the load of its edge
-  given_now : edge.id ≡ row.edge → list_any (λ other. int_eq row.edge other.edge) before ≡ false → given_for (before ++ row ∷ []) edge ≡ Some row.load
+  given_now : edge.id ≡ row.edge → list_any (λ other. int_eq row.edge other.edge) before ≡ false
+      → given_for (before ++ row ∷ []) edge ≡ Some row.load
   given_now own new =
-      let first : find (λ other. int_eq edge.id other.edge) before ≡ None = nothing _ (any_found (λ other. int_eq edge.id other.edge) (λ other. other.load) before ∙ ap (λ id. list_any (λ other. int_eq id other.edge) before) own ∙ new) in
+      let first : find (λ other. int_eq edge.id other.edge) before
+      ≡ None = nothing _ (any_found (λ other. int_eq edge.id other.edge)
+      (λ other. other.load) before ∙ ap (λ id. list_any (λ other. int_eq id other.edge) before)
+      own ∙ new) in
       let here : int_eq edge.id row.edge ≡ true = (Decides-int_eq edge.id row.edge).1 own in
-      found_more ∙ ap (λ found. option_map (λ row. row.load) (option_or found (cond (int_eq edge.id row.edge) (Some row) None))) first ∙ ap (λ b. option_map (λ row. row.load) (cond b (Some row) None)) here
+      found_more ∙ ap (λ found. option_map (λ row. row.load)
+      (option_or found (cond (int_eq edge.id row.edge) (Some row) None))) first
+      ∙ ap (λ b. option_map (λ row. row.load) (cond b (Some row) None)) here
 
   -- and of no other
   given_before : edge.id ≢ row.edge → given_for (before ++ row ∷ []) edge ≡ given_for before edge
   given_before other =
-      let apart : int_eq edge.id row.edge ≡ false = elim (cases_Bool (int_eq edge.id row.edge)) [ inl same ↦ absurd (other (same_ids _ _ same)) | inr differs ↦ differs ] in
-      found_more ∙ ap (λ b. option_map (λ row. row.load) (option_or (find (λ other. int_eq edge.id other.edge) before) (cond b (Some row) None))) apart
-      ∙ ap (option_map (λ row. row.load)) (no_more (find (λ other. int_eq edge.id other.edge) before))
+      let apart : int_eq edge.id row.edge ≡ false = elim (cases_Bool
+      (int_eq edge.id row.edge)) [
+        | inl same ↦ absurd (other (same_ids _ _ same))
+        | inr differs ↦
+            differs
+      ] in
+      found_more ∙ ap (λ b. option_map (λ row. row.load)
+      (option_or (find (λ other. int_eq edge.id other.edge) before) (cond b (Some row) None)))
+      apart
+      ∙ ap (option_map (λ row. row.load))
+      (no_more (find (λ other. int_eq edge.id other.edge) before))
 
 not_less : (x : ℤ) → int_cmp x x ≡ Less → ⊥
 not_less x e =
@@ -135,7 +156,9 @@ not_less x e =
     cc
 
 -- of two places of rising ids each has its own
-ids_apart : (edges : List Edge) (i j : ℕ) → IsStrictlySortedBy int_cmp (map (λ edge. edge.id) edges) → i < length edges → j < length edges → i ≢ j → (get_or edges i no_edge).id ≢ (get_or edges j no_edge).id
+ids_apart : (edges : List Edge) (i j : ℕ) → IsStrictlySortedBy int_cmp (map (λ edge. edge.id) edges)
+    → i < length edges → j < length edges → i ≢ j
+    → (get_or edges i no_edge).id ≢ (get_or edges j no_edge).id
 ids_apart edges i j rise h k apart same =
     elim (cases_order i j) [
       | inl e ↦ apart e
@@ -143,39 +166,59 @@ ids_apart edges i j rise h k apart same =
       | inr (inr gt) ↦ never j i k h gt (sym same)
     ]
   where
-    never : (a b : ℕ) → a < length edges → b < length edges → a < b → (get_or edges a no_edge).id ≡ (get_or edges b no_edge).id → ⊥
+    never : (a b : ℕ) → a < length edges → b < length edges → a < b
+        → (get_or edges a no_edge).id ≡ (get_or edges b no_edge).id → ⊥
     never a b p q lt e =
         let ids = map (λ (edge : Edge). edge.id) edges in
-        let less : int_cmp (get_or ids a (pos 0)) (get_or ids b (pos 0)) ≡ Less = Less-from_sorted int_cmp ids a b (pos 0) rise lt (omega (arith, length-map edges (λ (edge : Edge). edge.id))) in
+        let less : int_cmp (get_or ids a (pos 0)) (get_or ids b (pos 0))
+        ≡ Less = Less-from_sorted int_cmp ids a b (pos 0) rise lt
+        (omega (arith, length-map edges (λ (edge : Edge). edge.id))) in
         let here = get_or-map (λ (edge : Edge). edge.id) edges a no_edge (pos 0) p in
         let there = get_or-map (λ (edge : Edge). edge.id) edges b no_edge (pos 0) q in
-        let tied : int_cmp (get_or ids a (pos 0)) (get_or ids a (pos 0)) ≡ Less = ap (int_cmp (get_or ids a (pos 0))) (here ∙ e ∙ sym there) ∙ less in
+        let tied : int_cmp (get_or ids a (pos 0)) (get_or ids a (pos 0)) ≡ Less =
+        ap (int_cmp (get_or ids a (pos 0))) (here ∙ e ∙ sym there) ∙ less in
         not_less (get_or ids a (pos 0)) tied
 
 -- the given loads with that of one row more
-pub given_more : (edges : List Edge) (before : List LoadRow) (row : LoadRow) (given : List (Option EdgeLoad)) (index : ℕ) → IsStrictlySortedBy int_cmp (map (λ edge. edge.id) edges) → given ≡ map (given_for before) edges → StandsAt edges row.edge index → list_any (λ other. int_eq row.edge other.edge) before ≡ false
+pub given_more : (edges : List Edge) (before : List LoadRow) (row : LoadRow)
+    (given : List (Option EdgeLoad)) (index : ℕ)
+    → IsStrictlySortedBy int_cmp (map (λ edge. edge.id) edges)
+    → given ≡ map (given_for before) edges → StandsAt edges row.edge index
+    → list_any (λ other. int_eq row.edge other.edge) before ≡ false
     → set given index (Some row.load) ≡ map (given_for (before ++ row ∷ [])) edges
 given_more edges before row given index rise are at new =
     let size : length given ≡ length edges = ap length are ∙ length-map edges (given_for before) in
-    let long : length (set given index (Some row.load)) ≡ length edges = length-set given index (Some row.load) ∙ size in
+    let long : length (set given index (Some row.load)) ≡ length edges =
+    length-set given index (Some row.load) ∙ size in
     same_lists _ _ (long ∙ sym (length-map edges (given_for (before ++ row ∷ [])))) (λ k d h.
     let within : k < length edges = omega arith in
-    let now : get_or (map (given_for (before ++ row ∷ [])) edges) k d ≡ given_for (before ++ row ∷ []) (get_or edges k no_edge) = get_or-map (given_for (before ++ row ∷ [])) edges k no_edge d within in
+    let now : get_or (map (given_for (before ++ row ∷ [])) edges) k d
+    ≡ given_for (before ++ row ∷ []) (get_or edges k no_edge) =
+    get_or-map (given_for (before ++ row ∷ [])) edges k no_edge d within in
     elim (cases_eq k index) [
       | inl e ↦
-          subst (λ n. get_or (set given index (Some row.load)) n d ≡ given_for (before ++ row ∷ []) (get_or edges n no_edge)) (sym e)
-          (get_or-set_same given index (Some row.load) d (omega (arith, at.within)) ∙ sym (given_now before row (get_or edges index no_edge) (own_id_at edges row.edge index at) new))
+          subst (λ n. get_or (set given index (Some row.load)) n d
+          ≡ given_for (before ++ row ∷ []) (get_or edges n no_edge)) (sym e)
+          (get_or-set_same given index (Some row.load) d
+          (omega (arith, stands_within edges row.edge index at))
+          ∙ sym (given_now before row (get_or edges index no_edge)
+          (own_id_at edges row.edge index at) new))
           ∙ sym now
       | inr apart ↦
           get_or-set_other given index k (Some row.load) d apart
-          ∙ ap (λ (some : List (Option EdgeLoad)). get_or some k d) are ∙ get_or-map (given_for before) edges k no_edge d within
-          ∙ sym (given_before before row (get_or edges k no_edge) (λ same. ids_apart edges k index rise within at.within apart (same ∙ sym (own_id_at edges row.edge index at))))
+          ∙ ap (λ (some : List (Option EdgeLoad)). get_or some k d) are
+          ∙ get_or-map (given_for before) edges k no_edge d within
+          ∙ sym (given_before before row (get_or edges k no_edge)
+          (λ same. ids_apart edges k index rise within
+          (stands_within edges row.edge index at) apart
+          (same ∙ sym (own_id_at edges row.edge index at))))
           ∙ sym now
     ])
 
 -- ---- the whole table
 
-module _ (file : FileId) (edges : List Edge) (rows : List TableRow) (given : List (Option EdgeLoad)) (are : given ≡ map (given_for (records (load_input file edges) rows)) edges) where
+module _ (file : FileId) (edges : List Edge) (rows : List TableRow) (given : List (Option EdgeLoad))
+    (are : given ≡ map (given_for (records (load_input file edges) rows)) edges) where
   abbrev input : Input LoadRow
   input = load_input file edges
 
@@ -183,74 +226,112 @@ module _ (file : FileId) (edges : List Edge) (rows : List TableRow) (given : Lis
   is_not_whole some = list_any (λ edge. not (is_some (given_for some edge))) edges
 
   abbrev pub missing : Bool
-  missing = list_any (λ edge. not (is_some (given_for (records (load_input file edges) rows) edge))) edges
+  missing = list_any (λ edge. not (is_some (given_for (records (load_input file edges) rows) edge)))
+      edges
 
   -- an edge has no row where a load is not given
   pub is_missing : list_any (λ load. not (is_some load)) given ≡ missing
-  is_missing = ap (list_any (λ load. not (is_some load))) are ∙ any_mapped (λ load. not (is_some load)) (given_for (records (load_input file edges) rows)) edges
+  is_missing = ap (list_any (λ load. not (is_some load))) are
+      ∙ any_mapped (λ load. not (is_some load)) (given_for
+      (records (load_input file edges) rows)) edges
 
   -- then the table is refused by that, where no row breaks a rule
-  pub edge_missing : table_row_faults (load_input file edges) rows ≡ [] → list_any (λ load. not (is_some load)) given ≡ true → slice_get (table_faults (load_input file edges) rows) 0 ≡ Some (refusal.BadRow file 0 why.MissingEdge)
+  pub edge_missing : table_row_faults (load_input file edges) rows ≡ []
+      → list_any (λ load. not (is_some load)) given ≡ true
+      → slice_get (table_faults (load_input file edges) rows) 0
+      ≡ Some (refusal.BadRow file 0 why.MissingEdge)
   edge_missing none e =
       refused_whole input rows (stage.Refused (refusal.BadRow file 0 why.MissingEdge)) refl none
       (whole_rule_broken input rows is_not_whole why.MissingEdge [] (sym is_missing ∙ e))
 
   -- and else has no fault
-  pub table_kept : table_row_faults (load_input file edges) rows ≡ [] → list_any (λ load. not (is_some load)) given ≡ false → table_faults (load_input file edges) rows ≡ []
-  table_kept none e = no_faults input rows refl none (whole_rule_kept input rows is_not_whole why.MissingEdge [] (sym is_missing ∙ e))
+  pub table_kept : table_row_faults (load_input file edges) rows ≡ []
+      → list_any (λ load. not (is_some load)) given ≡ false
+      → table_faults (load_input file edges) rows ≡ []
+  table_kept none e = no_faults input rows refl none
+      (whole_rule_kept input rows is_not_whole why.MissingEdge [] (sym is_missing ∙ e))
 
   -- the loads of all edges
-  pub all_loads : (loads : List EdgeLoad) → loads ≡ map (λ load. unwrap_or load no_load) given → loads ≡ loads_over edges (records (load_input file edges) rows)
-  all_loads loads is = is ∙ ap (map (λ load. unwrap_or load no_load)) are ∙ map-map (λ load. unwrap_or load no_load) (given_for (records (load_input file edges) rows)) edges
+  pub all_loads : (loads : List EdgeLoad) → loads ≡ map (λ load. unwrap_or load no_load) given
+      → loads ≡ loads_over edges (records (load_input file edges) rows)
+  all_loads loads is = is ∙ ap (map (λ load. unwrap_or load no_load)) are
+      ∙ map-map (λ load. unwrap_or load no_load) (given_for
+      (records (load_input file edges) rows)) edges
 
 -- loads are not all given where none are handed on
-pub not_all : (missing : Bool) (all : List EdgeLoad) → None ≡ cond missing None (Some all) → missing ≡ true
+pub not_all : (missing : Bool) (all : List EdgeLoad) → None ≡ cond missing None (Some all)
+    → missing ≡ true
 not_all true all e = refl
 not_all false all e = cc
 
-pub all_are : (missing : Bool) (all loads : List EdgeLoad) → Some loads ≡ cond missing None (Some all) → (missing ≡ false) × (loads ≡ all)
+pub all_are : (missing : Bool) (all loads : List EdgeLoad)
+    → Some loads ≡ cond missing None (Some all) → (missing ≡ false) × (loads ≡ all)
 all_are true all loads e = cc
 all_are false all loads e = (refl, same_Some loads all e)
 
 -- ---- what holds of the loads of a text without a fault
 
-row_is_load : (edges : List Edge) (before : List LoadRow) (cells : List ℤ) → broken_whys (load_rules edges) before (load_row_of cells) ≡ [] → InColumns load_columns cells → IsLoad (load_row_of cells).load
+row_is_load : (edges : List Edge) (before : List LoadRow) (cells : List ℤ)
+    → broken_whys (load_rules edges) before (load_row_of cells) ≡ [] → InColumns load_columns cells
+    → IsLoad (load_row_of cells).load
 row_is_load edges before cells none within =
     let load = in_column load_columns cells 1 kind.Skip (pos 0) within (lit< tt) in
     let least = in_column load_columns cells 2 kind.Skip (pos 0) within (lit< tt) in
     let most = in_column load_columns cells 3 kind.Skip (pos 0) within (lit< tt) in
     let order = (own_row edges before (load_row_of cells) none).1 in
     record {
-      bounded = record { load_low = load.0; load_high = load.1; least_low = least.0; in_order = lt_z_no (subst (λ b. T (not b)) (sym order) tt) };
+      bounded = record {
+        load_low = load.0;
+        load_high = load.1;
+        least_low = least.0;
+        in_order = lt_z_no (subst (λ b. T (not b)) (sym order) tt);
+      };
       rare = most.1;
     }
 
-found_is_load : (p : LoadRow → Bool) (rows : List LoadRow) → All (λ row. IsLoad row.load) rows → IsLoad (unwrap_or (option_map (λ row. row.load) (find p rows)) no_load)
+found_is_load : (p : LoadRow → Bool) (rows : List LoadRow) → All (λ row. IsLoad row.load) rows
+    → IsLoad (unwrap_or (option_map (λ row. row.load) (find p rows)) no_load)
 found_is_load p [] all = record {
-  bounded = record { load_low = omega (arith, ints); load_high = omega (arith, ints); least_low = omega (arith, ints); in_order = omega (arith, ints) };
+  bounded = record {
+    load_low = omega (arith, ints);
+    load_high = omega (arith, ints);
+    least_low = omega (arith, ints);
+    in_order = omega (arith, ints);
+  };
   rare = omega (arith, ints);
 }
 found_is_load p (row ∷ rows) all =
-    elim (p row) as (λ b. IsLoad (unwrap_or (option_map (λ row. row.load) (cond b (Some row) (find p rows))) no_load)) [
+    elim (p row) as (λ b. IsLoad
+    (unwrap_or (option_map (λ row. row.load) (cond b (Some row) (find p rows))) no_load)) [
       | true ↦ All-head (λ row. IsLoad row.load) row rows all
       | false ↦ found_is_load p rows (All-tail (λ row. IsLoad row.load) row rows all)
     ]
 
-pub loads_sound : (file : FileId) (edges : List Edge) (text : List ℕ) → input_faults (load_input file edges) text ≡ [] → All IsLoad (loads_of file edges text)
+pub loads_sound : (file : FileId) (edges : List Edge) (text : List ℕ)
+    → input_faults (load_input file edges) text ≡ [] → All IsLoad (loads_of file edges text)
 unfolding loads_of
 loads_sound file edges text none =
     let input = load_input file edges in
     let rows = records_of input text in
     let sound = sound_rows input text none in
-    let all = All-map (λ (row : LoadRow). IsLoad row.load) (λ (row : TableRow). load_row_of row.cells) (table_of input.columns text) (λ k d h. row_is_load edges (sound k d h).0 _ (sound k d h).1 (sound k d h).2) in
-    All-map IsLoad (λ edge. unwrap_or (given_for rows edge) no_load) edges (λ k d h. found_is_load (λ row. int_eq (get_or edges k d).id row.edge) rows all)
+    let all = All-map (λ (row : LoadRow). IsLoad row.load)
+    (λ (row : TableRow). load_row_of row.cells) (table_of input.columns text)
+    (λ k d h. row_is_load edges (sound k d h).0 _ (sound k d h).1 (sound k d h).2) in
+    All-map IsLoad (λ edge. unwrap_or (given_for rows edge) no_load) edges
+    (λ k d h. found_is_load (λ row. int_eq (get_or edges k d).id row.edge) rows all)
 
 -- the loads of a table are those of its text
-pub loads_are : (file : FileId) (edges : List Edge) (text : List ℕ) (table : List TableRow) (loads : List EdgeLoad) → table ≡ table_of load_columns text → loads ≡ loads_over edges (records (load_input file edges) table) → loads ≡ loads_of file edges text
+pub loads_are : (file : FileId) (edges : List Edge) (text : List ℕ) (table : List TableRow)
+    (loads : List EdgeLoad) → table ≡ table_of load_columns text
+    → loads ≡ loads_over edges (records (load_input file edges) table)
+    → loads ≡ loads_of file edges text
 unfolding loads_of
-loads_are file edges text table loads is told = told ∙ ap (λ rows. loads_over edges (records (load_input file edges) rows)) is
+loads_are file edges text table loads is told =
+    told ∙ ap (λ rows. loads_over edges (records (load_input file edges) rows)) is
 
 -- there is one for each edge
-pub loads_count : (file : FileId) (edges : List Edge) (text : List ℕ) → length (loads_of file edges text) ≡ length edges
+pub loads_count : (file : FileId) (edges : List Edge) (text : List ℕ)
+    → length (loads_of file edges text) ≡ length edges
 unfolding loads_of
-loads_count file edges text = length-map edges (λ edge. unwrap_or (given_for (records_of (load_input file edges) text) edge) no_load)
+loads_count file edges text = length-map edges (λ edge. unwrap_or
+    (given_for (records_of (load_input file edges) text) edge) no_load)

@@ -24,11 +24,14 @@ module _ (edges : List Edge) (lengths : ℕ → Option ℕ) (from : ℕ) where
   none_there (suc more) at e = rw (eq-eqb from at (sym e)) refl
 
   -- and where no edge ends a least walk
-  pub none_before : (more at : ℕ) → last_edge edges lengths at ≡ None → path_within edges lengths more from at ≡ []
+  pub none_before : (more at : ℕ) → last_edge edges lengths at ≡ None
+      → path_within edges lengths more from at ≡ []
   unfolding path_within
   none_before zero at e = refl
   none_before (suc more) at e =
-      ap (λ (last : Option ℕ). cond (eqb from at) [] (unwrap_or (option_map (λ index. path_within edges lengths more from (stop_before edges index at) ++ index ∷ []) last) [])) e
+      ap (λ (last : Option ℕ). cond (eqb from at) [] (unwrap_or
+      (option_map (λ index. path_within edges lengths more from (stop_before edges index at)
+      ++ index ∷ []) last) [])) e
       ∙ either (eqb from at)
     where
       either : (b : Bool) → cond {A = List ℕ} b [] [] ≡ []
@@ -36,15 +39,23 @@ module _ (edges : List Edge) (lengths : ℕ → Option ℕ) (from : ℕ) where
       either false = refl
 
   -- the last step of a path
-  pub last_step : (more at index : ℕ) → at ≢ from → last_edge edges lengths at ≡ Some index → path_within edges lengths (suc more) from at ≡ path_within edges lengths more from (stop_before edges index at) ++ index ∷ []
+  pub last_step : (more at index : ℕ) → at ≢ from → last_edge edges lengths at ≡ Some index
+      → path_within edges lengths (suc more) from at
+      ≡ path_within edges lengths more from (stop_before edges index at) ++ index ∷ []
   unfolding path_within
   last_step more at index apart is =
-      ap (λ (last : Option ℕ). cond (eqb from at) [] (unwrap_or (option_map (λ index. path_within edges lengths more from (stop_before edges index at) ++ index ∷ []) last) [])) is
-      ∙ ap (λ b. cond b [] (path_within edges lengths more from (stop_before edges index at) ++ index ∷ [])) (ne_eqb from at (λ same. apart (sym same)))
+      ap (λ (last : Option ℕ). cond (eqb from at) [] (unwrap_or
+      (option_map (λ index. path_within edges lengths more from (stop_before edges index at)
+      ++ index ∷ []) last) [])) is
+      ∙ ap (λ b. cond b [] (path_within edges lengths more from (stop_before edges index at)
+      ++ index ∷ [])) (ne_eqb from at (λ same. apart (sym same)))
 
   -- one step back
-  pub goes_back : (size step at index : ℕ) (back whole : List ℕ) → step < size → at ≢ from → last_edge edges lengths at ≡ Some index → path_within edges lengths (size - step) from at ++ reverse back ≡ whole
-      → path_within edges lengths (size - (step + 1)) from (stop_before edges index at) ++ reverse (back ++ index ∷ []) ≡ whole
+  pub goes_back : (size step at index : ℕ) (back whole : List ℕ) → step < size → at ≢ from
+      → last_edge edges lengths at ≡ Some index
+      → path_within edges lengths (size - step) from at ++ reverse back ≡ whole
+      → path_within edges lengths (size - (step + 1)) from (stop_before edges index at)
+      ++ reverse (back ++ index ∷ []) ≡ whole
   goes_back size step at index back whole h apart is so_far =
       let more = size - (step + 1) in
       let before = path_within edges lengths more from (stop_before edges index at) in
@@ -61,29 +72,42 @@ module _ (edges : List Edge) (lengths : ℕ → Option ℕ) (from : ℕ) where
   done size step at h = let e : size - step ≡ 0 = omega arith in rw e refl
 
 -- the last edge among those that are known
-pub last_known : (network : NetworkParts) (from : ℕ) (paths : PathParts) (at : ℕ) → paths ≡ paths_from network from → at < length network.stops → get_or paths.last at None ≡ last_edge network.edges (length_to (least_sums network edge_length from)) at
+pub last_known : (network : NetworkParts) (from : ℕ) (paths : PathParts) (at : ℕ)
+    → paths ≡ paths_from network from → at < length network.stops
+    → get_or paths.last at None ≡ last_edge network.edges
+    (length_to (least_sums network edge_length from)) at
 last_known network from paths at is within =
     ap (λ (some : PathParts). get_or some.last at None) is
-    ∙ get_or-map-range_with_len (last_edge network.edges (length_to (least_sums network edge_length from))) 0 (length network.stops) at at None within (omega arith)
+    ∙ get_or-map-range_with_len (last_edge network.edges
+    (length_to (least_sums network edge_length from))) 0
+    (length network.stops) at at None within (omega arith)
 
 -- a last edge is known of each stop
-pub as_many_known : (network : NetworkParts) (from : ℕ) (paths : PathParts) → paths ≡ paths_from network from → length paths.last ≡ length network.stops
+pub as_many_known : (network : NetworkParts) (from : ℕ) (paths : PathParts)
+    → paths ≡ paths_from network from → length paths.last ≡ length network.stops
 as_many_known network from paths is =
-    ap (λ (some : PathParts). length some.last) is ∙ length-map-range_with_len (last_edge network.edges (length_to (least_sums network edge_length from))) 0 (length network.stops)
+    ap (λ (some : PathParts). length some.last) is
+    ∙ length-map-range_with_len (last_edge network.edges
+    (length_to (least_sums network edge_length from))) 0 (length network.stops)
 
 -- the last edge is one of the network
-pub last_there : (edges : List Edge) (lengths : ℕ → Option ℕ) (at index : ℕ) → last_edge edges lengths at ≡ Some index → index < length edges
-last_there edges lengths at index is = (position-Some (ends_least lengths at) edges index no_edge is).0
+pub last_there : (edges : List Edge) (lengths : ℕ → Option ℕ) (at index : ℕ)
+    → last_edge edges lengths at ≡ Some index → index < length edges
+last_there edges lengths at index is =
+    (position-Some (ends_least lengths at) edges index no_edge is).0
 
 -- it comes from a stop of the network
-pub before_there : (edges : List Edge) (n index at : ℕ) → All (IsEdge n) edges → index < length edges → at < n → stop_before edges index at < n
+pub before_there : (edges : List Edge) (n index at : ℕ) → All (IsEdge n) edges
+    → index < length edges → at < n → stop_before edges index at < n
 before_there edges n index at sound within here =
     let edge = get_or edges index no_edge in
     let is = All-get_or (IsEdge n) edges index no_edge within sound in
-    subst (λ (some : Option Edge). unwrap_or (option_and_then (λ edge. across edge at) some) at < n) (sym (slice_get-get_or edges index no_edge within))
+    subst (λ (some : Option Edge). unwrap_or (option_and_then (λ edge. across edge at) some) at < n)
+    (sym (slice_get-get_or edges index no_edge within))
     (over (eqb edge.left at) (eqb edge.right at) edge.left edge.right is.left is.right)
   where
-    over : (a b : Bool) (left right : ℕ) → left < n → right < n → unwrap_or (cond a (Some right) (cond b (Some left) None)) at < n
+    over : (a b : Bool) (left right : ℕ) → left < n → right < n
+        → unwrap_or (cond a (Some right) (cond b (Some left) None)) at < n
     over true b left right l r = r
     over false true left right l r = l
     over false false left right l r = here

@@ -51,52 +51,62 @@ less Less h = refl
 less Equal h = absurd h
 less Greater h = absurd h
 
-above : {X : Type 0} (k : ℤ) (es : List (ℤ × X)) → T (below_all int_cmp k es) → AllByRecursion (λ y. int_cmp k y ≡ Less) (keys_of es)
+above : {X : Type 0} (k : ℤ) (es : List (ℤ × X)) → T (below_all int_cmp k es)
+    → AllByRecursion (λ y. int_cmp k y ≡ Less) (keys_of es)
 above k [] h = tt
 above k (e ∷ es) h = (less _ (first_of _ _ h), above k es (second_of _ _ h))
 
-sorted_rise : {X : Type 0} (es : List (ℤ × X)) → T (is_sorted int_cmp es) → IsStrictlySortedBy int_cmp (keys_of es)
+sorted_rise : {X : Type 0} (es : List (ℤ × X)) → T (is_sorted int_cmp es)
+    → IsStrictlySortedBy int_cmp (keys_of es)
 unfolding IsStrictlySortedBy
 sorted_rise [] h = tt
 sorted_rise (e ∷ es) h = (above e.0 es (first_of _ _ h), sorted_rise es (second_of _ _ h))
 
 -- ---- entries by id
 
-length_put : {X : Type 0} (k : ℤ) (v : X) (es : List (ℤ × X)) → length (put int_cmp k v es) ≤ length es + 1
+length_put : {X : Type 0} (k : ℤ) (v : X) (es : List (ℤ × X))
+    → length (put int_cmp k v es) ≤ length es + 1
 length_put k v [] = omega arith
-length_put k v (e ∷ es) = elim (int_cmp k e.0) as (λ o. length (by_order o ((k, v) ∷ e ∷ es) ((e.0, v) ∷ es) (e ∷ put int_cmp k v es)) ≤ length (e ∷ es) + 1) [
-  | Less ↦ omega arith
-  | Equal ↦ omega arith
-  | Greater ↦ omega (arith, length_put k v es)
-]
+length_put k v (e ∷ es) = elim (int_cmp k e.0) as (λ o. length
+    (by_order o ((k, v) ∷ e ∷ es) ((e.0, v) ∷ es) (e ∷ put int_cmp k v es)) ≤ length (e ∷ es) + 1) [
+      | Less ↦ omega arith
+      | Equal ↦ omega arith
+      | Greater ↦ omega (arith, length_put k v es)
+    ]
 
 length_by_id : {X : Type 0} (es : List (ℤ × X)) → length (by_id es) ≤ length es
 unfolding by_id
 length_by_id [] = omega arith
 length_by_id (e ∷ es) = omega (arith, length_put e.0 e.1 (by_id es), length_by_id es)
 
-all_put : {X : Type 0} (P : X → Type 0) (k : ℤ) (v : X) (es : List (ℤ × X)) → P v → All P (values_of es) → All P (values_of (put int_cmp k v es))
+all_put : {X : Type 0} (P : X → Type 0) (k : ℤ) (v : X) (es : List (ℤ × X)) → P v
+    → All P (values_of es) → All P (values_of (put int_cmp k v es))
 all_put P k v [] own all = All-cons P v [] own all
 all_put P k v (e ∷ es) own all =
     let rest = All-tail P e.1 (values_of es) all in
-    elim (int_cmp k e.0) as (λ o. All P (values_of (by_order o ((k, v) ∷ e ∷ es) ((e.0, v) ∷ es) (e ∷ put int_cmp k v es)))) [
+    elim (int_cmp k e.0) as (λ o. All P
+    (values_of (by_order o ((k, v) ∷ e ∷ es) ((e.0, v) ∷ es) (e ∷ put int_cmp k v es)))) [
       | Less ↦ All-cons P v (values_of (e ∷ es)) own all
       | Equal ↦ All-cons P v (values_of es) own rest
-      | Greater ↦ All-cons P e.1 (values_of (put int_cmp k v es)) (All-head P e.1 (values_of es) all) (all_put P k v es own rest)
+      | Greater ↦ All-cons P e.1 (values_of (put int_cmp k v es))
+          (All-head P e.1 (values_of es) all) (all_put P k v es own rest)
     ]
 
 -- what holds of each value holds of each by id
-pub all_by_id : {X : Type 0} (P : X → Type 0) (es : List (ℤ × X)) → All P (values_of es) → All P (values_of (by_id es))
+pub all_by_id : {X : Type 0} (P : X → Type 0) (es : List (ℤ × X)) → All P (values_of es)
+    → All P (values_of (by_id es))
 unfolding by_id
 all_by_id P [] all = all
-all_by_id P (e ∷ es) all = all_put P e.0 e.1 (by_id es) (All-head P e.1 (values_of es) all) (all_by_id P es (All-tail P e.1 (values_of es) all))
+all_by_id P (e ∷ es) all = all_put P e.0 e.1 (by_id es) (All-head P e.1 (values_of es) all)
+    (all_by_id P es (All-tail P e.1 (values_of es) all))
 
 -- ---- one edge
 
 passes : (p : ℤ → Bool) (ids : List ℤ) → list_any p ids ≡ true → position_or_len p ids < length ids
 passes p [] e = cc
 passes p (id ∷ ids) e =
-    elim (p id) as (λ b. (b || list_any p ids) ≡ true → cond (not b) (1 + position_or_len p ids) 0 < length (id ∷ ids)) [
+    elim (p id) as (λ b. (b || list_any p ids) ≡ true
+    → cond (not b) (1 + position_or_len p ids) 0 < length (id ∷ ids)) [
       | true ↦ λ _. omega arith
       | false ↦ λ rest. let later = passes p ids rest in omega arith
     ] e
@@ -110,7 +120,8 @@ is_at : (stops : List ℤ) (id : ℤ) → not (list_any (int_eq id) stops) ≡ f
 is_at stops id known =
     let there : list_any (int_eq id) stops ≡ true = turned _ known in
     let place = position_or_len (int_eq id) stops in
-    let at : position (int_eq id) stops ≡ Some place = ap (λ b. cond b (Some place) None) (lt-ltb place (length stops) (passes (int_eq id) stops there)) in
+    let at : position (int_eq id) stops ≡ Some place = ap (λ b. cond b
+    (Some place) None) (lt-ltb place (length stops) (passes (int_eq id) stops there)) in
     let found = position-Some (int_eq id) stops place (pos 0) at in
     let index : index_in stops id ≡ place = ap (λ o. unwrap_or o 0) at in
     record {
@@ -126,7 +137,8 @@ neither : (a b : Bool) → (a || b) ≡ false → (a ≡ false) × (b ≡ false)
 neither true b e = cc
 neither false b e = (refl, e)
 
-later_reasons : (b : Bool) (reason : RowWhy) (more : List RowWhy) → cond b (reason ∷ []) [] ++ more ≡ [] → more ≡ []
+later_reasons : (b : Bool) (reason : RowWhy) (more : List RowWhy)
+    → cond b (reason ∷ []) [] ++ more ≡ [] → more ≡ []
 later_reasons b reason more e = back_none (cond b (reason ∷ []) []) more e
 
 differ : (x y : ℤ) → int_eq x y ≡ false → x ≢ y
@@ -135,7 +147,9 @@ differ x y apart same = let test : int_eq x y ≡ true = (Decides-int_eq x y).1 
 at_least_one : (x : ℤ) → pos 0 ≤ℤ x → x ≢ pos 0 → pos 1 ≤ℤ x
 at_least_one x low apart = omega (arith, ints)
 
-edge_sound : (stops : List ℤ) (before : List EdgeRow) (cells : List ℤ) → broken_whys (edge_rules stops) before (edge_row cells) ≡ [] → InColumns edge_columns cells → IsEdge (length stops) (edge_of stops (edge_row cells))
+edge_sound : (stops : List ℤ) (before : List EdgeRow) (cells : List ℤ)
+    → broken_whys (edge_rules stops) before (edge_row cells) ≡ [] → InColumns edge_columns cells
+    → IsEdge (length stops) (edge_of stops (edge_row cells))
 edge_sound stops before cells none within =
     let row = edge_row cells in
     let known = later_reasons _ why.RepeatedId _ none in
@@ -145,14 +159,16 @@ edge_sound stops before cells none within =
     let joins = later_reasons _ why.UnknownStop _ known in
     let some = later_reasons _ why.LoopEdge _ joins in
     let zero = neither _ _ (no_reason _ why.ZeroBound _ some) in
-    let crossed = no_reason (int_lt row.upper row.lower) why.BoundsCrossed _ (later_reasons _ why.ZeroBound _ some) in
+    let crossed = no_reason (int_lt row.upper row.lower) why.BoundsCrossed _
+    (later_reasons _ why.ZeroBound _ some) in
     let length_in = in_column edge_columns cells 3 kind.Skip (pos 0) within (lit< tt) in
     let lower_in = in_column edge_columns cells 4 kind.Skip (pos 0) within (lit< tt) in
     let upper_in = in_column edge_columns cells 5 kind.Skip (pos 0) within (lit< tt) in
     record {
       left = left.within;
       right = right.within;
-      apart = λ same. differ row.left row.right (no_reason _ why.LoopEdge _ joins) (left.is ∙ ap (λ i. get_or stops i (pos 0)) same ∙ sym right.is);
+      apart = λ same. differ row.left row.right (no_reason _ why.LoopEdge _ joins)
+          (left.is ∙ ap (λ i. get_or stops i (pos 0)) same ∙ sym right.is);
       some_length = at_least_one row.length length_in.0 (differ row.length (pos 0) zero.0);
       short = length_in.1;
       some_time = at_least_one row.lower lower_in.0 (differ row.lower (pos 0) zero.1);
@@ -162,9 +178,14 @@ edge_sound stops before cells none within =
 
 -- ---- the network
 
-all_entries : (P : Edge → Type 0) (stops : List ℤ) (rows : List TableRow) → All (λ row. P (edge_of stops (edge_row row.cells))) rows → All P (values_of (map (edge_entry stops) (records (edge_input stops) rows)))
+all_entries : (P : Edge → Type 0) (stops : List ℤ) (rows : List TableRow)
+    → All (λ row. P (edge_of stops (edge_row row.cells))) rows
+    → All P (values_of (map (edge_entry stops) (records (edge_input stops) rows)))
 all_entries P stops [] all = λ k d h. absurd (omega arith)
-all_entries P stops (row ∷ rows) all = All-cons P _ (values_of (map (edge_entry stops) (records (edge_input stops) rows))) (All-head (λ r. P (edge_of stops (edge_row r.cells))) row rows all) (all_entries P stops rows (All-tail (λ r. P (edge_of stops (edge_row r.cells))) row rows all))
+all_entries P stops (row ∷ rows) all = All-cons P _ (values_of
+    (map (edge_entry stops) (records (edge_input stops) rows)))
+    (All-head (λ r. P (edge_of stops (edge_row r.cells))) row rows all)
+    (all_entries P stops rows (All-tail (λ r. P (edge_of stops (edge_row r.cells))) row rows all))
 
 -- ids that were sorted rise
 pub rising_rises : (ids : List ℤ) → IsStrictlySortedBy int_cmp (rising ids)
@@ -179,10 +200,17 @@ unfolding stops_of
 few_stops text none =
     let alone : ℤ → ℤ × Unit {0} = λ id. (id, tt) in
     let units : List (ℤ × Unit {0}) = map alone (records_of stop_input text) in
-    omega (arith, length-keys_of (by_id units), length_by_id units, length-map (records_of stop_input text) alone, few_rows stop_input text (row_limit counted.Stops 1000) [] refl none)
+    omega (
+      arith,
+      length-keys_of (by_id units),
+      length_by_id units,
+      length-map (records_of stop_input text) alone,
+      few_rows stop_input text (row_limit counted.Stops 1000) [] refl none,
+    )
 
 -- texts without a fault give a network
-pub network_sound : (stops_text edges_text : List ℕ) → network_faults stops_text edges_text ≡ [] → IsNetwork (network_of stops_text edges_text)
+pub network_sound : (stops_text edges_text : List ℕ) → network_faults stops_text edges_text ≡ []
+    → IsNetwork (network_of stops_text edges_text)
 unfolding network_faults network_of
 network_sound stops_text edges_text none =
     let stops = stops_of stops_text in
@@ -195,8 +223,18 @@ network_sound stops_text edges_text none =
     let sound = sound_rows input edges_text own in
     record {
       stops_rise = stops_rise stops_text;
-      edges_rise = subst (IsStrictlySortedBy int_cmp) keyed (sorted_rise (by_id entries) (by_id_sorted entries));
+      edges_rise = subst (IsStrictlySortedBy int_cmp) keyed
+          (sorted_rise (by_id entries) (by_id_sorted entries));
       few_stops = few_stops stops_text (front_none _ _ none);
-      few_edges = omega (arith, length-values_of (by_id entries), length_by_id entries, length-map rows (edge_entry stops), few_rows input edges_text (row_limit counted.Edges 1000) [] refl own);
-      edges = all_by_id (IsEdge (length stops)) entries (all_entries (IsEdge (length stops)) stops table (λ k d h. edge_sound stops (sound k d h).0 _ (sound k d h).1 (sound k d h).2));
+      few_edges = omega (
+        arith,
+        length-values_of (by_id entries),
+        length_by_id entries,
+        length-map rows (edge_entry stops),
+        few_rows input edges_text
+            (row_limit counted.Edges 1000) [] refl own,
+      );
+      edges = all_by_id (IsEdge (length stops)) entries
+          (all_entries (IsEdge (length stops)) stops table
+          (λ k d h. edge_sound stops (sound k d h).0 _ (sound k d h).1 (sound k d h).2));
     }

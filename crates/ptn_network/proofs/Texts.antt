@@ -8,15 +8,19 @@ use Rattle.ptn_network.specs.Networks.{NetworkParts, by_id, edge_entry, stops_of
 
 module _ (stops_text edges_text : List ℕ) (stops : List ℤ) (is : stops ≡ stops_of stops_text) where
   -- the faults of the edges are all, where the stops have none
-  pub edge_faults : input_faults stop_input stops_text ≡ [] → input_faults (edge_input stops) edges_text ≡ network_faults stops_text edges_text
+  pub edge_faults : input_faults stop_input stops_text ≡ []
+      → input_faults (edge_input stops) edges_text ≡ network_faults stops_text edges_text
   unfolding network_faults
   edge_faults none =
       ap (λ some. input_faults (edge_input some) edges_text) is
       ∙ ap (λ first. first ++ input_faults (edge_input (stops_of stops_text)) edges_text) (sym none)
 
   -- the network of the stops and of the entries of the edges
-  pub network_is : (entries : List (ℤ × Edge)) → entries ≡ by_id (map (edge_entry stops) (records_of (edge_input stops) edges_text)) → record { stops = stops; edges = values_of entries } ≡ network_of stops_text edges_text
+  pub network_is : (entries : List (ℤ × Edge))
+      → entries ≡ by_id (map (edge_entry stops) (records_of (edge_input stops) edges_text))
+      → record { stops = stops; edges = values_of entries } ≡ network_of stops_text edges_text
   unfolding network_of
   network_is entries are =
-      let parts : List (ℤ × Edge) → NetworkParts = λ some. record { stops = stops; edges = values_of some } in
+      let parts : List (ℤ × Edge) → NetworkParts =
+      λ some. record { stops = stops; edges = values_of some } in
       ap parts are ∙ ap (λ some. network_over some (records_of (edge_input some) edges_text)) is

@@ -1,14 +1,12 @@
 -- Walks: how they begin and go on, their sums, and the list of all walks of so many edges.
-use Rattle.std.proofs.Common.{◌≡◌, ℕ, ℤ, pos, zero, suc, ◌+◌, ◌*◌, ◌≤◌, min, Bool, true, false, cond, eqb, List, [], ◌∷◌, ◌++◌, length, map, sum, fold, refl, ap, sym, subst, ◌∙◌, Option, Some, None, ◌⊎◌, inl, inr, option_map, option_and_then, All, Contains, arith}
+use Rattle.std.proofs.Common.{◌≡◌, ℕ, zero, suc, ◌+◌, ◌*◌, ◌≤◌, min, Bool, true, false, cond, eqb, List, [], ◌∷◌, ◌++◌, length, map, sum, fold, refl, ap, sym, subst, ◌∙◌, Option, Some, None, ◌⊎◌, inl, inr, option_map, option_and_then, All, Contains, arith}
 use Rattle.std.specs.List.{flat_map}
 use Rattle.std.proofs.lemmas.Bool.Decides.{nat_tests}
 use Rattle.std.proofs.lemmas.List.{map-append}
 use Rattle.std.proofs.lemmas.List.Elements.{All-nil, All-cons, All-head, All-tail, All-append, All-push, All-map, All-contains, All-contains_itself, All-weaker, Contains-append_left, Contains-append_right}
-use Rattle.std.proofs.lemmas.List.FromFn.{length-map-range_with_len}
 use Rattle.std.proofs.lemmas.List.Sums.{sum_by-cons, sum_by-append, fold_push}
 use Rattle.ptn_network.specs.declared.edge.Edge.{Edge}
-use Rattle.ptn_network.specs.Networks.{NetworkParts}
-use Rattle.ptn_network.specs.Walks.{across, IsWalk, walk_sum, staying, behind, walks_within, or_less, least_of, least_sum, least_sums}
+use Rattle.ptn_network.specs.Walks.{across, IsWalk, walk_sum, staying, behind, walks_within, or_less, least_of}
 
 -- ---- lists
 
@@ -19,20 +17,32 @@ pub Contains-cons : {X : Type 0} (x y : X) (xs : List X) → Contains xs y → C
 Contains-cons x y xs there = Contains-append_right (x ∷ []) xs y there
 
 -- a member of a list is its head or a member of its tail
-pub Contains-rec : {X : Type 0} (P : X → Type 0) (x y : X) (xs : List X) → Contains (x ∷ xs) y → P x → ((y : X) → Contains xs y → P y) → P y
-Contains-rec P x y xs there own rest = All-contains P (x ∷ xs) y (All-cons P x xs own (All-weaker (Contains xs) P rest xs (All-contains_itself xs))) there
+pub Contains-rec : {X : Type 0} (P : X → Type 0) (x y : X) (xs : List X) → Contains (x ∷ xs) y → P x
+    → ((y : X) → Contains xs y → P y) → P y
+Contains-rec P x y xs there own rest = All-contains P (x ∷ xs) y
+    (All-cons P x xs own (All-weaker (Contains xs) P rest xs (All-contains_itself xs))) there
 
-pub Contains-map : {X Y : Type 0} (f : X → Y) (xs : List X) (x : X) → Contains xs x → Contains (map f xs) (f x)
+pub Contains-map : {X Y : Type 0} (f : X → Y) (xs : List X) (x : X) → Contains xs x
+    → Contains (map f xs) (f x)
 Contains-map f [] x there = absurd (omega (arith, there.1))
-Contains-map f (y ∷ xs) x there = Contains-rec (λ z. Contains (map f (y ∷ xs)) (f z)) y x xs there (Contains-head (f y) (map f xs)) (λ z h. Contains-cons (f y) (f z) (map f xs) (Contains-map f xs z h))
+Contains-map f (y ∷ xs) x there = Contains-rec (λ z. Contains (map f (y ∷ xs)) (f z)) y x xs there
+    (Contains-head (f y) (map f xs)) (λ z h. Contains-cons (f y) (f z) (map f xs)
+    (Contains-map f xs z h))
 
-pub Contains-flat_map : {X Y : Type 0} (f : X → List Y) (xs : List X) (x : X) (y : Y) → Contains xs x → Contains (f x) y → Contains (flat_map f xs) y
+pub Contains-flat_map : {X Y : Type 0} (f : X → List Y) (xs : List X) (x : X) (y : Y)
+    → Contains xs x → Contains (f x) y → Contains (flat_map f xs) y
 Contains-flat_map f [] x y there own = absurd (omega (arith, there.1))
-Contains-flat_map f (z ∷ xs) x y there own = Contains-rec (λ w. Contains (f w) y → Contains (flat_map f (z ∷ xs)) y) z x xs there (λ h. Contains-append_left (f z) (flat_map f xs) y h) (λ w h own. Contains-append_right (f z) (flat_map f xs) y (Contains-flat_map f xs w y h own)) own
+Contains-flat_map f (z ∷ xs) x y there own = Contains-rec (λ w. Contains (f w) y → Contains
+    (flat_map f (z ∷ xs)) y) z x xs there (λ h. Contains-append_left (f z) (flat_map f xs) y h)
+    (λ w h own. Contains-append_right (f z) (flat_map f xs) y (Contains-flat_map f xs w y h own))
+    own
 
-pub All-flat_map : {X Y : Type 0} (P : Y → Type 0) (f : X → List Y) (xs : List X) → All (λ x. All P (f x)) xs → All P (flat_map f xs)
+pub All-flat_map : {X Y : Type 0} (P : Y → Type 0) (f : X → List Y) (xs : List X)
+    → All (λ x. All P (f x)) xs → All P (flat_map f xs)
 All-flat_map P f [] all = All-nil P
-All-flat_map P f (x ∷ xs) all = All-append P (f x) (flat_map f xs) (All-head (λ x. All P (f x)) x xs all) (All-flat_map P f xs (All-tail (λ x. All P (f x)) x xs all))
+All-flat_map P f (x ∷ xs) all = All-append P (f x) (flat_map f xs)
+    (All-head (λ x. All P (f x)) x xs all) (All-flat_map P f xs
+    (All-tail (λ x. All P (f x)) x xs all))
 
 -- ---- one walk
 
@@ -57,49 +67,68 @@ pub record Begins (edges : List Edge) (from to : ℕ) (edge : Edge) (rest : List
   pub over : across edge from ≡ Some next
   pub on : IsWalk edges next to rest
 
-pub begins : (edges : List Edge) (from to : ℕ) (edge : Edge) (rest : List Edge) → IsWalk edges from to (edge ∷ rest) → Begins edges from to edge rest
+pub begins : (edges : List Edge) (from to : ℕ) (edge : Edge) (rest : List Edge)
+    → IsWalk edges from to (edge ∷ rest) → Begins edges from to edge rest
 begins edges from to edge rest walk = go (across edge from) refl
   where
     go : (next : Option ℕ) → across edge from ≡ next → Begins edges from to edge rest
-    go None is = let ends : None ≡ Some to = sym (nowhere rest) ∙ sym (ap (λ end. fold onward end rest) is) ∙ walk.joined in cc
+    go None is = let ends : None ≡ Some to =
+        sym (nowhere rest) ∙ sym (ap (λ end. fold onward end rest) is) ∙ walk.joined in cc
     go (Some next) is = record {
       there = All-head (Contains edges) edge rest walk.there;
       next = next;
       over = is;
-      on = record { there = All-tail (Contains edges) edge rest walk.there; joined = sym (ap (λ end. fold onward end rest) is) ∙ walk.joined };
+      on = record {
+        there = All-tail (Contains edges) edge rest walk.there;
+        joined = sym (ap (λ end. fold onward end rest) is) ∙ walk.joined;
+      };
     }
 
 -- a walk behind an edge
-pub edge_first : (edges : List Edge) (from next to : ℕ) (edge : Edge) (walk : List Edge) → Contains edges edge → across edge from ≡ Some next → IsWalk edges next to walk → IsWalk edges from to (edge ∷ walk)
+pub edge_first : (edges : List Edge) (from next to : ℕ) (edge : Edge) (walk : List Edge)
+    → Contains edges edge → across edge from ≡ Some next → IsWalk edges next to walk
+    → IsWalk edges from to (edge ∷ walk)
 edge_first edges from next to edge walk there over rest = record {
   there = All-cons (Contains edges) edge walk there rest.there;
   joined = ap (λ end. fold onward end walk) over ∙ rest.joined;
 }
 
 -- a walk that goes on over an edge
-pub edge_last : (edges : List Edge) (from to next : ℕ) (walk : List Edge) (edge : Edge) → IsWalk edges from to walk → Contains edges edge → across edge to ≡ Some next → IsWalk edges from next (walk ++ edge ∷ [])
+pub edge_last : (edges : List Edge) (from to next : ℕ) (walk : List Edge) (edge : Edge)
+    → IsWalk edges from to walk → Contains edges edge → across edge to ≡ Some next
+    → IsWalk edges from next (walk ++ edge ∷ [])
 edge_last edges from to next walk edge before there over = record {
   there = All-push (Contains edges) walk edge before.there there;
-  joined = fold_push onward (Some from) walk edge ∙ ap (λ end. onward end edge) before.joined ∙ over;
+  joined = fold_push onward (Some from) walk edge ∙ ap (λ end. onward end edge) before.joined
+      ∙ over;
 }
 
 -- ---- sums
 
-pub walk_sum-cons : (weight : Edge → ℕ) (edge : Edge) (walk : List Edge) → walk_sum weight (edge ∷ walk) ≡ weight edge + walk_sum weight walk
+pub walk_sum-cons : (weight : Edge → ℕ) (edge : Edge) (walk : List Edge)
+    → walk_sum weight (edge ∷ walk) ≡ weight edge + walk_sum weight walk
 walk_sum-cons weight edge walk = sum_by-cons (λ n. n) (weight edge) (map weight walk)
 
-pub walk_sum-append : (weight : Edge → ℕ) (first last : List Edge) → walk_sum weight (first ++ last) ≡ walk_sum weight first + walk_sum weight last
-walk_sum-append weight first last = ap sum (map-append weight first last) ∙ sum_by-append (λ n. n) (map weight first) (map weight last)
+pub walk_sum-append : (weight : Edge → ℕ) (first last : List Edge)
+    → walk_sum weight (first ++ last) ≡ walk_sum weight first + walk_sum weight last
+walk_sum-append weight first last = ap sum (map-append weight first last)
+    ∙ sum_by-append (λ n. n) (map weight first) (map weight last)
 
-pub walk_sum-push : (weight : Edge → ℕ) (walk : List Edge) (edge : Edge) → walk_sum weight (walk ++ edge ∷ []) ≡ walk_sum weight walk + weight edge
-walk_sum-push weight walk edge = omega (arith, walk_sum-append weight walk (edge ∷ []), walk_sum-cons weight edge [])
+pub walk_sum-push : (weight : Edge → ℕ) (walk : List Edge) (edge : Edge)
+    → walk_sum weight (walk ++ edge ∷ []) ≡ walk_sum weight walk + weight edge
+walk_sum-push weight walk edge =
+    omega (arith, walk_sum-append weight walk (edge ∷ []), walk_sum-cons weight edge [])
 
 -- a walk of few edges has a small sum
-pub walk_sum-small : (weight : Edge → ℕ) (edges : List Edge) (most : ℕ) (walk : List Edge) → All (λ edge. weight edge ≤ most) edges → All (Contains edges) walk → walk_sum weight walk ≤ most * length walk
+pub walk_sum-small : (weight : Edge → ℕ) (edges : List Edge) (most : ℕ) (walk : List Edge)
+    → All (λ edge. weight edge ≤ most) edges → All (Contains edges) walk
+    → walk_sum weight walk ≤ most * length walk
 walk_sum-small weight edges most [] small there = omega arith
 walk_sum-small weight edges most (edge ∷ walk) small there =
-    let rest = walk_sum-small weight edges most walk small (All-tail (Contains edges) edge walk there) in
-    let own = All-contains (λ edge. weight edge ≤ most) edges edge small (All-head (Contains edges) edge walk there) in
+    let rest = walk_sum-small weight edges most walk small
+    (All-tail (Contains edges) edge walk there) in
+    let own = All-contains (λ edge. weight edge ≤ most) edges edge small
+    (All-head (Contains edges) edge walk there) in
     let sums = walk_sum-cons weight edge walk in
     omega arith
 
@@ -112,45 +141,65 @@ staying_all edges from to = go (eqb from to) refl
     go false test = All-nil (IsWalk edges from to)
     go true test =
         let same : from ≡ to = grind (arith, nat_tests) in
-        All-cons (IsWalk edges from to) [] [] (subst (λ end. IsWalk edges from end []) same (no_edge edges from)) (All-nil (IsWalk edges from to))
+        All-cons (IsWalk edges from to) [] [] (subst (λ end. IsWalk edges from end []) same
+        (no_edge edges from)) (All-nil (IsWalk edges from to))
 
-behind_all : (edges : List Edge) (from to : ℕ) (edge : Edge) (walks_from : ℕ → List (List Edge)) → Contains edges edge → ((next : ℕ) → All (IsWalk edges next to) (walks_from next)) → All (IsWalk edges from to) (behind edge (option_map walks_from (across edge from)))
+behind_all : (edges : List Edge) (from to : ℕ) (edge : Edge) (walks_from : ℕ → List (List Edge))
+    → Contains edges edge → ((next : ℕ) → All (IsWalk edges next to) (walks_from next))
+    → All (IsWalk edges from to) (behind edge (option_map walks_from (across edge from)))
 behind_all edges from to edge walks_from there walks = go (across edge from) refl
   where
-    go : (next : Option ℕ) → across edge from ≡ next → All (IsWalk edges from to) (behind edge (option_map walks_from next))
+    go : (next : Option ℕ) → across edge from ≡ next
+        → All (IsWalk edges from to) (behind edge (option_map walks_from next))
     go None over = All-nil (IsWalk edges from to)
-    go (Some next) over = All-map (IsWalk edges from to) (λ walk. edge ∷ walk) (walks_from next) (All-weaker (IsWalk edges next to) (λ walk. IsWalk edges from to (edge ∷ walk)) (λ walk is. edge_first edges from next to edge walk there over is) (walks_from next) (walks next))
+    go (Some next) over = All-map (IsWalk edges from to) (λ walk. edge ∷ walk) (walks_from next)
+        (All-weaker (IsWalk edges next to) (λ walk. IsWalk edges from to (edge ∷ walk))
+        (λ walk is. edge_first edges from next to edge walk there over is) (walks_from next)
+        (walks next))
 
 -- each of them is a walk
-pub within_all : (edges : List Edge) (most from to : ℕ) → All (IsWalk edges from to) (walks_within edges most from to)
+pub within_all : (edges : List Edge) (most from to : ℕ)
+    → All (IsWalk edges from to) (walks_within edges most from to)
 unfolding walks_within
 within_all edges zero from to = staying_all edges from to
 within_all edges (suc most) from to =
-    let over : Edge → List (List Edge) = λ edge. behind edge (option_map (λ next. walks_within edges most next to) (across edge from)) in
-    All-append (IsWalk edges from to) (staying from to) (flat_map over edges) (staying_all edges from to)
-    (All-flat_map (IsWalk edges from to) over edges (All-weaker (Contains edges) (λ edge. All (IsWalk edges from to) (over edge)) (λ edge there. behind_all edges from to edge (λ next. walks_within edges most next to) there (λ next. within_all edges most next to)) edges (All-contains_itself edges)))
+    let over : Edge → List (List Edge) = λ edge. behind edge
+    (option_map (λ next. walks_within edges most next to) (across edge from)) in
+    All-append (IsWalk edges from to) (staying from to) (flat_map over edges)
+    (staying_all edges from to)
+    (All-flat_map (IsWalk edges from to) over edges (All-weaker (Contains edges)
+    (λ edge. All (IsWalk edges from to) (over edge))
+    (λ edge there. behind_all edges from to edge (λ next. walks_within edges most next to) there
+    (λ next. within_all edges most next to)) edges (All-contains_itself edges)))
 
 staying_there : (from to : ℕ) → from ≡ to → Contains (staying from to) []
 staying_there from to same = subst (λ some. Contains some []) (sym is) (Contains-head [] [])
   where
     is : staying from to ≡ [] ∷ []
-    is = let test : eqb from to ≡ true = grind (arith, nat_tests) in ap (λ b. cond b ([] ∷ []) []) test
+    is = let test : eqb from to ≡ true =
+        grind (arith, nat_tests) in ap (λ b. cond b ([] ∷ []) []) test
 
 -- each walk of at most so many edges is one of them
-pub within_there : (edges : List Edge) (most from to : ℕ) (walk : List Edge) → length walk ≤ most → IsWalk edges from to walk → Contains (walks_within edges most from to) walk
+pub within_there : (edges : List Edge) (most from to : ℕ) (walk : List Edge) → length walk ≤ most
+    → IsWalk edges from to walk → Contains (walks_within edges most from to) walk
 unfolding walks_within
 within_there edges zero from to [] short is = staying_there from to (staying_end edges from to is)
 within_there edges zero from to (edge ∷ walk) short is = absurd (omega arith)
 within_there edges (suc most) from to [] short is =
-    Contains-append_left (staying from to) (flat_map (λ edge. behind edge (option_map (λ next. walks_within edges most next to) (across edge from))) edges) [] (staying_there from to (staying_end edges from to is))
+    Contains-append_left (staying from to)
+    (flat_map (λ edge. behind edge (option_map (λ next. walks_within edges most next to)
+    (across edge from))) edges) [] (staying_there from to (staying_end edges from to is))
 within_there edges (suc most) from to (edge ∷ walk) short is =
     let start = begins edges from to edge walk is in
-    let over : Edge → List (List Edge) = λ edge. behind edge (option_map (λ next. walks_within edges most next to) (across edge from)) in
+    let over : Edge → List (List Edge) = λ edge. behind edge
+    (option_map (λ next. walks_within edges most next to) (across edge from)) in
     let rest = within_there edges most start.next to walk (omega arith) start.on in
     let own : Contains (over edge) (edge ∷ walk) =
-    subst (λ some. Contains (behind edge (option_map (λ next. walks_within edges most next to) some)) (edge ∷ walk)) (sym start.over)
+    subst (λ some. Contains (behind edge
+    (option_map (λ next. walks_within edges most next to) some)) (edge ∷ walk)) (sym start.over)
     (Contains-map (λ walk. edge ∷ walk) (walks_within edges most start.next to) walk rest) in
-    Contains-append_right (staying from to) (flat_map over edges) (edge ∷ walk) (Contains-flat_map over edges edge (edge ∷ walk) start.there own)
+    Contains-append_right (staying from to) (flat_map over edges) (edge ∷ walk)
+    (Contains-flat_map over edges edge (edge ∷ walk) start.there own)
 
 -- ---- the least of numbers
 
@@ -163,7 +212,11 @@ IsUpTo number (Some least) = least ≤ number
 pub least_of_all : (numbers : List ℕ) → All (λ number. IsUpTo number (least_of numbers)) numbers
 unfolding least_of
 least_of_all [] = All-nil (λ number. IsUpTo number None)
-least_of_all (number ∷ numbers) = All-cons (λ some. IsUpTo some (or_less number (least_of numbers))) number numbers (own (least_of numbers)) (All-weaker (λ some. IsUpTo some (least_of numbers)) (λ some. IsUpTo some (or_less number (least_of numbers))) (λ some. more (least_of numbers) some) numbers (least_of_all numbers))
+least_of_all (number ∷ numbers) = All-cons (λ some. IsUpTo some
+    (or_less number (least_of numbers))) number numbers (own (least_of numbers))
+    (All-weaker (λ some. IsUpTo some (least_of numbers))
+    (λ some. IsUpTo some (or_less number (least_of numbers)))
+    (λ some. more (least_of numbers) some) numbers (least_of_all numbers))
   where
     own : (rest : Option ℕ) → IsUpTo number (or_less number rest)
     own None = omega arith
@@ -176,35 +229,48 @@ least_of_all (number ∷ numbers) = All-cons (λ some. IsUpTo some (or_less numb
 min_is : (m n : ℕ) → (min m n ≡ m) ⊎ (min m n ≡ n)
 min_is m n = grind arith
 
-or_less_there : (number : ℕ) (numbers : List ℕ) (rest : Option ℕ) (least : ℕ) → ((other : ℕ) → rest ≡ Some other → Contains numbers other) → or_less number rest ≡ Some least → Contains (number ∷ numbers) least
-or_less_there number numbers None least later is = let same : number ≡ least = cc in subst (Contains (number ∷ numbers)) same (Contains-head number numbers)
+or_less_there : (number : ℕ) (numbers : List ℕ) (rest : Option ℕ) (least : ℕ)
+    → ((other : ℕ) → rest ≡ Some other → Contains numbers other) → or_less number rest ≡ Some least
+    → Contains (number ∷ numbers) least
+or_less_there number numbers None least later is = let same : number ≡ least =
+    cc in subst (Contains (number ∷ numbers)) same (Contains-head number numbers)
 or_less_there number numbers (Some other) least later is =
     let same : min number other ≡ least = cc in
     elim (min_is number other) as (λ h. Contains (number ∷ numbers) least) [
       | inl h ↦ subst (Contains (number ∷ numbers)) (sym h ∙ same) (Contains-head number numbers)
-      | inr h ↦ subst (Contains (number ∷ numbers)) (sym h ∙ same) (Contains-cons number other numbers (later other refl))
+      | inr h ↦ subst (Contains (number ∷ numbers)) (sym h ∙ same)
+          (Contains-cons number other numbers (later other refl))
     ]
 
 -- the least of some numbers is one of them
-pub least_of_there : (numbers : List ℕ) (least : ℕ) → least_of numbers ≡ Some least → Contains numbers least
+pub least_of_there : (numbers : List ℕ) (least : ℕ) → least_of numbers ≡ Some least
+    → Contains numbers least
 unfolding least_of
 least_of_there [] least is = cc
-least_of_there (number ∷ numbers) least is = or_less_there number numbers (least_of numbers) least (λ other from. least_of_there numbers other from) is
+least_of_there (number ∷ numbers) least is =
+    or_less_there number numbers (least_of numbers) least
+    (λ other from. least_of_there numbers other from) is
 
 -- a number that is one of some numbers and not above any of them is the least of them
-pub least_of_is : (numbers : List ℕ) (least : Option ℕ) → All (λ number. IsUpTo number least) numbers → ((number : ℕ) → least ≡ Some number → Contains numbers number) → least ≡ least_of numbers
+pub least_of_is : (numbers : List ℕ) (least : Option ℕ)
+    → All (λ number. IsUpTo number least) numbers
+    → ((number : ℕ) → least ≡ Some number → Contains numbers number) → least ≡ least_of numbers
 least_of_is numbers least lower there = go least (least_of numbers) refl refl
   where
     go : (o r : Option ℕ) → least ≡ o → least_of numbers ≡ r → o ≡ r
     go None None is rest = refl
-    go None (Some other) is rest = absurd (subst (IsUpTo other) is (All-contains (λ number. IsUpTo number least) numbers other lower (least_of_there numbers other rest)))
-    go (Some own) None is rest = absurd (subst (IsUpTo own) rest (All-contains (λ number. IsUpTo number (least_of numbers)) numbers own (least_of_all numbers) (there own is)))
+    go None (Some other) is rest = absurd (subst (IsUpTo other) is
+        (All-contains (λ number. IsUpTo number least) numbers other lower
+        (least_of_there numbers other rest)))
+    go (Some own) None is rest = absurd (subst (IsUpTo own) rest
+        (All-contains (λ number. IsUpTo number (least_of numbers)) numbers own
+        (least_of_all numbers) (there own is)))
     go (Some own) (Some other) is rest =
-        let below : own ≤ other = subst (IsUpTo other) is (All-contains (λ number. IsUpTo number least) numbers other lower (least_of_there numbers other rest)) in
-        let above : other ≤ own = subst (IsUpTo own) rest (All-contains (λ number. IsUpTo number (least_of numbers)) numbers own (least_of_all numbers) (there own is)) in
+        let below : own ≤ other = subst (IsUpTo other) is
+        (All-contains (λ number. IsUpTo number least) numbers other lower
+        (least_of_there numbers other rest)) in
+        let above : other ≤ own = subst (IsUpTo own) rest
+        (All-contains (λ number. IsUpTo number (least_of numbers)) numbers own
+        (least_of_all numbers) (there own is)) in
         let same : own ≡ other = omega arith in
         ap Some same
-
--- there is a sum for each stop
-pub sums_count : (network : NetworkParts) (weight : Edge → ℕ) (from : ℕ) (sums : List (Option ℤ)) → sums ≡ least_sums network weight from → length sums ≡ length network.stops
-sums_count network weight from sums are = ap length are ∙ length-map-range_with_len (λ to. option_map pos (least_sum network weight from to)) 0 (length network.stops)

@@ -1,6 +1,5 @@
 -- The files of stops and of edges, and their rules.
-use Rattle.std.specs.Prelude.{ℤ, pos, Bool, ◌||◌, not, List, [], ◌∷◌, get_or, int_lt}
-use Rattle.std.specs.List.{list_any}
+use Rattle.std.specs.Prelude.{ℤ, pos, ◌||◌, List, [], ◌∷◌, get_or, int_lt}
 use Rattle.std.specs.Ordering.{int_eq}
 use Rattle.giv_files.specs.declared.counted.Counted.TheVariants as counted
 use Rattle.giv_files.specs.declared.file_id.FileId.TheVariants as file
@@ -8,6 +7,7 @@ use Rattle.giv_files.specs.declared.row_why.RowWhy.TheVariants as why
 use Rattle.giv_files.specs.Columns.{stop_columns, edge_columns}
 use Rattle.giv_files.specs.Inputs.{Input, RowRule, row_limit, own_id}
 use Rattle.ptn_network.specs.declared.edge_row.EdgeRow.{EdgeRow}
+use Rattle.ptn_network.specs.Ids.{known_stops}
 
 -- the id of the stop of a row
 abbrev pub stop_row : List ℤ → ℤ
@@ -35,25 +35,23 @@ edge_row cells = record {
   upper = get_or cells 5 (pos 0);
 }
 
--- a stop that is not there
-abbrev pub is_unknown : List ℤ → ℤ → Bool
-is_unknown stops id = not (list_any (int_eq id) stops)
-
--- the rule that both ends are stops
-abbrev pub known_ends : List ℤ → RowRule EdgeRow
-known_ends stops = record { is_broken = λ _ row. is_unknown stops row.left || is_unknown stops row.right; why = why.UnknownStop }
-
 -- the rule that the ends differ
 abbrev pub two_ends : RowRule EdgeRow
 two_ends = record { is_broken = λ _ row. int_eq row.left row.right; why = why.LoopEdge }
 
 -- the rule that an edge has a length, and that a drive takes time
 abbrev pub some_length : RowRule EdgeRow
-some_length = record { is_broken = λ _ row. int_eq row.length (pos 0) || int_eq row.lower (pos 0); why = why.ZeroBound }
+some_length = record {
+  is_broken = λ _ row. int_eq row.length (pos 0) || int_eq row.lower (pos 0);
+  why = why.ZeroBound;
+}
 
 -- the rule that the greatest time of a drive is not below the least one
 abbrev pub bounds_in_order : RowRule EdgeRow
-bounds_in_order = record { is_broken = λ _ row. int_lt row.upper row.lower; why = why.BoundsCrossed }
+bounds_in_order = record {
+  is_broken = λ _ row. int_lt row.upper row.lower;
+  why = why.BoundsCrossed;
+}
 
 -- the rules of an edge by itself, in their order
 abbrev pub own_rules : List (RowRule EdgeRow)
@@ -61,7 +59,8 @@ own_rules = two_ends ∷ some_length ∷ bounds_in_order ∷ []
 
 -- the rules of an edge in their order, over the ids of the stops
 abbrev pub edge_rules : List ℤ → List (RowRule EdgeRow)
-edge_rules stops = own_id (λ row. row.id) ∷ known_ends stops ∷ own_rules
+edge_rules stops =
+    own_id (λ row. row.id) ∷ known_stops (λ row. row.left) (λ row. row.right) stops ∷ own_rules
 
 -- the file of edges over the ids of the stops
 abbrev pub edge_input : List ℤ → Input EdgeRow

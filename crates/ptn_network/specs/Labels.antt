@@ -1,5 +1,5 @@
 -- Labels of stops, while the nearest stop that is reached is settled, again and again.
-use Rattle.std.specs.Prelude.{ℕ, ◌+◌, ◌<◌, ◌≤◌, ◌≡◌, ◌≢◌, min, if◌then◌else◌, nat_lt, List, length, fold, slice_index_or, slice_set, Option, Some, None, MatchOption}
+use Rattle.std.specs.Prelude.{ℕ, ◌+◌, ◌<◌, ◌≤◌, ◌≡◌, ◌≢◌, ◌==◌, min, nat_lt, Bool, true, false, Contains, List, length, fold, slice_index_or, slice_set, Option, Some, None, MatchOption, IfSome, All}
 use Rattle.ptn_network.specs.declared.edge.Edge.{Edge}
 use Rattle.ptn_network.specs.declared.label.Label.{Label}
 use Rattle.ptn_network.specs.declared.label.Label.TheVariants.{Unseen, Reached, Settled}
@@ -13,6 +13,16 @@ abbrev pub weight_of : Weight → Edge → ℕ
 weight_of kind.Length = edge_length
 weight_of kind.Time = edge_time
 
+-- the most that an edge counts, and what no least sum exceeds: it has no more edges than there are
+-- stops
+abbrev pub most_of : Weight → ℕ
+most_of kind.Length = 10000000000
+most_of kind.Time = 10000
+
+abbrev pub most_sum : Weight → ℕ
+most_sum kind.Length = 10000000000000
+most_sum kind.Time = 10000000
+
 -- the sum of a label
 abbrev pub sum_of : Label → Option ℕ
 sum_of Unseen = None
@@ -22,6 +32,18 @@ sum_of (Settled sum) = Some sum
 -- the label of a stop
 abbrev pub label_at : List Label → ℕ → Label
 label_at labels stop = slice_index_or labels stop Unseen
+
+-- a sum is less than that of a label of a stop that is not settled
+abbrev pub is_nearer : ℕ → Label → Bool
+is_nearer sum Unseen = true
+is_nearer sum (Reached other) = nat_lt sum other
+is_nearer sum (Settled other) = false
+
+-- it is that of such a label
+abbrev pub is_reached_with : ℕ → Label → Bool
+is_reached_with sum Unseen = false
+is_reached_with sum (Reached other) = other == sum
+is_reached_with sum (Settled other) = false
 
 -- a label, where one more walk comes to its stop
 abbrev pub reached : ℕ → Label → Label
@@ -38,9 +60,15 @@ reach sum labels (Some next) = slice_set labels next (reached sum (label_at labe
 abbrev pub reach_over : (Edge → ℕ) → ℕ → ℕ → List Label → Edge → List Label
 reach_over weight stop sum labels edge = reach (sum + weight edge) labels (across edge stop)
 
--- labels, where a stop is settled and its walk goes on over each edge
-unfoldable pub settle : (Edge → ℕ) → List Edge → ℕ → ℕ → List Label → List Label
-settle weight edges stop sum labels = fold (reach_over weight stop sum) (slice_set labels stop (Settled sum)) edges
+-- labels, where the walk to a stop went on over each edge that can be driven from there, in some
+-- order
+pub record WentOn (weight : Edge → ℕ) (edges : List Edge) (stop sum : ℕ)
+    (old new : List Label) : Type 0 where
+  pub order : List Edge
+  pub own : (edge : Edge) → Contains order edge → Contains edges edge
+  pub all : (edge : Edge) (next : ℕ) → Contains edges edge → across edge stop ≡ Some next
+      → Contains order edge
+  pub is : new ≡ fold (reach_over weight stop sum) old order
 
 -- a stop that is reached and not settled, of least sum among the first labels
 pub record IsNearest (labels : List Label) (count stop sum : ℕ) : Type 0 where
@@ -54,16 +82,17 @@ IsNearestOf labels count best = MatchOption best
     ((other far : ℕ) → other < count → label_at labels other ≢ Reached far)
     (λ near. IsNearest labels count near.0 near.1)
 
--- the nearer of a stop and its sum, and of one more stop with its label
-abbrev pub nearer : Option (ℕ × ℕ) → ℕ → Label → Option (ℕ × ℕ)
-nearer best stop Unseen = best
-nearer best stop (Settled sum) = best
-nearer None stop (Reached sum) = Some (stop, sum)
-nearer (Some near) stop (Reached sum) = if nat_lt sum near.1 then Some (stop, sum) else Some near
+-- walks that go on, each with its sum and its stop: of each stop that is reached and not settled
+-- its nearest walk is there
+pub record GoesOn (labels : List Label) (walks : List (ℕ × ℕ)) : Type 0 where
+  pub within : All (λ walk. walk.1 < length labels) walks
+  pub reached : (stop sum : ℕ) → label_at labels stop ≡ Reached sum → Contains walks (sum, stop)
 
 -- labels that have the least sums of walks from a stop
-pub record AreDone (network : NetworkParts) (weight : Edge → ℕ) (from : ℕ) (labels : List Label) : Type 0 where
+pub record AreDone (network : NetworkParts) (weight : Weight) (from : ℕ)
+    (labels : List Label) : Type 0 where
   pub size : length labels ≡ length network.stops
-  pub least : (to : ℕ) → IsLeastSum network.edges weight from to (sum_of (label_at labels to))
-  pub same : (to : ℕ) → sum_of (label_at labels to) ≡ least_sum network weight from to
-  pub small : (to sum : ℕ) → sum_of (label_at labels to) ≡ Some sum → sum ≤ 10000000000000
+  pub least : (to : ℕ) → IsLeastSum network.edges (weight_of weight) from to
+      (sum_of (label_at labels to))
+  pub same : (to : ℕ) → sum_of (label_at labels to) ≡ least_sum network (weight_of weight) from to
+  pub small : All (λ label. IfSome (sum_of label) (λ sum. sum ≤ most_sum weight)) labels

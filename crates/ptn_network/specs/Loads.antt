@@ -6,6 +6,7 @@ use Rattle.giv_files.specs.declared.file_id.FileId.{FileId}
 use Rattle.giv_files.specs.declared.row_why.RowWhy.TheVariants as why
 use Rattle.giv_files.specs.Columns.{load_columns}
 use Rattle.giv_files.specs.Inputs.{Input, RowRule, TableRule, records_of, own_id, whole_rule}
+use Rattle.ptn_network.specs.Ids.{known_edge}
 use Rattle.ptn_network.specs.declared.edge.Edge.{Edge}
 use Rattle.ptn_network.specs.declared.edge_load.EdgeLoad.{EdgeLoad}
 use Rattle.ptn_network.specs.declared.load_row.LoadRow.{LoadRow}
@@ -19,13 +20,6 @@ load_row_of cells = record {
     least = get_or cells 2 (pos 0);
     most = get_or cells 3 (pos 0);
   };
-}
-
--- the rule that the edge of a row is there
-abbrev pub known_edge : List Edge → RowRule LoadRow
-known_edge edges = record {
-  is_broken = λ _ row. not (list_any (λ edge. int_eq row.edge edge.id) edges);
-  why = why.UnknownEdge;
 }
 
 -- the rule that the maximal frequency is not below the minimal one
@@ -42,11 +36,13 @@ given_for rows edge = option_map (λ row. row.load) (find (λ row. int_eq edge.i
 -- the rule that each edge has a row
 abbrev pub all_given : List Edge → TableRule LoadRow
 all_given edges =
-    whole_rule (λ rows. list_any (λ edge. not (is_some (given_for rows edge))) edges) why.MissingEdge
+    whole_rule (λ rows. list_any (λ edge. not (is_some (given_for rows edge))) edges)
+    why.MissingEdge
 
 -- the rules of a row, in their order
 abbrev pub load_rules : List Edge → List (RowRule LoadRow)
-load_rules edges = known_edge edges ∷ own_id (λ row. row.edge) ∷ bounds_in_order ∷ []
+load_rules edges =
+    known_edge (λ row. row.edge) edges ∷ own_id (λ row. row.edge) ∷ bounds_in_order ∷ []
 
 -- a file of loads over the edges of a network: the one that people write, or the one that is made
 abbrev pub load_input : FileId → List Edge → Input LoadRow

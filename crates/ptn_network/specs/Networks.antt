@@ -1,5 +1,5 @@
 -- Networks: stops, and edges between them.
-use Rattle.std.specs.Prelude.{◌≡◌, ◌≢◌, ℕ, ℤ, pos, ◌<◌, ◌≤◌, ◌≤ℤ◌, List, [], ◌∷◌, ◌++◌, length, map, position, slice_get, option_map, Some}
+use Rattle.std.specs.Prelude.{◌≡◌, ◌≢◌, ℕ, ℤ, pos, ◌<◌, ◌≤◌, ◌≤ℤ◌, List, [], ◌∷◌, ◌++◌, length, map, position}
 use Rattle.std.specs.List.{All}
 use Rattle.std.specs.List.Sorted.{IsStrictlySortedBy}
 use Rattle.std.specs.Option.{unwrap_or}
@@ -8,6 +8,8 @@ use Rattle.std.specs.FinMap.{put}
 use Rattle.std.specs.Map.{keys_of, values_of}
 use Rattle.giv_files.specs.declared.refusal.Refusal.{Refusal}
 use Rattle.giv_files.specs.Inputs.{records_of, input_faults}
+use Rattle.giv_files.specs.Settings.{BundleParts}
+use Rattle.giv_files.specs.StageCalls.{input_text}
 use Rattle.ptn_network.specs.declared.edge.Edge.{Edge}
 use Rattle.ptn_network.specs.declared.edge_row.EdgeRow.{EdgeRow}
 use Rattle.ptn_network.specs.Inputs.{stop_input, edge_input}
@@ -17,7 +19,8 @@ pub record NetworkParts : Type 0 where
   pub stops : List ℤ
   pub edges : List Edge
 
--- what holds of an edge over so many stops: it joins two of them, and has a length and minutes that are some and not too many
+-- what holds of an edge over so many stops: it joins two of them, and has a length and minutes that
+-- are some and not too many
 pub record IsEdge (stops : ℕ) (edge : Edge) : Type 0 where
   pub left : edge.left < stops
   pub right : edge.right < stops
@@ -28,7 +31,8 @@ pub record IsEdge (stops : ℕ) (edge : Edge) : Type 0 where
   pub in_order : edge.lower ≤ℤ edge.upper
   pub soon : edge.upper ≤ℤ pos 10000
 
--- what holds of a network: ids rise, stops and edges are within their limits, and each edge is one over the stops
+-- what holds of a network: ids rise, stops and edges are within their limits, and each edge is one
+-- over the stops
 pub record IsNetwork (network : NetworkParts) : Type 0 where
   pub stops_rise : IsStrictlySortedBy int_cmp network.stops
   pub edges_rise : IsStrictlySortedBy int_cmp (map (λ edge. edge.id) network.edges)
@@ -53,11 +57,6 @@ rising ids = keys_of (by_id (map (λ id. (id, tt {0})) ids))
 abbrev pub index_in : List ℤ → ℤ → ℕ
 index_in stops id = unwrap_or (position (int_eq id) stops) 0
 
--- the edge of an id stands at an index
-pub record StandsAt (edges : List Edge) (id : ℤ) (index : ℕ) : Type 0 where
-  pub within : index < length edges
-  pub own : option_map (λ edge. edge.id) (slice_get edges index) ≡ Some id
-
 -- the edge of a row between the stops of two indexes
 abbrev pub edge_between : ℕ → ℕ → EdgeRow → Edge
 edge_between left right row = record {
@@ -79,7 +78,8 @@ edge_entry stops row = (row.id, edge_of stops row)
 
 -- the network of stops and of rows of edges
 abbrev pub network_over : List ℤ → List EdgeRow → NetworkParts
-network_over stops rows = record { stops = stops; edges = values_of (by_id (map (edge_entry stops) rows)) }
+network_over stops rows =
+    record { stops = stops; edges = values_of (by_id (map (edge_entry stops) rows)) }
 
 -- the ids of the stops of a text, rising
 unfoldable pub stops_of : List ℕ → List ℤ
@@ -87,8 +87,15 @@ stops_of stops_text = rising (records_of stop_input stops_text)
 
 -- the network of the texts of stops and of edges
 unfoldable pub network_of : List ℕ → List ℕ → NetworkParts
-network_of stops_text edges_text = network_over (stops_of stops_text) (records_of (edge_input (stops_of stops_text)) edges_text)
+network_of stops_text edges_text =
+    network_over (stops_of stops_text) (records_of (edge_input (stops_of stops_text)) edges_text)
 
 -- every fault of the texts of stops and of edges, in order
 unfoldable pub network_faults : List ℕ → List ℕ → List Refusal
-network_faults stops_text edges_text = input_faults stop_input stops_text ++ input_faults (edge_input (stops_of stops_text)) edges_text
+network_faults stops_text edges_text =
+    input_faults stop_input stops_text
+    ++ input_faults (edge_input (stops_of stops_text)) edges_text
+
+-- the network of a bundle whose first inputs are the texts of stops and of edges
+abbrev pub network_in : BundleParts → NetworkParts
+network_in bundle = network_of (input_text bundle 0) (input_text bundle 1)

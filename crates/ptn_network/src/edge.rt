@@ -2,8 +2,8 @@
 ghost use Rattle.std.specs.Prelude.{◌≡◌};
 ghost use Rattle.ptn_network.specs.Walks.{across};
 
-/// An edge of a network, which is driven either way. Its ends are indexes of stops, its length is in
-/// millionths, and its bounds are the least and the greatest minutes of a drive.
+/// An edge of a network, which is driven either way. Its ends are indexes of stops, its length is
+/// in millionths, and its bounds are the least and the greatest minutes of a drive.
 #[derive(Clone, Copy, Debug, PartialEq, Eq)]
 pub struct Edge {
     pub id: i64,

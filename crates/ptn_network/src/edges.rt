@@ -23,7 +23,8 @@ pub(crate) fn read_edges(
     text: &[u8],
 ) -> Result<IndexMap<i64, Edge>, StageFault>
     ensures { UnlessFault (input_faults (edge_input stops.now.keys) text.now)
-        (λ edges. edges.entries ≡ by_id (map (edge_entry stops.now.keys) (records_of (edge_input stops.now.keys) text.now))) result }
+        (λ edges. edges.entries ≡ by_id (map (edge_entry stops.now.keys)
+        (records_of (edge_input stops.now.keys) text.now))) result }
 {
     let table = read_input(alloc, FileId::Edge, text, &columns!(Edge))?;
     edges_of_table(alloc, stops, &table)
@@ -36,7 +37,8 @@ fn edges_of_table(
     table: &Table<6>,
 ) -> Result<IndexMap<i64, Edge>, StageFault>
     ensures { UnlessFault (table_faults (edge_input stops.now.keys) table.now)
-        (λ edges. edges.entries ≡ by_id (map (edge_entry stops.now.keys) (records (edge_input stops.now.keys) table.now))) result }
+        (λ edges. edges.entries ≡ by_id (map (edge_entry stops.now.keys)
+        (records (edge_input stops.now.keys) table.now))) result }
 {
     if table.len() > MOST_EDGES {
         return Err(StageFault::Refused(Refusal::TooMany {
@@ -56,7 +58,8 @@ fn edges_of_rows(
     table: &Table<6>,
 ) -> Result<IndexMap<i64, Edge>, StageFault>
     ensures { UnlessFault (table_row_faults (edge_input stops.now.keys) table.now)
-        (λ edges. edges.entries ≡ map (edge_entry stops.now.keys) (records (edge_input stops.now.keys) table.now)) result }
+        (λ edges. edges.entries ≡ map (edge_entry stops.now.keys)
+        (records (edge_input stops.now.keys) table.now)) result }
 {
     let mut edges = IndexMap::new(alloc);
     for i in 0..table.len() {
@@ -83,9 +86,12 @@ fn new_edge(
     edges: &IndexMap<i64, Edge>,
     row: &EdgeRow,
 ) -> Result<Edge, RowWhy>
-    ensures { (before : List EdgeRow) → is_some (get int_eq edges.now row.now.id) ≡ list_any (λ other. int_eq row.now.id other.id) before
+    ensures { (before : List EdgeRow)
+        → is_some (get int_eq edges.now row.now.id)
+        ≡ list_any (λ other. int_eq row.now.id other.id) before
         → MatchResult result
-        (λ edge. (broken_whys (edge_rules stops.now.keys) before row.now ≡ []) × (edge ≡ edge_of stops.now.keys row.now))
+        (λ edge. (broken_whys (edge_rules stops.now.keys) before row.now ≡ [])
+        × (edge ≡ edge_of stops.now.keys row.now))
         (λ why. slice_get (broken_whys (edge_rules stops.now.keys) before row.now) 0 ≡ Some why) }
 {
     if edges.contains_key(&row.id) {

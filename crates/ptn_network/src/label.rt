@@ -1,9 +1,10 @@
 // Labels of stops.
-ghost use Rattle.std.specs.Prelude.{◌≡◌, ◌≤◌, pos, length, IfSome};
+ghost use Rattle.std.specs.Prelude.{◌≡◌, ◌≤◌, pos, IfSome};
 ghost use Rattle.std.specs.Option.{option_map};
-ghost use Rattle.ptn_network.specs.Labels.{sum_of, reached, nearer, IsNearestOf};
+ghost use Rattle.ptn_network.specs.Labels.{sum_of, is_nearer, is_reached_with};
 
-/// What is known of a stop: nothing, the least sum of the walks so far, or the least sum of all walks.
+/// What is known of a stop: nothing, the least sum of the walks so far, or the least sum of all
+/// walks.
 #[derive(Clone, Copy, Debug, PartialEq, Eq)]
 pub(crate) enum Label {
     Unseen,
@@ -12,14 +13,24 @@ pub(crate) enum Label {
 }
 
 impl Label {
-    /// The label where one more walk comes to its stop.
-    pub(crate) fn reached(self, sum: u64) -> Label
-        ensures { result ≡ reached sum self }
+    /// Whether a walk of a sum comes nearer than those before it, to a stop that is not settled.
+    pub(crate) fn is_nearer(self, sum: u64) -> bool
+        ensures { result ≡ is_nearer sum self }
     {
         match self {
-            Label::Unseen => Label::Reached(sum),
-            Label::Reached(other) => Label::Reached(sum.min(other)),
-            Label::Settled(_) => self,
+            Label::Unseen => true,
+            Label::Reached(other) => sum < other,
+            Label::Settled(_) => false,
+        }
+    }
+
+    /// Whether a sum is the least of the walks so far, to a stop that is not settled.
+    pub(crate) fn is_reached_with(self, sum: u64) -> bool
+        ensures { result ≡ is_reached_with sum self }
+    {
+        match self {
+            Label::Reached(other) => other == sum,
+            Label::Unseen | Label::Settled(_) => false,
         }
     }
 
@@ -33,27 +44,5 @@ impl Label {
             Label::Reached(sum) => Some(sum as i64),
             Label::Settled(sum) => Some(sum as i64),
         }
-    }
-}
-
-/// The stop of least sum that is reached and not settled, with its sum.
-pub(crate) fn nearest(labels: &[Label]) -> Option<(usize, u64)>
-    ensures { IsNearestOf labels.now (length labels.now) result }
-{
-    let mut best = None;
-    for (stop, label) in labels.iter().enumerate() {
-        best = nearer(best, stop, *label);
-    }
-    best
-}
-
-// The nearer of a stop and its sum, and of one more stop with its label.
-fn nearer(best: Option<(usize, u64)>, stop: usize, label: Label) -> Option<(usize, u64)>
-    ensures { result ≡ nearer best stop label }
-{
-    match (label, best) {
-        (Label::Reached(sum), None) => Some((stop, sum)),
-        (Label::Reached(sum), Some((_, least))) if sum < least => Some((stop, sum)),
-        (_, _) => best,
     }
 }

@@ -5,13 +5,16 @@ mod edge;
 mod edge_load;
 mod edge_row;
 mod edges;
+mod frontier;
 mod label;
+mod labels;
 mod least_sums;
 mod load_row;
 mod loads;
 mod network;
 mod paths;
 mod reach;
+mod stop_edges;
 mod stops;
 mod weight;
 

@@ -2,8 +2,9 @@
 ghost use Rattle.std.specs.Prelude.{◌≡◌, ◌<◌, [], List, length, map, slice_get, slice_index_or, not, is_some, option_map, unwrap_or, if◌then◌else◌, None, Some, IfOk, MatchResult};
 ghost use Rattle.std.specs.List.{list_any, All};
 ghost use Rattle.giv_files.specs.Inputs.{input_faults, records, table_row_faults, table_faults, broken_whys, UnlessFault};
-ghost use Rattle.ptn_network.specs.Networks.{IsNetwork, StandsAt};
+ghost use Rattle.ptn_network.specs.Networks.{IsNetwork};
 ghost use Rattle.ptn_network.specs.declared.load_row.LoadRow.{LoadRow};
+ghost use Rattle.ptn_network.specs.Ids.{StandsAt};
 ghost use Rattle.ptn_network.specs.Loads.{load_input, load_rules, given_for, loads_of, loads_over, no_load, IsLoad};
 
 use crate::edge_load::EdgeLoad;
@@ -14,8 +15,8 @@ use plan_num::NoMemory;
 use std::alloc::Global;
 use std::marker::Model;
 
-/// The loads of the edges of a network with their bounds of frequency, by the indexes of the edges. Contracts see
-/// it as the list of them.
+/// The loads of the edges of a network with their bounds of frequency, by the indexes of the edges.
+/// Contracts see it as the list of them.
 #[derive(Debug, Drop)]
 pub struct Loads {
     loads: Vec<EdgeLoad>,
@@ -35,7 +36,8 @@ impl Model for Loads {
 }
 
 impl Loads {
-    /// The loads of the edges by a text of one of the two files of loads, or the first fault of the text.
+    /// The loads of the edges by a text of one of the two files of loads, or the first fault of the
+    /// text.
     pub fn from_text(
         alloc: Global,
         network: &Network,
@@ -83,7 +85,8 @@ fn loads_of_table(
     table: &Table<4>,
 ) -> Result<Vec<EdgeLoad>, StageFault>
     ensures { UnlessFault (table_faults (load_input file network.now.edges) table.now)
-        (λ loads. loads.items ≡ loads_over network.now.edges (records (load_input file network.now.edges) table.now)) result }
+        (λ loads. loads.items ≡ loads_over network.now.edges
+        (records (load_input file network.now.edges) table.now)) result }
 {
     let given = loads_of_rows(alloc, network, file, table)?;
     match all_given(alloc, &given)? {
@@ -96,7 +99,8 @@ fn loads_of_table(
     }
 }
 
-// The loads of the rows of a table, each at the index of its edge, or the first row that breaks a rule.
+// The loads of the rows of a table, each at the index of its edge, or the first row that breaks a
+// rule.
 fn loads_of_rows(
     alloc: Global,
     network: &Network,
@@ -104,7 +108,9 @@ fn loads_of_rows(
     table: &Table<4>,
 ) -> Result<Vec<Option<EdgeLoad>>, StageFault>
     ensures { UnlessFault (table_row_faults (load_input file network.now.edges) table.now)
-        (λ given. given.items ≡ map (given_for (records (load_input file network.now.edges) table.now)) network.now.edges) result }
+        (λ given. given.items
+        ≡ map (given_for (records (load_input file network.now.edges) table.now)) network.now.edges)
+        result }
 {
     let mut given = none_given(alloc, network)?;
     for i in 0..table.len() {
@@ -140,8 +146,10 @@ fn new_place(network: &Network, given: &[Option<EdgeLoad>], row: &LoadRow) -> Re
     requires { length given.now ≡ length network.now.edges }
     ensures { (before : List LoadRow) → given.now ≡ map (given_for before) network.now.edges
         → MatchResult result
-        (λ index. (broken_whys (load_rules network.now.edges) before row.now ≡ []) × StandsAt network.now.edges row.now.edge index)
-        (λ why. slice_get (broken_whys (load_rules network.now.edges) before row.now) 0 ≡ Some why) }
+        (λ index. (broken_whys (load_rules network.now.edges) before row.now ≡ [])
+        × StandsAt network.now.edges row.now.edge index)
+        (λ why. slice_get (broken_whys (load_rules network.now.edges) before row.now) 0
+        ≡ Some why) }
 {
     let Some(index) = network.edge_index(row.edge) else {
         return Err(RowWhy::UnknownEdge);
@@ -166,7 +174,8 @@ fn is_given(given: &[Option<EdgeLoad>], index: usize) -> bool
 // All loads, where each is given.
 fn all_given(alloc: Global, given: &[Option<EdgeLoad>]) -> Result<Option<Vec<EdgeLoad>>, NoMemory>
     ensures { IfOk result (λ all. option_map (λ loads. loads.items) all
-        ≡ (if list_any (λ load. not (is_some load)) given.now then None else Some (map (λ load. unwrap_or load no_load) given.now))) }
+        ≡ (if list_any (λ load. not (is_some load)) given.now then None
+        else Some (map (λ load. unwrap_or load no_load) given.now))) }
 {
     let mut loads = Vec::new(alloc);
     for load in given {

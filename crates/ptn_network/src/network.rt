@@ -3,9 +3,11 @@ ghost use Rattle.std.specs.Prelude.{◌≡◌, ◌<◌, length, slice_get, posit
 ghost use Rattle.std.specs.Ordering.{int_eq};
 ghost use Rattle.giv_files.specs.Inputs.{UnlessFault};
 ghost use Rattle.ptn_network.specs.Networks.{network_of, network_faults, IsEdge, IsNetwork};
+ghost use Rattle.ptn_network.specs.StopEdges.{AreEdgesAt};
 
 use crate::edge::Edge;
 use crate::edges::read_edges;
+use crate::stop_edges::StopEdges;
 use crate::stops::read_stops;
 use giv_files::StageFault;
 use indexmap::{IndexMap, IndexSet};
@@ -17,27 +19,38 @@ use std::marker::Model;
 pub struct Network {
     stops: IndexSet<i64>,
     edges: IndexMap<i64, Edge>,
+    at_stops: StopEdges,
 }
 
 impl Model for Network {
     ghost use Rattle.std.specs.Map.{values_of};
+    ghost use Rattle.std.specs.Prelude.{length};
     ghost use Rattle.ptn_network.specs.Networks.{NetworkParts, AreKeyed, IsNetwork};
+    ghost use Rattle.ptn_network.specs.StopEdges.{AreStopEdges};
 
     ghost Value = { NetworkParts };
 
     ghost view = { λ n. record { stops = n.stops.keys; edges = values_of n.edges.entries } };
 
-    ghost invariant = { λ n. AreKeyed n.edges.entries × IsNetwork (record { stops = n.stops.keys; edges = values_of n.edges.entries }) };
+    ghost invariant = { λ n. AreKeyed n.edges.entries
+        × IsNetwork (record { stops = n.stops.keys; edges = values_of n.edges.entries })
+        × AreStopEdges (length n.stops.keys) (values_of n.edges.entries) n.at_stops };
 }
 
 impl Network {
     /// The network of the texts of stops and of edges, or the first fault of the texts.
     pub fn from_texts(alloc: Global, stops: &[u8], edges: &[u8]) -> Result<Network, StageFault>
-        ensures { UnlessFault (network_faults stops.now edges.now) (λ network. network ≡ network_of stops.now edges.now) result }
+        ensures { UnlessFault (network_faults stops.now edges.now)
+            (λ network. network ≡ network_of stops.now edges.now) result }
     {
         let stops = read_stops(alloc, stops)?;
         let edges = read_edges(alloc, &stops, edges)?;
-        Ok(Network { stops, edges })
+        let at_stops = StopEdges::new(alloc, stops.len(), &edges)?;
+        Ok(Network {
+            stops,
+            edges,
+            at_stops,
+        })
     }
 
     /// How many stops there are.
@@ -85,5 +98,13 @@ impl Network {
         ensures sound { IsEdge (length self.now.stops) result }
     {
         self.edges[index]
+    }
+
+    /// The indexes of the edges that can be driven from the stop at an index.
+    pub(crate) fn edges_at(&self, stop: usize) -> &[usize]
+        requires { stop < length self.now.stops }
+        ensures { AreEdgesAt self.now.edges stop result.now }
+    {
+        self.at_stops.at(stop)
     }
 }

@@ -1,8 +1,9 @@
 // Paths along least lengths.
-ghost use Rattle.std.specs.Prelude.{◌≡◌, ◌<◌, ◌+◌, is_some, true, length, map, reverse, slice_index_or, slice_set, vec_len, option_map, unsigned_abs, None, IfOk};
+ghost use Rattle.std.specs.Prelude.{◌≡◌, ◌<◌, ◌+◌, is_some, true, length, map, reverse, slice_index_or, slice_set, vec_len, option_map, unsigned_abs, None, IfOk, IfSome};
 ghost use Rattle.std.specs.List.{range_with_len};
 ghost use Rattle.ptn_network.specs.Networks.{IsNetwork};
-ghost use Rattle.ptn_network.specs.Paths.{are_equal, ends_least, last_edge, last_with, length_to, path, stop_before, ArePaths, IsShortest};
+ghost use Rattle.ptn_network.specs.Walks.{IsSumUpTo};
+ghost use Rattle.ptn_network.specs.Paths.{are_equal, ends_least, last_edge, last_with, length_to, path, stop_before, ArePaths, IsSimple, IsShortest, EndsFirst};
 
 use crate::edge::Edge;
 use crate::network::Network;
@@ -11,8 +12,8 @@ use plan_num::NoMemory;
 use std::alloc::Global;
 use std::marker::Model;
 
-/// The paths from one stop: the least length to each stop, and the index of the last edge of the path to it.
-/// Contracts see it as these two lists.
+/// The paths from one stop: the least length to each stop, and the index of the last edge of the
+/// path to it. Contracts see it as these two lists.
 #[derive(Drop)]
 pub struct Paths {
     reach: Reach,
@@ -59,7 +60,9 @@ impl Paths {
         requires to { to < length network.now.stops }
         requires reached { is_some (slice_index_or self.now.lengths to None) ≡ true }
         ensures path { IfOk result (λ found. found.items ≡ path network.now from to) }
+        ensures simple { IfOk result (λ found. IsSimple network.now.edges found.items) }
         ensures shortest { IfOk result (λ found. IsShortest network.now from to found.items) }
+        ensures last { IfOk result (λ found. EndsFirst network.now from to found.items) }
     {
         let mut path = self.path_back(alloc, network, from, to)?;
         path.reverse();
@@ -112,14 +115,17 @@ fn stop_before(network: &Network, index: usize, to: usize) -> usize
     network.edge(index).across(to).unwrap_or(to)
 }
 
-// The indexes of the last edges of the paths to each stop, where the least lengths to each stop are told.
+// The indexes of the last edges of the paths to each stop, where the least lengths to each stop are
+// told.
 fn last_edges(
     alloc: Global,
     network: &Network,
     lengths: &Reach,
 ) -> Result<Vec<Option<usize>>, NoMemory>
     requires { length lengths.now ≡ length network.now.stops }
-    ensures { IfOk result (λ last. last.items ≡ map (last_edge network.now.edges (length_to lengths.now)) (range_with_len 0 (length network.now.stops))) }
+    ensures { IfOk result (λ last. last.items
+        ≡ map (last_edge network.now.edges (length_to lengths.now))
+        (range_with_len 0 (length network.now.stops))) }
 {
     let mut last = vec![in alloc; None; network.stop_count()]?;
     for index in 0..network.edge_count() {
@@ -130,13 +136,16 @@ fn last_edges(
     Ok(last)
 }
 
-// An edge becomes the last one of the path to a stop, where it ends a least walk to it and no edge before it does.
+// An edge becomes the last one of the path to a stop, where it ends a least walk to it and no edge
+// before it does.
 fn note_edge(last: &mut Vec<Option<usize>>, lengths: &Reach, index: usize, edge: &Edge, to: usize)
     requires to { to < vec_len last.old }
     requires left { edge.now.left < vec_len last.old }
     requires right { edge.now.right < vec_len last.old }
     requires lengths { length lengths.now ≡ vec_len last.old }
-    ensures { last.new.items ≡ slice_set last.old.items to (last_with (length_to lengths.now) to (slice_index_or last.old.items to None) index edge.now) }
+    ensures { last.new.items ≡ slice_set last.old.items to
+        (last_with (length_to lengths.now) to (slice_index_or last.old.items to None)
+        index edge.now) }
 {
     if last[to].is_none() && ends_least(lengths, edge, to) {
         last[to] = Some(index);
@@ -158,12 +167,13 @@ fn ends_least(lengths: &Reach, edge: &Edge, to: usize) -> bool
 
 // Whether a length is another one with that of an edge.
 fn is_sum(whole: Option<i64>, before: Option<i64>, length: i64) -> bool
-    ensures { result ≡ are_equal (option_map unsigned_abs whole) (option_map (λ near. near + unsigned_abs length) (option_map unsigned_abs before)) }
+    requires { IfSome before (IsSumUpTo 10000000000000) }
+    ensures { result ≡ are_equal (option_map unsigned_abs whole)
+        (option_map (λ near. near + unsigned_abs length) (option_map unsigned_abs before)) }
 {
     match (whole, before) {
         (Some(whole), Some(before)) => {
-            u128::from(whole.unsigned_abs())
-                == u128::from(before.unsigned_abs()) + u128::from(length.unsigned_abs())
+            whole.unsigned_abs() == before.unsigned_abs() + length.unsigned_abs()
         }
         _ => false,
     }

@@ -12,7 +12,8 @@ const MOST_STOPS: usize = 1_000;
 
 /// The ids of the stops of a text, rising, or the first fault of the text.
 pub(crate) fn read_stops(alloc: Global, text: &[u8]) -> Result<IndexSet<i64>, StageFault>
-    ensures { UnlessFault (input_faults stop_input text.now) (λ stops. stops.keys ≡ stops_of text.now) result }
+    ensures { UnlessFault (input_faults stop_input text.now)
+        (λ stops. stops.keys ≡ stops_of text.now) result }
 {
     let table = read_input(alloc, FileId::Stop, text, &columns!(Stop))?;
     stops_of_table(alloc, &table)
@@ -20,7 +21,8 @@ pub(crate) fn read_stops(alloc: Global, text: &[u8]) -> Result<IndexSet<i64>, St
 
 // The ids of the stops of a table, rising, or its first fault.
 fn stops_of_table(alloc: Global, table: &Table<5>) -> Result<IndexSet<i64>, StageFault>
-    ensures { UnlessFault (table_faults stop_input table.now) (λ stops. stops.keys ≡ rising (records stop_input table.now)) result }
+    ensures { UnlessFault (table_faults stop_input table.now)
+        (λ stops. stops.keys ≡ rising (records stop_input table.now)) result }
 {
     if table.len() > MOST_STOPS {
         return Err(StageFault::Refused(Refusal::TooMany {
@@ -35,7 +37,8 @@ fn stops_of_table(alloc: Global, table: &Table<5>) -> Result<IndexSet<i64>, Stag
 
 // The ids of the rows of a table in their order, or the first row that repeats one.
 fn ids_of_rows(alloc: Global, table: &Table<5>) -> Result<IndexSet<i64>, StageFault>
-    ensures { UnlessFault (table_row_faults stop_input table.now) (λ stops. stops.keys ≡ records stop_input table.now) result }
+    ensures { UnlessFault (table_row_faults stop_input table.now)
+        (λ stops. stops.keys ≡ records stop_input table.now) result }
 {
     let mut stops = IndexSet::new(alloc);
     for i in 0..table.len() {

@@ -85,7 +85,6 @@ fn has_sums(reach: &Reach, want: &[Option<i64>]) -> bool
 }
 
 #[test]
-#[tactic(auto, using(crate::proofs::Walks::sums_count))]
 fn least_sums_are_over_all_walks(rt: HostRuntime) -> Result<(), Fail> {
     for (place, case) in CASES.iter().enumerate() {
         let network = Network::from_texts(rt.alloc(), case.stops, case.edges)?;

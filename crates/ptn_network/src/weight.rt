@@ -1,6 +1,6 @@
 // What an edge counts in the sum of a walk.
 ghost use Rattle.std.specs.Prelude.{◌≡◌, ◌≤◌, ℕ};
-ghost use Rattle.ptn_network.specs.Labels.{weight_of};
+ghost use Rattle.ptn_network.specs.Labels.{weight_of, most_of};
 ghost use Rattle.ptn_network.specs.Networks.{IsEdge};
 
 use crate::edge::Edge;
@@ -16,7 +16,7 @@ impl Weight {
     /// What an edge counts.
     pub(crate) fn of(self, edge: &Edge) -> u64
         ensures value { result ≡ weight_of self edge.now }
-        ensures small { (stops : ℕ) → IsEdge stops edge.now → result ≤ 10000000000 }
+        ensures small { (stops : ℕ) → IsEdge stops edge.now → result ≤ most_of self }
     {
         match self {
             Weight::Length => edge.length.unsigned_abs(),

@@ -7,5 +7,7 @@ abbrev pub invariant-loop-index : goal.invariant-loop-index
 invariant-loop-index l =
     record {
       size : length l.loads.items ≡ length l.fn.loads.items;
-      added : (at : ℕ) → at < length l.fn.loads.items → get_or l.loads.items at 0 ≡ get_or l.fn.loads.items at 0 + cond (list_any (nat_eq at) (take l.index-index l.path)) l.customers 0;
+      added : (at : ℕ) → at < length l.fn.loads.items
+          → get_or l.loads.items at 0 ≡ get_or l.fn.loads.items at 0 + cond
+          (list_any (nat_eq at) (take l.index-index l.path)) l.customers 0;
     }

@@ -13,5 +13,7 @@ invariant-loop-i l =
       sound : SoundBefore input l.table l.i;
       known : AreKnown l.network l.known;
       size : length l.loads.items ≡ length l.network.edges;
-      loads : (index : ℕ) → index < length l.network.edges → get_or l.loads.items index 0 ≡ load_of l.network (records input (take l.i l.table)) index;
+      loads : (index : ℕ) → index < length l.network.edges
+          → get_or l.loads.items index 0 ≡ load_of l.network
+          (records input (take l.i l.table)) index;
     }

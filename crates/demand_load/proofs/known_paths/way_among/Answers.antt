@@ -3,12 +3,21 @@ use Rattle.demand_load.proofs.DemandRows.{lengths_known, is_reached, way_is, no_
 use Rattle.demand_load.proofs.known_paths.way_among.Goals as goal
 
 pub reaches-requires : goal.reaches-requires
-reaches-requires c = omega (arith, lengths_known c.args.network.now c.args.from c.args.paths.now c.requires.paths.is, c.requires.to)
+reaches-requires c = omega (
+  arith,
+  lengths_known c.args.network.now c.args.from c.args.paths.now c.requires.paths.is,
+  c.requires.to,
+)
 
 pub returns-then-not-reaches-clause-way : goal.returns-then-not-reaches-clause-way
 returns-then-not-reaches-clause-way c =
-    no_way c.args.network.now c.args.from c.args.to (sym (is_reached c.args.network.now c.args.from c.args.paths.now c.args.to c.requires.paths.is c.requires.to) ∙ sym c.reaches.ensures ∙ c.if-not-reaches.true)
+    no_way c.args.network.now c.args.from c.args.to (sym
+    (is_reached c.args.network.now c.args.from c.args.paths.now c.args.to c.requires.paths.is
+    c.requires.to) ∙ sym c.reaches.ensures ∙ c.if-not-reaches.true)
 
 pub returns-clause-way : goal.returns-clause-way
 returns-clause-way c =
-    way_is c.args.network.now c.args.from c.args.to c.in_ok-path_to.field-0.items (sym (is_reached c.args.network.now c.args.from c.args.paths.now c.args.to c.requires.paths.is c.requires.to) ∙ sym c.reaches.ensures ∙ c.if-not-reaches.false) c.in_ok-path_to.ensures.path
+    way_is c.args.network.now c.args.from c.args.to c.in_ok-path_to.field-0.items
+    (sym (is_reached c.args.network.now c.args.from c.args.paths.now c.args.to
+    c.requires.paths.is c.requires.to) ∙ sym c.reaches.ensures ∙ c.if-not-reaches.false)
+    c.in_ok-path_to.ensures.path

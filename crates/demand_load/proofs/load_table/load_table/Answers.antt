@@ -12,8 +12,12 @@ loop-index-preserved c =
     let loads = c.args.loads.now in
     let i = c.loop-index.index in
     let load = get_or loads i no_load in
-    c.in_ok-push_row.ensures ∙ ap (λ rows. rows ++ load_row c.edge.result load ∷ []) c.loop-index.invariant
-    ∙ sym (rows_more edges loads i c.edge.result load (omega arith) (omega arith) (get_or_from_slice_get edges i c.edge.result c.edge.result c.edge.ensures.place) (get_or_default loads i load no_load (omega arith)))
+    c.in_ok-push_row.ensures ∙ ap (λ rows. rows ++ load_row c.edge.result load ∷ [])
+    c.loop-index.invariant
+    ∙ sym (rows_more edges loads i c.edge.result load (omega arith) (omega arith)
+    (get_or_from_slice_get edges i c.edge.result c.edge.result c.edge.ensures.place)
+    (get_or_default loads i load no_load (omega arith)))
 
 pub returns : goal.returns
-returns c = c.loop-index.invariant ∙ rows_all c.args.network.now.edges c.args.loads.now c.loop-index.index (omega arith) (omega arith)
+returns c = c.loop-index.invariant ∙ rows_all c.args.network.now.edges c.args.loads.now
+    c.loop-index.index (omega arith) (omega arith)

@@ -10,7 +10,8 @@ use Rattle.giv_files.specs.Inputs.{records, broken_whys}
 use Rattle.giv_files.proofs.Inputs.{row_met, row_refused, rows_met, records_all, records_more}
 use Rattle.line_pool.specs.Pools.{file_of, line_input, rows_of}
 use Rattle.line_pool.specs.LinesSoFar.{line_so_far, with_edge, no_line}
-use Rattle.line_pool.proofs.RowsOfLines.{line_listed, line_at, new_told, lines_more, pair_noted, stands_within, edge_at}
+use Rattle.line_pool.proofs.RowsOfLines.{line_listed, line_at, new_told, lines_more, pair_noted}
+use Rattle.ptn_network.proofs.EdgeIds.{stands_within, edge_at}
 use Rattle.line_pool.proofs.line_rows.lines_of_rows.Goals as goal
 
 pub place_of-place-requires : goal.place_of-place-requires

@@ -2,7 +2,8 @@ use Rattle.std.proofs.Common.{◌∙◌, ap, sym, position, map, w64, arith}
 use Rattle.std.specs.Ordering.{int_eq}
 use Rattle.std.proofs.lemmas.Bool.{not-true, not-false}
 use Rattle.std.proofs.lemmas.Int.{to_z-of_z}
-use Rattle.line_pool.proofs.RowsOfLines.{unknown, no_edge, order_gap, repeated_edge, broken_line, frequency_differs, row_fits, edge_at, stands_at, is_known, next_told, walk_told, frequency_told}
+use Rattle.line_pool.proofs.RowsOfLines.{unknown, order_gap, repeated_edge, broken_line, frequency_differs, row_fits, next_told, walk_told, frequency_told}
+use Rattle.ptn_network.proofs.EdgeIds.{edge_at, stands_at, is_known, none_with}
 use Rattle.line_pool.proofs.line_rows.new_edge.Goals as goal
 
 pub returns-in_default : goal.returns-in_default
@@ -10,7 +11,7 @@ returns-in_default c = λ before told new.
     let edges = c.args.network.now.edges in
     let row = c.args.row.now in
     let own = ap (λ id. position (int_eq id) (map (λ edge. edge.id) edges)) (to_z-of_z w64 row.edge (record { sfits = omega arith })) in
-    unknown edges before row (no_edge edges row.edge (sym own ∙ sym c.edge_index.ensures ∙ c.in_default.is))
+    unknown edges before row (none_with edges row.edge (sym own ∙ sym c.edge_index.ensures ∙ c.in_default.is))
 
 pub returns-then-not-is_next : goal.returns-then-not-is_next
 returns-then-not-is_next c = λ before told new.

@@ -19,8 +19,12 @@ returns-in-Err c =
     let stops = c.args.stops.now.keys in
     let input = edge_input stops in
     let before = records input (take i table) in
-    let broken = c.in-Err.ensures before (id_there stops before c.loop-i.edges.entries c.read-row.result.id c.loop-i.invariant.edges) in
-    row_refused input table i c.in-Err.why (omega arith) (subst (λ row. slice_get (broken_whys (edge_rules stops) before row) 0 ≡ Some c.in-Err.why) c.read-row.ensures broken) c.loop-i.invariant.sound
+    let broken = c.in-Err.ensures before
+    (id_there stops before c.loop-i.edges.entries c.read-row.result.id c.loop-i.invariant.edges)
+    in
+    row_refused input table i c.in-Err.why (omega arith)
+    (subst (λ row. slice_get (broken_whys (edge_rules stops) before row) 0 ≡ Some c.in-Err.why)
+    c.read-row.ensures broken) c.loop-i.invariant.sound
     ∙ ap (λ number. Some (refusal.BadRow file.Edge number c.in-Err.why)) (sym c.number.ensures)
 
 pub loop-i-preserved : goal.loop-i-preserved
@@ -31,13 +35,20 @@ loop-i-preserved c =
     let input = edge_input stops in
     let before = records input (take i table) in
     let row = c.read-row.result in
-    let made = c.in-Ok.ensures before (id_there stops before c.loop-i.edges.entries row.id c.loop-i.invariant.edges) in
+    let made = c.in-Ok.ensures before
+    (id_there stops before c.loop-i.edges.entries row.id c.loop-i.invariant.edges) in
     let none = own_entry stops before row c.loop-i.edges.entries c.loop-i.invariant.edges made.0 in
     let own = to_z-of_z w64 row.id (record { sfits = omega (arith, c.read-row.type_inv) }) in
-    let put = c.in_ok-insert-in-Ok.ensures.entries ∙ ap (λ id. insert_entry int_eq c.loop-i.edges.entries id c.in-Ok.edge) own ∙ insert_entry-new int_eq c.loop-i.edges row.id c.in-Ok.edge none in
+    let put = c.in_ok-insert-in-Ok.ensures.entries
+    ∙ ap (λ id. insert_entry int_eq c.loop-i.edges.entries id c.in-Ok.edge) own
+    ∙ insert_entry-new int_eq c.loop-i.edges row.id c.in-Ok.edge none in
     record {
-      sound = row_met input table i (omega arith) (subst (λ some. broken_whys (edge_rules stops) before some ≡ []) c.read-row.ensures made.0) c.loop-i.invariant.sound;
-      edges = edges_more stops table i row c.in-Ok.edge c.loop-i.edges.entries c.insert.new.self.entries (omega arith) c.read-row.ensures made.1 c.loop-i.invariant.edges put;
+      sound = row_met input table i (omega arith) (subst
+          (λ some. broken_whys (edge_rules stops) before some ≡ []) c.read-row.ensures made.0)
+          c.loop-i.invariant.sound;
+      edges = edges_more stops table i row c.in-Ok.edge c.loop-i.edges.entries
+          c.insert.new.self.entries (omega arith) c.read-row.ensures made.1 c.loop-i.invariant.edges
+          put;
     }
 
 pub returns : goal.returns
@@ -47,5 +58,6 @@ returns c =
     let stops = c.args.stops.now.keys in
     let input = edge_input stops in (
       rows_met input table i (omega arith) c.loop-i.invariant.sound,
-      c.loop-i.invariant.edges ∙ ap (map (edge_entry stops)) (records_all input table i (omega arith)),
+      c.loop-i.invariant.edges ∙ ap (map (edge_entry stops))
+          (records_all input table i (omega arith)),
     )

@@ -12,6 +12,8 @@ returns c =
     let table = c.args.table.now in
     let read = c.in_ok-edges.ensures in
     let sorted = c.in_ok-sort_keys.ensures in (
-      no_faults input table (few_enough input table counted.Edges 1000 refl (omega arith)) read.0 refl,
-      sorted_entries c.sort_keys.new.self.entries c.in_ok-edges.edges.entries sorted.sorted sorted.unique sorted.reordered.2 ∙ ap by_id read.1,
+      no_faults input table (few_enough input table counted.Edges 1000 refl (omega arith)) read.0
+          refl,
+      sorted_entries c.sort_keys.new.self.entries c.in_ok-edges.edges.entries sorted.sorted
+          sorted.unique sorted.reordered.2 ∙ ap by_id read.1,
     )

@@ -11,14 +11,20 @@ pub new_place-requires : goal.new_place-requires
 new_place-requires c =
     let edges = c.args.network.now.edges in
     let before = records (load_input c.args.file edges) (take c.loop-i.i c.args.table.now) in
-    ap length (c.deref.ensures.value ∙ c.loop-i.invariant.given) ∙ length-map edges (given_for before)
+    ap length (c.deref.ensures.value ∙ c.loop-i.invariant.given)
+    ∙ length-map edges (given_for before)
 
 pub index_mut-requires : goal.index_mut-requires
 index_mut-requires c =
     let edges = c.args.network.now.edges in
     let before = records (load_input c.args.file edges) (take c.loop-i.i c.args.table.now) in
     let met = c.in-Ok.ensures before (c.deref.ensures.value ∙ c.loop-i.invariant.given) in
-    omega (arith, place_within edges before c.read-row.result c.loop-i.given.items c.in-Ok.index c.loop-i.invariant.given met.1, c.loop-i.given.ok.0)
+    omega (
+      arith,
+      place_within edges before c.read-row.result c.loop-i.given.items c.in-Ok.index
+          c.loop-i.invariant.given met.1,
+      c.loop-i.given.ok.0,
+    )
 
 pub returns-in-Err : goal.returns-in-Err
 returns-in-Err c =
@@ -27,7 +33,9 @@ returns-in-Err c =
     let input = load_input c.args.file c.args.network.now.edges in
     let before = records input (take i table) in
     let broken = c.in-Err.ensures before (c.deref.ensures.value ∙ c.loop-i.invariant.given) in
-    row_refused input table i c.in-Err.why (omega arith) (subst (λ row. slice_get (broken_whys input.row_rules before row) 0 ≡ Some c.in-Err.why) c.read-row.ensures broken) c.loop-i.invariant.sound
+    row_refused input table i c.in-Err.why (omega arith)
+    (subst (λ row. slice_get (broken_whys input.row_rules before row) 0 ≡ Some c.in-Err.why)
+    c.read-row.ensures broken) c.loop-i.invariant.sound
     ∙ ap (λ number. Some (refusal.BadRow c.args.file number c.in-Err.why)) (sym c.number.ensures)
 
 pub loop-i-preserved : goal.loop-i-preserved
@@ -39,10 +47,16 @@ loop-i-preserved c =
     let row = c.read-row.result in
     let before = records input (take i table) in
     let met = c.in-Ok.ensures before (c.deref.ensures.value ∙ c.loop-i.invariant.given) in
-    let more : before ++ row ∷ [] ≡ records input (take (i + 1) table) = ap (λ some. before ++ some ∷ []) c.read-row.ensures ∙ sym (records_more input table i (omega arith)) in
+    let more : before ++ row ∷ [] ≡ records input (take (i + 1) table) =
+    ap (λ some. before ++ some ∷ []) c.read-row.ensures
+    ∙ sym (records_more input table i (omega arith)) in
     record {
-      sound = row_met input table i (omega arith) (subst (λ some. broken_whys input.row_rules before some ≡ []) c.read-row.ensures met.0) c.loop-i.invariant.sound;
-      given = given_more edges before row c.loop-i.given.items c.in-Ok.index c.in_ok-given.ensures.network.edges_rise c.loop-i.invariant.given met.1 (own_row edges before row met.0).0
+      sound = row_met input table i (omega arith) (subst
+          (λ some. broken_whys input.row_rules before some ≡ []) c.read-row.ensures met.0)
+          c.loop-i.invariant.sound;
+      given = given_more edges before row c.loop-i.given.items c.in-Ok.index
+          c.in_ok-given.ensures.network.edges_rise c.loop-i.invariant.given met.1
+          (own_row edges before row met.0).0
           ∙ ap (λ rows. map (given_for rows) edges) more;
     }
 
@@ -53,5 +67,6 @@ returns c =
     let input = load_input c.args.file edges in
     let i = c.loop-i.i in (
       rows_met input table i (omega arith) c.loop-i.invariant.sound,
-      c.loop-i.invariant.given ∙ ap (λ rows. map (given_for rows) edges) (records_all input table i (omega arith)),
+      c.loop-i.invariant.given ∙ ap (λ rows. map (given_for rows) edges)
+          (records_all input table i (omega arith)),
     )

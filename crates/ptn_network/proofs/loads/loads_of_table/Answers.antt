@@ -11,8 +11,11 @@ returns-in-Some c =
     let given = c.in_ok-given.given.items in
     let read = c.in_ok-given.ensures in
     let all = rw (c.in-Some.is, c.deref.ensures.value) at c.in_ok-loads.ensures in
-    let are = all_are (list_any (λ load. not (is_some load)) given) (map (λ load. unwrap_or load no_load) given) c.in-Some.loads.items all in
-    (table_kept c.args.file edges table given read.1 read.0 are.0, all_loads c.args.file edges table given read.1 c.in-Some.loads.items are.1)
+    let are = all_are (list_any (λ load. not (is_some load)) given)
+    (map (λ load. unwrap_or load no_load) given) c.in-Some.loads.items all in (
+      table_kept c.args.file edges table given read.1 read.0 are.0,
+      all_loads c.args.file edges table given read.1 c.in-Some.loads.items are.1,
+    )
 
 pub returns : goal.returns
 returns c =
@@ -20,4 +23,6 @@ returns c =
     let given = c.in_ok-given.given.items in
     let read = c.in_ok-given.ensures in
     let none = rw (c.in-None.is, c.deref.ensures.value) at c.in_ok-loads.ensures in
-    edge_missing c.args.file edges c.args.table.now given read.1 read.0 (not_all (list_any (λ load. not (is_some load)) given) (map (λ load. unwrap_or load no_load) given) none)
+    edge_missing c.args.file edges c.args.table.now given read.1 read.0
+    (not_all (list_any (λ load. not (is_some load)) given)
+    (map (λ load. unwrap_or load no_load) given) none)

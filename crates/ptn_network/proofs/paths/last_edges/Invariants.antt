@@ -7,5 +7,7 @@ abbrev pub invariant-loop-index : goal.invariant-loop-index
 invariant-loop-index l =
     record {
       size : length l.last.items ≡ length l.network.stops;
-      told : (to : ℕ) → to < length l.network.stops → get_or l.last.items to None ≡ last_edge (take l.index l.network.edges) (length_to l.lengths) to;
+      told : (to : ℕ) → to < length l.network.stops
+          → get_or l.last.items to None ≡ last_edge (take l.index l.network.edges)
+          (length_to l.lengths) to;
     }

@@ -13,7 +13,9 @@ returns-then-not-branch c =
     let table = c.args.table.now in
     let i = c.loop-i.i in
     let read = to_z-of_z w64 c.cell.result (record { sfits = c.cell.type_inv }) ∙ c.cell.ensures in
-    let broken = id_repeated table i (to_z w64 (of_z w64 c.cell.result)) c.loop-i.stops.keys c.in_ok-insert.field-0 read c.loop-i.invariant.ids c.in_ok-insert.ensures.added c.if-not-branch.true in
+    let broken = id_repeated table i (to_z w64 (of_z w64 c.cell.result)) c.loop-i.stops.keys
+    c.in_ok-insert.field-0 read c.loop-i.invariant.ids c.in_ok-insert.ensures.added
+    c.if-not-branch.true in
     row_refused stop_input table i why.RepeatedId (omega arith) broken c.loop-i.invariant.sound
     ∙ ap (λ number. Some (refusal.BadRow file.Stop number why.RepeatedId)) (sym c.number.ensures)
 
@@ -25,12 +27,19 @@ loop-i-preserved c =
     let read = to_z-of_z w64 c.cell.result (record { sfits = c.cell.type_inv }) ∙ c.cell.ensures in
     let added = c.in_ok-insert.ensures.added in
     record {
-      sound = row_met stop_input table i (omega arith) (id_new table i id c.loop-i.stops.keys c.in_ok-insert.field-0 read c.loop-i.invariant.ids added c.if-not-branch.false) c.loop-i.invariant.sound;
-      ids = ids_more table i id c.loop-i.stops.keys c.in_ok-insert.field-0 read c.loop-i.invariant.ids added _ (omega arith) c.if-not-branch.false c.in_ok-insert.ensures.keys;
+      sound = row_met stop_input table i (omega arith)
+          (id_new table i id c.loop-i.stops.keys c.in_ok-insert.field-0 read c.loop-i.invariant.ids
+          added c.if-not-branch.false) c.loop-i.invariant.sound;
+      ids = ids_more table i id c.loop-i.stops.keys c.in_ok-insert.field-0 read
+          c.loop-i.invariant.ids added _ (omega arith) c.if-not-branch.false
+          c.in_ok-insert.ensures.keys;
     }
 
 pub returns : goal.returns
 returns c =
     let table = c.args.table.now in
-    let i = c.loop-i.i in
-    (rows_met stop_input table i (omega arith) c.loop-i.invariant.sound, c.loop-i.invariant.ids ∙ records_all stop_input table i (omega arith))
+    let i = c.loop-i.i in (
+      rows_met stop_input table i (omega arith) c.loop-i.invariant.sound,
+      c.loop-i.invariant.ids
+          ∙ records_all stop_input table i (omega arith),
+    )

@@ -11,6 +11,8 @@ returns c =
     let table = c.args.table.now in
     let read = c.in_ok-stops.ensures in
     let sorted = c.in_ok-sort.ensures in (
-      no_faults stop_input table (few_enough stop_input table counted.Stops 1000 refl (omega arith)) read.0 refl,
-      sorted_ids c.sort.new.self.keys c.in_ok-stops.stops.keys sorted.sorted sorted.unique sorted.reordered.2 ∙ ap rising read.1,
+      no_faults stop_input table (few_enough stop_input table counted.Stops 1000 refl (omega arith))
+          read.0 refl,
+      sorted_ids c.sort.new.self.keys c.in_ok-stops.stops.keys sorted.sorted sorted.unique
+          sorted.reordered.2 ∙ ap rising read.1,
     )

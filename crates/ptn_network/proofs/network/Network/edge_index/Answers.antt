@@ -7,4 +7,5 @@ pub returns : goal.returns
 returns c =
     rw (c.get_index_of.ensures.index, to_z-of_z w64 c.args.id c.ranges.id) (
     ap (position (int_eq c.args.id)) c.self.invariant.0
-    ∙ ap (λ network. position (int_eq c.args.id) (map (λ edge. edge.id) network.edges)) c.self.view_is)
+    ∙ ap (λ network. position (int_eq c.args.id) (map (λ edge. edge.id) network.edges))
+    c.self.view_is)

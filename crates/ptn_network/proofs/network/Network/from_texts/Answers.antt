@@ -1,9 +1,11 @@
-use Rattle.std.proofs.Common.{sym, subst, ◌∙◌}
+use Rattle.std.proofs.Common.{◌≡◌, All, length, sym, subst, ◌∙◌, rules}
+use Rattle.std.specs.Map.{values_of}
 use Rattle.std.proofs.lemmas.Result.{err_from_is_err_and}
 use Rattle.giv_files.specs.Inputs.{input_faults, Refuses}
 use Rattle.giv_files.proofs.Inputs.{refused_append}
 use Rattle.ptn_network.specs.Inputs.{stop_input}
-use Rattle.ptn_network.specs.Networks.{network_faults, AreKeyed, IsNetwork}
+use Rattle.ptn_network.specs.Networks.{network_faults, AreKeyed, IsEdge, IsNetwork}
+use Rattle.ptn_network.specs.StopEdges.{AreStopEdges}
 use Rattle.ptn_network.proofs.ById.{by_id_keyed}
 use Rattle.ptn_network.proofs.Rows.{entries_keyed}
 use Rattle.ptn_network.proofs.Sound.{network_sound}
@@ -14,29 +16,52 @@ pub returns-in_err-stops : goal.returns-in_err-stops
 unfolding network_faults
 returns-in_err-stops c =
     let p = err_from_is_err_and c.from_residual.result c.from_residual.ensures.1 in
-    rw (p.1, p.2) (refused_append (input_faults stop_input c.args.stops.now) _ c.in_err-stops.field-0.0 c.in_err-stops.ensures)
+    rw (p.1, p.2) (refused_append (input_faults stop_input c.args.stops.now) _
+    c.in_err-stops.field-0.0 c.in_err-stops.ensures)
 
 pub returns-in_err-edges : goal.returns-in_err-edges
 returns-in_err-edges c =
-    let p = err_from_is_err_and c.from_residual-in_err-edges.result c.from_residual-in_err-edges.ensures.1 in
+    let p = err_from_is_err_and c.from_residual-in_err-edges.result
+    c.from_residual-in_err-edges.ensures.1 in
     let stops = c.in_ok-stops.ensures in
-    let faults = edge_faults c.args.stops.now c.args.edges.now c.in_ok-stops.stops.keys stops.1 stops.0 in
-    rw (p.1, p.2) (subst (λ all. Refuses all c.in_err-edges.field-0.0) faults c.in_err-edges.ensures)
+    let faults = edge_faults c.args.stops.now c.args.edges.now c.in_ok-stops.stops.keys stops.1
+    stops.0 in
+    rw (p.1, p.2) (subst (λ all. Refuses all c.in_err-edges.field-0.0) faults
+    c.in_err-edges.ensures)
+
+pub new-requires : goal.new-requires
+new-requires c =
+    let stops = c.in_ok-stops.ensures in
+    let edges = c.in_ok-edges.ensures in
+    let none = sym (edge_faults c.args.stops.now c.args.edges.now c.in_ok-stops.stops.keys stops.1
+    stops.0) ∙ edges.0 in
+    let same = network_is c.args.stops.now c.args.edges.now c.in_ok-stops.stops.keys stops.1
+    c.in_ok-edges.edges.entries edges.1 in
+    let sound = subst IsNetwork (sym same) (network_sound c.args.stops.now c.args.edges.now none) in
+    let size : c.len.result ≡ length c.in_ok-stops.stops.keys = search rules in
+    subst (λ n. All (IsEdge n) (values_of c.in_ok-edges.edges.entries)) (sym size) sound.edges
 
 pub invariant_of-result : goal.invariant_of-result
 invariant_of-result c =
     let stops = c.in_ok-stops.ensures in
     let edges = c.in_ok-edges.ensures in
-    let none = sym (edge_faults c.args.stops.now c.args.edges.now c.in_ok-stops.stops.keys stops.1 stops.0) ∙ edges.0 in
-    let same = network_is c.args.stops.now c.args.edges.now c.in_ok-stops.stops.keys stops.1 c.in_ok-edges.edges.entries edges.1 in (
+    let none = sym (edge_faults c.args.stops.now c.args.edges.now c.in_ok-stops.stops.keys stops.1
+    stops.0) ∙ edges.0 in
+    let same = network_is c.args.stops.now c.args.edges.now c.in_ok-stops.stops.keys stops.1
+    c.in_ok-edges.edges.entries edges.1 in
+    let size : c.len.result ≡ length c.in_ok-stops.stops.keys = search rules in (
       subst AreKeyed (sym edges.1) (by_id_keyed _ (entries_keyed c.in_ok-stops.stops.keys _)),
       subst IsNetwork (sym same) (network_sound c.args.stops.now c.args.edges.now none),
+      subst (λ n. AreStopEdges n (values_of c.in_ok-edges.edges.entries) c.in_ok-at_stops.at_stops)
+          size c.in_ok-at_stops.ensures,
     )
 
 pub returns : goal.returns
 returns c =
     let stops = c.in_ok-stops.ensures in
     let edges = c.in_ok-edges.ensures in (
-      sym (edge_faults c.args.stops.now c.args.edges.now c.in_ok-stops.stops.keys stops.1 stops.0) ∙ edges.0,
-      network_is c.args.stops.now c.args.edges.now c.in_ok-stops.stops.keys stops.1 c.in_ok-edges.edges.entries edges.1,
+      sym (edge_faults c.args.stops.now c.args.edges.now c.in_ok-stops.stops.keys stops.1 stops.0)
+          ∙ edges.0,
+      network_is c.args.stops.now c.args.edges.now c.in_ok-stops.stops.keys stops.1
+          c.in_ok-edges.edges.entries edges.1,
     )

@@ -5,7 +5,8 @@ use Rattle.ptn_network.proofs.Partway.{ArePartway, left_count}
 use Rattle.ptn_network.proofs.network.Network.settle_all.Given as goal
 
 abbrev pub invariant-loop-stop : goal.invariant-loop-stop
-invariant-loop-stop l = ArePartway l.self.edges (weight_of l.weight) l.from (length l.self.stops) l.labels.items
+invariant-loop-stop l = ArePartway l.self.edges (weight_of l.weight) l.from
+    (length l.self.stops) l.labels
 
 abbrev pub decreases-loop-stop : goal.decreases-loop-stop
-decreases-loop-stop l = left_count l.labels.items
+decreases-loop-stop l = left_count l.labels

@@ -9,5 +9,6 @@ invariant-loop-step l =
     let size = length l.network.stops in
     record {
       here : l.at < size;
-      found : path_within l.network.edges (length_to (least_sums l.network edge_length l.from)) (size - l.step) l.from l.at ++ reverse l.back.items ≡ path l.network l.from l.to;
+      found : path_within l.network.edges (length_to (least_sums l.network edge_length l.from))
+          (size - l.step) l.from l.at ++ reverse l.back.items ≡ path l.network l.from l.to;
     }

@@ -1,6 +1,8 @@
 use Rattle.std.proofs.Common.{◌≡◌, true, is_some, get_or, None, sym, subst, ap, ◌∙◌}
 use Rattle.ptn_network.specs.Walks.{edge_length, least_sums, AreLeastSums}
-use Rattle.ptn_network.specs.Paths.{IsShortest}
+use Rattle.ptn_network.specs.Paths.{IsShortest, IsSimple, EndsFirst}
+use Rattle.ptn_network.proofs.LastWalks.{path_ends}
+use Rattle.ptn_network.proofs.PathEdges.{path_simple}
 use Rattle.ptn_network.proofs.ShortestPaths.{reached_there, path_shortest}
 use Rattle.ptn_network.proofs.paths.Paths.path_to.Goals as goal
 
@@ -10,7 +12,25 @@ returns-clause-shortest c =
     let from = c.args.from in
     let to = c.args.to in
     let lengths = ap (λ paths. paths.lengths) c.requires.paths.is in
-    let least = subst (λ sums. AreLeastSums network edge_length from sums) lengths c.requires.paths.least in
+    let least = subst (λ sums. AreLeastSums network edge_length from sums) lengths
+    c.requires.paths.least in
     let reached = subst (λ sums. is_some (get_or sums to None) ≡ true) lengths c.requires.reached in
     subst (IsShortest network from to) (sym (c.reverse.ensures.items ∙ c.in_ok-path.ensures))
-    (path_shortest network from to c.requires.network least c.requires.to (reached_there (least_sums network edge_length from) to reached))
+    (path_shortest network from to c.requires.network least c.requires.to
+    (reached_there (least_sums network edge_length from) to reached))
+
+pub returns-clause-simple : goal.returns-clause-simple
+returns-clause-simple c =
+    let network = c.args.network.now in
+    subst (IsSimple network.edges) (sym (c.reverse.ensures.items ∙ c.in_ok-path.ensures))
+    (path_simple network c.args.from c.args.to c.requires.network)
+
+pub returns-clause-last : goal.returns-clause-last
+returns-clause-last c =
+    let network = c.args.network.now in
+    let from = c.args.from in
+    let to = c.args.to in
+    let least = subst (λ sums. AreLeastSums network edge_length from sums)
+    (ap (λ paths. paths.lengths) c.requires.paths.is) c.requires.paths.least in
+    subst (EndsFirst network from to) (sym (c.reverse.ensures.items ∙ c.in_ok-path.ensures))
+    (path_ends network from c.requires.network least to c.requires.to)

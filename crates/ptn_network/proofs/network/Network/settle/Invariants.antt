@@ -1,8 +1,0 @@
--- The walk has gone on over the edges so far.
-use Rattle.std.proofs.Common.{◌≡◌, take, fold}
-use Rattle.ptn_network.specs.Labels.{weight_of, reach_over}
-use Rattle.ptn_network.proofs.network.Network.settle.Given as goal
-
-abbrev pub invariant-loop-index : goal.invariant-loop-index
-invariant-loop-index l =
-    l.labels ≡ fold (reach_over (weight_of l.weight) l.stop l.sum) l.initial.labels (take l.index l.self.edges)
