@@ -1,0 +1,35 @@
+//! The rows that several stages read: events, activities and times of a period and of a day, trips, rows of a
+//! vehicle schedule, delays and disposed times.
+#![tactic(auto)]
+
+mod activity_kind;
+mod cells;
+mod delay_row;
+mod direction;
+mod disposed_time;
+mod event_kind;
+mod expanded_activity;
+mod expanded_event;
+mod periodic_activity;
+mod periodic_event;
+mod periodic_time;
+mod record;
+mod records;
+mod row_tests;
+mod schedule_kind;
+mod schedule_row;
+mod trip;
+
+pub use activity_kind::ActivityKind;
+pub use delay_row::DelayRow;
+pub use direction::Direction;
+pub use disposed_time::DisposedTime;
+pub use event_kind::EventKind;
+pub use expanded_activity::ExpandedActivity;
+pub use expanded_event::ExpandedEvent;
+pub use periodic_activity::PeriodicActivity;
+pub use periodic_event::PeriodicEvent;
+pub use periodic_time::PeriodicTime;
+pub use schedule_kind::ScheduleKind;
+pub use schedule_row::ScheduleRow;
+pub use trip::{Trip, TripEnd};
