@@ -16,6 +16,10 @@ use Rattle.event_tables.specs.Places.{is_none_of, IsOneOf}
 abbrev pub is_there : List ℕ → RowWhy → RowRule DelayRow
 is_there ids unknown = record { is_broken = λ _ row. is_none_of ids row.id; why = unknown }
 
+-- the rules of a delay over the ids of what may be delayed, in their order
+abbrev pub delay_rules : RowWhy → List ℕ → List (RowRule DelayRow)
+delay_rules unknown ids = is_there ids unknown ∷ own_id (λ row. pos row.id) ∷ []
+
 -- a file of delays, over the ids of what may be delayed
 abbrev pub delay_input : FileId → RowWhy → List ℕ → Input DelayRow
 delay_input file unknown ids = record {
@@ -23,7 +27,7 @@ delay_input file unknown ids = record {
   columns = delays_columns;
   read = delay_row;
   limits = [];
-  row_rules = is_there ids unknown ∷ own_id (λ row. pos row.id) ∷ [];
+  row_rules = delay_rules unknown ids;
   table_rules = [];
 }
 

@@ -2,11 +2,16 @@
 use Rattle.std.specs.Prelude.{ℕ, ◌≡◌, List, [], ◌∷◌, length, All}
 use Rattle.giv_files.specs.declared.file_id.FileId.TheVariants as file
 use Rattle.giv_files.specs.Columns.{disposed_columns}
-use Rattle.giv_files.specs.Inputs.{Input}
+use Rattle.giv_files.specs.Inputs.{Input, RowRule}
 use Rattle.giv_files.specs.Writing.{InColumns}
 use Rattle.event_tables.specs.declared.disposed_time.DisposedTime.{DisposedTime}
 use Rattle.event_tables.specs.Cells.{disposed_time, disposed_time_cells}
 use Rattle.event_tables.specs.Places.{own_place, known_event, all_there, AreNumbered}
+
+-- the rules of a disposed time over the ids of the events, in their order
+abbrev pub disposed_time_rules : List ℕ → List (RowRule DisposedTime)
+disposed_time_rules events =
+    own_place (λ row. row.event) ∷ known_event events (λ row. row.event) ∷ []
 
 -- the file of disposed times over the ids of the events, in whose order its rows stand
 abbrev pub disposed_time_input : List ℕ → Input DisposedTime
@@ -15,7 +20,7 @@ disposed_time_input events = record {
   columns = disposed_columns;
   read = disposed_time;
   limits = [];
-  row_rules = own_place (λ row. row.event) ∷ known_event events (λ row. row.event) ∷ [];
+  row_rules = disposed_time_rules events;
   table_rules = all_there events (λ row. row.event) ∷ [];
 }
 

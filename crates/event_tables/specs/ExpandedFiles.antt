@@ -37,6 +37,13 @@ abbrev pub forward : List ExpandedEvent → RowRule ExpandedActivity
 forward events =
     record { is_broken = λ _ row. not (goes_forward events row.from row.to); why = why.Backward }
 
+-- the rules of an expanded activity over the events, in their order
+abbrev pub expanded_activity_rules : List ExpandedEvent → List (RowRule ExpandedActivity)
+expanded_activity_rules events =
+    own_place (λ row. row.id)
+    ∷ known_ends (expanded_event_ids events) (λ row. row.from) (λ row. row.to)
+    ∷ bounds_in_order (λ row. row.lower) (λ row. row.upper) ∷ no_sync ∷ forward events ∷ []
+
 -- the file of expanded activities over the events; they are numbered in their order too
 abbrev pub expanded_activity_input : List ExpandedEvent → Input ExpandedActivity
 expanded_activity_input events = record {
@@ -44,9 +51,7 @@ expanded_activity_input events = record {
   columns = activities_x_columns;
   read = expanded_activity;
   limits = row_limit counted.ExpandedActivities 500000 ∷ [];
-  row_rules = own_place (λ row. row.id)
-      ∷ known_ends (expanded_event_ids events) (λ row. row.from) (λ row. row.to)
-      ∷ bounds_in_order (λ row. row.lower) (λ row. row.upper) ∷ no_sync ∷ forward events ∷ [];
+  row_rules = expanded_activity_rules events;
   table_rules = [];
 }
 

@@ -28,6 +28,12 @@ periodic_event_input = record {
 abbrev pub periodic_event_ids : List PeriodicEvent → List ℕ
 periodic_event_ids events = map (λ event. event.id) events
 
+-- the rules of a periodic activity over the ids of the events, in their order
+abbrev pub periodic_activity_rules : List ℕ → List (RowRule PeriodicActivity)
+periodic_activity_rules events =
+    own_place (λ row. row.id) ∷ known_ends events (λ row. row.from) (λ row. row.to)
+    ∷ bounds_in_order (λ row. row.lower) (λ row. row.upper) ∷ []
+
 -- the file of periodic activities over the ids of the events; they are numbered in their order too
 abbrev pub periodic_activity_input : List ℕ → Input PeriodicActivity
 periodic_activity_input events = record {
@@ -35,14 +41,18 @@ periodic_activity_input events = record {
   columns = activities_p_columns;
   read = periodic_activity;
   limits = row_limit counted.PeriodicActivities 200000 ∷ [];
-  row_rules = own_place (λ row. row.id) ∷ known_ends events (λ row. row.from) (λ row. row.to)
-      ∷ bounds_in_order (λ row. row.lower) (λ row. row.upper) ∷ [];
+  row_rules = periodic_activity_rules events;
   table_rules = [];
 }
 
 -- the rule that a time lies in the period
 abbrev pub in_period : ℕ → RowRule PeriodicTime
 in_period period = record { is_broken = λ _ row. nat_le period row.time; why = why.OutOfPeriod }
+
+-- the rules of a periodic time over the ids of the events, in their order
+abbrev pub periodic_time_rules : ℕ → List ℕ → List (RowRule PeriodicTime)
+periodic_time_rules period events =
+    own_place (λ row. row.event) ∷ known_event events (λ row. row.event) ∷ in_period period ∷ []
 
 -- a file of periodic times over the ids of the events, in whose order its rows stand
 abbrev pub periodic_time_input : FileId → ℕ → List ℕ → Input PeriodicTime
@@ -51,8 +61,7 @@ periodic_time_input file period events = record {
   columns = times_p_columns;
   read = periodic_time;
   limits = [];
-  row_rules = own_place (λ row. row.event) ∷ known_event events (λ row. row.event)
-      ∷ in_period period ∷ [];
+  row_rules = periodic_time_rules period events;
   table_rules = all_there events (λ row. row.event) ∷ [];
 }
 

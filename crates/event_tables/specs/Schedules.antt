@@ -51,6 +51,12 @@ empty_forward events = record {
   why = why.Backward;
 }
 
+-- the rules of a row over the events, in their order
+abbrev pub schedule_rules : List ExpandedEvent → List (RowRule ScheduleRow)
+schedule_rules events =
+    known_ends (expanded_event_ids events) (λ row. row.run.start.event) (λ row. row.run.end.event)
+    ∷ empty_forward events ∷ []
+
 -- the file of a vehicle schedule over the events; trips are counted first, and then empty rides
 abbrev pub schedule_input : List ExpandedEvent → Input ScheduleRow
 schedule_input events = record {
@@ -58,8 +64,7 @@ schedule_input events = record {
   columns = schedule_columns;
   read = schedule_row;
   limits = kind_limit is_trip_row ∷ kind_limit is_empty_row ∷ [];
-  row_rules = known_ends (expanded_event_ids events) (λ row. row.run.start.event) (λ row. row.run.end.event)
-      ∷ empty_forward events ∷ [];
+  row_rules = schedule_rules events;
   table_rules = [];
 }
 

@@ -1,5 +1,5 @@
 // Rows of expanded activities.
-ghost use Rattle.std.specs.Prelude.{◌≡◌};
+ghost use Rattle.std.specs.Prelude.{◌≡◌, nat_lt};
 ghost use Rattle.event_tables.specs.Cells.{expanded_activity, expanded_activity_cells, AreSmall};
 
 use crate::activity_kind::ActivityKind;
@@ -33,6 +33,13 @@ impl ExpandedActivity {
             i64::from(self.lower),
             i64::from(self.upper),
         ]
+    }
+
+    /// Whether the upper bound is below the lower one.
+    pub(crate) fn has_crossed_bounds(&self) -> bool
+        ensures { result ≡ nat_lt self.now.upper self.now.lower }
+    {
+        self.upper < self.lower
     }
 }
 

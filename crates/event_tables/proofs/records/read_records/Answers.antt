@@ -1,4 +1,4 @@
-use Rattle.std.proofs.Common.{◌≡◌, ◌+◌, ◌∷◌, ◌++◌, [], Some, None, map, take, slice_get, ap, subst, sym, ◌∙◌, arith}
+use Rattle.std.proofs.Common.{◌≡◌, ◌+◌, ◌∷◌, ◌++◌, [], Some, None, map, take, get_or, ap, subst, sym, ◌∙◌, arith}
 use Rattle.std.proofs.lemmas.List.{take_all}
 use Rattle.giv_files.specs.declared.refusal.Refusal.TheVariants as refusal
 use Rattle.giv_files.specs.Inputs.{broken_whys}
@@ -13,9 +13,8 @@ returns-in-Some g c =
     let of = g.X.Record.of_cells in
     let table = c.args.table.now in
     let rules = g.T.RowTests.rules c.args.tests in
-    let first = tested _ rules _ (records_by of (take c.loop-i.i table)) _ _ _ c.loop-i.invariant.same (c.deref.ensures.value ∙ c.loop-i.invariant.rows) c.read-row.ensures c.in_ok-why.ensures.first in
-    refused (λ (row : TableRow). row.number) (λ (row : TableRow). of row.cells) c.args.file rules table c.loop-i.i no_row c.in-Some.why (omega arith) (sym first ∙ c.in-Some.is) c.loop-i.invariant.sound
-    ∙ ap (λ number. Some (refusal.BadRow c.args.file number c.in-Some.why)) (sym c.number.ensures)
+    let first = tested (g.T.RowTests.rules c.loop-i.tests) rules c.deref.result.now (records_by of (take c.loop-i.i table)) c.read-row.result (of (get_or table c.loop-i.i no_row).cells) c.in_ok-why.field-0 c.loop-i.invariant.same (c.deref.ensures.value ∙ c.loop-i.invariant.rows) c.read-row.ensures c.in_ok-why.ensures.first in
+    rw c.number.ensures (refused (λ (row : TableRow). row.number) (λ (row : TableRow). of row.cells) c.args.file rules table c.loop-i.i no_row c.in-Some.why (omega arith) (sym first ∙ c.in-Some.is) c.loop-i.invariant.sound)
 
 pub loop-i-preserved : goal.loop-i-preserved
 loop-i-preserved g c =
@@ -25,8 +24,9 @@ loop-i-preserved g c =
     let rules = g.T.RowTests.rules c.args.tests in
     let before = records_by of (take i table) in
     let are = c.deref.ensures.value ∙ c.loop-i.invariant.rows in
-    let first = tested _ rules _ before _ _ _ c.loop-i.invariant.same are c.read-row.ensures c.in_ok-why.ensures.first in
-    let none = none_broken _ (sym first ∙ c.in_default.is) in
+    let first = tested (g.T.RowTests.rules c.loop-i.tests) rules c.deref.result.now before c.read-row.result (of (get_or table i no_row).cells) c.in_ok-why.field-0 c.loop-i.invariant.same are c.read-row.ensures c.in_ok-why.ensures.first in
+    let row = of (get_or table i no_row).cells in
+    let none : broken_whys rules before row ≡ [] = none_broken (broken_whys rules before row) (sym first ∙ c.in_default.is) in
     let longer : before ++ c.read-row.result ∷ [] ≡ records_by of (take (i + 1) table) =
         ap (λ row. before ++ row ∷ []) c.read-row.ensures ∙ sym (more (λ (row : TableRow). row.number) (λ (row : TableRow). of row.cells) c.args.file rules table i no_row (omega arith)) in
     record {

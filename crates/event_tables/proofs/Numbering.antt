@@ -1,0 +1,69 @@
+-- Ids that are the places of rows.
+use Rattle.std.proofs.Common.{◌≡◌, ◌≢◌, ◌==◌, ℕ, zero, suc, ◌+◌, ◌<◌, ◌≤◌, arith, Bool, true, false, not, ◌||◌, nat_eq, nat_lt, eqb, ltb, List, [], ◌∷◌, ◌++◌, length, map, refl, ap, sym, ◌∙◌}
+use Rattle.std.proofs.lemmas.Bool.{eqb-true, eqb-false, ltb-false, ne_eqb, le-ltb, false≢true, not-false}
+use Rattle.std.proofs.lemmas.List.{length_push, length-map}
+use Rattle.std.specs.List.{list_any, range_with_len}
+use Rattle.giv_files.specs.declared.file_id.FileId.{FileId}
+use Rattle.giv_files.specs.declared.refusal.Refusal.TheVariants as refusal
+use Rattle.giv_files.specs.Inputs.{Numbered, Input, RowRule, records, records_of, broken_whys, row_faults, numbered, input_faults}
+use Rattle.giv_files.specs.Reading.{table_of}
+use Rattle.giv_files.specs.Tables.{TableRow}
+use Rattle.giv_files.proofs.Inputs.{rules_sound, parts_sound, table_sound}
+use Rattle.giv_files.proofs.Ranges.{front_none, back_none, unmapped}
+use Rattle.event_tables.specs.Places.{own_place, is_none_of, AreNumbered, IsOneOf}
+
+-- the numbers from one on that are there
+among : (id a n : ℕ) → list_any (nat_eq id) (range_with_len a n) ≡ true → (a ≤ id) × (id < a + n)
+among id a zero h = cc
+among id a (suc n) h =
+    elim (eqb id a) as (λ b. eqb id a ≡ b → (b || list_any (nat_eq id) (range_with_len (a + 1) n)) ≡ true → (a ≤ id) × (id < a + suc n)) [
+      | true ↦ λ is some. (omega (arith, eqb-true id a is), omega (arith, eqb-true id a is))
+      | false ↦ λ is some. let later = among id (a + 1) n some in (omega (arith, later.0), omega (arith, later.1))
+    ] refl h
+
+-- each of them is there
+there : (id a n : ℕ) → a ≤ id → id < a + n → list_any (nat_eq id) (range_with_len a n) ≡ true
+there id a zero low high = absurd (omega arith)
+there id a (suc n) low high =
+    elim (eqb id a) as (λ b. eqb id a ≡ b → (b || list_any (nat_eq id) (range_with_len (a + 1) n)) ≡ true) [
+      | true ↦ λ is. refl
+      | false ↦ λ is. let other : id ≢ a = eqb-false id a is in there id (a + 1) n (omega (arith, other)) (omega arith)
+    ] refl
+
+-- an id is none of so many, which count from 1, where it is 0 or above their count
+pub none_of_places : (count id : ℕ) → is_none_of (range_with_len 1 count) id ≡ (nat_eq id 0 || nat_lt count id)
+none_of_places count id =
+    elim (list_any (nat_eq id) (range_with_len 1 count)) as (λ b. list_any (nat_eq id) (range_with_len 1 count) ≡ b → not b ≡ (nat_eq id 0 || nat_lt count id)) [
+      | true ↦ λ is. let low : 1 ≤ id = (among id 1 count is).0 in let high : id < 1 + count = (among id 1 count is).1 in
+          rw (ne_eqb id 0 (λ e. omega (arith, e, low)), le-ltb count id (omega (arith, high))) refl
+      | false ↦ λ is.
+          elim (eqb id 0) as (λ z. eqb id 0 ≡ z → true ≡ (z || nat_lt count id)) [
+            | true ↦ λ zero_is. refl
+            | false ↦ λ zero_is. let other : id ≢ 0 = eqb-false id 0 zero_is in
+                elim (ltb count id) as (λ t. ltb count id ≡ t → true ≡ t) [
+                  | true ↦ λ over. refl
+                  | false ↦ λ over. let few : id ≤ count = ltb-false count id over in absurd (false≢true (sym is ∙ there id 1 count (omega (arith, other)) (omega (arith, few))))
+                ] refl
+          ] refl
+    ] refl
+
+-- an id that is one of so many
+pub is_place : (count id : ℕ) → is_none_of (range_with_len 1 count) id ≡ false → IsOneOf count id
+is_place count id h =
+    let is = among id 1 count (not-false (list_any (nat_eq id) (range_with_len 1 count)) h) in (is.0, omega (arith, is.1))
+-- rows whose first rule is that they are numbered, and that break none, are numbered
+numbered_from : {X : Type 0} (file : FileId) (id : X → ℕ) (of : TableRow → X) (rules : List (RowRule X)) (before : List X) (rows : List TableRow)
+    → row_faults file (own_place id ∷ rules) before (map (λ row. record { number = row.number; row = of row }) rows) ≡ [] → map id (map of rows) ≡ range_with_len (length before + 1) (length rows)
+unfolding row_faults
+numbered_from file id of rules before [] none = refl
+numbered_from file id of rules before (row ∷ rows) none =
+    let kept = rules_sound (own_place id) rules before (of row) (unmapped _ (broken_whys (own_place id ∷ rules) before (of row)) (front_none _ _ none)) in
+    let first : id (of row) ≡ length before + 1 = eqb-true _ _ (not-false _ kept.0) in
+    let rest = numbered_from file id of rules (before ++ of row ∷ []) rows (back_none (map (λ why. refusal.BadRow file row.number why) (broken_whys (own_place id ∷ rules) before (of row))) _ none) in
+    rw first (ap (λ ids. (length before + 1) ∷ ids) (rest ∙ ap (λ n. range_with_len (n + 1) (length rows)) (length_push before (of row))))
+pub numbered_rows : {X : Type 0} (input : Input X) (id : X → ℕ) (rules : List (RowRule X)) (text : List ℕ) → input.row_rules ≡ own_place id ∷ rules → input_faults input text ≡ [] → AreNumbered id (records_of input text)
+numbered_rows input id rules text is none =
+    let table = table_of input.columns text in
+    let kept = (table_sound input table (parts_sound input text none).1).1 in
+    let told : row_faults input.file (own_place id ∷ rules) [] (numbered input table) ≡ [] = ap (λ some. row_faults input.file some [] (numbered input table)) (sym is) ∙ kept in
+    numbered_from input.file id (λ row. input.read row.cells) rules [] table told ∙ ap (range_with_len 1) (sym (length-map table (λ row. input.read row.cells)))

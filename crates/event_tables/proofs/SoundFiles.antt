@@ -1,0 +1,56 @@
+-- What holds of the records of each file, where its text has no fault.
+use Rattle.std.proofs.Common.{◌≡◌, ℕ, List, [], ◌∷◌, ◌||◌, false, length, refl, ap, sym, subst, ◌∙◌, Result, Ok, Err, IfOk}
+use Rattle.std.specs.List.{range_with_len}
+use Rattle.std.proofs.lemmas.Bool.{or_parts, ltb-false}
+use Rattle.giv_files.specs.declared.counted.Counted.TheVariants as counted
+use Rattle.giv_files.specs.declared.refusal.Refusal.{Refusal}
+use Rattle.giv_files.specs.declared.refusal.StageFault.{StageFault}
+use Rattle.giv_files.specs.Inputs.{UnlessFault, RowRule, row_limit, input_faults, records_of, broken_whys}
+use Rattle.giv_files.specs.Columns.{activities_p_columns}
+use Rattle.giv_files.specs.Writing.{InColumns}
+use Rattle.giv_files.proofs.Inputs.{few_rows, rules_sound}
+use Rattle.event_tables.specs.declared.periodic_activity.PeriodicActivity.{PeriodicActivity}
+use Rattle.event_tables.specs.PeriodicFiles.{periodic_event_input, periodic_activity_input, periodic_activity_rules, ArePeriodicEvents, ArePeriodicActivities, IsPeriodicActivity}
+use Rattle.event_tables.specs.Cells.{periodic_event_cells, periodic_activity_cells}
+use Rattle.event_tables.specs.Places.{own_place, known_ends, bounds_in_order, is_none_of}
+use Rattle.event_tables.proofs.CellsBack.{periodic_event_back, periodic_activity_back}
+use Rattle.event_tables.proofs.Fitting.{fitting_records, sound_records}
+use Rattle.event_tables.proofs.Numbering.{numbered_rows, is_place}
+
+-- what holds of the records of a text without a fault holds of what was read
+pub sound_read : {X A : Type 0} (view : A → List X) (faults : List Refusal) (told : List X) (P : List X → Type 0) (read : Result A StageFault)
+    → UnlessFault faults (λ rows. view rows ≡ told) read → (faults ≡ [] → P told) → IfOk read (λ rows. P (view rows))
+sound_read view faults told P (Ok rows) h sound = subst P (sym h.1) (sound h.0)
+sound_read view faults told P (Err fault) h sound = tt
+
+pub periodic_events_sound : (text : List ℕ) → input_faults periodic_event_input text ≡ [] → ArePeriodicEvents (records_of periodic_event_input text)
+periodic_events_sound text none = record {
+  numbered = numbered_rows periodic_event_input (λ event. event.id) [] text refl none;
+  few = few_rows periodic_event_input text (row_limit counted.PeriodicEvents 4000) [] refl none;
+  each = fitting_records periodic_event_input periodic_event_cells periodic_event_back text none;
+}
+
+module _ (count : ℕ) (text : List ℕ) (none : input_faults (periodic_activity_input (range_with_len 1 count)) text ≡ []) where
+  activity_sound : (some : List PeriodicActivity) (row : PeriodicActivity) → broken_whys (periodic_activity_rules (range_with_len 1 count)) some row ≡ [] → InColumns activities_p_columns (periodic_activity_cells row) → IsPeriodicActivity count row
+  activity_sound some row kept fits =
+      let ids = range_with_len 1 count in
+      let bounds : RowRule PeriodicActivity = bounds_in_order (λ at. at.lower) (λ at. at.upper) in
+      let ends : RowRule PeriodicActivity = known_ends ids (λ at. at.from) (λ at. at.to) in
+      let behind = rules_sound (own_place (λ at. at.id)) (ends ∷ bounds ∷ []) some row kept in
+      let known = rules_sound ends (bounds ∷ []) some row behind.1 in
+      let parts = or_parts (is_none_of ids row.from) (is_none_of ids row.to) known.0 in
+      record {
+        from = is_place count row.from parts.0;
+        to = is_place count row.to parts.1;
+        in_order = ltb-false row.upper row.lower (rules_sound bounds [] some row known.1).0;
+        fits = fits;
+      }
+
+  pub periodic_activities_sound : ArePeriodicActivities count (records_of (periodic_activity_input (range_with_len 1 count)) text)
+  periodic_activities_sound =
+      let input = periodic_activity_input (range_with_len 1 count) in
+      record {
+        numbered = numbered_rows input (λ row. row.id) _ text refl none;
+        few = few_rows input text (row_limit counted.PeriodicActivities 200000) [] refl none;
+        each = sound_records input periodic_activity_cells periodic_activity_back text none (IsPeriodicActivity count) activity_sound;
+      }
