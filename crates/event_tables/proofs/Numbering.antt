@@ -1,8 +1,8 @@
 -- Ids that are the places of rows.
-use Rattle.std.proofs.Common.{◌≡◌, ◌≢◌, ◌==◌, ℕ, zero, suc, ◌+◌, ◌<◌, ◌≤◌, arith, Bool, true, false, not, ◌||◌, nat_eq, nat_lt, eqb, ltb, List, [], ◌∷◌, ◌++◌, length, map, refl, ap, sym, ◌∙◌}
+use Rattle.std.proofs.Common.{◌≡◌, ◌≢◌, ◌==◌, ℕ, zero, suc, ◌+◌, ◌-◌, ◌<◌, ◌≤◌, arith, Bool, true, false, not, ◌||◌, nat_eq, nat_lt, eqb, ltb, List, [], ◌∷◌, ◌++◌, length, map, get_or, refl, ap, sym, ◌∙◌, Some}
 use Rattle.std.proofs.lemmas.Bool.{eqb-true, eqb-false, ltb-false, ne_eqb, le-ltb, false≢true, not-false}
 use Rattle.std.proofs.lemmas.List.{length_push, length-map}
-use Rattle.std.specs.List.{list_any, range_with_len}
+use Rattle.std.specs.List.{list_any, range_with_len, find}
 use Rattle.giv_files.specs.declared.file_id.FileId.{FileId}
 use Rattle.giv_files.specs.declared.refusal.Refusal.TheVariants as refusal
 use Rattle.giv_files.specs.Inputs.{Numbered, Input, RowRule, records, records_of, broken_whys, row_faults, numbered, input_faults}
@@ -67,3 +67,23 @@ numbered_rows input id rules text is none =
     let kept = (table_sound input table (parts_sound input text none).1).1 in
     let told : row_faults input.file (own_place id ∷ rules) [] (numbered input table) ≡ [] = ap (λ some. row_faults input.file some [] (numbered input table)) (sym is) ∙ kept in
     numbered_from input.file id (λ row. input.read row.cells) rules [] table told ∙ ap (range_with_len 1) (sym (length-map table (λ row. input.read row.cells)))
+
+-- ---- numbered things by their ids
+
+module _ {X : Type 0} (id : X → ℕ) where
+  find_from : (a k : ℕ) (rows : List X) (d : X) → map id rows ≡ range_with_len a (length rows) → a ≤ k → k < a + length rows → find (λ row. k == id row) rows ≡ Some (get_or rows (k - a) d)
+  find_from a k [] d is low high = absurd (omega arith)
+  find_from a k (row ∷ rows) d is low high =
+      let first : id row ≡ a = let e = is in cc in
+      let rest : map id rows ≡ range_with_len (a + 1) (length rows) = let e = is in cc in
+      elim (eqb k a) as (λ b. eqb k a ≡ b → find (λ at. k == id at) (row ∷ rows) ≡ Some (get_or (row ∷ rows) (k - a) d)) [
+        | true ↦ λ same. let here : k - a ≡ 0 = omega (arith, eqb-true k a same) in rw (first, same, here) refl
+        | false ↦ λ same.
+            let other : k ≢ a = eqb-false k a same in
+            let later : k - a ≡ suc (k - (a + 1)) = omega (arith, other) in
+            rw (first, same, later) (find_from (a + 1) k rows d rest (omega (arith, other)) (omega arith))
+      ] refl
+
+  -- the one of an id stands at the place of its id
+  pub find_numbered : (k : ℕ) (rows : List X) (d : X) → AreNumbered id rows → IsOneOf (length rows) k → find (λ row. k == id row) rows ≡ Some (get_or rows (k - 1) d)
+  find_numbered k rows d is one = find_from 1 k rows d is one.0 (omega (arith, one.1))

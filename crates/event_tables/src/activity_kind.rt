@@ -1,6 +1,6 @@
 // Kinds of activities, and the places of their words.
 ghost use Rattle.std.specs.Prelude.{◌≡◌};
-ghost use Rattle.event_tables.specs.Kinds.{activity_kind_at, activity_kind_place};
+ghost use Rattle.event_tables.specs.Kinds.{activity_kind_at, activity_kind_place, is_sync};
 
 /// What joins two events.
 #[derive(Clone, Copy, Debug, PartialEq, Eq)]
@@ -38,5 +38,12 @@ impl ActivityKind {
             ActivityKind::Change => 2,
             ActivityKind::Sync => 3,
         }
+    }
+
+    // Whether it joins two departures.
+    pub(crate) fn is_sync(self) -> bool
+        ensures { result ≡ is_sync self }
+    {
+        matches!(self, ActivityKind::Sync)
     }
 }

@@ -1,6 +1,6 @@
 // Kinds of events, and the places of their words.
-ghost use Rattle.std.specs.Prelude.{◌≡◌};
-ghost use Rattle.event_tables.specs.Kinds.{event_kind_at, event_kind_place};
+ghost use Rattle.std.specs.Prelude.{◌≡◌, if◌then◌else◌};
+ghost use Rattle.event_tables.specs.Kinds.{event_kind_at, event_kind_place, is_arrival};
 
 /// What happens at a stop.
 #[derive(Clone, Copy, Debug, PartialEq, Eq)]
@@ -27,6 +27,16 @@ impl EventKind {
         match self {
             EventKind::Departure => 0,
             EventKind::Arrival => 1,
+        }
+    }
+
+    // Where it stands among events of one time: arrivals come first.
+    pub(crate) fn forward_rank(self) -> u8
+        ensures { result ≡ (if is_arrival self then 0 else 1) }
+    {
+        match self {
+            EventKind::Arrival => 0,
+            EventKind::Departure => 1,
         }
     }
 }

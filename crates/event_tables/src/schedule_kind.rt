@@ -1,6 +1,6 @@
 // Kinds of rows of a schedule, and the places of their words.
 ghost use Rattle.std.specs.Prelude.{◌≡◌};
-ghost use Rattle.event_tables.specs.Kinds.{schedule_kind_at, schedule_kind_place};
+ghost use Rattle.event_tables.specs.Kinds.{schedule_kind_at, schedule_kind_place, is_empty};
 
 /// What a row of a vehicle schedule is.
 #[derive(Clone, Copy, Debug, PartialEq, Eq)]
@@ -30,5 +30,12 @@ impl ScheduleKind {
             ScheduleKind::Trip => 0,
             ScheduleKind::Empty => 1,
         }
+    }
+
+    // Whether it is an empty ride.
+    pub(crate) fn is_empty(self) -> bool
+        ensures { result ≡ is_empty self }
+    {
+        matches!(self, ScheduleKind::Empty)
     }
 }
