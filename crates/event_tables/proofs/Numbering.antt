@@ -1,7 +1,9 @@
 -- Ids that are the places of rows.
-use Rattle.std.proofs.Common.{◌≡◌, ◌≢◌, ◌==◌, ℕ, zero, suc, ◌+◌, ◌-◌, ◌<◌, ◌≤◌, arith, Bool, true, false, not, ◌||◌, nat_eq, nat_lt, eqb, ltb, List, [], ◌∷◌, ◌++◌, length, map, get_or, refl, ap, sym, ◌∙◌, Some}
-use Rattle.std.proofs.lemmas.Bool.{eqb-true, eqb-false, ltb-false, ne_eqb, le-ltb, false≢true, not-false}
+use Rattle.std.proofs.Common.{◌≡◌, ◌≢◌, ◌==◌, ℕ, zero, suc, ◌+◌, ◌-◌, ◌<◌, ◌≤◌, arith, Bool, true, false, not, ◌||◌, nat_eq, nat_lt, eqb, ltb, List, [], ◌∷◌, ◌++◌, length, map, get_or, refl, ap, sym, subst, ◌∙◌, Some}
+use Rattle.std.proofs.lemmas.Bool.{eqb-true, ltb-true, eqb-false, ltb-false, ne_eqb, eq-eqb, lt-ltb, le-ltb, false≢true, not-false}
 use Rattle.std.proofs.lemmas.List.{length_push, length-map}
+use Rattle.std.proofs.lemmas.List.Folds.{list_any_at}
+use Rattle.std.proofs.lemmas.List.FromFn.{length-range_with_len, get_or-range_with_len}
 use Rattle.std.specs.List.{list_any, range_with_len, find}
 use Rattle.giv_files.specs.declared.file_id.FileId.{FileId}
 use Rattle.giv_files.specs.declared.refusal.Refusal.TheVariants as refusal
@@ -21,14 +23,21 @@ among id a (suc n) h =
       | false ↦ λ is some. let later = among id (a + 1) n some in (omega (arith, later.0), omega (arith, later.1))
     ] refl h
 
+-- a test that one of so many numbers passes, or that none does
+pub any_in : (test : ℕ → Bool) (id a n : ℕ) → a ≤ id → id < a + n → test id ≡ true → list_any test (range_with_len a n) ≡ true
+any_in test id a n low high passes =
+    let within : id - a < n = omega arith in
+    let back : a + (id - a) ≡ id = omega arith in
+    list_any_at test (range_with_len a n) (id - a) 0 (subst (λ m. id - a < m) (sym (length-range_with_len a n)) within)
+    (ap test (get_or-range_with_len a n (id - a) 0 within ∙ back) ∙ passes)
+
+pub none_in : (test : ℕ → Bool) (a n : ℕ) → ((id : ℕ) → a ≤ id → id < a + n → test id ≡ false) → list_any test (range_with_len a n) ≡ false
+none_in test a zero fails = refl
+none_in test a (suc n) fails = rw (fails a (omega arith) (omega arith)) (none_in test (a + 1) n (λ id low high. fails id (omega arith) (omega arith)))
+
 -- each of them is there
 there : (id a n : ℕ) → a ≤ id → id < a + n → list_any (nat_eq id) (range_with_len a n) ≡ true
-there id a zero low high = absurd (omega arith)
-there id a (suc n) low high =
-    elim (eqb id a) as (λ b. eqb id a ≡ b → (b || list_any (nat_eq id) (range_with_len (a + 1) n)) ≡ true) [
-      | true ↦ λ is. refl
-      | false ↦ λ is. let other : id ≢ a = eqb-false id a is in there id (a + 1) n (omega (arith, other)) (omega arith)
-    ] refl
+there id a n low high = any_in (nat_eq id) id a n low high (eq-eqb id id refl)
 
 -- an id is none of so many, which count from 1, where it is 0 or above their count
 pub none_of_places : (count id : ℕ) → is_none_of (range_with_len 1 count) id ≡ (nat_eq id 0 || nat_lt count id)
@@ -47,10 +56,23 @@ none_of_places count id =
           ] refl
     ] refl
 
+-- of so many ids one is missing among fewer of them
+pub some_missing : (n count : ℕ) → list_any (is_none_of (range_with_len 1 n)) (range_with_len 1 count) ≡ nat_lt n count
+some_missing n count =
+    elim (ltb n count) as (λ b. ltb n count ≡ b → list_any (is_none_of (range_with_len 1 n)) (range_with_len 1 count) ≡ b) [
+      | true ↦ λ is.
+          let fewer : n < count = ltb-true n count is in
+          any_in (is_none_of (range_with_len 1 n)) (suc n) 1 count (omega arith) (omega (arith, fewer)) (none_of_places n (suc n) ∙ rw (ne_eqb (suc n) 0 (λ e. omega (arith, e)), lt-ltb n (suc n) (omega arith)) refl)
+      | false ↦ λ is.
+          let most : count ≤ n = ltb-false n count is in
+          none_in (is_none_of (range_with_len 1 n)) 1 count (λ id low high. none_of_places n id ∙ rw (ne_eqb id 0 (λ e. omega (arith, e, low)), le-ltb n id (omega (arith, high, most))) refl)
+    ] refl
+
 -- an id that is one of so many
 pub is_place : (count id : ℕ) → is_none_of (range_with_len 1 count) id ≡ false → IsOneOf count id
 is_place count id h =
     let is = among id 1 count (not-false (list_any (nat_eq id) (range_with_len 1 count)) h) in (is.0, omega (arith, is.1))
+
 -- rows whose first rule is that they are numbered, and that break none, are numbered
 numbered_from : {X : Type 0} (file : FileId) (id : X → ℕ) (of : TableRow → X) (rules : List (RowRule X)) (before : List X) (rows : List TableRow)
     → row_faults file (own_place id ∷ rules) before (map (λ row. record { number = row.number; row = of row }) rows) ≡ [] → map id (map of rows) ≡ range_with_len (length before + 1) (length rows)
@@ -61,6 +83,7 @@ numbered_from file id of rules before (row ∷ rows) none =
     let first : id (of row) ≡ length before + 1 = eqb-true _ _ (not-false _ kept.0) in
     let rest = numbered_from file id of rules (before ++ of row ∷ []) rows (back_none (map (λ why. refusal.BadRow file row.number why) (broken_whys (own_place id ∷ rules) before (of row))) _ none) in
     rw first (ap (λ ids. (length before + 1) ∷ ids) (rest ∙ ap (λ n. range_with_len (n + 1) (length rows)) (length_push before (of row))))
+
 pub numbered_rows : {X : Type 0} (input : Input X) (id : X → ℕ) (rules : List (RowRule X)) (text : List ℕ) → input.row_rules ≡ own_place id ∷ rules → input_faults input text ≡ [] → AreNumbered id (records_of input text)
 numbered_rows input id rules text is none =
     let table = table_of input.columns text in

@@ -55,6 +55,10 @@ expanded_activity_input events = record {
   table_rules = [];
 }
 
+-- the ids of expanded activities
+abbrev pub expanded_activity_ids : List ExpandedActivity → List ℕ
+expanded_activity_ids activities = map (λ activity. activity.id) activities
+
 -- what holds of expanded events: ids are places, there are not too many, and each fits its row
 pub record AreExpandedEvents (events : List ExpandedEvent) : Type 0 where
   pub numbered : AreNumbered (λ event. event.id) events

@@ -1,5 +1,5 @@
 -- The file of trips, and its rules.
-use Rattle.std.specs.Prelude.{ℕ, ℤ, pos, ◌≡◌, ◌≤◌, ◌<◌, ◌||◌, nat_le, nat_eq, Bool, true, not, List, [], ◌∷◌, length, map, All, Option, Some, None, ⊤}
+use Rattle.std.specs.Prelude.{ℕ, ℤ, pos, ◌≡◌, ◌≤◌, ◌<◌, ◌||◌, nat_le, nat_eq, Bool, false, not, List, [], ◌∷◌, length, map, All, Option, Some, None}
 use Rattle.std.specs.List.{list_any, IsDistinct}
 use Rattle.std.specs.Ordering.{int_eq}
 use Rattle.giv_files.specs.declared.counted.Counted.TheVariants as counted
@@ -19,21 +19,22 @@ is_stop stops id = list_any (int_eq (pos id)) stops
 abbrev pub own_start : RowRule Trip
 own_start = own_id (λ trip. pos trip.start.event)
 
--- the rule that both ends of a trip are stops
-abbrev pub known_stops : List ℤ → RowRule Trip
-known_stops stops = record {
-  is_broken = λ _ trip. not (is_stop stops trip.start.stop) || not (is_stop stops trip.end.stop);
-  why = why.UnknownStop;
-}
+-- one of the ends of a trip is no stop, where the stops are known
+abbrev pub lacks_stop : Option (List ℤ) → Trip → Bool
+lacks_stop None trip = false
+lacks_stop (Some stops) trip = not (is_stop stops trip.start.stop) || not (is_stop stops trip.end.stop)
+
+-- the rule that both ends of a trip are stops; it is left out where the stops are not known
+abbrev pub known_stops : Option (List ℤ) → RowRule Trip
+known_stops stops = record { is_broken = λ _ trip. lacks_stop stops trip; why = why.UnknownStop }
 
 -- the rule that a trip ends after it starts
 abbrev pub takes_time : RowRule Trip
 takes_time = record { is_broken = λ _ trip. nat_le trip.end.time trip.start.time; why = why.Backward }
 
--- the rules of a trip, where the ids of the stops are known and where they are not
+-- the rules of a trip, in their order
 abbrev pub trip_rules : Option (List ℤ) → List (RowRule Trip)
-trip_rules (Some stops) = own_start ∷ known_stops stops ∷ takes_time ∷ []
-trip_rules None = own_start ∷ takes_time ∷ []
+trip_rules stops = own_start ∷ known_stops stops ∷ takes_time ∷ []
 
 -- the file of trips over the ids of stops, where they are known
 abbrev pub trip_input : Option (List ℤ) → Input Trip
@@ -46,15 +47,9 @@ trip_input stops = record {
   table_rules = [];
 }
 
--- both ends of a trip are stops, where these are known
-abbrev pub EndsAreStops : Option (List ℤ) → Trip → Type 0
-EndsAreStops None trip = ⊤
-EndsAreStops (Some stops) trip =
-    (is_stop stops trip.start.stop ≡ true) × (is_stop stops trip.end.stop ≡ true)
-
 -- a trip between stops that takes time
 pub record IsTrip (stops : Option (List ℤ)) (trip : Trip) : Type 0 where
-  pub ends : EndsAreStops stops trip
+  pub ends : lacks_stop stops trip ≡ false
   pub takes_time : trip.start.time < trip.end.time
   pub fits : InColumns trips_columns (trip_cells trip)
 

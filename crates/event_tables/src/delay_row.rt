@@ -18,10 +18,7 @@ impl DelayRow {
     pub fn cells(&self) -> [i64; 2]
         ensures { result ≡ delay_cells self.now }
     {
-        [
-            i64::from(self.id),
-            i64::from(self.delay),
-        ]
+        [i64::from(self.id), i64::from(self.delay)]
     }
 }
 

@@ -24,7 +24,14 @@ pub fn expanded_events(alloc: Global, text: &[u8]) -> Result<Vec<ExpandedEvent>,
     ensures sound { IfOk result (λ events. AreExpandedEvents events.items) }
 {
     let tests = EventTests;
-    read_file(alloc, FileId::EventsX, text, &columns!(EventsX), Some(LIMIT), tests)
+    read_file(
+        alloc,
+        FileId::EventsX,
+        text,
+        &columns!(EventsX),
+        Some(LIMIT),
+        tests,
+    )
 }
 
 // The rules of expanded events.

@@ -66,8 +66,6 @@ impl RowTests<PeriodicActivity> for ActivityTests {
         if is_either_unknown(row.from, row.to, self.events) {
             return Ok(Some(RowWhy::UnknownEvent));
         }
-        Ok(row
-            .has_crossed_bounds()
-            .then_some(RowWhy::BoundsCrossed))
+        Ok(row.has_crossed_bounds().then_some(RowWhy::BoundsCrossed))
     }
 }

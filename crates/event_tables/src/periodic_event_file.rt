@@ -24,7 +24,14 @@ pub fn periodic_events(alloc: Global, text: &[u8]) -> Result<Vec<PeriodicEvent>,
     ensures sound { IfOk result (λ events. ArePeriodicEvents events.items) }
 {
     let tests = EventTests;
-    read_file(alloc, FileId::EventsP, text, &columns!(EventsP), Some(LIMIT), tests)
+    read_file(
+        alloc,
+        FileId::EventsP,
+        text,
+        &columns!(EventsP),
+        Some(LIMIT),
+        tests,
+    )
 }
 
 // The rules of periodic events.

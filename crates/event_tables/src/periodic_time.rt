@@ -1,5 +1,5 @@
 // Rows of a periodic timetable.
-ghost use Rattle.std.specs.Prelude.{◌≡◌};
+ghost use Rattle.std.specs.Prelude.{◌≡◌, nat_le};
 ghost use Rattle.event_tables.specs.Cells.{periodic_time, periodic_time_cells, AreSmall};
 
 use crate::cells::number;
@@ -18,10 +18,14 @@ impl PeriodicTime {
     pub fn cells(&self) -> [i64; 2]
         ensures { result ≡ periodic_time_cells self.now }
     {
-        [
-            i64::from(self.event),
-            i64::from(self.time),
-        ]
+        [i64::from(self.event), i64::from(self.time)]
+    }
+
+    /// Whether it is not below a period.
+    pub(crate) fn is_outside(&self, period: u32) -> bool
+        ensures { result ≡ nat_le period self.now.time }
+    {
+        period <= self.time
     }
 }
 

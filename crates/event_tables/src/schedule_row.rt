@@ -24,8 +24,17 @@ impl ScheduleRow {
     pub fn cells(&self) -> [i64; 13]
         ensures { result ≡ schedule_cells self.now }
     {
-        let [start_event, start_periodic, start_stop, start_time, end_event, end_periodic, end_stop, end_time, line] =
-            self.run.cells();
+        let [
+            start_event,
+            start_periodic,
+            start_stop,
+            start_time,
+            end_event,
+            end_periodic,
+            end_stop,
+            end_time,
+            line,
+        ] = self.run.cells();
         [
             i64::from(self.circulation),
             i64::from(self.vehicle),

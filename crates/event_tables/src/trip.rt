@@ -1,5 +1,5 @@
 // Rows of trips.
-ghost use Rattle.std.specs.Prelude.{◌≡◌, ◌+◌, ◌<◌, ◌≤◌, length, slice_index_or};
+ghost use Rattle.std.specs.Prelude.{◌≡◌, ◌+◌, ◌<◌, ◌≤◌, nat_le, length, slice_index_or};
 ghost use Rattle.giv_files.specs.Tables.{no_row};
 ghost use Rattle.event_tables.specs.Cells.{trip, trip_end, trip_cells, AreSmall};
 
@@ -58,6 +58,13 @@ impl Trip {
             i64::from(self.end.time),
             i64::from(self.line),
         ]
+    }
+
+    /// Whether it ends no later than it starts.
+    pub(crate) fn takes_no_time(&self) -> bool
+        ensures { result ≡ nat_le self.now.end.time self.now.start.time }
+    {
+        self.end.time <= self.start.time
     }
 }
 

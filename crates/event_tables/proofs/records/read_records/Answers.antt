@@ -28,7 +28,7 @@ loop-i-preserved g c =
     let row = of (get_or table i no_row).cells in
     let none : broken_whys rules before row ≡ [] = none_broken (broken_whys rules before row) (sym first ∙ c.in_default.is) in
     let longer : before ++ c.read-row.result ∷ [] ≡ records_by of (take (i + 1) table) =
-        ap (λ row. before ++ row ∷ []) c.read-row.ensures ∙ sym (more (λ (row : TableRow). row.number) (λ (row : TableRow). of row.cells) c.args.file rules table i no_row (omega arith)) in
+    ap (λ row. before ++ row ∷ []) c.read-row.ensures ∙ sym (more (λ (row : TableRow). row.number) (λ (row : TableRow). of row.cells) c.args.file rules table i no_row (omega arith)) in
     record {
       same = c.in_ok-why.ensures.rules ∙ c.loop-i.invariant.same;
       knows = subst (g.T.RowTests.Knows c.test.new.self) (ap (λ rows. rows ++ c.read-row.result ∷ []) are ∙ longer) (c.in_ok-why.ensures.knows c.in_default.is);
