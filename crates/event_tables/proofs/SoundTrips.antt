@@ -75,7 +75,7 @@ module _ (events : List ExpandedEvent) (text : List ℕ) (are : AreNumbered (λ 
       let parts = or_parts (is_none_of ids row.run.start.event) (is_none_of ids row.run.end.event) known.0 in
       let whole = (rules_sound (empty_forward events) [] some row known.1).0 in
       let none_of_three = λ (empty : is_empty_row row ≡ true).
-          or_parts (ends_early row || lacks_room events row) (goes_back events row) (behind_true _ _ empty whole) in
+      or_parts (ends_early row || lacks_room events row) (goes_back events row) (behind_true _ _ empty whole) in
       let early = λ (empty : is_empty_row row ≡ true). or_parts (ends_early row) (lacks_room events row) (none_of_three empty).0 in
       record {
         start = is_place count row.run.start.event (ap (λ some. is_none_of some row.run.start.event) (sym are) ∙ parts.0);

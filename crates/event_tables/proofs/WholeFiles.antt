@@ -72,7 +72,7 @@ few_places event count (row ∷ rows) are one =
       | true ↦ λ is.
           let over : count < length (row ∷ rows) = ltb-true count (length (row ∷ rows)) is in
           let at : event (get_or (row ∷ rows) count row) ≡ 1 + count =
-              sym (get_or-map event (row ∷ rows) count row 0 over) ∙ ap (λ ids. get_or ids count 0) are ∙ get_or-range_with_len 1 (length (row ∷ rows)) count 0 over in
+          sym (get_or-map event (row ∷ rows) count row 0 over) ∙ ap (λ ids. get_or ids count 0) are ∙ get_or-range_with_len 1 (length (row ∷ rows)) count 0 over in
           let high : event (get_or (row ∷ rows) count row) ≤ count = (one count row over).1 in
           absurd (omega (arith, at, high))
       | false ↦ λ is. ltb-false count (length (row ∷ rows)) is
