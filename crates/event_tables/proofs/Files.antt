@@ -27,14 +27,14 @@ pub limits_are : {X : Type 0} (limit : Option RowLimit) (rows : List X) → limi
 limits_are None rows = refl
 limits_are (Some limit) rows = append-nil (too_many_rows (Some limit) (length rows))
 
-module _ {X : Type 0} (limit : Option RowLimit) (rows : List X) (count : ℕ) where
+module _ {X : Type 0} (limit : Option RowLimit) (rows : List X) (count : ℕ) (told : Option Refusal) (is : count ≡ length rows) (first : told ≡ slice_get (too_many_rows limit count) 0) where
   -- so many rows are too many
-  pub limit_refuses : (why : Refusal) → count ≡ length rows → slice_get (too_many_rows limit count) 0 ≡ Some why → slice_get (limit_faults (limits_of limit) rows) 0 ≡ Some why
-  limit_refuses why is by = ap (λ all. slice_get all 0) (limits_are limit rows ∙ sym (ap (too_many_rows limit) is)) ∙ by
+  pub limit_refuses : (why : Refusal) → told ≡ Some why → slice_get (limit_faults (limits_of limit) rows) 0 ≡ Some why
+  limit_refuses why by = ap (λ all. slice_get all 0) (limits_are limit rows ∙ sym (ap (too_many_rows limit) is)) ∙ sym first ∙ by
 
   -- or they are few enough
-  pub few_rows : count ≡ length rows → slice_get (too_many_rows limit count) 0 ≡ None → limit_faults (limits_of limit) rows ≡ []
-  few_rows is none = limits_are limit rows ∙ sym (ap (too_many_rows limit) is) ∙ none_broken (too_many_rows limit count) none
+  pub few_rows : told ≡ None → limit_faults (limits_of limit) rows ≡ []
+  few_rows none = limits_are limit rows ∙ sym (ap (too_many_rows limit) is) ∙ none_broken (too_many_rows limit count) (sym first ∙ none)
 
 module _ {X : Type 0} (input : Input X) (text : List ℕ) (table : List TableRow) (cells : cell_faults input.file input.columns text ≡ []) (is : table ≡ table_of input.columns text) where
   -- a text whose table is refused by a limit

@@ -1,5 +1,8 @@
 // Kinds of activities, and the places of their words.
-ghost use Rattle.std.specs.Prelude.{◌≡◌};
+ghost use Rattle.std.specs.Prelude.{◌≡◌, pos};
+ghost use Rattle.giv_files.specs.declared.words.WordTable.TheVariants as tables;
+ghost use Rattle.giv_files.specs.Columns.{word};
+ghost use Rattle.giv_files.specs.Writing.{InColumn};
 ghost use Rattle.event_tables.specs.Kinds.{activity_kind_at, activity_kind_place, is_sync};
 
 /// What joins two events.
@@ -30,7 +33,8 @@ impl ActivityKind {
 
     /// The place of its word in the table of words, from 0.
     pub fn place(self) -> u8
-        ensures { result ≡ activity_kind_place self }
+        ensures place { result ≡ activity_kind_place self }
+        ensures word { InColumn (word tables.ActivityKind) (pos result) }
     {
         match self {
             ActivityKind::Drive => 0,

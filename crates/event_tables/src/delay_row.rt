@@ -16,7 +16,8 @@ pub struct DelayRow {
 impl DelayRow {
     /// The cells of its row.
     pub fn cells(&self) -> [i64; 2]
-        ensures { result ≡ delay_cells self.now }
+        ensures cells { result ≡ delay_cells self.now }
+        ensures back { delay_row result ≡ self.now }
     {
         [i64::from(self.id), i64::from(self.delay)]
     }

@@ -1,5 +1,8 @@
 // Directions, and the places of their words.
-ghost use Rattle.std.specs.Prelude.{◌≡◌};
+ghost use Rattle.std.specs.Prelude.{◌≡◌, pos};
+ghost use Rattle.giv_files.specs.declared.words.WordTable.TheVariants as tables;
+ghost use Rattle.giv_files.specs.Columns.{word};
+ghost use Rattle.giv_files.specs.Writing.{InColumn};
 ghost use Rattle.event_tables.specs.Kinds.{direction_at, direction_place};
 
 /// The way in which a line is driven.
@@ -22,7 +25,8 @@ impl Direction {
 
     /// The place of its word in the table of words, from 0.
     pub fn place(self) -> u8
-        ensures { result ≡ direction_place self }
+        ensures place { result ≡ direction_place self }
+        ensures word { InColumn (word tables.Direction) (pos result) }
     {
         match self {
             Direction::Forward => 0,

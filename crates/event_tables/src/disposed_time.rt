@@ -18,7 +18,8 @@ impl DisposedTime {
     /// The cells of its row, where the time fits a cell.
     pub fn cells(&self) -> [i64; 2]
         requires { self.now.time < 9223372036854775808 }
-        ensures { result ≡ disposed_time_cells self.now }
+        ensures cells { result ≡ disposed_time_cells self.now }
+        ensures back { disposed_time result ≡ self.now }
     {
         [i64::from(self.event), self.time as i64]
     }

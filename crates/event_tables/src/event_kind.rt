@@ -1,5 +1,8 @@
 // Kinds of events, and the places of their words.
-ghost use Rattle.std.specs.Prelude.{◌≡◌, if◌then◌else◌};
+ghost use Rattle.std.specs.Prelude.{◌≡◌, pos, if◌then◌else◌};
+ghost use Rattle.giv_files.specs.declared.words.WordTable.TheVariants as tables;
+ghost use Rattle.giv_files.specs.Columns.{word};
+ghost use Rattle.giv_files.specs.Writing.{InColumn};
 ghost use Rattle.event_tables.specs.Kinds.{event_kind_at, event_kind_place, is_arrival};
 
 /// What happens at a stop.
@@ -22,7 +25,8 @@ impl EventKind {
 
     /// The place of its word in the table of words, from 0.
     pub fn place(self) -> u8
-        ensures { result ≡ event_kind_place self }
+        ensures place { result ≡ event_kind_place self }
+        ensures word { InColumn (word tables.EventKind) (pos result) }
     {
         match self {
             EventKind::Departure => 0,

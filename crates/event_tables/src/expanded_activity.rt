@@ -6,6 +6,7 @@ use crate::activity_kind::ActivityKind;
 use crate::cells::number;
 use crate::record::Record;
 use giv_files::Table;
+use std::mem::size_of;
 
 /// An activity of a day: its id, the id of its periodic activity, its kind, the ids of its two events, and its bounds in minutes.
 #[derive(Clone, Copy, Debug, PartialEq, Eq)]
@@ -19,10 +20,14 @@ pub struct ExpandedActivity {
     pub upper: u32,
 }
 
+// A day has up to 500,000 of them.
+const _: () = prove!(size_of::<ExpandedActivity>() <= 48);
+
 impl ExpandedActivity {
     /// The cells of its row.
     pub fn cells(&self) -> [i64; 7]
-        ensures { result ≡ expanded_activity_cells self.now }
+        ensures cells { result ≡ expanded_activity_cells self.now }
+        ensures back { expanded_activity result ≡ self.now }
     {
         [
             i64::from(self.id),

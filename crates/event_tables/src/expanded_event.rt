@@ -20,7 +20,8 @@ pub struct ExpandedEvent {
 impl ExpandedEvent {
     /// The cells of its row.
     pub fn cells(&self) -> [i64; 5]
-        ensures { result ≡ expanded_event_cells self.now }
+        ensures cells { result ≡ expanded_event_cells self.now }
+        ensures back { expanded_event result ≡ self.now }
     {
         [
             i64::from(self.id),

@@ -15,6 +15,7 @@ mod expanded_activity_file;
 mod expanded_event;
 mod expanded_event_file;
 mod forward;
+mod headers;
 mod periodic_activity;
 mod periodic_activity_file;
 mod periodic_event;

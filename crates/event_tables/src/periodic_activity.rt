@@ -21,7 +21,8 @@ pub struct PeriodicActivity {
 impl PeriodicActivity {
     /// The cells of its row.
     pub fn cells(&self) -> [i64; 6]
-        ensures { result ≡ periodic_activity_cells self.now }
+        ensures cells { result ≡ periodic_activity_cells self.now }
+        ensures back { periodic_activity result ≡ self.now }
     {
         [
             i64::from(self.id),

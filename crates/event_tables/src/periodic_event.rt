@@ -22,7 +22,8 @@ pub struct PeriodicEvent {
 impl PeriodicEvent {
     /// The cells of its row.
     pub fn cells(&self) -> [i64; 6]
-        ensures { result ≡ periodic_event_cells self.now }
+        ensures cells { result ≡ periodic_event_cells self.now }
+        ensures back { periodic_event result ≡ self.now }
     {
         [
             i64::from(self.id),

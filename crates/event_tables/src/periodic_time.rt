@@ -16,7 +16,8 @@ pub struct PeriodicTime {
 impl PeriodicTime {
     /// The cells of its row.
     pub fn cells(&self) -> [i64; 2]
-        ensures { result ≡ periodic_time_cells self.now }
+        ensures cells { result ≡ periodic_time_cells self.now }
+        ensures back { periodic_time result ≡ self.now }
     {
         [i64::from(self.event), i64::from(self.time)]
     }

@@ -1,5 +1,8 @@
 // Kinds of rows of a schedule, and the places of their words.
-ghost use Rattle.std.specs.Prelude.{◌≡◌};
+ghost use Rattle.std.specs.Prelude.{◌≡◌, pos};
+ghost use Rattle.giv_files.specs.declared.words.WordTable.TheVariants as tables;
+ghost use Rattle.giv_files.specs.Columns.{word};
+ghost use Rattle.giv_files.specs.Writing.{InColumn};
 ghost use Rattle.event_tables.specs.Kinds.{schedule_kind_at, schedule_kind_place, is_empty};
 
 /// What a row of a vehicle schedule is.
@@ -24,7 +27,8 @@ impl ScheduleKind {
 
     /// The place of its word in the table of words, from 0.
     pub fn place(self) -> u8
-        ensures { result ≡ schedule_kind_place self }
+        ensures place { result ≡ schedule_kind_place self }
+        ensures word { InColumn (word tables.ScheduleKind) (pos result) }
     {
         match self {
             ScheduleKind::Trip => 0,

@@ -22,7 +22,8 @@ pub struct ScheduleRow {
 impl ScheduleRow {
     /// The cells of its row.
     pub fn cells(&self) -> [i64; 13]
-        ensures { result ≡ schedule_cells self.now }
+        ensures cells { result ≡ schedule_cells self.now }
+        ensures back { schedule_row result ≡ self.now }
     {
         let [
             start_event,

@@ -45,7 +45,8 @@ impl TripEnd {
 impl Trip {
     /// The cells of its row.
     pub fn cells(&self) -> [i64; 9]
-        ensures { result ≡ trip_cells self.now }
+        ensures cells { result ≡ trip_cells self.now }
+        ensures back { trip result ≡ self.now }
     {
         [
             i64::from(self.start.event),

@@ -21,7 +21,7 @@ returns-in-Some g c =
     let table = c.in_ok-table.table in
     let read = c.in_ok-table.ensures.table in
     limits_refuse input c.args.text.now table read.0 read.1 (stage.Refused c.in-Some.refusal)
-    (limit_refuses c.args.limit (records input table) c.len.result c.in-Some.refusal (c.len.ensures.len ∙ sym (length-map table (λ row. input.read row.cells))) (sym c.too_many.ensures ∙ c.in-Some.is))
+    (limit_refuses c.args.limit (records input table) c.len.result c.too_many.result (c.len.ensures.len ∙ sym (length-map table (λ row. input.read row.cells))) c.too_many.ensures c.in-Some.refusal c.in-Some.is)
 
 pub returns : goal.returns
 returns g c =
@@ -29,5 +29,5 @@ returns g c =
     let table = c.in_ok-table.table in
     let read = c.in_ok-table.ensures.table in
     rows_read input c.args.text.now table read.0 read.1 (λ rows. rows.items) refl
-    (few_rows c.args.limit (records input table) c.len.result (c.len.ensures.len ∙ sym (length-map table (λ row. input.read row.cells))) (sym c.too_many.ensures ∙ c.in_default.is))
+    (few_rows c.args.limit (records input table) c.len.result c.too_many.result (c.len.ensures.len ∙ sym (length-map table (λ row. input.read row.cells))) c.too_many.ensures c.in_default.is)
     c.read_records.result c.read_records.ensures

@@ -32,7 +32,7 @@ loop-i-preserved g c =
     record {
       same = c.in_ok-why.ensures.rules ∙ c.loop-i.invariant.same;
       knows = subst (g.T.RowTests.Knows c.test.new.self) (ap (λ rows. rows ++ c.read-row.result ∷ []) are ∙ longer) (c.in_ok-why.ensures.knows c.in_default.is);
-      rows = c.in_ok-push.ensures.items ∙ ap (λ rows. rows ++ c.read-row.result ∷ []) c.loop-i.invariant.rows ∙ longer;
+      rows = rw (c.in_ok-push.ensures.items, c.loop-i.invariant.rows) longer;
       sound = met (λ (row : TableRow). row.number) (λ (row : TableRow). of row.cells) c.args.file rules table i no_row (omega arith) none c.loop-i.invariant.sound;
     }
 
