@@ -1,12 +1,13 @@
 pub mod CellFacts
-mod CellsBack
+pub mod CellsBack
 mod Files
 mod Fitting
 pub mod Numbering
 mod OwnRows
 mod RowsTested
 mod ScheduleRows
-mod SoundFiles
-mod SoundTimes
-mod SoundTrips
+pub mod SoundFiles
+pub mod SoundTimes
+pub mod SoundTrips
+mod Tried
 mod WholeFiles

@@ -20,11 +20,11 @@ fn rows_are_events_in_forward_order(rt: HostRuntime) -> Result<(), Fail> {
     assert_eq!(rt; events.len(), 7);
     assert_eq!(rt; events.get(0), Some(&first));
     assert_eq!(rt; first.cells(), [1, 1, 0, 5, 1]);
-    // At 14 the arrivals 4 and 7 come first, and then the departures 5 and 6.
-    let order = [1, 2, 3, 4, 7, 5, 6];
+    // At 14 the arrivals 4 and 7 come first, and then the departures 5 and 6. These are the places from 0.
+    let order = [0, 1, 2, 3, 6, 4, 5];
     for pair in order.windows(2) {
         if let [before, after] = pair
-            && let (Some(event), Some(next)) = (events.get(before - 1), events.get(after - 1))
+            && let (Some(event), Some(next)) = (events.get(*before), events.get(*after))
         {
             assert!(rt; event.stands_before(next), "{before} before {after}");
             assert!(rt; !next.stands_before(event), "{after} not before {before}");
