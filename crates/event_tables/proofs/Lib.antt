@@ -11,3 +11,4 @@ pub mod SoundTimes
 pub mod SoundTrips
 mod Tried
 mod WholeFiles
+mod WrittenRecords

@@ -1,10 +1,11 @@
 -- The rows of a table by what a row stands for, and files that have no rule of the whole table.
-use Rattle.std.specs.Prelude.{ℕ, ℤ, nat_lt, if◌then◌else◌, List, [], ◌∷◌, map, Option, Some, None}
+use Rattle.std.specs.Prelude.{ℕ, ℤ, ◌≡◌, nat_lt, if◌then◌else◌, List, [], ◌∷◌, map, Option, Some, None}
 use Rattle.giv_files.specs.declared.column.ColumnKind.{ColumnKind}
 use Rattle.giv_files.specs.declared.file_id.FileId.{FileId}
 use Rattle.giv_files.specs.declared.refusal.Refusal.{Refusal}
 use Rattle.giv_files.specs.declared.refusal.Refusal.TheVariants as refusal
 use Rattle.giv_files.specs.Inputs.{Numbered, Input, Limit, RowRule, row_limit}
+use Rattle.giv_files.specs.Reading.{faults, table_of}
 use Rattle.giv_files.specs.Tables.{TableRow}
 use Rattle.event_tables.specs.declared.row_limit.RowLimit.{RowLimit}
 
@@ -15,6 +16,14 @@ records_by of rows = map (λ row. of row.cells) rows
 -- the same with the numbers of the rows
 abbrev pub numbered_by : {X : Type 0} → (List ℤ → X) → List TableRow → List (Numbered X)
 numbered_by of rows = map (λ row. record { number = row.number; row = of row.cells }) rows
+
+-- the rows of a table for some records; in a text each gets its number
+abbrev pub rows_by : {X : Type 0} → (X → List ℤ) → List X → List TableRow
+rows_by cells_of rows = map (λ row. record { number = 0; cells = cells_of row }) rows
+
+-- read as a table of these columns a text has no fault, and its rows stand for these records
+abbrev pub ReadsAs : {X : Type 0} → List ColumnKind → (List ℤ → X) → List X → List ℕ → Type 0
+ReadsAs columns of rows text = (faults columns text ≡ []) × (records_by of (table_of columns text) ≡ rows)
 
 -- the limits of a file that has at most one, of its rows
 abbrev pub limits_of : {X : Type 0} → Option RowLimit → List (Limit X)

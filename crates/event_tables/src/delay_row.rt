@@ -13,25 +13,21 @@ pub struct DelayRow {
     pub delay: u32,
 }
 
-impl DelayRow {
-    /// The cells of its row.
-    pub fn cells(&self) -> [i64; 2]
-        ensures cells { result ≡ delay_cells self.now }
-        ensures back { delay_row result ≡ self.now }
-    {
-        [i64::from(self.id), i64::from(self.delay)]
-    }
-}
-
 impl Record<2> for DelayRow {
     ghost Fits = { AreSmall };
 
     ghost of_cells = { delay_row };
+
+    ghost cells_of = { delay_cells };
 
     fn read(table: &Table<2>, index: usize) -> DelayRow {
         DelayRow {
             id: number(table, index, 0),
             delay: number(table, index, 1),
         }
+    }
+
+    fn cells(&self) -> [i64; 2] {
+        [i64::from(self.id), i64::from(self.delay)]
     }
 }

@@ -1,5 +1,5 @@
 // Rows of a disposition timetable.
-ghost use Rattle.std.specs.Prelude.{◌≡◌, ◌<◌};
+ghost use Rattle.std.specs.Prelude.{◌≡◌};
 ghost use Rattle.giv_files.specs.Columns.{disposed_columns};
 ghost use Rattle.giv_files.specs.Writing.{InColumns};
 ghost use Rattle.event_tables.specs.Cells.{disposed_time, disposed_time_cells};
@@ -14,26 +14,21 @@ pub struct DisposedTime {
     pub time: u64,
 }
 
-impl DisposedTime {
-    /// The cells of its row, where the time fits a cell.
-    pub fn cells(&self) -> [i64; 2]
-        requires { self.now.time < 9223372036854775808 }
-        ensures cells { result ≡ disposed_time_cells self.now }
-        ensures back { disposed_time result ≡ self.now }
-    {
-        [i64::from(self.event), self.time as i64]
-    }
-}
-
 impl Record<2> for DisposedTime {
     ghost Fits = { InColumns disposed_columns };
 
     ghost of_cells = { disposed_time };
+
+    ghost cells_of = { disposed_time_cells };
 
     fn read(table: &Table<2>, index: usize) -> DisposedTime {
         DisposedTime {
             event: table.cell(index, 0) as u32,
             time: table.cell(index, 1) as u64,
         }
+    }
+
+    fn cells(&self) -> [i64; 2] {
+        [i64::from(self.event), self.time as i64]
     }
 }

@@ -24,22 +24,6 @@ pub struct ExpandedActivity {
 const _: () = prove!(size_of::<ExpandedActivity>() <= 48);
 
 impl ExpandedActivity {
-    /// The cells of its row.
-    pub fn cells(&self) -> [i64; 7]
-        ensures cells { result ≡ expanded_activity_cells self.now }
-        ensures back { expanded_activity result ≡ self.now }
-    {
-        [
-            i64::from(self.id),
-            i64::from(self.periodic),
-            i64::from(self.kind.place()),
-            i64::from(self.from),
-            i64::from(self.to),
-            i64::from(self.lower),
-            i64::from(self.upper),
-        ]
-    }
-
     /// Whether the upper bound is below the lower one.
     pub(crate) fn has_crossed_bounds(&self) -> bool
         ensures { result ≡ nat_lt self.now.upper self.now.lower }
@@ -53,6 +37,8 @@ impl Record<7> for ExpandedActivity {
 
     ghost of_cells = { expanded_activity };
 
+    ghost cells_of = { expanded_activity_cells };
+
     fn read(table: &Table<7>, index: usize) -> ExpandedActivity {
         ExpandedActivity {
             id: number(table, index, 0),
@@ -63,5 +49,17 @@ impl Record<7> for ExpandedActivity {
             lower: number(table, index, 5),
             upper: number(table, index, 6),
         }
+    }
+
+    fn cells(&self) -> [i64; 7] {
+        [
+            i64::from(self.id),
+            i64::from(self.periodic),
+            i64::from(self.kind.place()),
+            i64::from(self.from),
+            i64::from(self.to),
+            i64::from(self.lower),
+            i64::from(self.upper),
+        ]
     }
 }

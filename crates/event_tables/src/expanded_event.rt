@@ -17,26 +17,12 @@ pub struct ExpandedEvent {
     pub stop: u32,
 }
 
-impl ExpandedEvent {
-    /// The cells of its row.
-    pub fn cells(&self) -> [i64; 5]
-        ensures cells { result ≡ expanded_event_cells self.now }
-        ensures back { expanded_event result ≡ self.now }
-    {
-        [
-            i64::from(self.id),
-            i64::from(self.periodic),
-            i64::from(self.kind.place()),
-            i64::from(self.time),
-            i64::from(self.stop),
-        ]
-    }
-}
-
 impl Record<5> for ExpandedEvent {
     ghost Fits = { AreSmall };
 
     ghost of_cells = { expanded_event };
+
+    ghost cells_of = { expanded_event_cells };
 
     fn read(table: &Table<5>, index: usize) -> ExpandedEvent {
         ExpandedEvent {
@@ -46,5 +32,15 @@ impl Record<5> for ExpandedEvent {
             time: number(table, index, 3),
             stop: number(table, index, 4),
         }
+    }
+
+    fn cells(&self) -> [i64; 5] {
+        [
+            i64::from(self.id),
+            i64::from(self.periodic),
+            i64::from(self.kind.place()),
+            i64::from(self.time),
+            i64::from(self.stop),
+        ]
     }
 }

@@ -1,4 +1,5 @@
 // Texts of expanded events and activities, delays and disposed times, and what refuses them.
+use crate::record::Record;
 use crate::test_texts::{DAY, bad_row};
 use crate::{
     ActivityKind, DelayRow, DisposedTime, EventKind, ExpandedActivity, ExpandedEvent,

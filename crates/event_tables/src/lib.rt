@@ -16,6 +16,7 @@ mod expanded_event;
 mod expanded_event_file;
 mod forward;
 mod headers;
+mod made_texts;
 mod periodic_activity;
 mod periodic_activity_file;
 mod periodic_event;
@@ -33,6 +34,7 @@ mod schedule_row;
 mod times;
 mod trip;
 mod trip_file;
+mod writing;
 
 pub use activity_kind::ActivityKind;
 pub use delay_file::{activity_delays, event_delays};
@@ -45,6 +47,10 @@ pub use expanded_activity::ExpandedActivity;
 pub use expanded_activity_file::expanded_activities;
 pub use expanded_event::ExpandedEvent;
 pub use expanded_event_file::expanded_events;
+pub use made_texts::{
+    disposed_times_text, expanded_activities_text, expanded_events_text, periodic_activities_text,
+    periodic_events_text, periodic_times_text, schedule_text, trips_text,
+};
 pub use periodic_activity::PeriodicActivity;
 pub use periodic_activity_file::periodic_activities;
 pub use periodic_event::PeriodicEvent;

@@ -19,21 +19,6 @@ pub struct PeriodicActivity {
 }
 
 impl PeriodicActivity {
-    /// The cells of its row.
-    pub fn cells(&self) -> [i64; 6]
-        ensures cells { result ≡ periodic_activity_cells self.now }
-        ensures back { periodic_activity result ≡ self.now }
-    {
-        [
-            i64::from(self.id),
-            i64::from(self.kind.place()),
-            i64::from(self.from),
-            i64::from(self.to),
-            i64::from(self.lower),
-            i64::from(self.upper),
-        ]
-    }
-
     /// Whether the upper bound is below the lower one.
     pub(crate) fn has_crossed_bounds(&self) -> bool
         ensures { result ≡ nat_lt self.now.upper self.now.lower }
@@ -47,6 +32,8 @@ impl Record<6> for PeriodicActivity {
 
     ghost of_cells = { periodic_activity };
 
+    ghost cells_of = { periodic_activity_cells };
+
     fn read(table: &Table<6>, index: usize) -> PeriodicActivity {
         PeriodicActivity {
             id: number(table, index, 0),
@@ -56,5 +43,16 @@ impl Record<6> for PeriodicActivity {
             lower: number(table, index, 4),
             upper: number(table, index, 5),
         }
+    }
+
+    fn cells(&self) -> [i64; 6] {
+        [
+            i64::from(self.id),
+            i64::from(self.kind.place()),
+            i64::from(self.from),
+            i64::from(self.to),
+            i64::from(self.lower),
+            i64::from(self.upper),
+        ]
     }
 }

@@ -19,27 +19,12 @@ pub struct PeriodicEvent {
     pub repetition: u32,
 }
 
-impl PeriodicEvent {
-    /// The cells of its row.
-    pub fn cells(&self) -> [i64; 6]
-        ensures cells { result ≡ periodic_event_cells self.now }
-        ensures back { periodic_event result ≡ self.now }
-    {
-        [
-            i64::from(self.id),
-            i64::from(self.kind.place()),
-            i64::from(self.stop),
-            i64::from(self.line),
-            i64::from(self.direction.place()),
-            i64::from(self.repetition),
-        ]
-    }
-}
-
 impl Record<6> for PeriodicEvent {
     ghost Fits = { AreSmall };
 
     ghost of_cells = { periodic_event };
+
+    ghost cells_of = { periodic_event_cells };
 
     fn read(table: &Table<6>, index: usize) -> PeriodicEvent {
         PeriodicEvent {
@@ -50,5 +35,16 @@ impl Record<6> for PeriodicEvent {
             direction: Direction::at(number(table, index, 4)),
             repetition: number(table, index, 5),
         }
+    }
+
+    fn cells(&self) -> [i64; 6] {
+        [
+            i64::from(self.id),
+            i64::from(self.kind.place()),
+            i64::from(self.stop),
+            i64::from(self.line),
+            i64::from(self.direction.place()),
+            i64::from(self.repetition),
+        ]
     }
 }

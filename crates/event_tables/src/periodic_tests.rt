@@ -1,4 +1,5 @@
 // Texts of periodic events, activities and times, and what refuses them.
+use crate::record::Record;
 use crate::test_texts::bad_row;
 use crate::{
     ActivityKind, Direction, EventKind, PeriodicActivity, PeriodicEvent, PeriodicTime,

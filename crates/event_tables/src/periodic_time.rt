@@ -14,14 +14,6 @@ pub struct PeriodicTime {
 }
 
 impl PeriodicTime {
-    /// The cells of its row.
-    pub fn cells(&self) -> [i64; 2]
-        ensures cells { result ≡ periodic_time_cells self.now }
-        ensures back { periodic_time result ≡ self.now }
-    {
-        [i64::from(self.event), i64::from(self.time)]
-    }
-
     /// Whether it is not below a period.
     pub(crate) fn is_outside(&self, period: u32) -> bool
         ensures { result ≡ nat_le period self.now.time }
@@ -35,10 +27,16 @@ impl Record<2> for PeriodicTime {
 
     ghost of_cells = { periodic_time };
 
+    ghost cells_of = { periodic_time_cells };
+
     fn read(table: &Table<2>, index: usize) -> PeriodicTime {
         PeriodicTime {
             event: number(table, index, 0),
             time: number(table, index, 1),
         }
+    }
+
+    fn cells(&self) -> [i64; 2] {
+        [i64::from(self.event), i64::from(self.time)]
     }
 }

@@ -10,9 +10,16 @@ pub(crate) trait Record<const C: usize>: Copy + Drop {
 
     ghost of_cells: { List ℤ → Self };
 
+    ghost cells_of: { Self → List ℤ };
+
     /// What the row at an index stands for.
     fn read(table: &Table<C>, index: usize) -> Self
         requires row_in { index < length table.now }
         requires fits { Fits (slice_index_or table.now index no_row).cells }
         ensures { result ≡ of_cells (slice_index_or table.now index no_row).cells };
+
+    /// The cells of its row.
+    fn cells(&self) -> [i64; C]
+        requires { Fits (cells_of self.now) }
+        ensures { result ≡ cells_of self.now };
 }

@@ -19,45 +19,12 @@ pub struct ScheduleRow {
     pub run: Trip,
 }
 
-impl ScheduleRow {
-    /// The cells of its row.
-    pub fn cells(&self) -> [i64; 13]
-        ensures cells { result ≡ schedule_cells self.now }
-        ensures back { schedule_row result ≡ self.now }
-    {
-        let [
-            start_event,
-            start_periodic,
-            start_stop,
-            start_time,
-            end_event,
-            end_periodic,
-            end_stop,
-            end_time,
-            line,
-        ] = self.run.cells();
-        [
-            i64::from(self.circulation),
-            i64::from(self.vehicle),
-            i64::from(self.number),
-            i64::from(self.kind.place()),
-            start_event,
-            start_periodic,
-            start_stop,
-            start_time,
-            end_event,
-            end_periodic,
-            end_stop,
-            end_time,
-            line,
-        ]
-    }
-}
-
 impl Record<13> for ScheduleRow {
     ghost Fits = { AreSmall };
 
     ghost of_cells = { schedule_row };
+
+    ghost cells_of = { schedule_cells };
 
     fn read(table: &Table<13>, index: usize) -> ScheduleRow {
         ScheduleRow {
@@ -71,5 +38,24 @@ impl Record<13> for ScheduleRow {
                 line: number(table, index, 12),
             },
         }
+    }
+
+    fn cells(&self) -> [i64; 13] {
+        let (start, end) = (self.run.start, self.run.end);
+        [
+            i64::from(self.circulation),
+            i64::from(self.vehicle),
+            i64::from(self.number),
+            i64::from(self.kind.place()),
+            i64::from(start.event),
+            i64::from(start.periodic),
+            i64::from(start.stop),
+            i64::from(start.time),
+            i64::from(end.event),
+            i64::from(end.periodic),
+            i64::from(end.stop),
+            i64::from(end.time),
+            i64::from(self.run.line),
+        ]
     }
 }

@@ -43,24 +43,6 @@ impl TripEnd {
 }
 
 impl Trip {
-    /// The cells of its row.
-    pub fn cells(&self) -> [i64; 9]
-        ensures cells { result ≡ trip_cells self.now }
-        ensures back { trip result ≡ self.now }
-    {
-        [
-            i64::from(self.start.event),
-            i64::from(self.start.periodic),
-            i64::from(self.start.stop),
-            i64::from(self.start.time),
-            i64::from(self.end.event),
-            i64::from(self.end.periodic),
-            i64::from(self.end.stop),
-            i64::from(self.end.time),
-            i64::from(self.line),
-        ]
-    }
-
     /// Whether it ends no later than it starts.
     pub(crate) fn takes_no_time(&self) -> bool
         ensures { result ≡ nat_le self.now.end.time self.now.start.time }
@@ -74,11 +56,27 @@ impl Record<9> for Trip {
 
     ghost of_cells = { trip };
 
+    ghost cells_of = { trip_cells };
+
     fn read(table: &Table<9>, index: usize) -> Trip {
         Trip {
             start: TripEnd::read(table, index, 0),
             end: TripEnd::read(table, index, 4),
             line: number(table, index, 8),
         }
+    }
+
+    fn cells(&self) -> [i64; 9] {
+        [
+            i64::from(self.start.event),
+            i64::from(self.start.periodic),
+            i64::from(self.start.stop),
+            i64::from(self.start.time),
+            i64::from(self.end.event),
+            i64::from(self.end.periodic),
+            i64::from(self.end.stop),
+            i64::from(self.end.time),
+            i64::from(self.line),
+        ]
     }
 }

@@ -1,4 +1,5 @@
 // Texts of trips and of vehicle schedules, and what refuses them.
+use crate::record::Record;
 use crate::test_texts::{DAY, bad_row};
 use crate::{ScheduleKind, ScheduleRow, Trip, TripEnd, expanded_events, schedule_rows, trips};
 use giv_files::{Counted, FileId, Refusal, RowWhy, StageFault};
