@@ -31,19 +31,19 @@ pub periodic_events_sound : (text : List ℕ) → input_faults periodic_event_in
 periodic_events_sound text none = record {
   numbered = numbered_rows periodic_event_input (λ event. event.id) [] text refl none;
   few = few_rows periodic_event_input text (row_limit counted.PeriodicEvents 4000) [] refl none;
-  each = fitting_records periodic_event_input periodic_event_cells periodic_event_back text none;
+  fit = fitting_records periodic_event_input text none periodic_event_cells periodic_event_back;
 }
 
 pub expanded_events_sound : (text : List ℕ) → input_faults expanded_event_input text ≡ [] → AreExpandedEvents (records_of expanded_event_input text)
 expanded_events_sound text none = record {
   numbered = numbered_rows expanded_event_input (λ event. event.id) [] text refl none;
   few = few_rows expanded_event_input text (row_limit counted.ExpandedEvents 100000) [] refl none;
-  each = fitting_records expanded_event_input expanded_event_cells expanded_event_back text none;
+  fit = fitting_records expanded_event_input text none expanded_event_cells expanded_event_back;
 }
 
 module _ (count : ℕ) (text : List ℕ) (none : input_faults (periodic_activity_input (range_with_len 1 count)) text ≡ []) where
-  activity_sound : (some : List PeriodicActivity) (row : PeriodicActivity) → broken_whys (periodic_activity_rules (range_with_len 1 count)) some row ≡ [] → InColumns activities_p_columns (periodic_activity_cells row) → IsPeriodicActivity count row
-  activity_sound some row kept fits =
+  activity_sound : (some : List PeriodicActivity) (row : PeriodicActivity) → broken_whys (periodic_activity_rules (range_with_len 1 count)) some row ≡ [] → IsPeriodicActivity count row
+  activity_sound some row kept =
       let ids = range_with_len 1 count in
       let bounds : RowRule PeriodicActivity = bounds_in_order (λ at. at.lower) (λ at. at.upper) in
       let ends : RowRule PeriodicActivity = known_ends ids (λ at. at.from) (λ at. at.to) in
@@ -54,7 +54,6 @@ module _ (count : ℕ) (text : List ℕ) (none : input_faults (periodic_activity
         from = is_place count row.from parts.0;
         to = is_place count row.to parts.1;
         in_order = ltb-false row.upper row.lower (rules_sound bounds [] some row known.1).0;
-        fits = fits;
       }
 
   pub periodic_activities_sound : ArePeriodicActivities count (records_of (periodic_activity_input (range_with_len 1 count)) text)
@@ -63,12 +62,13 @@ module _ (count : ℕ) (text : List ℕ) (none : input_faults (periodic_activity
       record {
         numbered = numbered_rows input (λ row. row.id) _ text refl none;
         few = few_rows input text (row_limit counted.PeriodicActivities 200000) [] refl none;
-        each = sound_records input periodic_activity_cells periodic_activity_back text none (IsPeriodicActivity count) activity_sound;
+        each = sound_records input text none (IsPeriodicActivity count) activity_sound;
+        fit = fitting_records input text none periodic_activity_cells periodic_activity_back;
       }
 
 module _ (events : List ExpandedEvent) (text : List ℕ) (are : AreNumbered (λ event. event.id) events) (none : input_faults (expanded_activity_input events) text ≡ []) where
-  expanded_sound : (some : List ExpandedActivity) (row : ExpandedActivity) → broken_whys (expanded_activity_rules events) some row ≡ [] → InColumns activities_x_columns (expanded_activity_cells row) → IsExpandedActivity events row
-  expanded_sound some row kept fits =
+  expanded_sound : (some : List ExpandedActivity) (row : ExpandedActivity) → broken_whys (expanded_activity_rules events) some row ≡ [] → IsExpandedActivity events row
+  expanded_sound some row kept =
       let ids = expanded_event_ids events in
       let count = length events in
       let ends : RowRule ExpandedActivity = known_ends ids (λ at. at.from) (λ at. at.to) in
@@ -85,7 +85,6 @@ module _ (events : List ExpandedEvent) (text : List ℕ) (are : AreNumbered (λ 
         in_order = ltb-false row.upper row.lower order.0;
         no_sync = joins.0;
         forward = not-false (goes_forward events row.from row.to) goes.0;
-        fits = fits;
       }
 
   pub expanded_activities_sound : AreExpandedActivities events (records_of (expanded_activity_input events) text)
@@ -94,5 +93,6 @@ module _ (events : List ExpandedEvent) (text : List ℕ) (are : AreNumbered (λ 
       record {
         numbered = numbered_rows input (λ row. row.id) _ text refl none;
         few = few_rows input text (row_limit counted.ExpandedActivities 500000) [] refl none;
-        each = sound_records input expanded_activity_cells expanded_activity_back text none (IsExpandedActivity events) expanded_sound;
+        each = sound_records input text none (IsExpandedActivity events) expanded_sound;
+        fit = fitting_records input text none expanded_activity_cells expanded_activity_back;
       }

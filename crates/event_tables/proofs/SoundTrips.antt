@@ -29,14 +29,13 @@ use Rattle.event_tables.proofs.OwnRows.{own_among, own_rows}
 -- ---- trips
 
 module _ (stops : Option (List ℤ)) (text : List ℕ) (none : input_faults (trip_input stops) text ≡ []) where
-  trip_sound : (some : List Trip) (row : Trip) → broken_whys (trip_rules stops) some row ≡ [] → InColumns trips_columns (trip_cells row) → IsTrip stops row
-  trip_sound some row kept fits =
+  trip_sound : (some : List Trip) (row : Trip) → broken_whys (trip_rules stops) some row ≡ [] → IsTrip stops row
+  trip_sound some row kept =
       let behind = rules_sound own_start (known_stops stops ∷ takes_time ∷ []) some row kept in
       let known = rules_sound (known_stops stops) (takes_time ∷ []) some row behind.1 in
       record {
         ends = known.0;
         takes_time = leb-false row.end.time row.start.time (rules_sound takes_time [] some row known.1).0;
-        fits = fits;
       }
 
   pub trips_sound : AreTrips stops (records_of (trip_input stops) text)
@@ -44,7 +43,8 @@ module _ (stops : Option (List ℤ)) (text : List ℕ) (none : input_faults (tri
     few = few_rows (trip_input stops) text (row_limit counted.Trips 2000) [] refl none;
     own = own_rows (λ trip. trip.start.event) (trip_input stops) text
         (λ before row kept. own_among (λ (trip : Trip). trip.start.event) before row (rules_sound own_start (known_stops stops ∷ takes_time ∷ []) before row kept).0) none;
-    each = sound_records (trip_input stops) trip_cells trip_back text none (IsTrip stops) trip_sound;
+    each = sound_records (trip_input stops) text none (IsTrip stops) trip_sound;
+    fit = fitting_records (trip_input stops) text none trip_cells trip_back;
   }
 
 -- ---- delays
@@ -58,16 +58,16 @@ module _ (file : FileId) (unknown : RowWhy) (count : ℕ) (text : List ℕ) (non
       record {
         own = own_rows (λ row. row.id) input text
             (λ before row kept. own_among (λ (at : DelayRow). at.id) before row (rules_sound own [] before row (rules_sound (is_there ids unknown) (own ∷ []) before row kept).1).0) none;
-        there = sound_records input delay_cells delay_row_back text none (λ row. IsOneOf count row.id)
-            (λ some row kept fits. is_place count row.id (rules_sound (is_there ids unknown) (own ∷ []) some row kept).0);
-        each = fitting_records input delay_cells delay_row_back text none;
+        there = sound_records input text none (λ row. IsOneOf count row.id)
+            (λ some row kept. is_place count row.id (rules_sound (is_there ids unknown) (own ∷ []) some row kept).0);
+        fit = fitting_records input text none delay_cells delay_row_back;
       }
 
 -- ---- the rows of a schedule
 
 module _ (events : List ExpandedEvent) (text : List ℕ) (are : AreNumbered (λ event. event.id) events) (none : input_faults (schedule_input events) text ≡ []) where
-  row_sound : (some : List ScheduleRow) (row : ScheduleRow) → broken_whys (schedule_rules events) some row ≡ [] → InColumns schedule_columns (schedule_cells row) → IsScheduleRow events row
-  row_sound some row kept fits =
+  row_sound : (some : List ScheduleRow) (row : ScheduleRow) → broken_whys (schedule_rules events) some row ≡ [] → IsScheduleRow events row
+  row_sound some row kept =
       let ids = expanded_event_ids events in
       let count = length events in
       let ends : RowRule ScheduleRow = known_ends ids (λ at. at.run.start.event) (λ at. at.run.end.event) in
@@ -83,7 +83,6 @@ module _ (events : List ExpandedEvent) (text : List ℕ) (are : AreNumbered (λ 
         in_time = λ empty. ltb-false row.run.end.time row.run.start.time (early empty).0;
         room = λ empty. (early empty).1;
         forward = λ empty. not-false (goes_forward events row.run.start.event row.run.end.event) (none_of_three empty).1;
-        fits = fits;
       }
     where
       behind_true : (a b : Bool) → a ≡ true → (a && b) ≡ false → b ≡ false
@@ -99,5 +98,6 @@ module _ (events : List ExpandedEvent) (text : List ℕ) (are : AreNumbered (λ 
       record {
         few_trips = first.0;
         few_empty = (limits_sound (kind_limit is_empty_row) [] rows first.1).0;
-        each = sound_records input schedule_cells schedule_row_back text none (IsScheduleRow events) row_sound;
+        each = sound_records input text none (IsScheduleRow events) row_sound;
+        fit = fitting_records input text none schedule_cells schedule_row_back;
       }

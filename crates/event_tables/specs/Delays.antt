@@ -42,4 +42,4 @@ activity_delay_input activities = delay_input file.ActivityDelays why.UnknownAct
 pub record AreDelays (count : ℕ) (rows : List DelayRow) : Type 0 where
   pub own : IsDistinct nat_eq (map (λ row. row.id) rows)
   pub there : All (λ row. IsOneOf count row.id) rows
-  pub each : All (λ row. InColumns delays_columns (delay_cells row)) rows
+  pub fit : All (λ row. InColumns delays_columns (delay_cells row)) rows

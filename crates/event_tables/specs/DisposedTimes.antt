@@ -28,4 +28,4 @@ disposed_time_input events = record {
 pub record AreDisposedTimes (events : ℕ) (times : List DisposedTime) : Type 0 where
   pub numbered : AreNumbered (λ row. row.event) times
   pub each_event : length times ≡ events
-  pub each : All (λ row. InColumns disposed_columns (disposed_time_cells row)) times
+  pub fit : All (λ row. InColumns disposed_columns (disposed_time_cells row)) times

@@ -63,7 +63,7 @@ expanded_activity_ids activities = map (λ activity. activity.id) activities
 pub record AreExpandedEvents (events : List ExpandedEvent) : Type 0 where
   pub numbered : AreNumbered (λ event. event.id) events
   pub few : length events ≤ 100000
-  pub each : All (λ event. InColumns events_x_columns (expanded_event_cells event)) events
+  pub fit : All (λ event. InColumns events_x_columns (expanded_event_cells event)) events
 
 -- an activity that goes forward between two events, with bounds in order, and is no sync
 pub record IsExpandedActivity (events : List ExpandedEvent) (activity : ExpandedActivity) : Type 0 where
@@ -72,10 +72,10 @@ pub record IsExpandedActivity (events : List ExpandedEvent) (activity : Expanded
   pub in_order : activity.lower ≤ activity.upper
   pub no_sync : is_sync activity.kind ≡ false
   pub forward : goes_forward events activity.from activity.to ≡ true
-  pub fits : InColumns activities_x_columns (expanded_activity_cells activity)
 
 -- what holds of expanded activities between events
 pub record AreExpandedActivities (events : List ExpandedEvent) (activities : List ExpandedActivity) : Type 0 where
   pub numbered : AreNumbered (λ activity. activity.id) activities
   pub few : length activities ≤ 500000
   pub each : All (IsExpandedActivity events) activities
+  pub fit : All (λ row. InColumns activities_x_columns (expanded_activity_cells row)) activities

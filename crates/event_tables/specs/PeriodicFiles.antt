@@ -69,24 +69,24 @@ periodic_time_input file period events = record {
 pub record ArePeriodicEvents (events : List PeriodicEvent) : Type 0 where
   pub numbered : AreNumbered (λ event. event.id) events
   pub few : length events ≤ 4000
-  pub each : All (λ event. InColumns events_p_columns (periodic_event_cells event)) events
+  pub fit : All (λ event. InColumns events_p_columns (periodic_event_cells event)) events
 
 -- an activity between two of so many events, with bounds in order
 pub record IsPeriodicActivity (events : ℕ) (activity : PeriodicActivity) : Type 0 where
   pub from : IsOneOf events activity.from
   pub to : IsOneOf events activity.to
   pub in_order : activity.lower ≤ activity.upper
-  pub fits : InColumns activities_p_columns (periodic_activity_cells activity)
 
 -- what holds of periodic activities between so many events
 pub record ArePeriodicActivities (events : ℕ) (activities : List PeriodicActivity) : Type 0 where
   pub numbered : AreNumbered (λ activity. activity.id) activities
   pub few : length activities ≤ 200000
   pub each : All (IsPeriodicActivity events) activities
+  pub fit : All (λ row. InColumns activities_p_columns (periodic_activity_cells row)) activities
 
 -- what holds of periodic times of so many events: one each, in their order, in the period
 pub record ArePeriodicTimes (period events : ℕ) (times : List PeriodicTime) : Type 0 where
   pub numbered : AreNumbered (λ row. row.event) times
   pub each_event : length times ≡ events
   pub in_period : All (λ row. row.time < period) times
-  pub each : All (λ row. InColumns times_p_columns (periodic_time_cells row)) times
+  pub fit : All (λ row. InColumns times_p_columns (periodic_time_cells row)) times

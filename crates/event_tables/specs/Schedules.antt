@@ -75,10 +75,10 @@ pub record IsScheduleRow (events : List ExpandedEvent) (row : ScheduleRow) : Typ
   pub in_time : is_empty_row row ≡ true → row.run.start.time ≤ row.run.end.time
   pub room : is_empty_row row ≡ true → lacks_room events row ≡ false
   pub forward : is_empty_row row ≡ true → goes_forward events row.run.start.event row.run.end.event ≡ true
-  pub fits : InColumns schedule_columns (schedule_cells row)
 
 -- what holds of the rows of a schedule
 pub record AreScheduleRows (events : List ExpandedEvent) (rows : List ScheduleRow) : Type 0 where
   pub few_trips : length (filter is_trip_row rows) ≤ 2000
   pub few_empty : length (filter is_empty_row rows) ≤ 2000
   pub each : All (IsScheduleRow events) rows
+  pub fit : All (λ row. InColumns schedule_columns (schedule_cells row)) rows

@@ -51,10 +51,10 @@ trip_input stops = record {
 pub record IsTrip (stops : Option (List ℤ)) (trip : Trip) : Type 0 where
   pub ends : lacks_stop stops trip ≡ false
   pub takes_time : trip.start.time < trip.end.time
-  pub fits : InColumns trips_columns (trip_cells trip)
 
 -- what holds of trips: there are not too many, and each has a start event of its own
 pub record AreTrips (stops : Option (List ℤ)) (trips : List Trip) : Type 0 where
   pub few : length trips ≤ 2000
   pub own : IsDistinct nat_eq (map (λ trip. trip.start.event) trips)
   pub each : All (IsTrip stops) trips
+  pub fit : All (λ trip. InColumns trips_columns (trip_cells trip)) trips

@@ -70,4 +70,6 @@ mod periodic_tests;
 #[cfg(test)]
 mod test_texts;
 #[cfg(test)]
+mod text_tests;
+#[cfg(test)]
 mod trip_tests;
