@@ -118,9 +118,6 @@ schedule_row_back cells h =
       cell_back schedule_columns cells 12 h (omega arith) refl,
     ) (sym (listed schedule_columns cells h))
 
-pub delay_row_same : (row : DelayRow) → delay_row (delay_cells row) ≡ row
-delay_row_same row = refl
-
 pub delay_row_back : (cells : List ℤ) → InColumns delays_columns cells → delay_cells (delay_row cells) ≡ cells
 delay_row_back cells h =
     rw (

@@ -15,7 +15,6 @@ mod expanded_activity_file;
 mod expanded_event;
 mod expanded_event_file;
 mod forward;
-mod headers;
 mod made_texts;
 mod periodic_activity;
 mod periodic_activity_file;

@@ -25,7 +25,12 @@ pub fn periodic_events_text(alloc: Global, events: &[PeriodicEvent]) -> Result<T
     ensures text { IfOk result (λ text. text ≡ table_text periodic_event_header events_p_columns (rows_by periodic_event_cells events.now)) }
     ensures back { IfOk result (ReadsAs events_p_columns periodic_event events.now) }
 {
-    write_records(alloc, PeriodicEvent::header(), &columns!(EventsP), events)
+    write_records(
+        alloc,
+        b"# event-id; type; stop-id; line-id; direction; repetition",
+        &columns!(EventsP),
+        events,
+    )
 }
 
 /// The text of the file of periodic activities. It is read back to them.
@@ -39,7 +44,7 @@ pub fn periodic_activities_text(
 {
     write_records(
         alloc,
-        PeriodicActivity::header(),
+        b"# activity-id; type; from-event; to-event; lower-bound; upper-bound",
         &columns!(ActivitiesP),
         activities,
     )
@@ -51,7 +56,7 @@ pub fn periodic_times_text(alloc: Global, times: &[PeriodicTime]) -> Result<Text
     ensures text { IfOk result (λ text. text ≡ table_text periodic_time_header times_p_columns (rows_by periodic_time_cells times.now)) }
     ensures back { IfOk result (ReadsAs times_p_columns periodic_time times.now) }
 {
-    write_records(alloc, PeriodicTime::header(), &columns!(TimesP), times)
+    write_records(alloc, b"# event-id; time", &columns!(TimesP), times)
 }
 
 /// The text of the file of the events of a day. It is read back to them.
@@ -60,7 +65,12 @@ pub fn expanded_events_text(alloc: Global, events: &[ExpandedEvent]) -> Result<T
     ensures text { IfOk result (λ text. text ≡ table_text expanded_event_header events_x_columns (rows_by expanded_event_cells events.now)) }
     ensures back { IfOk result (ReadsAs events_x_columns expanded_event events.now) }
 {
-    write_records(alloc, ExpandedEvent::header(), &columns!(EventsX), events)
+    write_records(
+        alloc,
+        b"# event-id; periodic-id; type; time; stop-id",
+        &columns!(EventsX),
+        events,
+    )
 }
 
 /// The text of the file of the activities of a day. It is read back to them.
@@ -74,7 +84,7 @@ pub fn expanded_activities_text(
 {
     write_records(
         alloc,
-        ExpandedActivity::header(),
+        b"# activity-id; periodic-id; type; from-event; to-event; lower-bound; upper-bound",
         &columns!(ActivitiesX),
         activities,
     )
@@ -86,7 +96,12 @@ pub fn trips_text(alloc: Global, trips: &[Trip]) -> Result<Text, NoMemory>
     ensures text { IfOk result (λ text. text ≡ table_text trip_header trips_columns (rows_by trip_cells trips.now)) }
     ensures back { IfOk result (ReadsAs trips_columns trip trips.now) }
 {
-    write_records(alloc, Trip::header(), &columns!(Trips), trips)
+    write_records(
+        alloc,
+        b"# start-id; periodic-start-id; start-stop; start-time; end-id; periodic-end-id; end-stop; end-time; line",
+        &columns!(Trips),
+        trips,
+    )
 }
 
 /// The text of the file of the rows of a vehicle schedule. It is read back to them.
@@ -95,7 +110,12 @@ pub fn schedule_text(alloc: Global, rows: &[ScheduleRow]) -> Result<Text, NoMemo
     ensures text { IfOk result (λ text. text ≡ table_text schedule_header schedule_columns (rows_by schedule_cells rows.now)) }
     ensures back { IfOk result (ReadsAs schedule_columns schedule_row rows.now) }
 {
-    write_records(alloc, ScheduleRow::header(), &columns!(Schedule), rows)
+    write_records(
+        alloc,
+        b"# circulation; vehicle; number; type; start-id; periodic-start-id; start-stop; start-time; end-id; periodic-end-id; end-stop; end-time; line",
+        &columns!(Schedule),
+        rows,
+    )
 }
 
 /// The text of the file of disposed times. It is read back to them.
@@ -104,5 +124,5 @@ pub fn disposed_times_text(alloc: Global, times: &[DisposedTime]) -> Result<Text
     ensures text { IfOk result (λ text. text ≡ table_text disposed_time_header disposed_columns (rows_by disposed_time_cells times.now)) }
     ensures back { IfOk result (ReadsAs disposed_columns disposed_time times.now) }
 {
-    write_records(alloc, DisposedTime::header(), &columns!(Disposed), times)
+    write_records(alloc, b"# event-id; time", &columns!(Disposed), times)
 }

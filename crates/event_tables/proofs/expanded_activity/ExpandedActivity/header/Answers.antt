@@ -1,7 +1,0 @@
-use Rattle.std.proofs.Common.{refl}
-use Rattle.giv_files.proofs.Headers.{plain_header}
-use Rattle.event_tables.specs.Headers.{expanded_activity_header}
-use Rattle.event_tables.proofs.expanded_activity.ExpandedActivity.header.Goals as goal
-
-pub returns-clause-header : goal.returns-clause-header
-returns-clause-header c = (refl, plain_header expanded_activity_header refl)
