@@ -1,0 +1,14 @@
+pub mod CellFacts
+pub mod CellsBack
+mod Files
+mod Fitting
+pub mod Numbering
+mod OwnRows
+mod RowsTested
+mod ScheduleRows
+pub mod SoundFiles
+pub mod SoundTimes
+pub mod SoundTrips
+mod Tried
+mod WholeFiles
+mod WrittenRecords

@@ -1,0 +1,98 @@
+-- What holds of the records of each file, where its text has no fault.
+use Rattle.std.proofs.Common.{◌≡◌, ℕ, List, [], ◌∷◌, ◌||◌, false, length, refl, ap, sym, subst, ◌∙◌, Result, Ok, Err, IfOk}
+use Rattle.std.specs.List.{range_with_len}
+use Rattle.std.proofs.lemmas.Bool.{or_parts, ltb-false, not-false}
+use Rattle.giv_files.specs.declared.counted.Counted.TheVariants as counted
+use Rattle.giv_files.specs.declared.refusal.Refusal.{Refusal}
+use Rattle.giv_files.specs.declared.refusal.StageFault.{StageFault}
+use Rattle.giv_files.specs.Inputs.{UnlessFault, RowRule, row_limit, input_faults, records_of, broken_whys}
+use Rattle.giv_files.specs.Columns.{activities_p_columns, activities_x_columns}
+use Rattle.giv_files.specs.Writing.{InColumns}
+use Rattle.giv_files.proofs.Inputs.{few_rows, rules_sound}
+use Rattle.event_tables.specs.declared.periodic_activity.PeriodicActivity.{PeriodicActivity}
+use Rattle.event_tables.specs.declared.expanded_activity.ExpandedActivity.{ExpandedActivity}
+use Rattle.event_tables.specs.declared.expanded_event.ExpandedEvent.{ExpandedEvent}
+use Rattle.event_tables.specs.ExpandedFiles.{expanded_event_input, expanded_activity_input, expanded_activity_rules, expanded_event_ids, no_sync, forward, AreExpandedEvents, AreExpandedActivities, IsExpandedActivity}
+use Rattle.event_tables.specs.ForwardOrder.{goes_forward}
+use Rattle.event_tables.specs.PeriodicFiles.{periodic_event_input, periodic_activity_input, periodic_activity_rules, ArePeriodicEvents, ArePeriodicActivities, IsPeriodicActivity}
+use Rattle.event_tables.specs.Cells.{periodic_event_cells, periodic_activity_cells, expanded_event_cells, expanded_activity_cells}
+use Rattle.event_tables.specs.Places.{own_place, known_ends, bounds_in_order, is_none_of, AreNumbered}
+use Rattle.event_tables.proofs.CellsBack.{periodic_event_back, periodic_activity_back, expanded_event_back, expanded_activity_back}
+use Rattle.event_tables.proofs.Fitting.{fitting_records, sound_records}
+use Rattle.event_tables.proofs.Numbering.{numbered_rows, is_place}
+
+-- what holds of the records of a text without a fault holds of what was read
+pub sound_read : {X A : Type 0} (view : A → List X) (faults : List Refusal) (told : List X) (P : List X → Type 0) (read : Result A StageFault)
+    → UnlessFault faults (λ rows. view rows ≡ told) read → (faults ≡ [] → P told) → IfOk read (λ rows. P (view rows))
+sound_read view faults told P (Ok rows) h sound = subst P (sym h.1) (sound h.0)
+sound_read view faults told P (Err fault) h sound = tt
+
+pub periodic_events_sound : (text : List ℕ) → input_faults periodic_event_input text ≡ [] → ArePeriodicEvents (records_of periodic_event_input text)
+periodic_events_sound text none = record {
+  numbered = numbered_rows periodic_event_input (λ event. event.id) [] text refl none;
+  few = few_rows periodic_event_input text (row_limit counted.PeriodicEvents 4000) [] refl none;
+  fit = fitting_records periodic_event_input text none periodic_event_cells periodic_event_back;
+}
+
+pub expanded_events_sound : (text : List ℕ) → input_faults expanded_event_input text ≡ [] → AreExpandedEvents (records_of expanded_event_input text)
+expanded_events_sound text none = record {
+  numbered = numbered_rows expanded_event_input (λ event. event.id) [] text refl none;
+  few = few_rows expanded_event_input text (row_limit counted.ExpandedEvents 100000) [] refl none;
+  fit = fitting_records expanded_event_input text none expanded_event_cells expanded_event_back;
+}
+
+module _ (count : ℕ) (text : List ℕ) (none : input_faults (periodic_activity_input (range_with_len 1 count)) text ≡ []) where
+  activity_sound : (some : List PeriodicActivity) (row : PeriodicActivity) → broken_whys (periodic_activity_rules (range_with_len 1 count)) some row ≡ [] → IsPeriodicActivity count row
+  activity_sound some row kept =
+      let ids = range_with_len 1 count in
+      let bounds : RowRule PeriodicActivity = bounds_in_order (λ at. at.lower) (λ at. at.upper) in
+      let ends : RowRule PeriodicActivity = known_ends ids (λ at. at.from) (λ at. at.to) in
+      let behind = rules_sound (own_place (λ at. at.id)) (ends ∷ bounds ∷ []) some row kept in
+      let known = rules_sound ends (bounds ∷ []) some row behind.1 in
+      let parts = or_parts (is_none_of ids row.from) (is_none_of ids row.to) known.0 in
+      record {
+        from = is_place count row.from parts.0;
+        to = is_place count row.to parts.1;
+        in_order = ltb-false row.upper row.lower (rules_sound bounds [] some row known.1).0;
+      }
+
+  pub periodic_activities_sound : ArePeriodicActivities count (records_of (periodic_activity_input (range_with_len 1 count)) text)
+  periodic_activities_sound =
+      let input = periodic_activity_input (range_with_len 1 count) in
+      record {
+        numbered = numbered_rows input (λ row. row.id) _ text refl none;
+        few = few_rows input text (row_limit counted.PeriodicActivities 200000) [] refl none;
+        each = sound_records input text none (IsPeriodicActivity count) activity_sound;
+        fit = fitting_records input text none periodic_activity_cells periodic_activity_back;
+      }
+
+module _ (events : List ExpandedEvent) (text : List ℕ) (are : AreNumbered (λ event. event.id) events) (none : input_faults (expanded_activity_input events) text ≡ []) where
+  expanded_sound : (some : List ExpandedActivity) (row : ExpandedActivity) → broken_whys (expanded_activity_rules events) some row ≡ [] → IsExpandedActivity events row
+  expanded_sound some row kept =
+      let ids = expanded_event_ids events in
+      let count = length events in
+      let ends : RowRule ExpandedActivity = known_ends ids (λ at. at.from) (λ at. at.to) in
+      let bounds : RowRule ExpandedActivity = bounds_in_order (λ at. at.lower) (λ at. at.upper) in
+      let behind = rules_sound (own_place (λ at. at.id)) (ends ∷ bounds ∷ no_sync ∷ forward events ∷ []) some row kept in
+      let known = rules_sound ends (bounds ∷ no_sync ∷ forward events ∷ []) some row behind.1 in
+      let order = rules_sound bounds (no_sync ∷ forward events ∷ []) some row known.1 in
+      let joins = rules_sound no_sync (forward events ∷ []) some row order.1 in
+      let goes = rules_sound (forward events) [] some row joins.1 in
+      let parts = or_parts (is_none_of ids row.from) (is_none_of ids row.to) known.0 in
+      record {
+        from = is_place count row.from (ap (λ ids. is_none_of ids row.from) (sym are) ∙ parts.0);
+        to = is_place count row.to (ap (λ ids. is_none_of ids row.to) (sym are) ∙ parts.1);
+        in_order = ltb-false row.upper row.lower order.0;
+        no_sync = joins.0;
+        forward = not-false (goes_forward events row.from row.to) goes.0;
+      }
+
+  pub expanded_activities_sound : AreExpandedActivities events (records_of (expanded_activity_input events) text)
+  expanded_activities_sound =
+      let input = expanded_activity_input events in
+      record {
+        numbered = numbered_rows input (λ row. row.id) _ text refl none;
+        few = few_rows input text (row_limit counted.ExpandedActivities 500000) [] refl none;
+        each = sound_records input text none (IsExpandedActivity events) expanded_sound;
+        fit = fitting_records input text none expanded_activity_cells expanded_activity_back;
+      }

@@ -1,0 +1,10 @@
+use Rattle.std.proofs.Common.{refl, arith}
+use Rattle.giv_files.specs.Columns.{times_p_columns}
+use Rattle.giv_files.proofs.Headers.{plain_header}
+use Rattle.event_tables.specs.Headers.{periodic_time_header}
+use Rattle.event_tables.proofs.CellFacts.{small_cells, columns_written}
+use Rattle.event_tables.proofs.CellsBack.{periodic_time_same}
+use Rattle.event_tables.proofs.made_texts.periodic_times_text.Goals as goal
+
+pub write_records-requires : goal.write_records-requires
+write_records-requires c = (omega arith, (omega arith, (omega arith, (columns_written times_p_columns refl, ((refl, plain_header periodic_time_header refl), (λ cells h. small_cells times_p_columns cells refl h, (c.requires, periodic_time_same)))))))

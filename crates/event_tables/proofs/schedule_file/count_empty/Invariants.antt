@@ -1,0 +1,12 @@
+-- The empty rides among the rows so far.
+use Rattle.std.proofs.Common.{◌≡◌, ◌≤◌, filter, length, take}
+use Rattle.event_tables.specs.Cells.{schedule_row}
+use Rattle.event_tables.specs.RowsOfTables.{records_by}
+use Rattle.event_tables.specs.Schedules.{is_empty_row}
+use Rattle.event_tables.proofs.schedule_file.count_empty.Given as goal
+
+abbrev pub invariant-loop-i : goal.invariant-loop-i
+invariant-loop-i l = record {
+  counted : l.count ≡ length (filter is_empty_row (records_by schedule_row (take l.i l.table)));
+  few : l.count ≤ l.i;
+}

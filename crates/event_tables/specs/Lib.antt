@@ -1,0 +1,13 @@
+pub mod Cells
+pub mod Delays
+pub mod DisposedTimes
+pub mod ExpandedFiles
+pub mod ForwardOrder
+pub mod Headers
+pub mod Kinds
+pub mod PeriodicFiles
+pub mod PeriodicRuns
+pub mod Places
+pub mod RowsOfTables
+pub mod Schedules
+pub mod Trips

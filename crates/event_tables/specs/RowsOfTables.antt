@@ -1,0 +1,49 @@
+-- The rows of a table by what a row stands for, and files that have no rule of the whole table.
+use Rattle.std.specs.Prelude.{ℕ, ℤ, ◌≡◌, nat_lt, if◌then◌else◌, List, [], ◌∷◌, map, Option, Some, None}
+use Rattle.giv_files.specs.declared.column.ColumnKind.{ColumnKind}
+use Rattle.giv_files.specs.declared.file_id.FileId.{FileId}
+use Rattle.giv_files.specs.declared.refusal.Refusal.{Refusal}
+use Rattle.giv_files.specs.declared.refusal.Refusal.TheVariants as refusal
+use Rattle.giv_files.specs.Inputs.{Numbered, Input, Limit, RowRule, row_limit}
+use Rattle.giv_files.specs.Reading.{faults, table_of}
+use Rattle.giv_files.specs.Tables.{TableRow}
+use Rattle.event_tables.specs.declared.row_limit.RowLimit.{RowLimit}
+
+-- what the rows of a table stand for
+abbrev pub records_by : {X : Type 0} → (List ℤ → X) → List TableRow → List X
+records_by of rows = map (λ row. of row.cells) rows
+
+-- the same with the numbers of the rows
+abbrev pub numbered_by : {X : Type 0} → (List ℤ → X) → List TableRow → List (Numbered X)
+numbered_by of rows = map (λ row. record { number = row.number; row = of row.cells }) rows
+
+-- the rows of a table for some records; in a text each gets its number
+abbrev pub rows_by : {X : Type 0} → (X → List ℤ) → List X → List TableRow
+rows_by cells_of rows = map (λ row. record { number = 0; cells = cells_of row }) rows
+
+-- read as a table of these columns a text has no fault, and its rows stand for these records
+abbrev pub ReadsAs : {X : Type 0} → List ColumnKind → (List ℤ → X) → List X → List ℕ → Type 0
+ReadsAs columns of rows text = (faults columns text ≡ []) × (records_by of (table_of columns text) ≡ rows)
+
+-- the limits of a file that has at most one, of its rows
+abbrev pub limits_of : {X : Type 0} → Option RowLimit → List (Limit X)
+limits_of None = []
+limits_of (Some limit) = row_limit limit.what limit.most ∷ []
+
+-- what is refused of so many rows
+abbrev pub too_many_rows : Option RowLimit → ℕ → List Refusal
+too_many_rows None count = []
+too_many_rows (Some limit) count =
+    if nat_lt limit.most count then refusal.TooMany limit.what count ∷ [] else []
+
+-- a file whose rows have rules, and that has no rule as a whole
+abbrev pub plain_input : {X : Type 0} → FileId → List ColumnKind → (List ℤ → X) → Option RowLimit
+    → List (RowRule X) → Input X
+plain_input file columns of limit rules = record {
+  file = file;
+  columns = columns;
+  read = of;
+  limits = limits_of limit;
+  row_rules = rules;
+  table_rules = [];
+}

@@ -1,0 +1,54 @@
+// Reading expanded events.
+ghost use Rattle.std.specs.Prelude.{◌≡◌, [], ◌∷◌, ⊤, IfOk};
+ghost use Rattle.giv_files.specs.Inputs.{input_faults, records_of, UnlessFault};
+ghost use Rattle.event_tables.specs.ExpandedFiles.{expanded_event_input, AreExpandedEvents};
+ghost use Rattle.event_tables.specs.Places.{own_place};
+
+use crate::expanded_event::ExpandedEvent;
+use crate::place::is_next_place;
+use crate::records::read_file;
+use crate::row_limit::RowLimit;
+use crate::row_tests::RowTests;
+use giv_files::{Counted, FileId, RowWhy, StageFault, columns};
+use plan_num::NoMemory;
+use std::alloc::Global;
+
+const LIMIT: RowLimit = RowLimit {
+    what: Counted::ExpandedEvents,
+    most: 100_000,
+};
+
+/// The expanded events of a text, or its first fault.
+pub fn expanded_events(alloc: Global, text: &[u8]) -> Result<Vec<ExpandedEvent>, StageFault>
+    ensures read { UnlessFault (input_faults expanded_event_input text.now) (λ events. events.items ≡ records_of expanded_event_input text.now) result }
+    ensures sound { IfOk result (λ events. AreExpandedEvents events.items) }
+{
+    let tests = EventTests;
+    read_file(
+        alloc,
+        FileId::EventsX,
+        text,
+        &columns!(EventsX),
+        Some(LIMIT),
+        tests,
+    )
+}
+
+// The rules of expanded events.
+#[derive(Drop)]
+struct EventTests;
+
+impl RowTests<ExpandedEvent> for EventTests {
+    ghost rules = { λ _. own_place (λ event. event.id) ∷ [] };
+
+    ghost Knows = { λ _ _. ⊤ };
+
+    fn test(
+        &mut self,
+        before: &[ExpandedEvent],
+        row: &ExpandedEvent,
+    ) -> Result<Option<RowWhy>, NoMemory> {
+        let is_gap = !is_next_place(row.id, before.len());
+        Ok(is_gap.then_some(RowWhy::OrderGap))
+    }
+}

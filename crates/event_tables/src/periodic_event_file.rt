@@ -1,0 +1,54 @@
+// Reading periodic events.
+ghost use Rattle.std.specs.Prelude.{◌≡◌, [], ◌∷◌, ⊤, IfOk};
+ghost use Rattle.giv_files.specs.Inputs.{input_faults, records_of, UnlessFault};
+ghost use Rattle.event_tables.specs.PeriodicFiles.{periodic_event_input, ArePeriodicEvents};
+ghost use Rattle.event_tables.specs.Places.{own_place};
+
+use crate::periodic_event::PeriodicEvent;
+use crate::place::is_next_place;
+use crate::records::read_file;
+use crate::row_limit::RowLimit;
+use crate::row_tests::RowTests;
+use giv_files::{Counted, FileId, RowWhy, StageFault, columns};
+use plan_num::NoMemory;
+use std::alloc::Global;
+
+const LIMIT: RowLimit = RowLimit {
+    what: Counted::PeriodicEvents,
+    most: 4_000,
+};
+
+/// The periodic events of a text, or its first fault.
+pub fn periodic_events(alloc: Global, text: &[u8]) -> Result<Vec<PeriodicEvent>, StageFault>
+    ensures read { UnlessFault (input_faults periodic_event_input text.now) (λ events. events.items ≡ records_of periodic_event_input text.now) result }
+    ensures sound { IfOk result (λ events. ArePeriodicEvents events.items) }
+{
+    let tests = EventTests;
+    read_file(
+        alloc,
+        FileId::EventsP,
+        text,
+        &columns!(EventsP),
+        Some(LIMIT),
+        tests,
+    )
+}
+
+// The rules of periodic events.
+#[derive(Drop)]
+struct EventTests;
+
+impl RowTests<PeriodicEvent> for EventTests {
+    ghost rules = { λ _. own_place (λ event. event.id) ∷ [] };
+
+    ghost Knows = { λ _ _. ⊤ };
+
+    fn test(
+        &mut self,
+        before: &[PeriodicEvent],
+        row: &PeriodicEvent,
+    ) -> Result<Option<RowWhy>, NoMemory> {
+        let is_gap = !is_next_place(row.id, before.len());
+        Ok(is_gap.then_some(RowWhy::OrderGap))
+    }
+}

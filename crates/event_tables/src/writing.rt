@@ -1,0 +1,33 @@
+// Writing records as the text of a table.
+ghost use Rattle.std.specs.Prelude.{ℤ, ◌≡◌, ◌<◌, ◌^◌, List, All, IfOk};
+ghost use Rattle.giv_files.specs.Writing.{table_text, CanWrite, InColumns, IsHeader};
+ghost use Rattle.event_tables.specs.RowsOfTables.{ReadsAs, rows_by};
+
+use crate::record::Record;
+use giv_files::{ColumnKind, Table, write_table};
+use plan_num::{NoMemory, Text};
+use std::alloc::Global;
+
+/// The text of a file with a row for each record. It is read back to the same records.
+pub(crate) fn write_records<const C: usize, X: Record<C>>(
+    alloc: Global,
+    header: &[u8],
+    kinds: &[ColumnKind; C],
+    rows: &[X],
+) -> Result<Text, NoMemory>
+    requires some { 0 < C }
+    requires narrow { C < 2 ^ 32 }
+    requires kinds { All CanWrite kinds.now }
+    requires header { IsHeader header.now }
+    requires fits { (cells : List ℤ) → InColumns kinds.now cells → X.Fits cells }
+    requires cells { All (λ row. InColumns kinds.now (X.cells_of row)) rows.now }
+    requires back { (row : X) → X.of_cells (X.cells_of row) ≡ row }
+    ensures text { IfOk result (λ text. text ≡ table_text header.now kinds.now (rows_by X.cells_of rows.now)) }
+    ensures back { IfOk result (ReadsAs kinds.now X.of_cells rows.now) }
+{
+    let mut table = Table::new(alloc);
+    for row in rows {
+        table.push(0, &row.cells())?;
+    }
+    write_table(alloc, header, &table, kinds)
+}
