@@ -8,7 +8,7 @@ use Rattle.config_keys.specs.Config.{last_stage_of}
 use Rattle.stage_driver.specs.declared.chain_end.ChainEnd.{ChainEnd}
 use Rattle.stage_driver.specs.declared.chain_end.ChainEnd.TheVariants as end
 use Rattle.stage_driver.specs.Chain.{Visit, Halt, Trace, go_on, visit_of, chain_from, to_run, stage_place}
-use Rattle.stage_driver.specs.Built.{run_stage, files_of, halt_work, given_work, stop_of, stage_work}
+use Rattle.stage_driver.specs.Built.{run_stage, files_of, halt_work, given_work, cause_of, stage_work}
 use Rattle.stage_driver.specs.Reports.{stage_lines, line_of}
 use Rattle.stage_driver.specs.Progress.{SoFar, nothing, with_made, IsRest, VisitGives, visit_work, IsAll, ChainGives, trace_work}
 
@@ -28,17 +28,17 @@ rest_more whole rest visit so_far before mid h = record {
 }
 
 -- behind the last stage
-pub rest_none : (whole : Trace) (so_far : SoFar) (before now : ℕ) → IsRest whole (record { visits = []; halt = None }) so_far before now → (stop_of whole.halt ≡ None) × IsAll whole so_far × (now ≡ before + trace_work whole)
+pub rest_none : (whole : Trace) (so_far : SoFar) (before now : ℕ) → IsRest whole (record { visits = []; halt = None }) so_far before now → (cause_of whole.halt ≡ None) × IsAll whole so_far × (now ≡ before + trace_work whole)
 rest_none whole so_far before now h =
     let none : halt_work whole.halt ≡ 0 = ap halt_work h.halt in
-    (ap stop_of h.halt, record { files = h.files ∙ append-nil so_far.files; report = h.report ∙ append-nil so_far.report }, omega (arith, h.work, none))
+    (ap cause_of h.halt, record { files = h.files ∙ append-nil so_far.files; report = h.report ∙ append-nil so_far.report }, omega (arith, h.work, none))
 
 -- where a stage ends the chain
 pub rest_stops : (whole : Trace) (halt : Halt) (so_far : SoFar) (before mid now : ℕ) → IsRest whole (go_on (Err halt) (λ _. whole)) so_far before mid → now ≡ mid + given_work halt.given
-    → (stop_of whole.halt ≡ Some halt.stop) × IsAll whole so_far × (now ≡ before + trace_work whole)
+    → (cause_of whole.halt ≡ Some halt.cause) × IsAll whole so_far × (now ≡ before + trace_work whole)
 rest_stops whole halt so_far before mid now h e =
     let some : halt_work whole.halt ≡ given_work halt.given = ap halt_work h.halt in
-    (ap stop_of h.halt, record { files = h.files ∙ append-nil so_far.files; report = h.report ∙ append-nil so_far.report }, omega (arith, h.work, some, e))
+    (ap cause_of h.halt, record { files = h.files ∙ append-nil so_far.files; report = h.report ∙ append-nil so_far.report }, omega (arith, h.work, some, e))
 
 -- a stage that is not finished takes at most its work
 pub rest_bounds : (whole : Trace) (told : Result Visit Halt) (rest : Visit → Trace) (so_far : SoFar) (before mid now : ℕ) → IsRest whole (go_on told rest) so_far before mid → now ≤ mid + visit_work told → now ≤ before + trace_work whole
@@ -102,7 +102,7 @@ module _ (values : List ℤ) (folder : Folder) where
 
   -- all stages were made
   pub finished : (stages : List Stage) (i : ℕ) (whole : Trace) (so_far : SoFar) (before now : ℕ) → length stages ≤ i → IsRest whole (still so_far.files (drop i stages)) so_far before now
-      → (stop_of whole.halt ≡ None) × IsAll whole so_far × (now ≡ before + trace_work whole)
+      → (cause_of whole.halt ≡ None) × IsAll whole so_far × (now ≡ before + trace_work whole)
   finished stages i whole so_far before now past h = rest_none whole so_far before now (subst (λ rest. IsRest whole rest so_far before now) (still_none stages i so_far.files past) h)
 
 -- ---- the same in a folder that may be told

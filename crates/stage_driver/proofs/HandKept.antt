@@ -25,8 +25,8 @@ use Rattle.config_keys.specs.Values.{effective}
 use Rattle.demand_load.proofs.LoadMakes.{load_stage_makes}
 use Rattle.line_pool.proofs.CostMakes.{cost_stage_makes}
 use Rattle.stage_driver.specs.declared.outcome.ChainFault.{ChainFault}
-use Rattle.stage_driver.specs.declared.stop.Stop.{Stop}
-use Rattle.stage_driver.specs.Ends.{cause_of}
+use Rattle.stage_driver.specs.declared.cause.Cause.{Cause}
+use Rattle.stage_driver.specs.Ends.{file_fault_of}
 use Rattle.stage_driver.specs.Hand.{is_among, is_hand, hand_of, names_made_by}
 use Rattle.stage_driver.specs.Chain.{Visit, Halt, solved, tried, go_on, visit_of, chain_from, to_run}
 use Rattle.stage_driver.specs.Built.{built, stage_function, run_stage, trace_under, trace_of, files_of, made}
@@ -54,7 +54,7 @@ module _ (values : List ℤ) (folder : Folder) where
   solved_not bundle (Ok made) is = function_not bundle.stage bundle made is
   solved_not bundle (Err refusal) is = tt
 
-  tried_not : (told : Result BundleParts Stop) → IfOk (tried run_stage values folder told) (λ visit. NotHand visit.made.files)
+  tried_not : (told : Result BundleParts Cause) → IfOk (tried run_stage values folder told) (λ visit. NotHand visit.made.files)
   tried_not (Ok bundle) = solved_not bundle (run_stage bundle) refl
   tried_not (Err why) = tt
 
@@ -124,4 +124,4 @@ applied_hand folder new before now h = applied_part is_hand (writes_of folder) (
 pub cut_hand : (fault : ChainFault) (folder : Folder) (new : Option Folder) (before now : Option (List Write)) → AreNotAll fault (writes_of folder) (Some folder) new before now → SameHand (Some folder) new
 unfolding hand_of
 cut_hand fault folder new before now h =
-    ⊎_elim (λ same. ap (option_map (part_of is_hand)) same.0) (λ cut. cut_part is_hand (cause_of fault) (writes_of folder) (Some folder) new before now (writes_outside folder) cut) h
+    ⊎_elim (λ same. ap (option_map (part_of is_hand)) same.0) (λ cut. cut_part is_hand (file_fault_of fault) (writes_of folder) (Some folder) new before now (writes_outside folder) cut) h

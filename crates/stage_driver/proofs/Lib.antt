@@ -4,10 +4,8 @@ pub mod HandAlone
 pub mod HandKept
 pub mod Left
 pub mod MadeRight
-pub mod Named
 pub mod Pieces
 pub mod Refusing
-pub mod Removing
 pub mod Running
 pub mod Starting
 pub mod Visiting

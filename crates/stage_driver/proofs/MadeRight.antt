@@ -16,7 +16,7 @@ use Rattle.config_keys.specs.Values.{effective}
 use Rattle.config_keys.proofs.Settling.{part_fits, effective_settings}
 use Rattle.demand_load.proofs.LoadReads.{loads_are_right}
 use Rattle.line_pool.proofs.CostReads.{costs_are_right}
-use Rattle.stage_driver.specs.declared.stop.Stop.{Stop}
+use Rattle.stage_driver.specs.declared.cause.Cause.{Cause}
 use Rattle.stage_driver.specs.Hand.{hand_of}
 use Rattle.stage_driver.specs.Chain.{Visit, Halt, input_text, chosen, with_text, texts_of, bundle_for, bundle_told, solved, tried, go_on, visit_of, chain_from, to_run}
 use Rattle.stage_driver.specs.Built.{built, stage_function, run_stage, trace_under, trace_of}
@@ -29,7 +29,7 @@ function_right stage.Load bundle made same fits is = loads_are_right bundle made
 function_right stage.Cost bundle made same fits is = costs_are_right bundle made same fits is
 function_right _ bundle made same fits is = absurd (cc)
 
-one_more : (text : Result (List ℕ) Stop) (rest : Result (List (List ℕ)) Stop) (count : ℕ) (texts : List (List ℕ)) → ((more : List (List ℕ)) → rest ≡ Ok more → length more ≡ count) → with_text text rest ≡ Ok texts → length texts ≡ suc count
+one_more : (text : Result (List ℕ) Cause) (rest : Result (List (List ℕ)) Cause) (count : ℕ) (texts : List (List ℕ)) → ((more : List (List ℕ)) → rest ≡ Ok more → length more ≡ count) → with_text text rest ≡ Ok texts → length texts ≡ suc count
 one_more (Err why) rest count texts h e = absurd (cc)
 one_more (Ok text) (Err why) count texts h e = absurd (cc)
 one_more (Ok text) (Ok more) count texts h e = let same : text ∷ more ≡ texts = cc in sym (ap length same) ∙ ap suc (h more refl)
@@ -49,7 +49,7 @@ module _ (values : List ℤ) (folder : Folder) (are : AreSettings values) where
   solved_right stage texts (Ok made) fits is = function_right stage (bundle_for values stage texts) made refl fits is
   solved_right stage texts (Err refusal) fits is = tt
 
-  tried_right : (files : List MadeFile) (stage : Stage) (told : Result (List (List ℕ)) Stop) → texts_of values folder files (stage_inputs stage) ≡ told
+  tried_right : (files : List MadeFile) (stage : Stage) (told : Result (List (List ℕ)) Cause) → texts_of values folder files (stage_inputs stage) ≡ told
       → IfOk (tried run_stage values folder (bundle_told values stage told)) (λ visit. IsRightAs visit.bundle.stage visit.bundle visit.made)
   tried_right files stage (Ok texts) e = solved_right stage texts (stage_function stage (bundle_for values stage texts)) (fits_for files stage texts e) refl
   tried_right files stage (Err why) e = tt

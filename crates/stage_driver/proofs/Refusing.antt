@@ -21,10 +21,10 @@ use Rattle.demand_load.proofs.LoadNames.{load_stage_names}
 use Rattle.line_pool.proofs.CostNames.{cost_stage_names}
 use Rattle.stage_driver.specs.declared.origin.Origin.{Origin}
 use Rattle.stage_driver.specs.declared.origin.Origin.TheVariants as origin
-use Rattle.stage_driver.specs.declared.stop.Stop.{Stop}
+use Rattle.stage_driver.specs.declared.cause.Cause.{Cause}
 use Rattle.stage_driver.specs.Hand.{is_hand, hand_of}
 use Rattle.stage_driver.specs.Chain.{Visit, Halt, origin_of, hand_text, is_file, made_text, text_from, input_text, chosen, with_text, texts_of, bundle_for, bundle_told, solved, tried, go_on, visit_of, chain_from, to_run}
-use Rattle.stage_driver.specs.Built.{built, stage_function, run_stage, stop_of, trace_under, trace_of}
+use Rattle.stage_driver.specs.Built.{built, stage_function, run_stage, cause_of, trace_under, trace_of}
 use Rattle.stage_driver.specs.Right.{NamesHand, RefusesHand}
 
 abbrev hand_file : FileId → Bool
@@ -38,7 +38,7 @@ function_names stage.Cost bundle reason is = cost_stage_names hand_file refl ref
 function_names _ bundle reason is = let same : refusal.NoSolution ≡ reason = cc in subst (NamesOnly hand_file) same tt
 
 -- why an input is not there names no row
-abbrev NoText : {T : Type 0} → Result T Stop → Type 0
+abbrev NoText : {T : Type 0} → Result T Cause → Type 0
 NoText told = IfErr told (λ why. NamesHand (Some why))
 
 hand_names : (optional : Bool) (file : FileId) (got : Got) → NoText (hand_text optional file got)
@@ -47,7 +47,7 @@ hand_names true file Absent = tt
 hand_names false file Absent = tt
 hand_names optional file Long = tt
 
-found_names : (found : Bool) (text : List ℕ) (other : Result (List ℕ) Stop) → NoText other → NoText (cond found (Ok text) other)
+found_names : (found : Bool) (text : List ℕ) (other : Result (List ℕ) Cause) → NoText other → NoText (cond found (Ok text) other)
 found_names true text other h = tt
 found_names false text other h = h
 
@@ -60,7 +60,7 @@ origin_names origin.Needed folder files file = hand_names false file (look_in fo
 origin_names origin.Optional folder files file = hand_names true file (look_in folder (file_name file))
 origin_names origin.Earlier folder files file = made_names files file
 
-both_names : (text : Result (List ℕ) Stop) (texts : Result (List (List ℕ)) Stop) → NoText text → NoText texts → NoText (with_text text texts)
+both_names : (text : Result (List ℕ) Cause) (texts : Result (List (List ℕ)) Cause) → NoText text → NoText texts → NoText (with_text text texts)
 both_names (Err why) texts h k = h
 both_names (Ok text) (Err why) h k = k
 both_names (Ok text) (Ok texts) h k = tt
@@ -72,13 +72,13 @@ module _ (values : List ℤ) (folder : Folder) where
 
   -- why one stage ends a chain
   abbrev HaltNames : Result Visit Halt → Type 0
-  HaltNames told = IfErr told (λ halt. NamesHand (Some halt.stop))
+  HaltNames told = IfErr told (λ halt. NamesHand (Some halt.cause))
 
   solved_names : (bundle : BundleParts) (result : Result Made Refusal) → run_stage bundle ≡ result → HaltNames (solved run_stage values folder bundle result)
   solved_names bundle (Ok made) is = tt
   solved_names bundle (Err reason) is = function_names bundle.stage bundle reason is
 
-  tried_names : (stage : Stage) (told : Result (List (List ℕ)) Stop) → NoText told → HaltNames (tried run_stage values folder (bundle_told values stage told))
+  tried_names : (stage : Stage) (told : Result (List (List ℕ)) Cause) → NoText told → HaltNames (tried run_stage values folder (bundle_told values stage told))
   tried_names stage (Ok texts) h = solved_names (bundle_for values stage texts) (run_stage (bundle_for values stage texts)) refl
   tried_names stage (Err why) h = h
 
@@ -86,16 +86,16 @@ module _ (values : List ℤ) (folder : Folder) where
   unfolding visit_of
   visit_names files stage = tried_names stage (texts_of values folder files (stage_inputs stage)) (texts_names files (stage_inputs stage))
 
-  chain_names : (files : List MadeFile) (stages : List Stage) → NamesHand (stop_of (chain_from run_stage values folder files stages).halt)
+  chain_names : (files : List MadeFile) (stages : List Stage) → NamesHand (cause_of (chain_from run_stage values folder files stages).halt)
   chain_names files [] = tt
   chain_names files (stage ∷ stages) = by (visit_of run_stage values folder files stage) (visit_names files stage) (λ visit. chain_names (files ++ visit.made.files) stages)
     where
-      by : (told : Result Visit Halt) → HaltNames told → ((visit : Visit) → NamesHand (stop_of (chain_from run_stage values folder (files ++ visit.made.files) stages).halt))
-          → NamesHand (stop_of (go_on told (λ visit. chain_from run_stage values folder (files ++ visit.made.files) stages)).halt)
+      by : (told : Result Visit Halt) → HaltNames told → ((visit : Visit) → NamesHand (cause_of (chain_from run_stage values folder (files ++ visit.made.files) stages).halt))
+          → NamesHand (cause_of (go_on told (λ visit. chain_from run_stage values folder (files ++ visit.made.files) stages)).halt)
       by (Ok visit) h rest = rest visit
       by (Err halt) h rest = h
 
-under_names : (settings : Result (List ℤ) ConfigFault) (hand : Folder) → NamesHand (stop_of (trace_under settings hand).halt)
+under_names : (settings : Result (List ℤ) ConfigFault) (hand : Folder) → NamesHand (cause_of (trace_under settings hand).halt)
 under_names (Ok values) hand = chain_names values hand [] (to_run values built)
 under_names (Err reason) hand = tt
 

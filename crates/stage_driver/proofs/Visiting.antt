@@ -9,24 +9,24 @@ use Rattle.giv_files.specs.Settings.{BundleParts}
 use Rattle.giv_files.specs.Stages.{stage_inputs}
 use Rattle.stage_driver.specs.declared.chain_end.ChainEnd.{ChainEnd}
 use Rattle.stage_driver.specs.declared.chain_end.ChainEnd.TheVariants as end
-use Rattle.stage_driver.specs.declared.stop.Stop.{Stop}
-use Rattle.stage_driver.specs.declared.stop.Stop.TheVariants as stop
+use Rattle.stage_driver.specs.declared.cause.Cause.{Cause}
+use Rattle.stage_driver.specs.declared.cause.Cause.TheVariants as cause
 use Rattle.stage_driver.specs.Chain.{Visit, Halt, texts_of, bundle_told, bundle_for, solved, tried, visit_of}
 use Rattle.stage_driver.specs.Built.{run_stage, stage_work}
 use Rattle.stage_driver.specs.Ends.{Gives}
 use Rattle.stage_driver.specs.Progress.{SoFar, with_made, VisitGives, visit_work}
 
 -- a bundle has the stage that it was made for
-bundle_stage : (values : List ℤ) (stage : Stage) (texts : Result (List (List ℕ)) Stop) (bundle : BundleParts) → bundle_told values stage texts ≡ Ok bundle → bundle.stage ≡ stage
+bundle_stage : (values : List ℤ) (stage : Stage) (texts : Result (List (List ℕ)) Cause) (bundle : BundleParts) → bundle_told values stage texts ≡ Ok bundle → bundle.stage ≡ stage
 bundle_stage values stage (Err why) bundle e = absurd (cc)
 bundle_stage values stage (Ok texts) bundle e = let same : bundle_for values stage texts ≡ bundle = cc in sym (ap (λ (b : BundleParts). b.stage) same)
 
 module _ (values : List ℤ) (stage : Stage) (old new : SoFar) where
   -- what the stage is given, where some files were made
-  abbrev pub told_with : List MadeFile → Folder → Result BundleParts Stop
+  abbrev pub told_with : List MadeFile → Folder → Result BundleParts Cause
   told_with made folder = bundle_told values stage (texts_of values folder made (stage_inputs stage))
 
-  abbrev pub told_in : Folder → Result BundleParts Stop
+  abbrev pub told_in : Folder → Result BundleParts Cause
   told_in folder = told_with old.files folder
 
   abbrev pub visit_in : Folder → Result Visit Halt
@@ -44,7 +44,7 @@ module _ (values : List ℤ) (stage : Stage) (old new : SoFar) where
   -- an input is not there
   ungiven : (folder : Folder) (why : ChainEnd) (count : ℕ) → Gives {T = BundleParts} (told_in folder) (Err why) → VisitGives (visit_in folder) old old count count (Err why)
   unfolding visit_of
-  ungiven folder (end.Stopped why) count told = (record { stop = why; given = None }, ap (tried run_stage values folder) told, refl, refl, omega arith)
+  ungiven folder (end.Stopped why) count told = (record { cause = why; given = None }, ap (tried run_stage values folder) told, refl, refl, omega arith)
   ungiven folder end.FileFault count told = (omega arith, omega arith)
   ungiven folder end.NoMemory count told = (omega arith, omega arith)
 
@@ -64,14 +64,14 @@ module _ (values : List ℤ) (stage : Stage) (old new : SoFar) where
 
   -- the stage refuses what it is given
   pub is_refused : (contents : Option Folder) (files : List MadeFile) (bundle : BundleParts) (refusal : Refusal) (before now : ℕ) → files ≡ old.files → IfSome contents (λ folder. told_with files folder ≡ Ok bundle) → run_stage bundle ≡ Err refusal → now ≡ before + stage_work bundle
-      → IfSome contents (λ folder. VisitGives (visit_in folder) old old before now (Err (end.Stopped (stop.Refused stage refusal))))
+      → IfSome contents (λ folder. VisitGives (visit_in folder) old old before now (Err (end.Stopped (cause.Refused stage refusal))))
   unfolding visit_of
   is_refused None files bundle refusal before now same told is count = tt
   is_refused (Some folder) files bundle refusal before now same given is count =
       let told : told_in folder ≡ Ok bundle = ap (λ files. told_with files folder) (sym same) ∙ given in (
-        record { stop = stop.Refused bundle.stage refusal; given = Some bundle },
+        record { cause = cause.Refused bundle.stage refusal; given = Some bundle },
         ap (tried run_stage values folder) told ∙ ap (solved run_stage values folder bundle) is,
-        ap (λ s. stop.Refused s refusal) (bundle_stage values stage (texts_of values folder old.files (stage_inputs stage)) bundle told),
+        ap (λ s. cause.Refused s refusal) (bundle_stage values stage (texts_of values folder old.files (stage_inputs stage)) bundle told),
         refl,
         count,
       )

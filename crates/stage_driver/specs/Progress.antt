@@ -5,10 +5,10 @@ use Rattle.giv_files.specs.declared.made.MadeFile.{MadeFile}
 use Rattle.stage_driver.specs.declared.chain_end.ChainEnd.{ChainEnd}
 use Rattle.stage_driver.specs.declared.chain_end.ChainEnd.TheVariants as end
 use Rattle.stage_driver.specs.declared.outcome.ChainFault.{ChainFault}
-use Rattle.stage_driver.specs.declared.stop.Stop.{Stop}
+use Rattle.stage_driver.specs.declared.cause.Cause.{Cause}
 use Rattle.stage_driver.specs.Chain.{Visit, Halt, Trace}
 use Rattle.stage_driver.specs.Reports.{stage_lines, line_of}
-use Rattle.stage_driver.specs.Built.{files_of, visits_work, halt_work, given_work, stop_of, stage_work}
+use Rattle.stage_driver.specs.Built.{files_of, visits_work, halt_work, given_work, cause_of, stage_work}
 
 -- the files that were made so far, and the report so far
 pub record SoFar : Type 0 where
@@ -38,7 +38,7 @@ visit_work (Err halt) = given_work halt.given
 -- what one stage gives: it is made, or the chain stops there; after a fault the count rose by at most its work
 abbrev pub VisitGives : Result Visit Halt → SoFar → SoFar → ℕ → ℕ → Result (Unit {0}) ChainEnd → Type 0
 VisitGives told old new before now (Ok _) = (visit : Visit) × (told ≡ Ok visit) × (new ≡ with_made old visit.made) × (now ≡ before + stage_work visit.bundle)
-VisitGives told old new before now (Err (end.Stopped why)) = (halt : Halt) × (told ≡ Err halt) × (halt.stop ≡ why) × (new ≡ old) × (now ≡ before + given_work halt.given)
+VisitGives told old new before now (Err (end.Stopped why)) = (halt : Halt) × (told ≡ Err halt) × (halt.cause ≡ why) × (new ≡ old) × (now ≡ before + given_work halt.given)
 VisitGives told old new before now (Err end.FileFault) = (before ≤ now) × (now ≤ before + visit_work told)
 VisitGives told old new before now (Err end.NoMemory) = (before ≤ now) × (now ≤ before + visit_work told)
 
@@ -53,12 +53,12 @@ pub record IsAll (trace : Trace) (so_far : SoFar) : Type 0 where
 
 -- what running a chain gives: all of it is made up to where it ends; after a fault the count rose by at most its work
 abbrev pub ChainGives : Trace → SoFar → ℕ → ℕ → Result (Unit {0}) ChainEnd → Type 0
-ChainGives trace new before now (Ok _) = (stop_of trace.halt ≡ None) × IsAll trace new × (now ≡ before + trace_work trace)
-ChainGives trace new before now (Err (end.Stopped why)) = (stop_of trace.halt ≡ Some why) × IsAll trace new × (now ≡ before + trace_work trace)
+ChainGives trace new before now (Ok _) = (cause_of trace.halt ≡ None) × IsAll trace new × (now ≡ before + trace_work trace)
+ChainGives trace new before now (Err (end.Stopped why)) = (cause_of trace.halt ≡ Some why) × IsAll trace new × (now ≡ before + trace_work trace)
 ChainGives trace new before now (Err end.FileFault) = (before ≤ now) × (now ≤ before + trace_work trace)
 ChainGives trace new before now (Err end.NoMemory) = (before ≤ now) × (now ≤ before + trace_work trace)
 
 -- what running a chain to its end gives: all of it, and why it ended early, if it did
-abbrev pub EndGives : Trace → SoFar → ℕ → ℕ → Result (Option Stop) ChainFault → Type 0
-EndGives trace new before now (Ok why) = (stop_of trace.halt ≡ why) × IsAll trace new × (now ≡ before + trace_work trace)
+abbrev pub EndGives : Trace → SoFar → ℕ → ℕ → Result (Option Cause) ChainFault → Type 0
+EndGives trace new before now (Ok why) = (cause_of trace.halt ≡ why) × IsAll trace new × (now ≡ before + trace_work trace)
 EndGives trace new before now (Err fault) = (before ≤ now) × (now ≤ before + trace_work trace)

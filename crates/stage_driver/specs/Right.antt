@@ -9,11 +9,11 @@ use Rattle.giv_files.specs.Settings.{BundleParts}
 use Rattle.demand_load.specs.RightLoads.{LoadsAreRight}
 use Rattle.line_pool.specs.RightCosts.{CostsAreRight}
 use Rattle.plan_files.specs.Folder.{Folder}
-use Rattle.stage_driver.specs.Built.{stop_of, trace_of}
+use Rattle.stage_driver.specs.Built.{cause_of, trace_of}
 use Rattle.stage_driver.specs.Chain.{Visit}
 use Rattle.stage_driver.specs.Hand.{is_hand}
-use Rattle.stage_driver.specs.declared.stop.Stop.{Stop}
-use Rattle.stage_driver.specs.declared.stop.Stop.TheVariants as stop
+use Rattle.stage_driver.specs.declared.cause.Cause.{Cause}
+use Rattle.stage_driver.specs.declared.cause.Cause.TheVariants as cause
 
 -- The files that a stage made, read again, satisfy its model over what it was given. A stage that is not built makes nothing.
 abbrev pub IsRightAs : Stage → BundleParts → Made → Type 0
@@ -31,12 +31,12 @@ unfoldable pub MadeRight : Folder → Type 0
 MadeRight hand = AreRight (trace_of hand).visits
 
 -- a chain that a refused row ends names by it a file that people write
-abbrev pub NamesHand : Option Stop → Type 0
+abbrev pub NamesHand : Option Cause → Type 0
 NamesHand None = Unit {0}
-NamesHand (Some (stop.BadConfig reason)) = Unit {0}
-NamesHand (Some (stop.Missing file)) = Unit {0}
-NamesHand (Some (stop.TooLong file)) = Unit {0}
-NamesHand (Some (stop.Refused stage reason)) = NamesOnly (λ file. is_hand (file_name file)) reason
+NamesHand (Some (cause.BadConfig reason)) = Unit {0}
+NamesHand (Some (cause.Missing file)) = Unit {0}
+NamesHand (Some (cause.TooLong file)) = Unit {0}
+NamesHand (Some (cause.Refused stage reason)) = NamesOnly (λ file. is_hand (file_name file)) reason
 
 unfoldable pub RefusesHand : Folder → Type 0
-RefusesHand hand = NamesHand (stop_of (trace_of hand).halt)
+RefusesHand hand = NamesHand (cause_of (trace_of hand).halt)

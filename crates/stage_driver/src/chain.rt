@@ -8,11 +8,11 @@ ghost use Rattle.stage_driver.specs.Chain.{chain_from, to_run, visit_of};
 ghost use Rattle.stage_driver.specs.Ends.{is_broken};
 ghost use Rattle.stage_driver.specs.Progress.{ChainGives, VisitGives, nothing};
 
+use crate::cause::Cause;
 use crate::chain_end::ChainEnd;
 use crate::gather::gather;
 use crate::progress::Progress;
 use crate::stages::{built, make_stage, place_of};
-use crate::stop::Stop;
 use config_keys::{Config, read_config};
 use giv_files::{Stage, StageFault};
 use plan_files::Files;
@@ -79,7 +79,7 @@ fn visit<F: Files, L: Ledger>(
             progress.add(made)?;
             Ok(())
         }
-        Err(StageFault::Refused(refusal)) => Err(ChainEnd::Stopped(Stop::Refused(stage, refusal))),
+        Err(StageFault::Refused(refusal)) => Err(ChainEnd::Stopped(Cause::Refused(stage, refusal))),
         Err(StageFault::NoMemory) => Err(ChainEnd::NoMemory),
     }
 }
