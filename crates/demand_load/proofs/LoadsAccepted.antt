@@ -39,9 +39,9 @@ good : (edges all : List Edge) (loads : List EdgeLoad) → AllByRecursion (λ id
 good [] all loads known bounded = tt
 good (edge ∷ edges) all [] known bounded = tt
 good (edge ∷ edges) all (load ∷ loads) known bounded = (
-    (sym (any_mapped (int_eq edge.id) (λ (other : Edge). other.id) all) ∙ known.0, not_below load.least load.most (All-head IsBounded load loads bounded).in_order),
-    good edges all loads known.1 (All-tail IsBounded load loads bounded),
-  )
+  (sym (any_mapped (int_eq edge.id) (λ (other : Edge). other.id) all) ∙ known.0, not_below load.least load.most (All-head IsBounded load loads bounded).in_order),
+  good edges all loads known.1 (All-tail IsBounded load loads bounded),
+)
 
 module _ (edges : List Edge) (loads : List EdgeLoad) (same : length loads ≡ length edges) where
   has_load : (edge : Edge) → is_some (given_for (records (load_input file.Load edges) (load_rows edges loads)) edge) ≡ list_any (int_eq edge.id) (map (λ (edge : Edge). edge.id) edges)

@@ -83,9 +83,9 @@ module _ {X : Type 0} (rules : List (RowRule X)) (id : X → ℤ) where
   fresh_more : (before : List X) (row : X) (ids : List ℤ) → AllByRecursion (λ other. int_cmp (id row) other ≡ Less) ids → Fresh before ids → Fresh (before ++ row ∷ []) ids
   fresh_more before row [] above fresh = tt
   fresh_more before row (one ∷ ids) above fresh = (
-      list_any-append (λ other. int_eq one (id other)) before (row ∷ []) ∙ ap (λ b. b || (int_eq one (id row) || false)) fresh.0 ∙ ap (λ b. b || false) (below_differs (id row) one above.0),
-      fresh_more before row ids above.1 fresh.1,
-    )
+    list_any-append (λ other. int_eq one (id other)) before (row ∷ []) ∙ ap (λ b. b || (int_eq one (id row) || false)) fresh.0 ∙ ap (λ b. b || false) (below_differs (id row) one above.0),
+    fresh_more before row ids above.1 fresh.1,
+  )
 
   module _ (Good : X → Type 0)
       (keeps : (before : List X) (row : X) → list_any (λ other. int_eq (id row) (id other)) before ≡ false → Good row → broken_whys rules before row ≡ []) where

@@ -1,5 +1,5 @@
 -- A chain of stages over hand files: each stage takes hand files, and files that stages before it made.
-use Rattle.std.specs.Prelude.{ℕ, ℤ, pos, if◌then◌else◌, Bool, true, false, List, [], ◌∷◌, ◌++◌, filter, nat_le, Option, Some, None, Result, Ok, Err}
+use Rattle.std.specs.Prelude.{ℕ, ℤ, pos, if◌then◌else◌, Bool, true, false, List, [], ◌∷◌, ◌++◌, map, filter, nat_le, Option, Some, None, Result, Ok, Err}
 use Rattle.std.specs.Ordering.{int_eq}
 use Rattle.std.specs.Str.{bytes_eq}
 use Rattle.plan_files.specs.declared.store.Got.{Got}
@@ -32,7 +32,21 @@ origin_of file.Od = origin.Needed
 origin_of file.Pool = origin.Needed
 origin_of file.EventDelays = origin.Optional
 origin_of file.ActivityDelays = origin.Optional
-origin_of _ = origin.Earlier
+origin_of file.Load = origin.Earlier
+origin_of file.PoolCost = origin.Earlier
+origin_of file.Concept = origin.Earlier
+origin_of file.Tree = origin.Earlier
+origin_of file.EventsP = origin.Earlier
+origin_of file.ActivitiesP = origin.Earlier
+origin_of file.TimesP = origin.Earlier
+origin_of file.EventsX = origin.Earlier
+origin_of file.ActivitiesX = origin.Earlier
+origin_of file.Trips = origin.Earlier
+origin_of file.Schedule = origin.Earlier
+origin_of file.Potential = origin.Earlier
+origin_of file.Disposed = origin.Earlier
+origin_of file.Reasons = origin.Earlier
+origin_of file.Statistic = origin.Earlier
 
 -- the text of a hand file, which may be left out or not
 abbrev pub hand_text : Bool → FileId → Got → Result (List ℕ) Cause
@@ -69,10 +83,14 @@ abbrev pub chosen : List ℤ → FileId → FileId
 chosen values file.Od = if int_eq (value_at values key.LoadSource) (pos 1) then file.LoadGiven else file.Od
 chosen values other = other
 
--- the texts of some inputs under the settings of a dataset, or why the first of them that is not there is not
+-- the texts of some inputs under the settings of a dataset, by what is found of each file, or why the first of them that is not there is not
+abbrev pub texts_by : (FileId → Result (List ℕ) Cause) → List ℤ → List FileId → Result (List (List ℕ)) Cause
+texts_by look values [] = Ok []
+texts_by look values (file ∷ files) = with_text (look (chosen values file)) (texts_by look values files)
+
+-- the same over hand files, and files that were made
 abbrev pub texts_of : List ℤ → Folder → List MadeFile → List FileId → Result (List (List ℕ)) Cause
-texts_of values hand made [] = Ok []
-texts_of values hand made (file ∷ files) = with_text (input_text hand made (chosen values file)) (texts_of values hand made files)
+texts_of values hand made files = texts_by (input_text hand made) values files
 
 -- a stage that was made: what it was given, and what it made of that
 pub record Visit : Type 0 where
@@ -98,6 +116,10 @@ abbrev pub bundle_told : List ℤ → Stage → Result (List (List ℕ)) Cause �
 bundle_told values stage (Err why) = Err why
 bundle_told values stage (Ok texts) = Ok (bundle_for values stage texts)
 
+-- what a stage is given by what is found of each file
+abbrev pub bundle_by : (FileId → Result (List ℕ) Cause) → List ℤ → Stage → Result BundleParts Cause
+bundle_by look values stage = bundle_told values stage (texts_by look values (stage_inputs stage))
+
 -- a chain goes on behind a stage that was made
 abbrev pub go_on : Result Visit Halt → (Visit → Trace) → Trace
 go_on (Err halt) rest = record { visits = []; halt = Some halt }
@@ -122,6 +144,24 @@ module _ (solve : BundleParts → Result Made Refusal) (values : List ℤ) (hand
   abbrev pub chain_from : List MadeFile → List Stage → Trace
   chain_from made [] = record { visits = []; halt = None }
   chain_from made (stage ∷ stages) = go_on (visit_of made stage) (λ visit. chain_from (made ++ visit.made.files) stages)
+
+-- the bundle that a stage was handed which ended the chain, where it had its inputs
+abbrev pub handed_last : Option BundleParts → List BundleParts
+handed_last None = []
+handed_last (Some bundle) = bundle ∷ []
+
+-- the bundle that one stage was handed, where it had its inputs
+abbrev pub handed_once : Result Visit Halt → List BundleParts
+handed_once (Ok visit) = visit.bundle ∷ []
+handed_once (Err halt) = handed_last halt.given
+
+abbrev pub handed_end : Option Halt → List BundleParts
+handed_end None = []
+handed_end (Some halt) = handed_last halt.given
+
+-- the bundles that a chain handed to its stages
+abbrev pub handed : Trace → List BundleParts
+handed trace = map (λ visit. visit.bundle) trace.visits ++ handed_end trace.halt
 
 -- the place of a stage in the order of stages
 abbrev pub stage_place : Stage → ℕ

@@ -4,13 +4,13 @@ ghost use Rattle.plan_files.specs.Counts.{Counts};
 ghost use Rattle.plan_files.specs.Reads.{OnlyReads};
 ghost use Rattle.plan_files.specs.Applied.{AreApplied};
 ghost use Rattle.plan_files.specs.Others.{AreOutside};
-ghost use Rattle.stage_driver.specs.Built.{made, trace_of};
+ghost use Rattle.stage_driver.specs.Built.{made, stage_work, trace_of};
 ghost use Rattle.stage_driver.specs.Ends.{has_failed};
-ghost use Rattle.stage_driver.specs.Hand.{hand_of, is_hand};
+ghost use Rattle.stage_driver.specs.Hand.{hand_of, is_hand, AreNoHandFiles};
 ghost use Rattle.stage_driver.specs.Progress.{EndGives, nothing};
 ghost use Rattle.stage_driver.specs.Reports.{last_line, end_of};
-ghost use Rattle.stage_driver.specs.Right.{MadeRight, RefusesHand};
-ghost use Rattle.stage_driver.specs.Runs.{AreNotAll, IsOutcome, IsLeft, SameHand, writes_for, writes_of};
+ghost use Rattle.stage_driver.specs.Right.{IsLeftRight, MadeFilesAreRight, RefusesHand};
+ghost use Rattle.stage_driver.specs.Runs.{AddsNoHandFile, AreNotAll, IsOutcome, IsLeft, SameHand, writes_for, writes_of};
 
 use crate::cause::Cause;
 use crate::chain::run_built;
@@ -32,12 +32,14 @@ pub fn run_chain<F: Files, L: Ledger>(
     steps: &mut Steps<L>,
 ) -> Result<Outcome, ChainFault>
     ensures outcome { IfSome (F.contents files.old) (λ folder. IfOk result (IsOutcome (hand_of folder))) }
-    ensures right { IfSome (F.contents files.old) (λ folder. MadeRight (hand_of folder)) }
+    ensures made_files_are_right { IfSome (F.contents files.old) MadeFilesAreRight }
     ensures refusal { IfSome (F.contents files.old) (λ folder. RefusesHand (hand_of folder)) }
     ensures left { IfSome (F.contents files.old) (λ folder. OnOk result (IsLeft folder (F.contents files.new) (F.writes files.old) (F.writes files.new))) }
+    ensures left_is_right { IfSome (F.contents files.old) (λ folder. OnOk result (IsLeftRight folder (F.contents files.new))) }
     ensures work { IfSome (F.contents files.old) (λ folder. OnOk result (steps.new ≡ steps.old + (made (hand_of folder)).work)) }
     ensures unfinished { IfSome (F.contents files.old) (λ folder. IfErr result (λ fault. AreNotAll fault (writes_of folder) (Some folder) (F.contents files.new) (F.writes files.old) (F.writes files.new))) }
     ensures outside { IfSome (F.contents files.old) (λ folder. AreOutside is_hand (writes_of folder)) }
+    ensures writes_no_hand_file { AddsNoHandFile (F.writes files.old) (F.writes files.new) }
     ensures no_more { IfSome (F.contents files.old) (λ folder. steps.new ≤ steps.old + (made (hand_of folder)).work) }
     ensures no_less { steps.old ≤ steps.new }
     ensures hand { SameHand (F.contents files.old) (F.contents files.new) }
@@ -58,9 +60,10 @@ fn run_to_end<F: Files, L: Ledger>(
     progress: &mut Progress,
 ) -> Result<Option<Cause>, ChainFault>
     requires { progress.old ≡ nothing }
-    ensures end { IfSome (F.contents files.old) (λ folder. EndGives (trace_of folder) progress.new steps.old steps.new result) }
+    ensures end { IfSome (F.contents files.old) (λ folder. EndGives stage_work (trace_of folder) progress.new steps.old steps.new result) }
     ensures only_reads { OnlyReads F.contents F.writes F.faults files.old files.new
         (has_failed result) }
+    ensures no_hand_file { OnOk result (AreNoHandFiles progress.new.files) }
     ensures no_less { steps.old ≤ steps.new }
 {
     match run_built(alloc, files, steps, progress) {

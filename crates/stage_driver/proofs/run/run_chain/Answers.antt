@@ -1,6 +1,6 @@
-use Rattle.stage_driver.proofs.MadeRight.{told_right}
+use Rattle.stage_driver.proofs.LeftRight.{told_left, told_right}
 use Rattle.stage_driver.proofs.Refusing.{told_refuses}
-use Rattle.stage_driver.proofs.Running.{outcome_is, left_is, unfinished_is, untouched, work_told, work_bound, hand_is, hand_untouched, told_outside}
+use Rattle.stage_driver.proofs.Running.{outcome_is, left_is, unfinished_is, untouched, work_told, work_bound, hand_is, hand_untouched, told_outside, adds_none, adds_nothing}
 use Rattle.stage_driver.proofs.run.run_chain.Goals as goal
 
 pub returns-clause-outcome : goal.returns-clause-outcome
@@ -30,11 +30,11 @@ returns-in_err-cause-clause-no_more g c = work_bound _ c.run_to_end.new.progress
 pub returns-in_err-cause-clause-hand : goal.returns-in_err-cause-clause-hand
 returns-in_err-cause-clause-hand g c = hand_untouched _ _ c.in_err-cause.ensures.only_reads.contents
 
-pub returns-clause-right : goal.returns-clause-right
-returns-clause-right g c = told_right _
+pub returns-clause-made_files_are_right : goal.returns-clause-made_files_are_right
+returns-clause-made_files_are_right g c = told_right _
 
-pub returns-in_err-cause-clause-right : goal.returns-in_err-cause-clause-right
-returns-in_err-cause-clause-right g c = told_right _
+pub returns-in_err-cause-clause-made_files_are_right : goal.returns-in_err-cause-clause-made_files_are_right
+returns-in_err-cause-clause-made_files_are_right g c = told_right _
 
 pub returns-clause-outside : goal.returns-clause-outside
 returns-clause-outside g c = told_outside _
@@ -47,3 +47,12 @@ returns-clause-refusal g c = told_refuses _
 
 pub returns-in_err-cause-clause-refusal : goal.returns-in_err-cause-clause-refusal
 returns-in_err-cause-clause-refusal g c = told_refuses _
+
+pub returns-clause-writes_no_hand_file : goal.returns-clause-writes_no_hand_file
+returns-clause-writes_no_hand_file g c = adds_none c.run_to_end.new.progress.files _ _ _ _ _ _ c.in_ok-cause.ensures.no_hand_file c.in_ok-cause.ensures.only_reads.writes c.finish.ensures.left c.finish.ensures.unfinished
+
+pub returns-in_err-cause-clause-writes_no_hand_file : goal.returns-in_err-cause-clause-writes_no_hand_file
+returns-in_err-cause-clause-writes_no_hand_file g c = adds_nothing _ _ c.in_err-cause.ensures.only_reads.writes
+
+pub returns-clause-left_is_right : goal.returns-clause-left_is_right
+returns-clause-left_is_right g c = told_left _ _ _ _ _ (returns-clause-left g c)
