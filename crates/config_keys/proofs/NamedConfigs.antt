@@ -1,5 +1,5 @@
 -- The fault of a config names its config file, or one that this can include.
-use Rattle.std.proofs.Common.{◌≡◌, ℕ, zero, suc, Bool, true, false, eqb, List, [], ◌∷◌, ◌++◌, ◌+◌, length, nat_lt, Option, Some, None, IfSome, IfErr, Result, Ok, Err, refl}
+use Rattle.std.proofs.Common.{◌≡◌, ℕ, zero, suc, Bool, true, false, eqb, List, [], ◌∷◌, ◌++◌, ◌+◌, length, nat_lt, Option, Some, None, IfSome, IfErr, Ok, Err, refl}
 use Rattle.std.specs.Prelude.{if◌then◌else◌}
 use Rattle.std.specs.List.{flat_map}
 use Rattle.std.specs.Option.{option_map_or}

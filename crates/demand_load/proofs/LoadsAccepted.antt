@@ -1,5 +1,5 @@
 -- The loads that are made are accepted by the rules of their kind.
-use Rattle.std.proofs.Common.{◌≡◌, ℕ, ℤ, int_lt, ◌≤ℤ◌, Bool, true, false, not, is_some, T, List, [], ◌∷◌, length, map, refl, ap, subst, sym, ◌∙◌, arith, All}
+use Rattle.std.proofs.Common.{◌≡◌, ℕ, ℤ, int_lt, ◌≤ℤ◌, Bool, true, false, not, is_some, List, [], ◌∷◌, length, map, refl, ap, subst, sym, ◌∙◌, arith, All}
 use Rattle.std.specs.Int.Signed.{◌<ℤ◌, lt_z_yes}
 use Rattle.std.specs.List.{AllByRecursion, list_any}
 use Rattle.std.specs.List.Sorted.{IsStrictlySortedBy}

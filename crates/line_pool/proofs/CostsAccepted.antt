@@ -1,5 +1,5 @@
 -- The costs that are made are accepted by the rules of their kind.
-use Rattle.std.proofs.Common.{◌≡◌, ℕ, ℤ, not, Bool, true, false, List, [], ◌∷◌, map, refl, ap, subst, sym, ◌∙◌}
+use Rattle.std.proofs.Common.{◌≡◌, ℕ, not, Bool, true, false, List, [], ◌∷◌, map, refl, ap, subst, sym, ◌∙◌}
 use Rattle.std.specs.List.{AllByRecursion, list_any}
 use Rattle.std.specs.List.Sorted.{IsStrictlySortedBy}
 use Rattle.std.specs.Ordering.{int_eq, int_cmp}

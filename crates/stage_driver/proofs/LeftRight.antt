@@ -1,5 +1,5 @@
 -- What a run leaves in its folder is right there.
-use Rattle.std.proofs.Common.{◌≡◌, ℕ, ℤ, Bool, true, false, cond, leb, not, List, [], ◌∷◌, ◌++◌, map, filter, Option, Some, None, IfSome, IfOk, OnOk, Result, Ok, Err, refl, ap, subst, sym, ◌∙◌}
+use Rattle.std.proofs.Common.{◌≡◌, ℕ, ℤ, Bool, true, false, cond, leb, not, List, [], ◌∷◌, Option, Some, None, IfSome, IfOk, OnOk, Result, Ok, Err, refl, ap, subst, sym, ◌∙◌}
 use Rattle.std.specs.List.{list_all}
 use Rattle.std.specs.Option.{ok_or}
 use Rattle.std.specs.Str.{bytes_eq}
@@ -26,7 +26,7 @@ use Rattle.stage_driver.specs.declared.outcome.ChainFault.{ChainFault}
 use Rattle.stage_driver.specs.declared.outcome.Outcome.{Outcome}
 use Rattle.stage_driver.specs.declared.cause.Cause.{Cause}
 use Rattle.stage_driver.specs.declared.cause.Cause.TheVariants as cause
-use Rattle.stage_driver.specs.Built.{built, run_stage, files_of, trace_under, trace_of, made}
+use Rattle.stage_driver.specs.Built.{built, run_stage, files_of, trace_of, made}
 use Rattle.stage_driver.specs.Chain.{Visit, Trace, hand_text, made_text, input_text, stage_place}
 use Rattle.stage_driver.specs.Hand.{is_among, is_hand, hand_of, names_made_by}
 use Rattle.stage_driver.specs.Right.{made_in, text_in, files_by, StandsRight, AllStandRight, StandRightIn, MadeFilesAreRight, IsLeftRight}

@@ -11,7 +11,7 @@ use Rattle.config_keys.proofs.Settling.{part_fits}
 use Rattle.stage_driver.specs.declared.cause.Cause.{Cause}
 use Rattle.stage_driver.specs.Built.{run_stage}
 use Rattle.stage_driver.specs.Chain.{Visit, chosen, input_text, with_text, texts_by, bundle_for, bundle_told, bundle_by}
-use Rattle.stage_driver.specs.Right.{files_by, StandsRight, AllStandRight}
+use Rattle.stage_driver.specs.Right.{files_by, AllStandRight}
 use Rattle.stage_driver.proofs.Laws.{stage_laws, run_makes}
 use Rattle.stage_driver.proofs.Placed.{ArePlaced}
 

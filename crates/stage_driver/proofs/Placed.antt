@@ -20,14 +20,14 @@ use Rattle.stage_driver.specs.declared.cause.Cause.{Cause}
 use Rattle.stage_driver.specs.declared.origin.Origin.{Origin}
 use Rattle.stage_driver.specs.declared.origin.Origin.TheVariants as origin
 use Rattle.stage_driver.specs.Built.{files_of}
-use Rattle.stage_driver.specs.Chain.{Visit, Halt, origin_of, made_text, text_from, input_text, chosen, with_text, texts_by, bundle_for, bundle_told, bundle_by}
+use Rattle.stage_driver.specs.Chain.{Visit, Halt, origin_of, made_text, text_from, input_text, chosen, with_text, texts_by, bundle_told, bundle_by}
 use Rattle.stage_driver.specs.Hand.{is_among, names_made_by}
 use Rattle.stage_driver.specs.Right.{files_by}
 use Rattle.stage_driver.specs.Runs.{name_of}
-use Rattle.stage_driver.proofs.Differing.{all_both, all_parts, differs_from, Differ, differing, not_among, none_differ, differ_swap, differ_both, differing_parts, parts_differing}
-use Rattle.stage_driver.proofs.MadeLists.{IsMadeList, made_list}
+use Rattle.stage_driver.proofs.Differing.{all_both, all_parts, differs_from, Differ, differing, not_among, differ_swap, differ_both, differing_parts, parts_differing}
+use Rattle.stage_driver.proofs.MadeLists.{made_list}
 use Rattle.stage_driver.proofs.MadeTexts.{names_of, text_behind, text_front, text_stays, Agree, files_same, found_own}
-use Rattle.stage_driver.proofs.Visits.{given_to, IsVisit, AreVisits}
+use Rattle.stage_driver.proofs.Visits.{bundle_stage, IsVisit, AreVisits}
 
 -- ---- what is found stays found
 
@@ -55,11 +55,6 @@ from_stays : (from : Origin) (hand : Folder) (made more : List MadeFile) (file :
 from_stays origin.Needed hand made more file text e = e
 from_stays origin.Optional hand made more file text e = e
 from_stays origin.Earlier hand made more file text e = text_stays made more file text e
-
--- a bundle has the stage for which it is made
-pub bundle_stage : (values : List ℤ) (stage : Stage) (texts : Result (List (List ℕ)) Cause) (bundle : BundleParts) → bundle_told values stage texts ≡ Ok bundle → bundle.stage ≡ stage
-bundle_stage values stage (Err why) bundle e = absurd (cc)
-bundle_stage values stage (Ok texts) bundle e = let same : bundle_for values stage texts ≡ bundle = cc in sym (ap (λ (b : BundleParts). b.stage) same)
 
 -- ---- the files of a stage come of no hand
 

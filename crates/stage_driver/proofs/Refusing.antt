@@ -2,27 +2,22 @@
 use Rattle.std.proofs.Common.{◌≡◌, ℕ, ℤ, ltb, leb, Bool, true, false, cond, not, ◌&&◌, ◌||◌, List, [], ◌∷◌, ◌++◌, map, filter, Option, Some, None, IfSome, IfErr, Result, Ok, Err, refl, ap, subst, sym, ◌∙◌, append_assoc, append-nil, arith, ⊎_elim, ◌⊎◌}
 use Rattle.std.specs.List.{list_all, flat_map}
 use Rattle.std.specs.Str.{bytes_eq}
-use Rattle.std.proofs.lemmas.Bool.{false≢true, and_parts, and_from, lt-ltb, ltb-true, leb-true, le-leb, le-ltb}
-use Rattle.std.proofs.lemmas.List.{map-append}
-use Rattle.std.proofs.lemmas.List.Folds.{list_any-append}
+use Rattle.std.proofs.lemmas.Bool.{false≢true, and_parts, and_from, ltb-true, leb-true, le-leb, le-ltb}
 use Rattle.std.proofs.lemmas.Slice.Eq.{bytes_eq-Decides}
 use Rattle.plan_files.specs.declared.store.Got.{Got}
 use Rattle.plan_files.specs.declared.store.Got.TheVariants.{Bytes, Absent, TooLong as Long}
 use Rattle.plan_files.specs.Folder.{Folder}
 use Rattle.giv_files.specs.declared.made.MadeFile.{MadeFile}
-use Rattle.giv_files.specs.declared.refusal.Refusal.{Refusal}
 use Rattle.giv_files.specs.declared.file_id.FileId.{FileId}
 use Rattle.giv_files.specs.declared.file_id.FileId.TheVariants as file
 use Rattle.giv_files.specs.declared.stage.Stage.{Stage}
 use Rattle.giv_files.specs.FileNames.{file_name}
 use Rattle.giv_files.specs.MadeLists.{ids_of}
-use Rattle.giv_files.specs.NamedFiles.{NamesOnly}
 use Rattle.giv_files.specs.Settings.{BundleParts}
 use Rattle.giv_files.specs.Stages.{stage_inputs, stage_makes}
 use Rattle.config_keys.specs.Config.{last_stage_of}
 use Rattle.config_keys.specs.Items.{look_in}
 use Rattle.config_keys.specs.NamedConfigs.{ConfigNames}
-use Rattle.config_keys.specs.Values.{effective}
 use Rattle.config_keys.proofs.NamedConfigs.{config_names}
 use Rattle.config_keys.proofs.Settling.{effective_settings}
 use Rattle.stage_driver.specs.declared.cause.Cause.{Cause}
@@ -31,18 +26,18 @@ use Rattle.stage_driver.specs.declared.origin.Origin.{Origin}
 use Rattle.stage_driver.specs.declared.origin.Origin.TheVariants as origin
 use Rattle.stage_driver.specs.Hand.{is_among, is_hand, is_hand_file, hand_of}
 use Rattle.stage_driver.specs.Chain.{Visit, Halt, origin_of, hand_text, made_text, input_text, chosen, with_text, texts_by, bundle_for, bundle_told, stage_place}
-use Rattle.stage_driver.specs.Built.{built, stage_function, run_stage, cause_of, files_of, trace_of}
+use Rattle.stage_driver.specs.Built.{built, run_stage, cause_of, files_of}
 use Rattle.stage_driver.specs.Right.{NamesHand, RefusesHand, files_by, found_file, IsRightAs, AllStandRight}
 use Rattle.stage_driver.specs.Runs.{name_of}
 use Rattle.stage_driver.proofs.Differing.{all_both, all_parts, all_filter, same_way}
 use Rattle.stage_driver.proofs.HandAlone.{path_is_hand, config_is_hand}
-use Rattle.stage_driver.proofs.Laws.{bundle_over, IsRightOver, AreRightOver, earlier, stage_laws, run_makes}
+use Rattle.stage_driver.proofs.Laws.{bundle_over, AreRightOver, earlier, stage_laws, run_makes}
 use Rattle.stage_driver.proofs.MadeLists.{always_made, made_list}
 use Rattle.stage_driver.proofs.MadeRight.{visits_right}
 use Rattle.stage_driver.proofs.MadeTexts.{names_of, text_nowhere}
-use Rattle.stage_driver.proofs.Placed.{ArePlaced, IsPlaced, bundle_stage, made_looks}
+use Rattle.stage_driver.proofs.Placed.{ArePlaced, made_looks}
 use Rattle.stage_driver.proofs.Traces.{traced, chain, stages_run, are_visits, are_placed}
-use Rattle.stage_driver.proofs.Visits.{given_to, IsRefused, IsHalt, AreVisits}
+use Rattle.stage_driver.proofs.Visits.{IsHalt, AreVisits}
 
 -- ---- an input that is not there
 

@@ -1,5 +1,5 @@
 -- The chain over hand files.
-use Rattle.std.proofs.Common.{◌≡◌, ℕ, ℤ, Bool, true, false, cond, leb, List, [], ◌∷◌, ◌++◌, map, filter, Result, Ok, Err, refl, ap, sym, ◌∙◌}
+use Rattle.std.proofs.Common.{◌≡◌, ℕ, ℤ, Bool, true, false, cond, leb, List, [], ◌∷◌, map, filter, Result, Ok, Err, refl, ap, sym, ◌∙◌}
 use Rattle.std.specs.List.{list_all}
 use Rattle.plan_files.specs.Folder.{Folder}
 use Rattle.giv_files.specs.declared.stage.Stage.{Stage}
@@ -10,7 +10,7 @@ use Rattle.config_keys.specs.Config.{last_stage_of}
 use Rattle.config_keys.specs.Items.{look_in}
 use Rattle.config_keys.specs.Values.{effective}
 use Rattle.stage_driver.specs.Built.{built, run_stage, files_of, trace_under, trace_of}
-use Rattle.stage_driver.specs.Chain.{Trace, chain_from, stage_place, to_run}
+use Rattle.stage_driver.specs.Chain.{Trace, stage_place, to_run}
 use Rattle.stage_driver.specs.Hand.{names_made_by}
 use Rattle.stage_driver.specs.Runs.{name_of}
 use Rattle.stage_driver.proofs.Differing.{all_both, all_parts, differs_from, Differ, differing, none_differ, differ_swap, differing_parts, parts_differing}

@@ -11,14 +11,10 @@ use Rattle.stage_driver.specs.declared.chain_end.ChainEnd.{ChainEnd}
 use Rattle.stage_driver.specs.declared.chain_end.ChainEnd.TheVariants as end
 use Rattle.stage_driver.specs.declared.cause.Cause.{Cause}
 use Rattle.stage_driver.specs.declared.cause.Cause.TheVariants as cause
-use Rattle.stage_driver.specs.Chain.{Visit, Halt, texts_of, bundle_told, bundle_for, solved, tried, visit_of}
+use Rattle.stage_driver.specs.Chain.{Visit, Halt, texts_of, bundle_told, solved, tried, visit_of}
 use Rattle.stage_driver.specs.Ends.{Gives}
 use Rattle.stage_driver.specs.Progress.{SoFar, with_made, VisitGives, visit_work}
-
--- a bundle has the stage that it was made for
-bundle_stage : (values : List ℤ) (stage : Stage) (texts : Result (List (List ℕ)) Cause) (bundle : BundleParts) → bundle_told values stage texts ≡ Ok bundle → bundle.stage ≡ stage
-bundle_stage values stage (Err why) bundle e = absurd (cc)
-bundle_stage values stage (Ok texts) bundle e = let same : bundle_for values stage texts ≡ bundle = cc in sym (ap (λ (b : BundleParts). b.stage) same)
+use Rattle.stage_driver.proofs.Visits.{bundle_stage}
 
 module _ (solve : BundleParts → Result Made Refusal) (work : BundleParts → ℕ) (values : List ℤ) (stage : Stage) (old new : SoFar) where
   -- what the stage is given, where some files were made

@@ -1,5 +1,5 @@
 -- What a visit of a chain is, and what ends one.
-use Rattle.std.proofs.Common.{◌≡◌, ℕ, ℤ, List, [], ◌∷◌, ◌++◌, ◌⊎◌, inl, inr, Option, Some, None, Result, Ok, Err, refl}
+use Rattle.std.proofs.Common.{◌≡◌, ℕ, ℤ, List, [], ◌∷◌, ◌++◌, ◌⊎◌, inl, inr, Option, Some, None, Result, Ok, Err, refl, ap, sym}
 use Rattle.plan_files.specs.Folder.{Folder}
 use Rattle.giv_files.specs.declared.made.Made.{Made}
 use Rattle.giv_files.specs.declared.made.MadeFile.{MadeFile}
@@ -10,6 +10,11 @@ use Rattle.giv_files.specs.Stages.{stage_inputs}
 use Rattle.stage_driver.specs.declared.cause.Cause.{Cause}
 use Rattle.stage_driver.specs.declared.cause.Cause.TheVariants as cause
 use Rattle.stage_driver.specs.Chain.{Visit, Halt, Trace, texts_of, bundle_for, bundle_told, tried, solved, go_on, visit_of, chain_from}
+
+-- a bundle has the stage for which it is made
+pub bundle_stage : (values : List ℤ) (stage : Stage) (texts : Result (List (List ℕ)) Cause) (bundle : BundleParts) → bundle_told values stage texts ≡ Ok bundle → bundle.stage ≡ stage
+bundle_stage values stage (Err why) bundle e = absurd (cc)
+bundle_stage values stage (Ok texts) bundle e = let same : bundle_for values stage texts ≡ bundle = cc in sym (ap (λ (b : BundleParts). b.stage) same)
 
 module _ (solve : BundleParts → Result Made Refusal) (values : List ℤ) (hand : Folder) where
   -- what a stage is given, where so many files were made before it
