@@ -2,6 +2,7 @@ pub mod Expanding
 pub mod KeyNames
 pub mod Looks
 pub mod NameFacts
+pub mod NamedConfigs
 pub mod Settling
 pub mod Steps
 pub mod Taking

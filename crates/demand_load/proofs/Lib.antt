@@ -5,5 +5,6 @@ pub mod LoadMakes
 pub mod LoadNames
 pub mod LoadReads
 mod LoadRows
+mod LoadsAccepted
 mod SoundLoads
 mod Tried

@@ -1,3 +1,4 @@
+pub mod Accepted
 pub mod CellFacts
 pub mod CellTexts
 pub mod Failing

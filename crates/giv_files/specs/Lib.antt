@@ -6,6 +6,7 @@ pub mod InnerReading
 pub mod Inputs
 pub mod KeyKinds
 pub mod Keys
+pub mod MadeLists
 pub mod NamedFiles
 pub mod Names
 pub mod Reading

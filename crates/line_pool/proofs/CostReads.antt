@@ -7,7 +7,7 @@ use Rattle.giv_files.specs.declared.stage.Stage.TheVariants as stage
 use Rattle.giv_files.specs.Columns.{pool_cost_columns}
 use Rattle.giv_files.specs.Settings.{BundleParts, Fits}
 use Rattle.giv_files.specs.StageCalls.{input_text, StageGives}
-use Rattle.giv_files.specs.Writing.{table_text}
+use Rattle.giv_files.specs.Writing.{table_text, ReadsBack}
 use Rattle.giv_files.proofs.Ranges.{front_none, back_none}
 use Rattle.giv_files.proofs.StageCalls.{made_unless, none_unless}
 use Rattle.giv_files.proofs.WrittenBack.{written_back}
@@ -20,7 +20,9 @@ use Rattle.line_pool.specs.RightCosts.{lines_in, cost_rows, CostsAreRight}
 use Rattle.line_pool.proofs.CostCalls.{settings_modest}
 use Rattle.giv_files.proofs.Headers.{plain_header}
 use Rattle.line_pool.proofs.CostRows.{rows_in_columns, columns_written}
+use Rattle.line_pool.proofs.CostsAccepted.{costs_accepted}
 use Rattle.line_pool.proofs.SoundLines.{pool_sound}
+use Rattle.line_pool.proofs.WholeLines.{whole_lines}
 
 -- what the stage makes of inputs without a fault
 pub costs_are_right : (bundle : BundleParts) (made : Made) → bundle.stage ≡ stage.Cost → Fits bundle → cost_stage bundle ≡ Ok made → CostsAreRight bundle made
@@ -30,14 +32,18 @@ costs_are_right bundle made own fits is =
     let network = network_sound (input_text bundle 0) (input_text bundle 1) (front_none _ _ none) in
     let later = back_none (network_faults (input_text bundle 0) (input_text bundle 1)) (pool_faults (network_in bundle) (input_text bundle 2)) none in
     let lines = pool_sound kind.Pool (network_in bundle) (input_text bundle 2) network later in
+    let text = table_text cost_header pool_cost_columns (cost_rows bundle) in
+    let reads : ReadsBack pool_cost_columns (cost_rows bundle) text =
+    written_back cost_header pool_cost_columns (cost_rows bundle) (omega arith) columns_written
+    (rows_in_columns bundle.settings (network_in bundle).edges
+    (settings_modest bundle own fits) (lines_in bundle) lines)
+    (refl, plain_header cost_header refl) in
     record {
-      text = table_text cost_header pool_cost_columns (cost_rows bundle);
-      files = ap (λ (made : Made). made.files) (sym (made_unless _ _ made is));
-      reads =
-          written_back cost_header pool_cost_columns (cost_rows bundle) (omega arith) columns_written
-          (rows_in_columns bundle.settings (network_in bundle).edges
-          (settings_modest bundle own fits) (lines_in bundle) lines)
-          (refl, plain_header cost_header refl);
+      inputs = none;
+      text = text;
+      one = ap (λ (made : Made). made.files) (sym (made_unless _ _ made is));
+      reads = reads;
+      accepted = costs_accepted bundle.settings (network_in bundle).edges (lines_in bundle) text (whole_lines kind.Pool (network_in bundle) (input_text bundle 2) network later).rise reads;
     }
 
 -- what a call gives that meets the stage

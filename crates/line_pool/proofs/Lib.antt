@@ -3,6 +3,7 @@ pub mod CostMakes
 pub mod CostNames
 pub mod CostReads
 mod CostRows
+mod CostsAccepted
 mod PoolTables
 mod RowsOfLines
 pub mod SoundLines

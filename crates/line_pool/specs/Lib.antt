@@ -1,5 +1,6 @@
 pub mod CostStage
 pub mod LineCosts
 pub mod LinesSoFar
+pub mod PoolCosts
 pub mod Pools
 pub mod RightCosts

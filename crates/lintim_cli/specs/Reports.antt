@@ -14,7 +14,7 @@ fault_report = codes "file fault\n"
 -- the report is out, whole, and the count of faults is as before
 pub record Whole (report : List ℕ) (old new : Option (List ℕ)) (before now : ℕ) : Type 0 where
   pub out : new ≡ option_map (λ bytes. bytes ++ report) old
-  pub calm : now ≡ before
+  pub fault_free : now ≡ before
 
 -- a front part of the report is out, and the count of faults rose
 pub record Broken (report : List ℕ) (old new : Option (List ℕ)) (before now : ℕ) : Type 0 where
@@ -24,7 +24,7 @@ pub record Broken (report : List ℕ) (old new : Option (List ℕ)) (before now 
 -- nothing is out, and the count of faults is as before
 pub record Nothing (old new : Option (List ℕ)) (before now : ℕ) : Type 0 where
   pub out : new ≡ old
-  pub calm : now ≡ before
+  pub fault_free : now ≡ before
 
 -- what a report's writing leaves, by the answer: the status where all of it is out
 abbrev pub Reported : List ℕ → Status → Option (List ℕ) → Option (List ℕ) → ℕ → ℕ → Status → Type 0

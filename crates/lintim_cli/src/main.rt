@@ -43,4 +43,6 @@ fn main(rt: HostRuntime) -> ExitCode {
 }
 
 #[cfg(test)]
+mod spies;
+#[cfg(test)]
 mod tests;

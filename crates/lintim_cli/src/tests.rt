@@ -8,15 +8,15 @@ use std::fs;
 use std::process::Abort;
 use std::test::Fail;
 
-const CONFIG: &[u8] = b"load_source; file\nperiod_length; 20\n";
+pub(crate) const CONFIG: &[u8] = b"load_source; file\nperiod_length; 20\n";
 
-const STOPS: &[u8] = b"# stops\n1; A; A; 0; 0\n2; B; B; 0; 0\n3; C; C; 0; 0\n";
+pub(crate) const STOPS: &[u8] = b"# stops\n1; A; A; 0; 0\n2; B; B; 0; 0\n3; C; C; 0; 0\n";
 
-const EDGES: &[u8] = b"# edges\n1; 1; 2; 2; 4; 5\n2; 2; 3; 3; 6; 6\n";
+pub(crate) const EDGES: &[u8] = b"# edges\n1; 1; 2; 2; 4; 5\n2; 2; 3; 3; 6; 6\n";
 
-const POOL: &[u8] = b"# pool\n1; 1; 1\n1; 2; 2\n2; 1; 1\n";
+pub(crate) const POOL: &[u8] = b"# pool\n1; 1; 1\n1; 2; 2\n2; 1; 1\n";
 
-const GIVEN: &[u8] = b"# loads\n1; 100; 2; 3\n2; 40; 1; 3\n";
+pub(crate) const GIVEN: &[u8] = b"# loads\n1; 100; 2; 3\n2; 40; 1; 3\n";
 
 const LOADS: &[u8] =
     b"# edge-id; load; minimal-frequency; maximal-frequency\n1; 100; 2; 3\n2; 40; 1; 3\n";
@@ -89,7 +89,7 @@ const SQUARE: Case = Case {
     ..MADE
 };
 
-fn words(alloc: Global, word: &str) -> Result<Vec<String>, AllocError> {
+pub(crate) fn words(alloc: Global, word: &str) -> Result<Vec<String>, AllocError> {
     let mut words = Vec::new(alloc);
     words.push(String::from_str(alloc, word)?)?;
     Ok(words)

@@ -1,15 +1,14 @@
 // The top call.
-ghost use Rattle.std.specs.Prelude.{◌≡◌, ◌≢◌, ◌≤◌, ◌<◌, ◌+◌, ◌⊎◌, IfSome, Some, true, false};
+ghost use Rattle.std.specs.Prelude.{◌≡◌, ◌≤◌, ◌<◌, ◌+◌, ◌⊎◌, IfSome, true, false};
 ghost use Rattle.plan_files.specs.Counts.{Rose};
 ghost use Rattle.plan_files.specs.Others.{AreOutside};
 ghost use Rattle.stage_driver.specs.Built.{made};
-ghost use Rattle.stage_driver.specs.declared.outcome.ChainFault.TheVariants as faults;
 ghost use Rattle.stage_driver.specs.Hand.{hand_of, is_hand};
-ghost use Rattle.stage_driver.specs.Right.{MadeRight, RefusesHand};
-ghost use Rattle.stage_driver.specs.Runs.{AreNotAll, SameHand, writes_of};
+ghost use Rattle.stage_driver.specs.Right.{MadeFilesAreRight, RefusesHand};
+ghost use Rattle.stage_driver.specs.Runs.{AddsNoHandFile, SameHand, writes_of};
 ghost use Rattle.lintim_cli.specs.Answers.{AnswersTo};
 ghost use Rattle.lintim_cli.specs.Reports.{Reported, usage_report};
-ghost use Rattle.lintim_cli.specs.Top.{is_make, Finished, WhileCalm, FileBroke, PartOut};
+ghost use Rattle.lintim_cli.specs.Top.{is_make, Leaves, FileBroke};
 
 use crate::answers::Status;
 use crate::report;
@@ -46,44 +45,36 @@ pub fn lintim<F: Files, K: Sink, L: Ledger>(
         Reported usage_report Status.Usage (K.written out.old) (K.written out.new) (K.faults out.old) (K.faults out.new) result }
     ensures usage_calls_nothing { is_make words.now ≡ false → (files.new ≡ files.old) × (steps.new ≡ steps.old) }
 
-    // Over a told folder, where no count rose and memory was not refused, its hand files alone determine the answer, the
-    // report and the made files; every other file is as before.
-    ensures calm { is_make words.now ≡ true → IfSome (F.contents files.old) (λ folder.
-        ¬ Rose (F.faults files.old) (F.faults files.new) → ¬ Rose (K.faults out.old) (K.faults out.new) → result ≢ Status.NoMemory →
-        WhileCalm folder result (K.written out.old) (K.written out.new)
-        × Finished folder (F.contents files.new) (F.writes files.old) (F.writes files.new) steps.old steps.new) }
+    // Over a told folder the answer says what is told and left.
+    ensures leaves { is_make words.now ≡ true → IfSome (F.contents files.old) (λ folder.
+        Leaves folder (F.contents files.new) (F.writes files.old) (F.writes files.new) (F.faults files.old) (F.faults files.new)
+        (K.written out.old) (K.written out.new) steps.old steps.new result) }
 
-    // Each file that the stages make, read again, satisfies its stage's model over what the stage was given.
-    ensures right { is_make words.now ≡ true → IfSome (F.contents files.old) (λ folder. MadeRight (hand_of folder)) }
+    // In the folder that a finished run leaves, the files of each stage, read again, satisfy its model over the files from which they
+    // were made, and these have no fault.
+    ensures made_files_are_right { is_make words.now ≡ true → IfSome (F.contents files.old) MadeFilesAreRight }
 
-    // Where a row is refused, it stands in a file that people write.
+    // A refused row, a file that is missing or too long, and a file with a fault of the settings are files that people write.
     ensures refusal { is_make words.now ≡ true → IfSome (F.contents files.old) (λ folder. RefusesHand (hand_of folder)) }
 
-    // The files that people write, and all others that no stage makes or keeps, are as before, whatever the answer.
+    // The files that people write, and all others that no stage makes or keeps, are as before, whatever the answer. No write names one,
+    // also where the contents are not told.
     ensures hand { SameHand (F.contents files.old) (F.contents files.new) }
+    ensures writes_no_hand_file { AddsNoHandFile (F.writes files.old) (F.writes files.new) }
     ensures outside { is_make words.now ≡ true → IfSome (F.contents files.old) (λ folder. AreOutside is_hand (writes_of folder)) }
 
-    // A file fault comes only where the count rose. Its line is out; some first writes were made, and one more may be in part.
+    // A file fault comes only where the count rose, and its line is out.
     ensures file_fault { result ≡ Status.FileFault → FileBroke (F.faults files.old) (F.faults files.new) (K.written out.old) (K.written out.new) (K.faults out.old) (K.faults out.new) }
-    ensures file_fault_leaves { IfSome (F.contents files.old) (λ folder. result ≡ Status.FileFault →
-        AreNotAll faults.FileFault (writes_of folder) (Some folder) (F.contents files.new) (F.writes files.old) (F.writes files.new)) }
     ensures file_fault_comes { F.faults files.old < F.faults files.new → (result ≡ Status.FileFault) ⊎ (result ≡ Status.NoMemory) }
 
-    // A sink fault comes only where its count rose. The files are as after success, and a front part of the report is out.
+    // A sink fault comes only where its count rose.
     ensures sink_fault { result ≡ Status.SinkFault → Rose (K.faults out.old) (K.faults out.new) }
-    ensures sink_fault_leaves { is_make words.now ≡ true → IfSome (F.contents files.old) (λ folder. result ≡ Status.SinkFault →
-        PartOut folder (K.written out.old) (K.written out.new)
-        × Finished folder (F.contents files.new) (F.writes files.old) (F.writes files.new) steps.old steps.new) }
     ensures sink_fault_comes { K.faults out.old < K.faults out.new → (result ≡ Status.SinkFault) ⊎ (result ≡ Status.FileFault) }
 
-    // Where memory was refused nothing is out. The files are as after some first writes, or as after success. A write can be
-    // made in part only where the count of file faults rose.
+    // Where memory was refused nothing is out.
     ensures no_memory { result ≡ Status.NoMemory → K.written out.new ≡ K.written out.old }
-    ensures no_memory_leaves { IfSome (F.contents files.old) (λ folder. result ≡ Status.NoMemory →
-        AreNotAll faults.NoMemory (writes_of folder) (Some folder) (F.contents files.new) (F.writes files.old) (F.writes files.new)
-        ⊎ (Rose (F.faults files.old) (F.faults files.new)
-        × AreNotAll faults.FileFault (writes_of folder) (Some folder) (F.contents files.new) (F.writes files.old) (F.writes files.new))
-        ⊎ Finished folder (F.contents files.new) (F.writes files.old) (F.writes files.new) steps.old steps.new) }
+
+    // The count of steps rises by at most the work.
     ensures no_less_steps { steps.old ≤ steps.new }
     ensures no_more_steps { IfSome (F.contents files.old) (λ folder. steps.new ≤ steps.old + (made (hand_of folder)).work) }
 {

@@ -6,24 +6,20 @@ use Rattle.giv_files.specs.declared.file_id.FileId.{FileId}
 use Rattle.giv_files.specs.declared.made.MadeFile.{MadeFile}
 use Rattle.giv_files.specs.declared.stage.Stage.{Stage}
 use Rattle.giv_files.specs.Settings.{BundleParts}
-use Rattle.stage_driver.specs.declared.stop.Stop.{Stop}
+use Rattle.stage_driver.specs.declared.cause.Cause.{Cause}
 use Rattle.stage_driver.specs.Chain.{chosen, input_text, with_text, texts_of, bundle_for, bundle_told}
 
 -- texts that are there, and then others
-abbrev pub behind : List (List ℕ) → Result (List (List ℕ)) Stop → Result (List (List ℕ)) Stop
+abbrev pub behind : List (List ℕ) → Result (List (List ℕ)) Cause → Result (List (List ℕ)) Cause
 behind texts (Ok more) = Ok (texts ++ more)
 behind texts (Err why) = Err why
 
-pub behind_none : (more : Result (List (List ℕ)) Stop) → behind [] more ≡ more
-behind_none (Ok more) = refl
-behind_none (Err why) = refl
-
-behind_one : (texts : List (List ℕ)) (text : List ℕ) (more : Result (List (List ℕ)) Stop) → behind texts (with_text (Ok text) more) ≡ behind (texts ++ text ∷ []) more
+behind_one : (texts : List (List ℕ)) (text : List ℕ) (more : Result (List (List ℕ)) Cause) → behind texts (with_text (Ok text) more) ≡ behind (texts ++ text ∷ []) more
 behind_one texts text (Ok more) = ap Ok (sym (append_assoc texts (text ∷ []) more))
 behind_one texts text (Err why) = refl
 
 module _ (values : List ℤ) (folder : Folder) (made : List MadeFile) where
-  abbrev all : List FileId → Result (List (List ℕ)) Stop
+  abbrev all : List FileId → Result (List (List ℕ)) Cause
   all files = texts_of values folder made files
 
   -- the next text is there
@@ -34,12 +30,6 @@ module _ (values : List ℤ) (folder : Folder) (made : List MadeFile) where
       ∙ ap (λ next. behind texts (with_text next (all (drop (i + 1) files)))) (sym is)
       ∙ sym (at_drop_more (λ rest. behind texts (all rest)) files i d inside)
       ∙ so_far
-
-  -- the next text is not there
-  pub text_none : (files : List FileId) (i : ℕ) (d : FileId) (texts : List (List ℕ)) (why : Stop) → i < length files → input_text folder made (chosen values (get_or files i d)) ≡ Err why
-      → behind texts (all (drop i files)) ≡ all files → all files ≡ Err why
-  text_none files i d texts why inside is so_far =
-      sym so_far ∙ at_drop_more (λ rest. behind texts (all rest)) files i d inside ∙ ap (λ next. behind texts (with_text next (all (drop (i + 1) files)))) is
 
   -- all texts are there
   pub text_all : (files : List FileId) (i : ℕ) (texts : List (List ℕ)) → length files ≤ i → behind texts (all (drop i files)) ≡ all files → all files ≡ Ok texts

@@ -8,9 +8,12 @@ use Rattle.plan_files.specs.Folder.{Folder, found}
 use Rattle.plan_files.proofs.OtherFiles.{get_part}
 use Rattle.giv_files.specs.declared.file_id.FileId.{FileId}
 use Rattle.giv_files.specs.declared.file_id.FileId.TheVariants as file
+use Rattle.giv_files.specs.declared.made.Made.{Made}
 use Rattle.giv_files.specs.declared.made.MadeFile.{MadeFile}
+use Rattle.giv_files.specs.declared.refusal.Refusal.{Refusal}
 use Rattle.giv_files.specs.declared.stage.Stage.{Stage}
 use Rattle.giv_files.specs.FileNames.{file_name}
+use Rattle.giv_files.specs.Settings.{BundleParts}
 use Rattle.giv_files.specs.Stages.{stage_inputs}
 use Rattle.config_keys.specs.declared.config_fault.ConfigFault.{ConfigFault}
 use Rattle.config_keys.specs.Includes.{is_inside, path_of}
@@ -22,7 +25,7 @@ use Rattle.stage_driver.specs.Chain.{hand_text, input_text, chosen, with_text, t
 use Rattle.stage_driver.specs.Built.{built, run_stage, trace_under, trace_of}
 
 -- under the name of a hand file the hand files have what the folder has
-look_same : (folder : Folder) (name : List ℕ) → is_hand name ≡ true → look_in (hand_of folder) name ≡ look_in folder name
+pub look_same : (folder : Folder) (name : List ℕ) → is_hand name ≡ true → look_in (hand_of folder) name ≡ look_in folder name
 unfolding hand_of
 look_same folder name is = ap (λ bytes. found bytes file_limit) (get_part is_hand folder name ∙ ap (λ b. cond b (files.get folder name) None) is)
 
@@ -31,17 +34,17 @@ not_costs name true inside is = absurd (false≢true (sym (ap is_inside ((bytes_
 not_costs name false inside is = refl
 
 -- every file that a config can name is a hand file
-path_is_hand : (name : List ℕ) → is_inside name ≡ true → is_hand (path_of name) ≡ true
+pub path_is_hand : (name : List ℕ) → is_inside name ≡ true → is_hand (path_of name) ≡ true
 unfolding is_hand
 path_is_hand name inside =
     let other : bytes_eq name (codes "Pool-Cost.giv") ≡ false = not_costs name (bytes_eq name (codes "Pool-Cost.giv")) inside refl in
     rw other refl
 
-config_is_hand : is_hand config_name ≡ true
+pub config_is_hand : is_hand config_name ≡ true
 unfolding is_hand
 config_is_hand = refl
 
-settings_same : (folder : Folder) → effective (look_in (hand_of folder)) ≡ effective (look_in folder)
+pub settings_same : (folder : Folder) → effective (look_in (hand_of folder)) ≡ effective (look_in folder)
 settings_same folder = effective_same (look_in (hand_of folder)) (look_in folder) (λ name inside. look_same folder (path_of name) (path_is_hand name inside)) (look_same folder config_name config_is_hand)
 
 module _ (folder : Folder) where
@@ -65,19 +68,20 @@ module _ (folder : Folder) where
       ap (λ text. with_text text (texts_of values (hand_of folder) made inputs)) (input_same made (chosen values file))
       ∙ ap (with_text (input_text folder made (chosen values file))) (texts_same values made inputs)
 
-  visit_same : (values : List ℤ) (made : List MadeFile) (stage : Stage) → visit_of run_stage values (hand_of folder) made stage ≡ visit_of run_stage values folder made stage
-  unfolding visit_of
-  visit_same values made stage = ap (λ texts. tried run_stage values folder (bundle_told values stage texts)) (texts_same values made (stage_inputs stage))
+  module _ (solve : BundleParts → Result Made Refusal) where
+    visit_same : (values : List ℤ) (made : List MadeFile) (stage : Stage) → visit_of solve values (hand_of folder) made stage ≡ visit_of solve values folder made stage
+    unfolding visit_of
+    visit_same values made stage = ap (λ texts. tried solve values folder (bundle_told values stage texts)) (texts_same values made (stage_inputs stage))
 
-  chain_same : (values : List ℤ) (made : List MadeFile) (stages : List Stage) → chain_from run_stage values (hand_of folder) made stages ≡ chain_from run_stage values folder made stages
-  chain_same values made [] = refl
-  chain_same values made (stage ∷ stages) =
-      ap (λ visit. go_on visit (λ visit. chain_from run_stage values (hand_of folder) (made ++ visit.made.files) stages)) (visit_same values made stage)
-      ∙ ap (go_on (visit_of run_stage values folder made stage)) (λ i visit. chain_same values (made ++ visit.made.files) stages i)
+    chain_same : (values : List ℤ) (made : List MadeFile) (stages : List Stage) → chain_from solve values (hand_of folder) made stages ≡ chain_from solve values folder made stages
+    chain_same values made [] = refl
+    chain_same values made (stage ∷ stages) =
+        ap (λ visit. go_on visit (λ visit. chain_from solve values (hand_of folder) (made ++ visit.made.files) stages)) (visit_same values made stage)
+        ∙ ap (go_on (visit_of solve values folder made stage)) (λ i visit. chain_same values (made ++ visit.made.files) stages i)
 
   under_same : (settings : Result (List ℤ) ConfigFault) → trace_under settings (hand_of folder) ≡ trace_under settings folder
   under_same (Err reason) = refl
-  under_same (Ok values) = chain_same values [] (to_run values built)
+  under_same (Ok values) = chain_same run_stage values [] (to_run values built)
 
   -- the chain over a folder is that over its hand files
   pub hand_alone : trace_of (hand_of folder) ≡ trace_of folder

@@ -1,6 +1,6 @@
 -- What the stages that are built make of hand files.
-use Rattle.std.specs.Prelude.{ℕ, ℤ, ◌+◌, List, [], ◌∷◌, ◌++◌, Option, Some, None, Result, Ok, Err}
-use Rattle.std.specs.List.{flat_map}
+use Rattle.std.specs.Prelude.{ℕ, ℤ, List, [], ◌∷◌, ◌++◌, Option, Some, None, Result, Ok, Err}
+use Rattle.std.specs.List.{flat_map, sum_by}
 use Rattle.std.specs.Option.{option_map}
 use Rattle.plan_files.specs.Folder.{Folder}
 use Rattle.giv_files.specs.declared.made.Made.{Made}
@@ -16,9 +16,9 @@ use Rattle.config_keys.specs.Values.{effective}
 use Rattle.demand_load.specs.LoadStage.{load_stage}
 use Rattle.line_pool.specs.CostStage.{cost_stage}
 use Rattle.stage_driver.specs.declared.outcome.RunEnd.{RunEnd}
-use Rattle.stage_driver.specs.declared.stop.Stop.{Stop}
-use Rattle.stage_driver.specs.declared.stop.Stop.TheVariants as stop
-use Rattle.stage_driver.specs.Chain.{Visit, Halt, Trace, chain_from, to_run}
+use Rattle.stage_driver.specs.declared.cause.Cause.{Cause}
+use Rattle.stage_driver.specs.declared.cause.Cause.TheVariants as cause
+use Rattle.stage_driver.specs.Chain.{Visit, Halt, Trace, chain_from, handed, to_run}
 use Rattle.stage_driver.specs.Reports.{stage_lines, last_line, end_of}
 
 -- the stages that are built, in the order in which they run
@@ -36,12 +36,12 @@ abbrev pub run_stage : BundleParts → Result Made Refusal
 run_stage bundle = stage_function bundle.stage bundle
 
 -- how many steps a stage takes over what it is given
-abbrev pub stage_work : BundleParts → ℕ
+unfoldable pub stage_work : BundleParts → ℕ
 stage_work bundle = 1
 
 -- what the chain over hand files does, under settings or a fault of them
 abbrev pub trace_under : Result (List ℤ) ConfigFault → Folder → Trace
-trace_under (Err reason) hand = record { visits = []; halt = Some (record { stop = stop.BadConfig reason; given = None }) }
+trace_under (Err reason) hand = record { visits = []; halt = Some (record { cause = cause.BadConfig reason; given = None }) }
 trace_under (Ok values) hand = chain_from run_stage values hand [] (to_run values built)
 
 -- what the chain over hand files does from scratch
@@ -52,39 +52,25 @@ trace_of hand = trace_under (effective (look_in hand)) hand
 abbrev pub files_of : List Visit → List MadeFile
 files_of visits = flat_map (λ visit. visit.made.files) visits
 
--- the steps of the stages that were made
-abbrev pub visits_work : List Visit → ℕ
-visits_work [] = 0
-visits_work (visit ∷ visits) = stage_work visit.bundle + visits_work visits
-
--- the steps of the stage that ends a chain early, where it had its inputs
-abbrev pub given_work : Option BundleParts → ℕ
-given_work None = 0
-given_work (Some bundle) = stage_work bundle
-
-abbrev pub halt_work : Option Halt → ℕ
-halt_work None = 0
-halt_work (Some halt) = given_work halt.given
-
 -- why a chain ends early
-abbrev pub stop_of : Option Halt → Option Stop
-stop_of halt = option_map (λ halt. halt.stop) halt
+abbrev pub cause_of : Option Halt → Option Cause
+cause_of halt = option_map (λ halt. halt.cause) halt
 
 -- what is made of hand files: the files, the report, how it ends, and how many steps it takes
-pub record Chain : Type 0 where
+pub record RunParts : Type 0 where
   pub files : List MadeFile
   pub report : List ℕ
   pub end : RunEnd
   pub work : ℕ
 
-abbrev pub told_by : Trace → Chain
+abbrev pub told_by : Trace → RunParts
 told_by trace = record {
   files = files_of trace.visits;
-  report = stage_lines trace.visits ++ last_line (stop_of trace.halt);
-  end = end_of (stop_of trace.halt);
-  work = visits_work trace.visits + halt_work trace.halt;
+  report = stage_lines trace.visits ++ last_line (cause_of trace.halt);
+  end = end_of (cause_of trace.halt);
+  work = sum_by stage_work (handed trace);
 }
 
 -- what the chain makes of hand files from scratch
-unfoldable pub made : Folder → Chain
+unfoldable pub made : Folder → RunParts
 made hand = told_by (trace_of hand)

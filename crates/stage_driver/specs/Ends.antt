@@ -8,8 +8,8 @@ use Rattle.stage_driver.specs.declared.chain_end.ChainEnd.{ChainEnd}
 use Rattle.stage_driver.specs.declared.chain_end.ChainEnd.TheVariants as end
 use Rattle.stage_driver.specs.declared.outcome.ChainFault.{ChainFault}
 use Rattle.stage_driver.specs.declared.outcome.ChainFault.TheVariants as fault
-use Rattle.stage_driver.specs.declared.stop.Stop.{Stop}
-use Rattle.stage_driver.specs.declared.stop.Stop.TheVariants as stop
+use Rattle.stage_driver.specs.declared.cause.Cause.{Cause}
+use Rattle.stage_driver.specs.declared.cause.Cause.TheVariants as cause
 
 -- what the fault of a file ends
 abbrev pub chain_fault_of : FileFault → ChainFault
@@ -17,9 +17,9 @@ chain_fault_of file_fault.Failed = fault.FileFault
 chain_fault_of file_fault.NoMemory = fault.NoMemory
 
 -- the fault of a call on a file that ends a run so
-abbrev pub cause_of : ChainFault → FileFault
-cause_of fault.FileFault = file_fault.Failed
-cause_of fault.NoMemory = file_fault.NoMemory
+abbrev pub file_fault_of : ChainFault → FileFault
+file_fault_of fault.FileFault = file_fault.Failed
+file_fault_of fault.NoMemory = file_fault.NoMemory
 
 -- what the fault of a file ends in a part of a chain
 abbrev pub end_of_file : FileFault → ChainEnd
@@ -28,7 +28,7 @@ end_of_file file_fault.NoMemory = end.NoMemory
 
 -- what settings end that are refused
 abbrev pub end_of_config : ConfigEnd → ChainEnd
-end_of_config (config.Refused reason) = end.Stopped (stop.BadConfig reason)
+end_of_config (config.Refused reason) = end.Stopped (cause.BadConfig reason)
 end_of_config config.FileFault = end.FileFault
 end_of_config config.NoMemory = end.NoMemory
 
@@ -46,7 +46,7 @@ has_failed (Err fault.FileFault) = true
 has_failed (Err fault.NoMemory) = false
 
 -- what a part of a chain gives: what was told, or why the chain stops there; other ends are free
-abbrev pub Gives : {T : Type 0} → Result T Stop → Result T ChainEnd → Type 0
+abbrev pub Gives : {T : Type 0} → Result T Cause → Result T ChainEnd → Type 0
 Gives told (Ok made) = told ≡ Ok made
 Gives told (Err (end.Stopped why)) = told ≡ Err why
 Gives told (Err end.FileFault) = ⊤

@@ -1,11 +1,14 @@
 -- Which files of a dataset people write, and which the program makes.
-use Rattle.std.specs.Prelude.{ℕ, not, ◌||◌, Bool, List, ◌++◌, map, codes}
-use Rattle.std.specs.List.{list_any, flat_map}
+use Rattle.std.specs.Prelude.{ℕ, ◌≡◌, not, ◌||◌, Bool, true, List, ◌++◌, map, codes}
+use Rattle.std.specs.List.{list_any, list_all, flat_map}
 use Rattle.std.specs.Str.{bytes_eq}
 use Rattle.std.specs.FinMap as files
 use Rattle.plan_files.specs.Folder.{Folder}
+use Rattle.giv_files.specs.declared.file_id.FileId.{FileId}
+use Rattle.giv_files.specs.declared.made.MadeFile.{MadeFile}
 use Rattle.giv_files.specs.declared.stage.Stage.{Stage}
 use Rattle.giv_files.specs.FileNames.{file_name}
+use Rattle.giv_files.specs.MadeLists.{ids_of}
 use Rattle.giv_files.specs.StageNames.{stage_name}
 use Rattle.giv_files.specs.Stages.{all_stages, stage_makes}
 
@@ -28,3 +31,11 @@ is_hand name = not (is_among name (names_made_by all_stages) || is_among name (m
 -- the files of a folder that people write
 unfoldable pub hand_of : Folder → Folder
 hand_of folder = files.retain_keys folder is_hand
+
+-- people write a file
+abbrev pub is_hand_file : FileId → Bool
+is_hand_file file = is_hand (file_name file)
+
+-- no file that was made is one that people write
+abbrev pub AreNoHandFiles : List MadeFile → Type 0
+AreNoHandFiles files = list_all (λ file. not (is_hand_file file)) (ids_of files) ≡ true

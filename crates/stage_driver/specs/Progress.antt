@@ -1,14 +1,17 @@
 -- What a chain has made so far, and what is still to come.
-use Rattle.std.specs.Prelude.{ℕ, ◌≡◌, ◌≤◌, ◌+◌, List, [], ◌++◌, Option, Some, None, Result, Ok, Err}
+use Rattle.std.specs.Prelude.{ℕ, ◌≡◌, ◌≤◌, ◌+◌, List, [], ◌++◌, Option, Some, None, Result, Ok, Err, ⊤}
+use Rattle.std.specs.List.{sum_by}
 use Rattle.giv_files.specs.declared.made.Made.{Made}
 use Rattle.giv_files.specs.declared.made.MadeFile.{MadeFile}
+use Rattle.giv_files.specs.Settings.{BundleParts}
 use Rattle.stage_driver.specs.declared.chain_end.ChainEnd.{ChainEnd}
 use Rattle.stage_driver.specs.declared.chain_end.ChainEnd.TheVariants as end
 use Rattle.stage_driver.specs.declared.outcome.ChainFault.{ChainFault}
-use Rattle.stage_driver.specs.declared.stop.Stop.{Stop}
-use Rattle.stage_driver.specs.Chain.{Visit, Halt, Trace}
+use Rattle.stage_driver.specs.declared.cause.Cause.{Cause}
+use Rattle.stage_driver.specs.Chain.{Visit, Halt, Trace, handed, handed_once}
+use Rattle.stage_driver.specs.Hand.{AreNoHandFiles}
 use Rattle.stage_driver.specs.Reports.{stage_lines, line_of}
-use Rattle.stage_driver.specs.Built.{files_of, visits_work, halt_work, given_work, stop_of, stage_work}
+use Rattle.stage_driver.specs.Built.{files_of, cause_of}
 
 -- the files that were made so far, and the report so far
 pub record SoFar : Type 0 where
@@ -23,42 +26,48 @@ nothing = record { files = []; report = [] }
 abbrev pub with_made : SoFar → Made → SoFar
 with_made so_far made = record { files = so_far.files ++ made.files; report = so_far.report ++ line_of made.report }
 
--- a chain is what was made so far, and then the rest of it; the count of steps rose from one value to another by what was made so far
-pub record IsRest (whole rest : Trace) (so_far : SoFar) (before now : ℕ) : Type 0 where
-  pub files : files_of whole.visits ≡ so_far.files ++ files_of rest.visits
-  pub report : stage_lines whole.visits ≡ so_far.report ++ stage_lines rest.visits
-  pub work : before + visits_work whole.visits ≡ now + visits_work rest.visits
-  pub halt : whole.halt ≡ rest.halt
-
--- the work of one stage, which is made or ends the chain
-abbrev pub visit_work : Result Visit Halt → ℕ
-visit_work (Ok visit) = stage_work visit.bundle
-visit_work (Err halt) = given_work halt.given
-
--- what one stage gives: it is made, or the chain stops there; after a fault the count rose by at most its work
-abbrev pub VisitGives : Result Visit Halt → SoFar → SoFar → ℕ → ℕ → Result (Unit {0}) ChainEnd → Type 0
-VisitGives told old new before now (Ok _) = (visit : Visit) × (told ≡ Ok visit) × (new ≡ with_made old visit.made) × (now ≡ before + stage_work visit.bundle)
-VisitGives told old new before now (Err (end.Stopped why)) = (halt : Halt) × (told ≡ Err halt) × (halt.stop ≡ why) × (new ≡ old) × (now ≡ before + given_work halt.given)
-VisitGives told old new before now (Err end.FileFault) = (before ≤ now) × (now ≤ before + visit_work told)
-VisitGives told old new before now (Err end.NoMemory) = (before ≤ now) × (now ≤ before + visit_work told)
-
--- the whole work of a chain
-abbrev pub trace_work : Trace → ℕ
-trace_work trace = visits_work trace.visits + halt_work trace.halt
-
 -- all that a chain made
 pub record IsAll (trace : Trace) (so_far : SoFar) : Type 0 where
   pub files : files_of trace.visits ≡ so_far.files
   pub report : stage_lines trace.visits ≡ so_far.report
 
--- what running a chain gives: all of it is made up to where it ends; after a fault the count rose by at most its work
-abbrev pub ChainGives : Trace → SoFar → ℕ → ℕ → Result (Unit {0}) ChainEnd → Type 0
-ChainGives trace new before now (Ok _) = (stop_of trace.halt ≡ None) × IsAll trace new × (now ≡ before + trace_work trace)
-ChainGives trace new before now (Err (end.Stopped why)) = (stop_of trace.halt ≡ Some why) × IsAll trace new × (now ≡ before + trace_work trace)
-ChainGives trace new before now (Err end.FileFault) = (before ≤ now) × (now ≤ before + trace_work trace)
-ChainGives trace new before now (Err end.NoMemory) = (before ≤ now) × (now ≤ before + trace_work trace)
+-- unless a file failed or memory was refused, no file that was made so far is one that people write
+abbrev pub HasNoHandFile : {T : Type 0} → SoFar → Result T ChainEnd → Type 0
+HasNoHandFile so_far (Ok _) = AreNoHandFiles so_far.files
+HasNoHandFile so_far (Err (end.Stopped why)) = AreNoHandFiles so_far.files
+HasNoHandFile so_far (Err end.FileFault) = ⊤
+HasNoHandFile so_far (Err end.NoMemory) = ⊤
 
--- what running a chain to its end gives: all of it, and why it ended early, if it did
-abbrev pub EndGives : Trace → SoFar → ℕ → ℕ → Result (Option Stop) ChainFault → Type 0
-EndGives trace new before now (Ok why) = (stop_of trace.halt ≡ why) × IsAll trace new × (now ≡ before + trace_work trace)
-EndGives trace new before now (Err fault) = (before ≤ now) × (now ≤ before + trace_work trace)
+module _ (work : BundleParts → ℕ) where
+  -- A chain is what was made so far, and then the rest of it. The count of steps rose from one value to another by the work so far.
+  pub record IsRest (whole rest : Trace) (so_far : SoFar) (before now : ℕ) : Type 0 where
+    pub files : files_of whole.visits ≡ so_far.files ++ files_of rest.visits
+    pub report : stage_lines whole.visits ≡ so_far.report ++ stage_lines rest.visits
+    pub steps : before + sum_by work (handed whole) ≡ now + sum_by work (handed rest)
+    pub halt : whole.halt ≡ rest.halt
+
+  -- the work of one stage, and that of a whole chain
+  abbrev pub visit_work : Result Visit Halt → ℕ
+  visit_work told = sum_by work (handed_once told)
+
+  abbrev pub trace_work : Trace → ℕ
+  trace_work trace = sum_by work (handed trace)
+
+  -- what one stage gives: it is made, or the chain stops there; after a fault the count rose by at most its work
+  abbrev pub VisitGives : Result Visit Halt → SoFar → SoFar → ℕ → ℕ → Result (Unit {0}) ChainEnd → Type 0
+  VisitGives told old new before now (Ok _) = (visit : Visit) × (told ≡ Ok visit) × (new ≡ with_made old visit.made) × (now ≡ before + visit_work told)
+  VisitGives told old new before now (Err (end.Stopped why)) = (halt : Halt) × (told ≡ Err halt) × (halt.cause ≡ why) × (new ≡ old) × (now ≡ before + visit_work told)
+  VisitGives told old new before now (Err end.FileFault) = (before ≤ now) × (now ≤ before + visit_work told)
+  VisitGives told old new before now (Err end.NoMemory) = (before ≤ now) × (now ≤ before + visit_work told)
+
+  -- what running a chain gives: all of it is made up to where it ends; after a fault the count rose by at most its work
+  abbrev pub ChainGives : Trace → SoFar → ℕ → ℕ → Result (Unit {0}) ChainEnd → Type 0
+  ChainGives trace new before now (Ok _) = (cause_of trace.halt ≡ None) × IsAll trace new × (now ≡ before + trace_work trace)
+  ChainGives trace new before now (Err (end.Stopped why)) = (cause_of trace.halt ≡ Some why) × IsAll trace new × (now ≡ before + trace_work trace)
+  ChainGives trace new before now (Err end.FileFault) = (before ≤ now) × (now ≤ before + trace_work trace)
+  ChainGives trace new before now (Err end.NoMemory) = (before ≤ now) × (now ≤ before + trace_work trace)
+
+  -- what running a chain to its end gives: all of it, and why it ended early, if it did
+  abbrev pub EndGives : Trace → SoFar → ℕ → ℕ → Result (Option Cause) ChainFault → Type 0
+  EndGives trace new before now (Ok why) = (cause_of trace.halt ≡ why) × IsAll trace new × (now ≡ before + trace_work trace)
+  EndGives trace new before now (Err fault) = (before ≤ now) × (now ≤ before + trace_work trace)

@@ -13,8 +13,8 @@ use Rattle.config_keys.specs.declared.config_fault.ConfigFault.{ConfigFault}
 use Rattle.config_keys.specs.declared.config_fault.ConfigFault.TheVariants as fault
 use Rattle.stage_driver.specs.declared.outcome.RunEnd.{RunEnd}
 use Rattle.stage_driver.specs.declared.outcome.RunEnd.TheVariants as end
-use Rattle.stage_driver.specs.declared.stop.Stop.{Stop}
-use Rattle.stage_driver.specs.declared.stop.Stop.TheVariants as stop
+use Rattle.stage_driver.specs.declared.cause.Cause.{Cause}
+use Rattle.stage_driver.specs.declared.cause.Cause.TheVariants as cause
 use Rattle.stage_driver.specs.Chain.{Visit}
 
 -- a row of a file is refused
@@ -46,11 +46,11 @@ refusal_text stage refusal.NoSolution = codes "no solution: " ++ stage_name stag
 refusal_text stage (refusal.Spent entries) = codes "spent: " ++ stage_name stage ++ codes " after " ++ decimal entries ++ codes " entries"
 
 -- why a chain ends early
-unfoldable pub stop_text : Stop → List ℕ
-stop_text (stop.BadConfig reason) = config_text reason
-stop_text (stop.Missing file) = missing_text (file_name file)
-stop_text (stop.TooLong file) = too_long_text (file_name file)
-stop_text (stop.Refused stage reason) = refusal_text stage reason
+unfoldable pub cause_text : Cause → List ℕ
+cause_text (cause.BadConfig reason) = config_text reason
+cause_text (cause.Missing file) = missing_text (file_name file)
+cause_text (cause.TooLong file) = too_long_text (file_name file)
+cause_text (cause.Refused stage reason) = refusal_text stage reason
 
 -- a line of a report
 abbrev pub line_of : List ℕ → List ℕ
@@ -61,9 +61,9 @@ abbrev pub stage_lines : List Visit → List ℕ
 stage_lines visits = flat_map (λ visit. line_of visit.made.report) visits
 
 -- the last line: why the chain ends early, or that all is done
-abbrev pub last_line : Option Stop → List ℕ
+abbrev pub last_line : Option Cause → List ℕ
 last_line None = line_of (codes "done")
-last_line (Some why) = line_of (stop_text why)
+last_line (Some why) = line_of (cause_text why)
 
 -- how a run ends by what a stage refuses
 abbrev pub end_of_refusal : Refusal → RunEnd
@@ -73,7 +73,7 @@ end_of_refusal refusal.NoSolution = end.NoSolution
 end_of_refusal (refusal.Spent entries) = end.Spent
 
 -- how a run ends
-abbrev pub end_of : Option Stop → RunEnd
+abbrev pub end_of : Option Cause → RunEnd
 end_of None = end.Done
-end_of (Some (stop.Refused stage reason)) = end_of_refusal reason
+end_of (Some (cause.Refused stage reason)) = end_of_refusal reason
 end_of (Some _) = end.BadInput

@@ -1,42 +1,90 @@
 -- What holds of what the stages of a chain make and refuse.
-use Rattle.std.specs.Prelude.{List, [], ◌∷◌, Option, Some, None}
-use Rattle.giv_files.specs.declared.made.Made.{Made}
+use Rattle.std.specs.Prelude.{ℕ, ℤ, ◌≡◌, true, false, List, [], ◌∷◌, Option, Some, None, Result, Ok, Err, IfSome, IfOk}
+use Rattle.std.specs.Option.{ok_or}
+use Rattle.std.specs.FinMap as files
+use Rattle.plan_files.specs.Folder.{Folder}
+use Rattle.giv_files.specs.declared.file_id.FileId.{FileId}
+use Rattle.giv_files.specs.declared.made.MadeFile.{MadeFile}
 use Rattle.giv_files.specs.declared.stage.Stage.{Stage}
 use Rattle.giv_files.specs.declared.stage.Stage.TheVariants as stage
-use Rattle.giv_files.specs.NamedFiles.{NamesOnly}
 use Rattle.giv_files.specs.FileNames.{file_name}
+use Rattle.giv_files.specs.NamedFiles.{NamesOnly}
 use Rattle.giv_files.specs.Settings.{BundleParts}
-use Rattle.demand_load.specs.RightLoads.{LoadsAreRight}
-use Rattle.line_pool.specs.RightCosts.{CostsAreRight}
-use Rattle.plan_files.specs.Folder.{Folder}
-use Rattle.stage_driver.specs.Built.{stop_of, trace_of}
-use Rattle.stage_driver.specs.Chain.{Visit}
-use Rattle.stage_driver.specs.Hand.{is_hand}
-use Rattle.stage_driver.specs.declared.stop.Stop.{Stop}
-use Rattle.stage_driver.specs.declared.stop.Stop.TheVariants as stop
+use Rattle.giv_files.specs.Stages.{stage_makes}
+use Rattle.config_keys.specs.Items.{look_in}
+use Rattle.config_keys.specs.NamedConfigs.{ConfigNames}
+use Rattle.config_keys.specs.Values.{effective}
+use Rattle.demand_load.specs.RightLoads.{LoadFilesAreRight}
+use Rattle.line_pool.specs.RightCosts.{CostFilesAreRight}
+use Rattle.stage_driver.specs.declared.cause.Cause.{Cause}
+use Rattle.stage_driver.specs.declared.cause.Cause.TheVariants as cause
+use Rattle.stage_driver.specs.declared.origin.Origin.{Origin}
+use Rattle.stage_driver.specs.declared.origin.Origin.TheVariants as origin
+use Rattle.stage_driver.specs.Built.{cause_of, trace_of}
+use Rattle.stage_driver.specs.Chain.{Visit, hand_text, origin_of, bundle_by}
+use Rattle.stage_driver.specs.Hand.{is_hand, is_hand_file, hand_of}
+use Rattle.stage_driver.specs.Runs.{after}
 
--- The files that a stage made, read again, satisfy its model over what it was given. A stage that is not built makes nothing.
-abbrev pub IsRightAs : Stage → BundleParts → Made → Type 0
-IsRightAs stage.Load bundle made = LoadsAreRight bundle made
-IsRightAs stage.Cost bundle made = CostsAreRight bundle made
-IsRightAs _ bundle made = ⊥
+-- The files of a stage are right over what it was given: its inputs have no fault, and the files, read again, have none and satisfy
+-- its model. A stage that is not built makes nothing.
+abbrev pub IsRightAs : Stage → BundleParts → List MadeFile → Type 0
+IsRightAs stage.Load bundle files = LoadFilesAreRight bundle files
+IsRightAs stage.Cost bundle files = CostFilesAreRight bundle files
+IsRightAs _ bundle files = ⊥
 
--- each of some stages made what is right
-abbrev pub AreRight : List Visit → Type 0
-AreRight [] = Unit {0}
-AreRight (visit ∷ visits) = IsRightAs visit.bundle.stage visit.bundle visit.made × AreRight visits
+-- the text of a file that a stage makes, where it stands in a folder
+abbrev pub made_in : Folder → FileId → Result (List ℕ) Cause
+made_in folder file = ok_or (files.get folder (file_name file)) (cause.Missing file)
 
--- each stage that the chain over hand files made did
-unfoldable pub MadeRight : Folder → Type 0
-MadeRight hand = AreRight (trace_of hand).visits
+-- what is found of a file in a folder, by where it comes from
+abbrev pub text_by : Origin → Folder → FileId → Result (List ℕ) Cause
+text_by origin.Needed folder file = hand_text false file (look_in folder (file_name file))
+text_by origin.Optional folder file = hand_text true file (look_in folder (file_name file))
+text_by origin.Earlier folder file = made_in folder file
 
--- a chain that a refused row ends names by it a file that people write
-abbrev pub NamesHand : Option Stop → Type 0
+abbrev pub text_in : Folder → FileId → Result (List ℕ) Cause
+text_in folder file = text_by (origin_of file) folder file
+
+-- those of some files whose texts are found
+abbrev pub found_file : FileId → Result (List ℕ) Cause → List MadeFile → List MadeFile
+found_file file (Ok text) more = record { file = file; text = text } ∷ more
+found_file file (Err why) more = more
+
+abbrev pub files_by : (FileId → Result (List ℕ) Cause) → List FileId → List MadeFile
+files_by look [] = []
+files_by look (file ∷ files) = found_file file (look file) (files_by look files)
+
+-- What a stage is given by what is found of each file, and those of its files that are found, are right.
+pub record StandsRight (look : FileId → Result (List ℕ) Cause) (values : List ℤ) (bundle : BundleParts) (made : List MadeFile) : Type 0 where
+  pub given : bundle_by look values bundle.stage ≡ Ok bundle
+  pub found : files_by look (stage_makes bundle.stage) ≡ made
+  pub right : IsRightAs bundle.stage bundle made
+
+-- each of some stages does, with the files that it made
+abbrev pub AllStandRight : (FileId → Result (List ℕ) Cause) → List ℤ → List Visit → Type 0
+AllStandRight look values [] = Unit {0}
+AllStandRight look values (visit ∷ visits) = StandsRight look values visit.bundle visit.made.files × AllStandRight look values visits
+
+-- In a folder, under its settings, each of some stages does.
+abbrev pub StandRightIn : Folder → List Visit → Type 0
+StandRightIn folder visits = IfOk (effective (look_in folder)) (λ values. AllStandRight (text_in folder) values visits)
+
+-- In the folder that a run over a folder leaves, each stage that was made has the files that it made, and they are right over the files
+-- there from which they were made.
+unfoldable pub MadeFilesAreRight : Folder → Type 0
+MadeFilesAreRight folder = StandRightIn (after folder) (trace_of (hand_of folder)).visits
+
+-- the same of the folder that is left, where it is told
+abbrev pub IsLeftRight : Folder → Option Folder → Type 0
+IsLeftRight read left = IfSome left (λ folder. StandRightIn folder (trace_of (hand_of read)).visits)
+
+-- why a chain ends early names no file but those that people write
+abbrev pub NamesHand : Option Cause → Type 0
 NamesHand None = Unit {0}
-NamesHand (Some (stop.BadConfig reason)) = Unit {0}
-NamesHand (Some (stop.Missing file)) = Unit {0}
-NamesHand (Some (stop.TooLong file)) = Unit {0}
-NamesHand (Some (stop.Refused stage reason)) = NamesOnly (λ file. is_hand (file_name file)) reason
+NamesHand (Some (cause.BadConfig reason)) = ConfigNames is_hand reason
+NamesHand (Some (cause.Missing file)) = is_hand_file file ≡ true
+NamesHand (Some (cause.TooLong file)) = is_hand_file file ≡ true
+NamesHand (Some (cause.Refused stage reason)) = NamesOnly is_hand_file reason
 
 unfoldable pub RefusesHand : Folder → Type 0
-RefusesHand hand = NamesHand (stop_of (trace_of hand).halt)
+RefusesHand hand = NamesHand (cause_of (trace_of hand).halt)

@@ -6,12 +6,13 @@ use Rattle.plan_files.specs.declared.write.Write.{Write}
 use Rattle.plan_files.specs.declared.write.Write.TheVariants.{Put, Removal}
 use Rattle.plan_files.specs.Applied.{AreCutShort}
 use Rattle.plan_files.specs.Folder.{Folder}
+use Rattle.plan_files.specs.Others.{AreOutside}
 use Rattle.giv_files.specs.declared.made.MadeFile.{MadeFile}
 use Rattle.giv_files.specs.FileNames.{file_name}
 use Rattle.stage_driver.specs.declared.outcome.ChainFault.{ChainFault}
 use Rattle.stage_driver.specs.declared.outcome.Outcome.{Outcome}
-use Rattle.stage_driver.specs.Ends.{cause_of}
-use Rattle.stage_driver.specs.Hand.{is_among, names_made_by, hand_of}
+use Rattle.stage_driver.specs.Ends.{file_fault_of}
+use Rattle.stage_driver.specs.Hand.{is_among, is_hand, names_made_by, hand_of}
 use Rattle.stage_driver.specs.Built.{built, made}
 
 -- the name of a made file
@@ -63,4 +64,10 @@ SameHand old new = option_map hand_of new ≡ option_map hand_of old
 -- What is left where not all writes were made, by why they were not: nothing was written yet, or some first ones were made. Only
 -- after the fault of a file the next one may be made in part.
 abbrev pub AreNotAll : ChainFault → List Write → Option Folder → Option Folder → Option (List Write) → Option (List Write) → Type 0
-AreNotAll fault writes old new before now = ((new ≡ old) × (now ≡ before)) ⊎ AreCutShort (cause_of fault) writes old new before now
+AreNotAll fault writes old new before now = ((new ≡ old) × (now ≡ before)) ⊎ AreCutShort (file_fault_of fault) writes old new before now
+
+-- where the list of writes is told, those that were added name no file that people write
+pub record AddsNoHandFile (before now : Option (List Write)) : Type 0 where
+  pub added : List Write
+  pub noted : now ≡ option_map (λ writes. writes ++ added) before
+  pub apart : AreOutside is_hand added

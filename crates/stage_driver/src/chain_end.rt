@@ -3,7 +3,7 @@ ghost use Rattle.std.specs.Prelude.{◌≡◌};
 ghost use Rattle.stage_driver.specs.declared.chain_end.ChainEnd.TheVariants as ends;
 ghost use Rattle.stage_driver.specs.Ends.{end_of_config, end_of_file};
 
-use crate::stop::Stop;
+use crate::cause::Cause;
 use config_keys::ConfigEnd;
 use plan_files::FileFault;
 use plan_num::NoMemory;
@@ -13,7 +13,7 @@ use std::alloc::AllocFailed;
 #[derive(Debug, Drop)]
 pub(crate) enum ChainEnd {
     /// A stage is not made.
-    Stopped(Stop),
+    Stopped(Cause),
     /// A call on a file failed.
     FileFault,
     /// Memory was refused.
@@ -36,7 +36,7 @@ impl From<ConfigEnd> for ChainEnd {
 
     fn from(config: ConfigEnd) -> ChainEnd {
         match config {
-            ConfigEnd::Refused(fault) => ChainEnd::Stopped(Stop::BadConfig(fault)),
+            ConfigEnd::Refused(fault) => ChainEnd::Stopped(Cause::BadConfig(fault)),
             ConfigEnd::FileFault => ChainEnd::FileFault,
             ConfigEnd::NoMemory => ChainEnd::NoMemory,
         }

@@ -8,9 +8,9 @@ ghost use Rattle.giv_files.specs.Stages.{stage_inputs};
 ghost use Rattle.stage_driver.specs.Chain.{bundle_told, hand_text, input_text, made_text, texts_of};
 ghost use Rattle.stage_driver.specs.Ends.{is_broken, Gives};
 
+use crate::cause::Cause;
 use crate::chain_end::ChainEnd;
 use crate::origin::{Origin, chosen, origin_of};
-use crate::stop::Stop;
 use config_keys::{Config, FILE_LIMIT};
 use giv_files::{Bundle, FileId, MadeFile, Stage};
 use plan_files::{Files, Got};
@@ -71,8 +71,8 @@ fn hand_text<F: Files>(
     match files.get(alloc, file.name(), FILE_LIMIT)? {
         Got::Bytes(text) => Ok(text),
         Got::Absent if optional => Ok(Text::from_vec(Vec::new(alloc))),
-        Got::Absent => Err(ChainEnd::Stopped(Stop::Missing(file))),
-        Got::TooLong => Err(ChainEnd::Stopped(Stop::TooLong(file))),
+        Got::Absent => Err(ChainEnd::Stopped(Cause::Missing(file))),
+        Got::TooLong => Err(ChainEnd::Stopped(Cause::TooLong(file))),
     }
 }
 
@@ -86,5 +86,5 @@ fn made_text(alloc: Global, made: &[MadeFile], file: FileId) -> Result<Text, Cha
             return Ok(Text::copy(alloc, other.text.as_bytes())?);
         }
     }
-    Err(ChainEnd::Stopped(Stop::Missing(file)))
+    Err(ChainEnd::Stopped(Cause::Missing(file)))
 }

@@ -1,6 +1,7 @@
 //! The chain of planning stages over the files of a dataset.
 #![tactic(auto)]
 
+mod cause;
 mod chain;
 mod chain_end;
 mod gather;
@@ -10,7 +11,6 @@ mod progress;
 mod report;
 mod run;
 mod stages;
-mod stop;
 mod writes;
 
 pub use outcome::{ChainFault, Mode, Outcome, RunEnd};

@@ -24,7 +24,21 @@ pub(crate) fn origin_of(file: FileId) -> Origin
         FileId::Stop | FileId::Edge | FileId::LoadGiven | FileId::Od | FileId::Pool =>
             Origin::Needed,
         FileId::EventDelays | FileId::ActivityDelays => Origin::Optional,
-        _ => Origin::Earlier,
+        FileId::Load
+        | FileId::PoolCost
+        | FileId::Concept
+        | FileId::Tree
+        | FileId::EventsP
+        | FileId::ActivitiesP
+        | FileId::TimesP
+        | FileId::EventsX
+        | FileId::ActivitiesX
+        | FileId::Trips
+        | FileId::Schedule
+        | FileId::Potential
+        | FileId::Disposed
+        | FileId::Reasons
+        | FileId::Statistic => Origin::Earlier,
     }
 }
 

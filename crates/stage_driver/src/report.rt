@@ -1,10 +1,10 @@
 // The lines of a report.
 ghost use Rattle.std.specs.Prelude.{◌≡◌, ◌++◌, OnOk, IfOk};
 ghost use Rattle.std.specs.Option.{option_copied};
-ghost use Rattle.stage_driver.specs.Reports.{row_text, missing_text, too_long_text, config_text, refusal_text, stop_text, last_line, end_of, end_of_refusal};
+ghost use Rattle.stage_driver.specs.Reports.{row_text, missing_text, too_long_text, config_text, refusal_text, cause_text, last_line, end_of, end_of_refusal};
 
+use crate::cause::Cause;
 use crate::outcome::{Outcome, RunEnd};
-use crate::stop::Stop;
 use config_keys::ConfigFault;
 use giv_files::{Refusal, Stage};
 use plan_num::{NoMemory, Text};
@@ -15,31 +15,31 @@ use std::alloc::Global;
 pub(crate) fn outcome(
     alloc: Global,
     lines: Vec<u8>,
-    stop: Option<Stop>,
+    cause: Option<Cause>,
 ) -> Result<Outcome, NoMemory>
-    ensures report { IfOk result (λ outcome. outcome.report ≡ lines.items ++ last_line stop) }
-    ensures end { IfOk result (λ outcome. outcome.end ≡ end_of stop) }
+    ensures report { IfOk result (λ outcome. outcome.report ≡ lines.items ++ last_line cause) }
+    ensures end { IfOk result (λ outcome. outcome.end ≡ end_of cause) }
 {
     let mut report = lines;
-    match &stop {
+    match &cause {
         None => report.extend_from_slice(b"done")?,
-        Some(stop) => push_stop(alloc, &mut report, stop)?,
+        Some(cause) => push_cause(alloc, &mut report, cause)?,
     }
     report.push(b'\n')?;
     Ok(Outcome {
-        end: end_of(stop.as_ref()),
+        end: end_of(cause.as_ref()),
         report: Text::from_vec(report),
     })
 }
 
 // How a run ends.
-fn end_of(stop: Option<&Stop>) -> RunEnd
-    ensures { result ≡ end_of (option_copied stop.entry) }
+fn end_of(cause: Option<&Cause>) -> RunEnd
+    ensures { result ≡ end_of (option_copied cause.entry) }
 {
-    match stop {
+    match cause {
         None => RunEnd::Done,
-        Some(Stop::Refused(_, refusal)) => end_of_refusal(refusal),
-        Some(Stop::BadConfig(_) | Stop::Missing(_) | Stop::TooLong(_)) => RunEnd::BadInput,
+        Some(Cause::Refused(_, refusal)) => end_of_refusal(refusal),
+        Some(Cause::BadConfig(_) | Cause::Missing(_) | Cause::TooLong(_)) => RunEnd::BadInput,
     }
 }
 
@@ -55,15 +55,15 @@ fn end_of_refusal(refusal: &Refusal) -> RunEnd
 }
 
 // Why a chain ends early.
-#[tactic(auto, unfolding(crate::specs::Reports::stop_text))]
-fn push_stop(alloc: Global, report: &mut Vec<u8>, stop: &Stop) -> Result<(), NoMemory>
-    ensures { OnOk result (report.new.items ≡ report.old.items ++ stop_text stop.now) }
+#[tactic(auto, unfolding(crate::specs::Reports::cause_text))]
+fn push_cause(alloc: Global, report: &mut Vec<u8>, cause: &Cause) -> Result<(), NoMemory>
+    ensures { OnOk result (report.new.items ≡ report.old.items ++ cause_text cause.now) }
 {
-    match stop {
-        Stop::BadConfig(fault) => push_config(alloc, report, fault),
-        Stop::Missing(file) => push_missing(report, file.name().as_bytes()),
-        Stop::TooLong(file) => push_too_long(report, file.name().as_bytes()),
-        Stop::Refused(stage, refusal) => push_refusal(alloc, report, *stage, refusal),
+    match cause {
+        Cause::BadConfig(fault) => push_config(alloc, report, fault),
+        Cause::Missing(file) => push_missing(report, file.name().as_bytes()),
+        Cause::TooLong(file) => push_too_long(report, file.name().as_bytes()),
+        Cause::Refused(stage, refusal) => push_refusal(alloc, report, *stage, refusal),
     }
 }
 

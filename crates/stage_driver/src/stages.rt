@@ -20,7 +20,7 @@ pub(crate) fn built() -> &'static [Stage]
 }
 
 /// Makes what the stage of a bundle makes of it.
-#[tactic(auto, unfolding(crate::specs::Built::stage_function))]
+#[tactic(auto, unfolding(crate::specs::Built::stage_function, crate::specs::Built::stage_work))]
 pub(crate) fn make_stage<L: Ledger>(
     alloc: Global,
     bundle: &Bundle,

@@ -4,7 +4,7 @@ use giv_files::{FileId, Refusal, Stage};
 
 /// Why a chain ends before its last stage.
 #[derive(Debug, Drop)]
-pub(crate) enum Stop {
+pub(crate) enum Cause {
     /// The settings are refused.
     BadConfig(ConfigFault),
     /// A file is not there.

@@ -1,0 +1,67 @@
+-- The loads that are made are accepted by the rules of their kind.
+use Rattle.std.proofs.Common.{◌≡◌, ℕ, ℤ, int_lt, ◌≤ℤ◌, Bool, true, false, not, is_some, List, [], ◌∷◌, length, map, refl, ap, subst, sym, ◌∙◌, arith, All}
+use Rattle.std.specs.Int.Signed.{◌<ℤ◌, lt_z_yes}
+use Rattle.std.specs.List.{AllByRecursion, list_any}
+use Rattle.std.specs.List.Sorted.{IsStrictlySortedBy}
+use Rattle.std.specs.Ordering.{int_eq, int_cmp}
+use Rattle.std.proofs.lemmas.Float.{T_from_true}
+use Rattle.std.proofs.lemmas.Int.{ints}
+use Rattle.std.proofs.lemmas.List.Elements.{All-head, All-tail}
+use Rattle.giv_files.specs.declared.file_id.FileId.TheVariants as file
+use Rattle.giv_files.specs.declared.row_why.RowWhy.TheVariants as why
+use Rattle.giv_files.specs.Columns.{load_columns}
+use Rattle.giv_files.specs.Inputs.{records, input_faults}
+use Rattle.giv_files.specs.Writing.{ReadsBack}
+use Rattle.giv_files.proofs.Accepted.{accepted, whole_accepted, all_keep, each_known, none_missing}
+use Rattle.giv_files.proofs.Found.{any_mapped, any_found}
+use Rattle.ptn_network.specs.declared.edge.Edge.{Edge}
+use Rattle.ptn_network.specs.declared.edge_load.EdgeLoad.{EdgeLoad}
+use Rattle.ptn_network.specs.Loads.{load_input, load_rules, given_for, IsBounded}
+use Rattle.ptn_network.proofs.LoadRows.{fits}
+use Rattle.demand_load.specs.LoadTables.{load_rows}
+
+not_below : (least most : ℤ) → least ≤ℤ most → int_lt most least ≡ false
+not_below least most order = by (int_lt most least) refl
+  where
+    by : (b : Bool) → int_lt most least ≡ b → b ≡ false
+    by true is = let less : most <ℤ least = lt_z_yes (T_from_true _ is) in absurd (omega (arith, ints))
+    by false is = refl
+
+-- the rows of edges have the ids of the edges
+ids_are : (edges all : List Edge) (loads : List EdgeLoad) → length loads ≡ length edges → map (λ row. row.edge) (records (load_input file.Load all) (load_rows edges loads)) ≡ map (λ (edge : Edge). edge.id) edges
+ids_are [] all loads same = refl
+ids_are (edge ∷ edges) all [] same = absurd (omega (arith, same))
+ids_are (edge ∷ edges) all (load ∷ loads) same = ap (λ ids. edge.id ∷ ids) (ids_are edges all loads (omega (arith, same)))
+
+-- each is of an edge that is there, with bounds in order
+good : (edges all : List Edge) (loads : List EdgeLoad) → AllByRecursion (λ id. list_any (int_eq id) (map (λ (edge : Edge). edge.id) all) ≡ true) (map (λ (edge : Edge). edge.id) edges) → All IsBounded loads
+    → AllByRecursion (λ row. (list_any (λ edge. int_eq row.edge edge.id) all ≡ true) × (int_lt row.load.most row.load.least ≡ false)) (records (load_input file.Load all) (load_rows edges loads))
+good [] all loads known bounded = tt
+good (edge ∷ edges) all [] known bounded = tt
+good (edge ∷ edges) all (load ∷ loads) known bounded = (
+  (sym (any_mapped (int_eq edge.id) (λ (other : Edge). other.id) all) ∙ known.0, not_below load.least load.most (All-head IsBounded load loads bounded).in_order),
+  good edges all loads known.1 (All-tail IsBounded load loads bounded),
+)
+
+module _ (edges : List Edge) (loads : List EdgeLoad) (same : length loads ≡ length edges) where
+  has_load : (edge : Edge) → is_some (given_for (records (load_input file.Load edges) (load_rows edges loads)) edge) ≡ list_any (int_eq edge.id) (map (λ (edge : Edge). edge.id) edges)
+  has_load edge =
+      let rows = records (load_input file.Load edges) (load_rows edges loads) in
+      any_found (λ row. int_eq edge.id row.edge) (λ row. row.load) rows ∙ sym (any_mapped (int_eq edge.id) (λ row. row.edge) rows) ∙ ap (list_any (int_eq edge.id)) (ids_are edges edges loads same)
+
+  all_have : list_any (λ edge. not (is_some (given_for (records (load_input file.Load edges) (load_rows edges loads)) edge))) edges ≡ false
+  all_have =
+      ap (λ (missing : Edge → Bool). list_any missing edges) (λ i edge. not (has_load edge i))
+      ∙ none_missing (λ (edge : Edge). edge.id) (map (λ (edge : Edge). edge.id) edges) edges (λ p h. h)
+
+-- a text of the loads of edges, whose ids rise, has no fault as a file of loads
+pub loads_accepted : (edges : List Edge) (loads : List EdgeLoad) (text : List ℕ) → IsStrictlySortedBy int_cmp (map (λ (edge : Edge). edge.id) edges) → length loads ≡ length edges → All IsBounded loads
+    → ReadsBack load_columns (load_rows edges loads) text → input_faults (load_input file.Load edges) text ≡ []
+loads_accepted edges loads text rise same bounded back =
+    let ids = map (λ (edge : Edge). edge.id) edges in
+    let rows = records (load_input file.Load edges) (load_rows edges loads) in
+    accepted (load_input file.Load edges) (load_rows edges loads) text back refl
+    (all_keep (load_rules edges) (λ row. row.edge) (λ row. (list_any (λ edge. int_eq row.edge edge.id) edges ≡ true) × (int_lt row.load.most row.load.least ≡ false))
+    (λ before row new good. fits edges before row good.0 new good.1) rows
+    (subst (IsStrictlySortedBy int_cmp) (sym (ids_are edges edges loads same)) rise) (good edges edges loads (each_known ids ids (λ p h. h)) bounded))
+    (whole_accepted file.Load (λ rows. list_any (λ edge. not (is_some (given_for rows edge))) edges) why.MissingEdge rows (all_have edges loads same))

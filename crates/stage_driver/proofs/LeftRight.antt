@@ -1,0 +1,207 @@
+-- What a run leaves in its folder is right there.
+use Rattle.std.proofs.Common.{◌≡◌, ℕ, ℤ, Bool, true, false, cond, leb, not, List, [], ◌∷◌, Option, Some, None, IfSome, IfOk, OnOk, Result, Ok, Err, refl, ap, subst, sym, ◌∙◌}
+use Rattle.std.specs.List.{list_all}
+use Rattle.std.specs.Option.{ok_or}
+use Rattle.std.specs.Str.{bytes_eq}
+use Rattle.std.specs.FinMap as files
+use Rattle.std.proofs.lemmas.Bool.{and_parts}
+use Rattle.std.proofs.lemmas.Slice.Eq.{bytes_eq-Decides}
+use Rattle.plan_files.specs.declared.write.Write.{Write}
+use Rattle.plan_files.specs.declared.write.Write.TheVariants.{Put}
+use Rattle.plan_files.specs.Folder.{Folder}
+use Rattle.plan_files.proofs.OtherFiles.{get_part, part_after}
+use Rattle.plan_files.proofs.Writes.{get_written}
+use Rattle.giv_files.specs.declared.file_id.FileId.{FileId}
+use Rattle.giv_files.specs.declared.file_id.FileId.TheVariants as file
+use Rattle.giv_files.specs.declared.made.MadeFile.{MadeFile}
+use Rattle.giv_files.specs.declared.stage.Stage.{Stage}
+use Rattle.giv_files.specs.declared.stage.Stage.TheVariants as stage
+use Rattle.giv_files.specs.FileNames.{file_name}
+use Rattle.giv_files.specs.Stages.{stage_makes}
+use Rattle.config_keys.specs.Config.{last_stage_of}
+use Rattle.config_keys.specs.Items.{look_in}
+use Rattle.config_keys.specs.Values.{effective}
+use Rattle.config_keys.proofs.Settling.{effective_settings}
+use Rattle.stage_driver.specs.declared.outcome.ChainFault.{ChainFault}
+use Rattle.stage_driver.specs.declared.outcome.Outcome.{Outcome}
+use Rattle.stage_driver.specs.declared.cause.Cause.{Cause}
+use Rattle.stage_driver.specs.declared.cause.Cause.TheVariants as cause
+use Rattle.stage_driver.specs.Built.{built, run_stage, files_of, trace_of, made}
+use Rattle.stage_driver.specs.Chain.{Visit, Trace, hand_text, made_text, input_text, stage_place}
+use Rattle.stage_driver.specs.Hand.{is_among, is_hand, hand_of, names_made_by}
+use Rattle.stage_driver.specs.Right.{made_in, text_in, files_by, StandsRight, AllStandRight, StandRightIn, MadeFilesAreRight, IsLeftRight}
+use Rattle.stage_driver.specs.Runs.{name_of, with_files, without_made, after, writes_of, IsLeft}
+use Rattle.stage_driver.proofs.Differing.{all_filter, differs_from, differing, same_way, not_among}
+use Rattle.stage_driver.proofs.HandAlone.{look_same, settings_same}
+use Rattle.stage_driver.proofs.HandKept.{writes_outside}
+use Rattle.stage_driver.proofs.Laws.{run_makes}
+use Rattle.stage_driver.proofs.Left.{writes_leave}
+use Rattle.stage_driver.proofs.MadeRight.{visits_right}
+use Rattle.stage_driver.proofs.MadeTexts.{names_of, text_nowhere, Agree, files_same}
+use Rattle.stage_driver.proofs.Placed.{ArePlaced, bundle_more, made_looks}
+use Rattle.stage_driver.proofs.Traces.{traced, chain, stages_run, are_placed, made_differ}
+
+-- ---- made files in a folder that has them
+
+-- a text, or else another one
+abbrev or_text : Result (List ℕ) Cause → Result (List ℕ) Cause → Result (List ℕ) Cause
+or_text (Ok text) other = Ok text
+or_text (Err why) other = other
+
+put_found : (file : FileId) (other : MadeFile) (made : List MadeFile) (base : Option (List ℕ)) (here : Bool) → bytes_eq (file_name file) (name_of other) ≡ here → differs_from (names_of made) (name_of other) ≡ true
+    → or_text (made_text made file) (ok_or (cond here (Some other.text) base) (cause.Missing file)) ≡ or_text (cond here (Ok other.text) (made_text made file)) (ok_or base (cause.Missing file))
+put_found file other made base true is out =
+    let same : name_of other ≡ file_name file = sym ((bytes_eq-Decides (file_name file) (name_of other)).0 is) in
+    ap (λ text. or_text text (Ok other.text)) (text_nowhere made file (not_among (names_of made) (file_name file) (ap (differs_from (names_of made)) (sym same) ∙ out)))
+put_found file other made base false is out = refl
+
+-- a file that was made is found with the text that was made, and every other as before
+with_found : (made : List MadeFile) (base : Folder) (file : FileId) → differing (names_of made) ≡ true → made_in (with_files made base) file ≡ or_text (made_text made file) (made_in base file)
+with_found [] base file h = refl
+with_found (other ∷ made) base file h =
+    let parts = and_parts _ _ h in
+    with_found made (files.insert base (name_of other) other.text) file parts.1
+    ∙ ap (λ found. or_text (made_text made file) (ok_or found (cause.Missing file))) (get_written (Put (name_of other) other.text) base (file_name file))
+    ∙ put_found file other made (files.get base (file_name file)) (bytes_eq (file_name file) (name_of other)) refl parts.0
+    ∙ ap (λ here. or_text (cond here (Ok other.text) (made_text made file)) (made_in base file)) (same_way (file_name file) (name_of other))
+
+found_first : (text other : Result (List ℕ) Cause) (bytes : List ℕ) → text ≡ Ok bytes → or_text text other ≡ Ok bytes
+found_first (Ok text) other bytes e = e
+found_first (Err why) other bytes e = absurd (cc)
+
+found_missing : (made : List MadeFile) (file : FileId) → or_text (made_text made file) (Err (cause.Missing file)) ≡ made_text made file
+found_missing [] file = refl
+found_missing (other ∷ made) file = by (bytes_eq (name_of other) (file_name file)) (found_missing made file)
+  where
+    by : (here : Bool) → or_text (made_text made file) (Err (cause.Missing file)) ≡ made_text made file
+        → or_text (cond here (Ok other.text) (made_text made file)) (Err (cause.Missing file)) ≡ cond here (Ok other.text) (made_text made file)
+    by true rest = refl
+    by false rest = rest
+
+-- ---- the folder that a run leaves
+
+module _ (folder : Folder) where
+  abbrev all : List MadeFile
+  all = (made (hand_of folder)).files
+
+  all_differ : differing (names_of all) ≡ true
+  unfolding made
+  all_differ = traced (hand_of folder) (λ trace. differing (names_of (files_of trace.visits)) ≡ true) (λ reason is. refl) (λ values is. made_differ values (hand_of folder))
+
+  found_after : (file : FileId) → made_in (after folder) file ≡ or_text (made_text all file) (made_in (without_made folder) file)
+  unfolding after
+  found_after file = with_found all (without_made folder) file all_differ
+
+  -- a text that was made stands there
+  get_after : (file : FileId) (text : List ℕ) → made_text all file ≡ Ok text → made_in (after folder) file ≡ Ok text
+  get_after file text e = found_after file ∙ found_first (made_text all file) (made_in (without_made folder) file) text e
+
+  -- and of the files that the built stages make no other one
+  same_after : (file : FileId) → is_among (file_name file) (names_made_by built) ≡ true → made_in (after folder) file ≡ made_text all file
+  same_after file is =
+      let gone : files.get (without_made folder) (file_name file) ≡ None =
+      get_part (λ name. not (is_among name (names_made_by built))) folder (file_name file) ∙ ap (λ b. cond (not b) (files.get folder (file_name file)) None) is in
+      found_after file ∙ ap (λ found. or_text (made_text all file) (ok_or found (cause.Missing file))) gone ∙ found_missing all file
+
+  agree_after : (some : List FileId) → list_all (λ file. is_among (file_name file) (names_made_by built)) some ≡ true → Agree (made_in (after folder)) (made_text all) some
+  agree_after [] h = tt
+  agree_after (file ∷ some) h = let parts = and_parts _ _ h in (same_after file parts.0, agree_after some parts.1)
+
+  hand_after : hand_of (after folder) ≡ hand_of folder
+  unfolding after hand_of
+  hand_after = ap (λ left. files.retain_keys left is_hand) (sym (writes_leave all folder)) ∙ part_after is_hand (writes_of folder) folder (writes_outside folder)
+
+  -- a hand file is found as before
+  look_after : (name : List ℕ) → is_hand name ≡ true → look_in (after folder) name ≡ look_in (hand_of folder) name
+  look_after name is = sym (look_same (after folder) name is) ∙ ap (λ hand. look_in hand name) hand_after
+
+  -- what a stage was given is found there
+  input_after : (file : FileId) (text : List ℕ) → input_text (hand_of folder) all file ≡ Ok text → text_in (after folder) file ≡ Ok text
+  unfolding is_hand
+  input_after file.Stop text e = ap (hand_text false file.Stop) (look_after (file_name file.Stop) refl) ∙ e
+  input_after file.Edge text e = ap (hand_text false file.Edge) (look_after (file_name file.Edge) refl) ∙ e
+  input_after file.LoadGiven text e = ap (hand_text false file.LoadGiven) (look_after (file_name file.LoadGiven) refl) ∙ e
+  input_after file.Od text e = ap (hand_text false file.Od) (look_after (file_name file.Od) refl) ∙ e
+  input_after file.Pool text e = ap (hand_text false file.Pool) (look_after (file_name file.Pool) refl) ∙ e
+  input_after file.EventDelays text e = ap (hand_text true file.EventDelays) (look_after (file_name file.EventDelays) refl) ∙ e
+  input_after file.ActivityDelays text e = ap (hand_text true file.ActivityDelays) (look_after (file_name file.ActivityDelays) refl) ∙ e
+  input_after other text e = get_after other text e
+
+  looks_after : (stage : Stage) → files_by (text_in (after folder)) (stage_makes stage) ≡ files_by (made_in (after folder)) (stage_makes stage)
+  looks_after stage.Load = refl
+  looks_after stage.Cost = refl
+  looks_after stage.Concept = refl
+  looks_after stage.Ean = refl
+  looks_after stage.Timetable = refl
+  looks_after stage.Rollout = refl
+  looks_after stage.Vehicles = refl
+  looks_after stage.Disposition = refl
+  looks_after stage.Statistic = refl
+
+  -- the built stages make no other files than the built stages make
+  abbrev is_own : Stage → Bool
+  is_own stage = list_all (λ file. is_among (file_name file) (names_made_by built)) (stage_makes stage)
+
+  -- what is right over what was made is right in the folder that is left
+  one_after : (values : List ℤ) (visit : Visit) → is_own visit.bundle.stage ≡ true → StandsRight (input_text (hand_of folder) all) values visit.bundle visit.made.files → StandsRight (text_in (after folder)) values visit.bundle visit.made.files
+  one_after values visit own h =
+      let stage = visit.bundle.stage in
+      record {
+        given = bundle_more (input_text (hand_of folder) all) (text_in (after folder)) input_after values stage visit.bundle h.given;
+        found = looks_after stage ∙ files_same (made_in (after folder)) (made_text all) (stage_makes stage) (agree_after (stage_makes stage) own) ∙ sym (made_looks (hand_of folder) all stage) ∙ h.found;
+        right = h.right;
+      }
+
+  all_after : (values : List ℤ) (stages : List Stage) (visits : List Visit) → list_all is_own stages ≡ true → ArePlaced run_stage run_makes values (hand_of folder) all stages visits
+      → AllStandRight (input_text (hand_of folder) all) values visits → AllStandRight (text_in (after folder)) values visits
+  all_after values stages [] own placed h = tt
+  all_after values [] (visit ∷ visits) own placed h = absurd placed
+  all_after values (stage ∷ stages) (visit ∷ visits) own placed h =
+      let parts = and_parts _ _ own in
+      (one_after values visit (ap is_own placed.0.own ∙ parts.0) h.0, all_after values stages visits parts.1 placed.1 h.1)
+
+-- ---- the settings there
+
+built_own : (folder : Folder) → list_all (is_own folder) built ≡ true
+built_own folder = refl
+
+settings_after : (folder : Folder) → effective (look_in (after folder)) ≡ effective (look_in (hand_of folder))
+settings_after folder = sym (settings_same (after folder)) ∙ ap (λ hand. effective (look_in hand)) (hand_after folder)
+
+left_by : (folder : Folder) (values : List ℤ) → effective (look_in (hand_of folder)) ≡ Ok values → (made (hand_of folder)).files ≡ files_of (chain values (hand_of folder)).visits → AllStandRight (text_in (after folder)) values (chain values (hand_of folder)).visits
+left_by folder values is same =
+    let hand = hand_of folder in
+    let visits = (chain values hand).visits in
+    let placed = subst (λ all. ArePlaced run_stage run_makes values hand all (stages_run values) visits) (sym same) (are_placed values hand) in
+    all_after folder values (stages_run values) visits (all_filter (is_own folder) (λ stage. leb (stage_place stage) (stage_place (last_stage_of values))) built (built_own folder)) placed
+    (visits_right values hand (effective_settings (look_in hand) values is) (made hand).files (stages_run values) visits placed)
+
+under : (folder : Folder) (visits : List Visit) (values : List ℤ) → effective (look_in (after folder)) ≡ Ok values → AllStandRight (text_in (after folder)) values visits → StandRightIn (after folder) visits
+under folder visits values is h = subst (λ settings. IfOk settings (λ values. AllStandRight (text_in (after folder)) values visits)) (sym is) h
+
+files_are : (hand : Folder) (trace : Trace) → trace_of hand ≡ trace → (made hand).files ≡ files_of trace.visits
+unfolding made
+files_are hand trace same = ap (λ (trace : Trace). files_of trace.visits) same
+
+left_right : (folder : Folder) → MadeFilesAreRight folder
+unfolding MadeFilesAreRight
+left_right folder =
+    traced (hand_of folder) (λ trace. trace_of (hand_of folder) ≡ trace → StandRightIn (after folder) trace.visits)
+    (λ reason is _. subst (λ settings. IfOk settings (λ values. AllStandRight (text_in (after folder)) values [])) (sym (settings_after folder ∙ is)) tt)
+    (λ values is same. under folder (chain values (hand_of folder)).visits values (settings_after folder ∙ is) (left_by folder values is (files_are (hand_of folder) (chain values (hand_of folder)) same)))
+    refl
+
+-- the folder that a finished run left is that one
+left_in : (folder : Folder) (left : Option Folder) → left ≡ Some (after folder) → IsLeftRight folder left
+unfolding MadeFilesAreRight
+left_in folder left is = rw is (left_right folder)
+
+pub told_left : (contents left : Option Folder) (before now : Option (List Write)) (result : Result Outcome ChainFault) → IfSome contents (λ folder. OnOk result (IsLeft folder left before now)) → IfSome contents (λ folder. OnOk result (IsLeftRight folder left))
+told_left None left before now result h = tt
+told_left (Some folder) left before now (Ok outcome) h = left_in folder left h.folder
+told_left (Some folder) left before now (Err fault) h = tt
+
+-- the same of a folder that may be told
+pub told_right : (contents : Option Folder) → IfSome contents (λ folder. MadeFilesAreRight folder)
+told_right None = tt
+told_right (Some folder) = left_right folder

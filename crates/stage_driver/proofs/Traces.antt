@@ -1,0 +1,82 @@
+-- The chain over hand files.
+use Rattle.std.proofs.Common.{◌≡◌, ℕ, ℤ, Bool, true, false, cond, leb, List, [], ◌∷◌, map, filter, Result, Ok, Err, refl, ap, sym, ◌∙◌}
+use Rattle.std.specs.List.{list_all}
+use Rattle.plan_files.specs.Folder.{Folder}
+use Rattle.giv_files.specs.declared.stage.Stage.{Stage}
+use Rattle.giv_files.specs.FileNames.{file_name}
+use Rattle.giv_files.specs.Stages.{stage_makes}
+use Rattle.config_keys.specs.declared.config_fault.ConfigFault.{ConfigFault}
+use Rattle.config_keys.specs.Config.{last_stage_of}
+use Rattle.config_keys.specs.Items.{look_in}
+use Rattle.config_keys.specs.Values.{effective}
+use Rattle.stage_driver.specs.Built.{built, run_stage, files_of, trace_under, trace_of}
+use Rattle.stage_driver.specs.Chain.{Trace, stage_place, to_run}
+use Rattle.stage_driver.specs.Hand.{names_made_by}
+use Rattle.stage_driver.specs.Runs.{name_of}
+use Rattle.stage_driver.proofs.Differing.{all_both, all_parts, differs_from, Differ, differing, none_differ, differ_swap, differing_parts, parts_differing}
+use Rattle.stage_driver.proofs.Laws.{run_makes}
+use Rattle.stage_driver.proofs.Placed.{names_more, ArePlaced, visits_placed, visits_differ}
+use Rattle.stage_driver.proofs.Visits.{AreVisits, chain_visits}
+
+-- what holds of a chain whose settings are refused, and of one that runs, holds of the chain over hand files
+pub traced : (hand : Folder) (P : Trace → Type 0) → ((reason : ConfigFault) → effective (look_in hand) ≡ Err reason → P (trace_under (Err reason) hand))
+    → ((values : List ℤ) → effective (look_in hand) ≡ Ok values → P (trace_under (Ok values) hand)) → P (trace_of hand)
+unfolding trace_of
+traced hand P refused run = by (effective (look_in hand)) refl
+  where
+    by : (settings : Result (List ℤ) ConfigFault) → effective (look_in hand) ≡ settings → P (trace_under settings hand)
+    by (Err reason) is = refused reason is
+    by (Ok values) is = run values is
+
+-- ---- some of the stages make some of the names
+
+module _ (p : Stage → Bool) where
+  some_within : (q : List ℕ → Bool) (stages : List Stage) → list_all q (names_made_by stages) ≡ true → list_all q (names_made_by (filter p stages)) ≡ true
+  some_within q [] h = refl
+  some_within q (stage ∷ stages) h =
+      let parts = all_parts q (map file_name (stage_makes stage)) (names_made_by stages) (ap (list_all q) (sym (names_more stage stages)) ∙ h) in
+      by (p stage) parts.0 (some_within q stages parts.1)
+    where
+      by : (b : Bool) → list_all q (map file_name (stage_makes stage)) ≡ true → list_all q (names_made_by (filter p stages)) ≡ true → list_all q (names_made_by (cond b (stage ∷ filter p stages) (filter p stages))) ≡ true
+      by true own rest = ap (list_all q) (names_more stage (filter p stages)) ∙ all_both q (map file_name (stage_makes stage)) (names_made_by (filter p stages)) own rest
+      by false own rest = rest
+
+  some_differ : (stages : List Stage) → differing (names_made_by stages) ≡ true → differing (names_made_by (filter p stages)) ≡ true
+  some_differ [] h = refl
+  some_differ (stage ∷ stages) h =
+      let names = map file_name (stage_makes stage) in
+      let parts = differing_parts names (names_made_by stages) (ap differing (sym (names_more stage stages)) ∙ h) in
+      let apart = differ_swap (names_made_by (filter p stages)) names (some_within (differs_from names) stages (differ_swap names (names_made_by stages) parts.apart)) in
+      by (p stage) parts.front (some_differ stages parts.back) apart
+    where
+      by : (b : Bool) → differing (map file_name (stage_makes stage)) ≡ true → differing (names_made_by (filter p stages)) ≡ true → Differ (map file_name (stage_makes stage)) (names_made_by (filter p stages))
+          → differing (names_made_by (cond b (stage ∷ filter p stages) (filter p stages))) ≡ true
+      by true own rest apart = ap differing (names_more stage (filter p stages)) ∙ parts_differing (map file_name (stage_makes stage)) (names_made_by (filter p stages)) (record { front = own; back = rest; apart = apart })
+      by false own rest apart = rest
+
+built_differ : differing (names_made_by built) ≡ true
+built_differ = refl
+
+-- ---- a chain that runs
+
+-- the stages that run under settings
+abbrev pub stages_run : List ℤ → List Stage
+stages_run values = to_run values built
+
+module _ (values : List ℤ) (hand : Folder) where
+  abbrev pub chain : Trace
+  chain = trace_under (Ok values) hand
+
+  pub are_visits : AreVisits run_stage values hand [] (stages_run values) chain.visits chain.halt
+  are_visits = chain_visits run_stage values hand [] (stages_run values)
+
+  run_differ : differing (names_made_by (stages_run values)) ≡ true
+  run_differ = some_differ (λ stage. leb (stage_place stage) (stage_place (last_stage_of values))) built built_differ
+
+  -- its visits are placed among all that it made
+  pub are_placed : ArePlaced run_stage run_makes values hand (files_of chain.visits) (stages_run values) chain.visits
+  are_placed = visits_placed run_stage run_makes values hand [] (files_of chain.visits) (stages_run values) chain.visits chain.halt are_visits run_differ (none_differ (names_made_by (stages_run values))) refl
+
+  -- the names of these differ
+  pub made_differ : differing (map name_of (files_of chain.visits)) ≡ true
+  made_differ = visits_differ run_stage run_makes values hand [] (stages_run values) chain.visits chain.halt are_visits run_differ
