@@ -1,5 +1,5 @@
 -- The loads that are made are accepted by the rules of their kind.
-use Rattle.std.proofs.Common.{◌≡◌, ℕ, ℤ, int_lt, ◌≤ℤ◌, Bool, true, false, not, is_some, List, [], ◌∷◌, length, map, refl, ap, subst, sym, ◌∙◌, arith, All}
+use Rattle.std.proofs.Common.{◌≡◌, ℕ, ℤ, int_lt, ◌≤ℤ◌, Bool, true, false, not, is_some, Option, Some, None, option_map, List, [], ◌∷◌, length, map, refl, ap, subst, sym, ◌∙◌, arith, All}
 use Rattle.std.specs.Int.Signed.{◌<ℤ◌, lt_z_yes}
 use Rattle.std.specs.List.{AllByRecursion, list_any}
 use Rattle.std.specs.List.Sorted.{IsStrictlySortedBy}
@@ -16,6 +16,7 @@ use Rattle.giv_files.proofs.Accepted.{accepted, whole_accepted, all_keep, each_k
 use Rattle.giv_files.proofs.Found.{any_mapped, any_found}
 use Rattle.ptn_network.specs.declared.edge.Edge.{Edge}
 use Rattle.ptn_network.specs.declared.edge_load.EdgeLoad.{EdgeLoad}
+use Rattle.ptn_network.specs.Ids.{edge_with}
 use Rattle.ptn_network.specs.Loads.{load_input, load_rules, given_for, IsBounded}
 use Rattle.ptn_network.proofs.LoadRows.{fits}
 use Rattle.demand_load.specs.LoadTables.{load_rows}
@@ -26,6 +27,16 @@ not_below least most order = by (int_lt most least) refl
     by : (b : Bool) → int_lt most least ≡ b → b ≡ false
     by true is = let less : most <ℤ least = lt_z_yes (T_from_true _ is) in absurd (omega (arith, ints))
     by false is = refl
+
+-- an edge that is there is found
+is_known : (edges : List Edge) (id : ℤ) → list_any (λ edge. int_eq id edge.id) edges ≡ true
+    → is_some (edge_with edges id) ≡ true
+is_known edges id there =
+    some_as (edge_with edges id) ∙ any_found (λ edge. int_eq id edge.id) (λ edge. edge.id) edges ∙ there
+  where
+    some_as : (found : Option Edge) → is_some found ≡ is_some (option_map (λ edge. edge.id) found)
+    some_as None = refl
+    some_as (Some edge) = refl
 
 -- the rows of edges have the ids of the edges
 ids_are : (edges all : List Edge) (loads : List EdgeLoad) → length loads ≡ length edges → map (λ row. row.edge) (records (load_input file.Load all) (load_rows edges loads)) ≡ map (λ (edge : Edge). edge.id) edges
@@ -62,6 +73,6 @@ loads_accepted edges loads text rise same bounded back =
     let rows = records (load_input file.Load edges) (load_rows edges loads) in
     accepted (load_input file.Load edges) (load_rows edges loads) text back refl
     (all_keep (load_rules edges) (λ row. row.edge) (λ row. (list_any (λ edge. int_eq row.edge edge.id) edges ≡ true) × (int_lt row.load.most row.load.least ≡ false))
-    (λ before row new good. fits edges before row good.0 new good.1) rows
+    (λ before row new good. fits edges before row (is_known edges row.edge good.0) new good.1) rows
     (subst (IsStrictlySortedBy int_cmp) (sym (ids_are edges edges loads same)) rise) (good edges edges loads (each_known ids ids (λ p h. h)) bounded))
     (whole_accepted file.Load (λ rows. list_any (λ edge. not (is_some (given_for rows edge))) edges) why.MissingEdge rows (all_have edges loads same))
