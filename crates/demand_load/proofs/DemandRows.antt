@@ -7,7 +7,7 @@ use Rattle.std.proofs.lemmas.Bool.{cases_lt}
 use Rattle.std.proofs.lemmas.Int.{ints}
 use Rattle.std.proofs.lemmas.List.{get_or_push, get_or_past, length_push}
 use Rattle.std.proofs.lemmas.List.Elements.{All-nil}
-use Rattle.std.proofs.lemmas.List.FromFn.{get_or-map-range_with_len, length-map-range_with_len}
+use Rattle.std.proofs.lemmas.List.FromFn.{get_or-map-range_with_len}
 use Rattle.std.proofs.lemmas.Option.{same_Some}
 use Rattle.std.proofs.Math.ListN.{get_or-append}
 use Rattle.giv_files.specs.declared.row_why.RowWhy.TheVariants as why
@@ -37,14 +37,6 @@ none_more known from none =
     ]
 
 module _ (network : NetworkParts) (from : ℕ) where
-  -- a length is known of each stop
-  pub lengths_known : (paths : PathParts) → paths ≡ paths_from network from
-      → length paths.lengths ≡ length network.stops
-  lengths_known paths is =
-      ap (λ (some : PathParts). length some.lengths) is
-      ∙ length-map-range_with_len (λ to. option_map pos (least_sum network edge_length from to))
-      0 (length network.stops)
-
   some_mapped : (sum : Option ℕ) → is_some (option_map pos sum) ≡ is_some sum
   some_mapped None = refl
   some_mapped (Some sum) = refl

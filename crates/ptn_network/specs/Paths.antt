@@ -103,6 +103,7 @@ last_with lengths to last index edge =
 pub record ArePaths (network : NetworkParts) (from : ℕ) (paths : PathParts) : Type 0 where
   pub is : paths ≡ paths_from network from
   pub least : AreLeastSums network edge_length from paths.lengths
+  pub size : length paths.lengths ≡ length network.stops
 
 -- a path has only edges of a network, and each of them once
 pub record IsSimple (edges : List Edge) (path : List ℕ) : Type 0 where

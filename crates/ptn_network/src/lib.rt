@@ -29,3 +29,5 @@ pub use reach::Reach;
 mod tests;
 #[cfg(test)]
 mod tests_least;
+#[cfg(test)]
+mod tests_paths;

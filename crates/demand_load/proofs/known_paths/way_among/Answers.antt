@@ -1,13 +1,6 @@
-use Rattle.std.proofs.Common.{sym, ◌∙◌, arith}
-use Rattle.demand_load.proofs.DemandRows.{lengths_known, is_reached, way_is, no_way}
+use Rattle.std.proofs.Common.{sym, ◌∙◌}
+use Rattle.demand_load.proofs.DemandRows.{is_reached, way_is, no_way}
 use Rattle.demand_load.proofs.known_paths.way_among.Goals as goal
-
-pub reaches-requires : goal.reaches-requires
-reaches-requires c = omega (
-  arith,
-  lengths_known c.args.network.now c.args.from c.args.paths.now c.requires.paths.is,
-  c.requires.to,
-)
 
 pub returns-then-not-reaches-clause-way : goal.returns-then-not-reaches-clause-way
 returns-then-not-reaches-clause-way c =
