@@ -3,7 +3,9 @@ use Rattle.std.specs.Prelude.{ℕ, Bool, true, false}
 use Rattle.stage_driver.specs.declared.outcome.RunEnd.{RunEnd}
 use Rattle.stage_driver.specs.declared.outcome.RunEnd.TheVariants as end
 use Rattle.lintim_cli.specs.declared.answers.Status.{Status}
-use Rattle.lintim_cli.specs.declared.answers.Status.TheVariants.{Done, Usage, BadInput, NoSolution, Spent, FileFault, SinkFault, NoMemory, Uncertified}
+use Rattle.lintim_cli.specs.declared.answers.Status.TheVariants.{Done, Usage, BadInput, NoSolution}
+use Rattle.lintim_cli.specs.declared.answers.Status.TheVariants.{Spent, FileFault, SinkFault}
+use Rattle.lintim_cli.specs.declared.answers.Status.TheVariants.{NoMemory, Uncertified}
 
 -- the exit status of the program
 abbrev pub number_of : Status → ℕ

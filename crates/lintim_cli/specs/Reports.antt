@@ -30,10 +30,13 @@ pub record Nothing (old new : Option (List ℕ)) (before now : ℕ) : Type 0 whe
 abbrev pub Reported : List ℕ → Status → Option (List ℕ) → Option (List ℕ) → ℕ → ℕ → Status → Type 0
 Reported report status old new before now SinkFault = Broken report old new before now
 Reported report status old new before now NoMemory = Nothing old new before now
-Reported report status old new before now result = (result ≡ status) × Whole report old new before now
+Reported report status old new before now result =
+    (result ≡ status) × Whole report old new before now
 
--- what the writing of a fault's report leaves: the answer stays the fault where only a front part is out
+-- what the writing of a fault's report leaves: the answer stays the fault where only a front part
+-- is out
 abbrev pub FaultReported : Option (List ℕ) → Option (List ℕ) → ℕ → ℕ → Status → Type 0
 FaultReported old new before now NoMemory = Nothing old new before now
-FaultReported old new before now FileFault = Whole fault_report old new before now ⊎ Broken fault_report old new before now
+FaultReported old new before now FileFault =
+    Whole fault_report old new before now ⊎ Broken fault_report old new before now
 FaultReported old new before now _ = ⊥

@@ -1,5 +1,6 @@
 -- What the top call answers and leaves.
-use Rattle.std.specs.Prelude.{ℕ, ◌≡◌, ◌⊎◌, ◌+◌, Bool, false, List, [], ◌∷◌, ◌++◌, codes, Option, Some, string_bytes, take}
+use Rattle.std.specs.Prelude.{ℕ, ◌≡◌, ◌⊎◌, ◌+◌, Bool, false, List, [], ◌∷◌, ◌++◌, codes, Option}
+use Rattle.std.specs.Prelude.{Some, string_bytes, take}
 use Rattle.std.specs.Str.{bytes_eq}
 use Rattle.std.specs.Option.{option_map}
 use Rattle.std.specs.declared.string.String.{String}
@@ -22,7 +23,8 @@ abbrev pub is_make : List (String Global) → Bool
 is_make (word ∷ []) = bytes_eq (string_bytes word) (codes "make")
 is_make _ = false
 
--- the folder and the writes are those that a finished run leaves, each stage that was made is right in that folder, and the count of
+-- the folder and the writes are those that a finished run leaves, each stage that was made is right
+-- in that folder, and the count of
 -- steps rose by the work
 pub record Finished (read : Folder) (left : Option Folder) (written noted : Option (List Write)) (before now : ℕ) : Type 0 where
   pub files : IsLeft read left written noted
@@ -34,15 +36,22 @@ abbrev pub AllOut : Folder → Option (List ℕ) → Option (List ℕ) → Type 
 AllOut read old new = new ≡ option_map (λ bytes. bytes ++ (made (hand_of read)).report) old
 
 abbrev pub PartOut : Folder → Option (List ℕ) → Option (List ℕ) → Type 0
-PartOut read old new = (kept : ℕ) × (new ≡ option_map (λ bytes. bytes ++ take kept (made (hand_of read)).report) old)
+PartOut read old new =
+    (kept : ℕ) × (new ≡ option_map (λ bytes. bytes ++ take kept (made (hand_of read)).report) old)
 
--- What is told and left after a run over a folder, by its answer. Without a fault the answer, the report, the folder, the writes and the
--- steps are those that the hand files determine. After a fault of the sink only a front part of the report is out. After a fault of a
--- file not all writes were made. Where memory was refused, either not all writes were made, or all of them: a write is in part only
+-- What is told and left after a run over a folder, by its answer. Without a fault the answer, the
+-- report, the folder, the writes and the
+-- steps are those that the hand files determine. After a fault of the sink only a front part of the
+-- report is out. After a fault of a
+-- file not all writes were made. Where memory was refused, either not all writes were made, or all
+-- of them: a write is in part only
 -- where the count of file faults rose.
-abbrev pub Leaves : Folder → Option Folder → Option (List Write) → Option (List Write) → ℕ → ℕ → Option (List ℕ) → Option (List ℕ) → ℕ → ℕ → Status → Type 0
-Leaves read left written noted faults_before faults_now old new before now SinkFault = PartOut read old new × Finished read left written noted before now
-Leaves read left written noted faults_before faults_now old new before now FileFault = AreNotAll faults.FileFault (writes_of read) (Some read) left written noted
+abbrev pub Leaves : Folder → Option Folder → Option (List Write) → Option (List Write) → ℕ → ℕ
+    → Option (List ℕ) → Option (List ℕ) → ℕ → ℕ → Status → Type 0
+Leaves read left written noted faults_before faults_now old new before now SinkFault =
+    PartOut read old new × Finished read left written noted before now
+Leaves read left written noted faults_before faults_now old new before now FileFault =
+    AreNotAll faults.FileFault (writes_of read) (Some read) left written noted
 Leaves read left written noted faults_before faults_now old new before now NoMemory =
     AreNotAll faults.NoMemory (writes_of read) (Some read) left written noted
     ⊎ (Rose faults_before faults_now × AreNotAll faults.FileFault (writes_of read) (Some read) left written noted)
@@ -50,7 +59,8 @@ Leaves read left written noted faults_before faults_now old new before now NoMem
 Leaves read left written noted faults_before faults_now old new before now result =
     (result ≡ status_of (made (hand_of read)).end) × AllOut read old new × Finished read left written noted before now
 
--- After a fault of the files their count rose, and the report of it is out, whole or, where the sink failed too, a front part.
+-- After a fault of the files their count rose, and the report of it is out, whole or, where the
+-- sink failed too, a front part.
 pub record FileBroke (before now : ℕ) (old new : Option (List ℕ)) (out_before out_now : ℕ) : Type 0 where
   pub raised : Raised before now
   pub told : Whole fault_report old new out_before out_now ⊎ Broken fault_report old new out_before out_now

@@ -8,7 +8,8 @@ use plan_files::{Sink, SinkFault};
 // Writes a report by one call, and answers the status that it ends with.
 pub(crate) fn tell<K: Sink>(out: &mut K, report: &[u8], status: Status) -> Status
     requires { IsReport status }
-    ensures { Reported report.now status (K.written out.old) (K.written out.new) (K.faults out.old) (K.faults out.new) result }
+    ensures { Reported report.now status (K.written out.old) (K.written out.new)
+        (K.faults out.old) (K.faults out.new) result }
 {
     match out.write(report) {
         Ok(()) => status,
@@ -19,7 +20,8 @@ pub(crate) fn tell<K: Sink>(out: &mut K, report: &[u8], status: Status) -> Statu
 
 // Writes the report of a file fault. Where the sink fails too, the answer stays the file fault.
 pub(crate) fn tell_fault<K: Sink>(out: &mut K) -> Status
-    ensures { FaultReported (K.written out.old) (K.written out.new) (K.faults out.old) (K.faults out.new) result }
+    ensures { FaultReported (K.written out.old) (K.written out.new)
+        (K.faults out.old) (K.faults out.new) result }
 {
     match out.write(b"file fault\n") {
         Ok(()) | Err(SinkFault::Failed) => Status::FileFault,

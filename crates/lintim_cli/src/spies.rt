@@ -26,7 +26,8 @@ struct Call {
     name: Text,
 }
 
-// Files in memory that note each call. One of them fails, by its number from 1 on, where there are so many. Their
+// Files in memory that note each call. One of them fails, by its number from 1 on, where there are
+// so many. Their
 // count of faults stands at its last value, so that each call may fail.
 #[derive(Drop)]
 struct SpyFiles {
@@ -125,7 +126,8 @@ impl Sink for SpySink {
     }
 }
 
-// The calls of a run over the dataset: it reads the hand files that its settings and its stages need, and then it puts
+// The calls of a run over the dataset: it reads the hand files that its settings and its stages
+// need, and then it puts
 // what they make.
 const CALLS: [(Kind, &str); 9] = [
     (Kind::Get, "basis/Config.cnf"),
@@ -159,7 +161,8 @@ fn run(
     Ok(lintim(rt.alloc(), &words, files, out, &mut steps))
 }
 
-// No keep file, no file of a stage that is not built and no other file is read, written or removed, and neither is the
+// No keep file, no file of a stage that is not built and no other file is read, written or removed,
+// and neither is the
 // demand where loads are given. The report is one write.
 #[test]
 fn a_run_names_its_files_alone(rt: HostRuntime) -> Result<(), Fail> {
@@ -198,7 +201,8 @@ fn a_report_is_written_once(rt: HostRuntime) -> Result<(), Fail> {
     Ok(())
 }
 
-// A stage that is refused has its files removed, and those of later stages, and nothing else is touched.
+// A stage that is refused has its files removed, and those of later stages, and nothing else is
+// touched.
 #[test]
 fn a_refused_run_removes_made_files_alone(rt: HostRuntime) -> Result<(), Fail> {
     let mut files = SpyFiles::of_dataset(rt.alloc(), 0)?;

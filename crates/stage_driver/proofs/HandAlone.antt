@@ -1,5 +1,6 @@
 -- A chain depends on hand files alone.
-use Rattle.std.proofs.Common.{◌≡◌, ℕ, ℤ, Bool, true, false, cond, List, [], ◌∷◌, ◌++◌, codes, None, Result, Ok, Err, refl, ap, sym, ◌∙◌}
+use Rattle.std.proofs.Common.{◌≡◌, ℕ, ℤ, Bool, true, false, cond, List, [], ◌∷◌, ◌++◌, codes, None}
+use Rattle.std.proofs.Common.{Result, Ok, Err, refl, ap, sym, ◌∙◌}
 use Rattle.std.specs.Str.{bytes_eq}
 use Rattle.std.specs.FinMap as files
 use Rattle.std.proofs.lemmas.Bool.{false≢true}
@@ -21,15 +22,18 @@ use Rattle.config_keys.specs.Items.{look_in, config_name, file_limit}
 use Rattle.config_keys.specs.Values.{effective}
 use Rattle.config_keys.proofs.Looks.{effective_same}
 use Rattle.stage_driver.specs.Hand.{is_hand, hand_of}
-use Rattle.stage_driver.specs.Chain.{hand_text, input_text, chosen, with_text, texts_of, bundle_told, tried, go_on, visit_of, chain_from, to_run}
+use Rattle.stage_driver.specs.Chain.{hand_text, input_text, chosen, with_text, texts_of}
+use Rattle.stage_driver.specs.Chain.{bundle_told, tried, go_on, visit_of, chain_from, to_run}
 use Rattle.stage_driver.specs.Built.{built, run_stage, trace_under, trace_of}
 
 -- under the name of a hand file the hand files have what the folder has
-pub look_same : (folder : Folder) (name : List ℕ) → is_hand name ≡ true → look_in (hand_of folder) name ≡ look_in folder name
+pub look_same : (folder : Folder) (name : List ℕ) → is_hand name ≡ true
+    → look_in (hand_of folder) name ≡ look_in folder name
 unfolding hand_of
 look_same folder name is = ap (λ bytes. found bytes file_limit) (get_part is_hand folder name ∙ ap (λ b. cond b (files.get folder name) None) is)
 
-not_costs : (name : List ℕ) (b : Bool) → is_inside name ≡ true → bytes_eq name (codes "Pool-Cost.giv") ≡ b → b ≡ false
+not_costs : (name : List ℕ) (b : Bool) → is_inside name ≡ true
+    → bytes_eq name (codes "Pool-Cost.giv") ≡ b → b ≡ false
 not_costs name true inside is = absurd (false≢true (sym (ap is_inside ((bytes_eq-Decides name (codes "Pool-Cost.giv")).0 is)) ∙ inside))
 not_costs name false inside is = refl
 
@@ -44,14 +48,17 @@ pub config_is_hand : is_hand config_name ≡ true
 unfolding is_hand
 config_is_hand = refl
 
-pub settings_same : (folder : Folder) → effective (look_in (hand_of folder)) ≡ effective (look_in folder)
+pub settings_same : (folder : Folder)
+    → effective (look_in (hand_of folder)) ≡ effective (look_in folder)
 settings_same folder = effective_same (look_in (hand_of folder)) (look_in folder) (λ name inside. look_same folder (path_of name) (path_is_hand name inside)) (look_same folder config_name config_is_hand)
 
 module _ (folder : Folder) where
-  found_same : (optional : Bool) (file : FileId) → is_hand (file_name file) ≡ true → hand_text optional file (look_in (hand_of folder) (file_name file)) ≡ hand_text optional file (look_in folder (file_name file))
+  found_same : (optional : Bool) (file : FileId) → is_hand (file_name file) ≡ true
+      → hand_text optional file (look_in (hand_of folder) (file_name file)) ≡ hand_text optional file (look_in folder (file_name file))
   found_same optional file is = ap (hand_text optional file) (look_same folder (file_name file) is)
 
-  input_same : (made : List MadeFile) (file : FileId) → input_text (hand_of folder) made file ≡ input_text folder made file
+  input_same : (made : List MadeFile) (file : FileId)
+      → input_text (hand_of folder) made file ≡ input_text folder made file
   unfolding is_hand
   input_same made file.Stop = found_same false file.Stop refl
   input_same made file.Edge = found_same false file.Edge refl
@@ -62,28 +69,34 @@ module _ (folder : Folder) where
   input_same made file.ActivityDelays = found_same true file.ActivityDelays refl
   input_same made _ = refl
 
-  texts_same : (values : List ℤ) (made : List MadeFile) (inputs : List FileId) → texts_of values (hand_of folder) made inputs ≡ texts_of values folder made inputs
+  texts_same : (values : List ℤ) (made : List MadeFile) (inputs : List FileId)
+      → texts_of values (hand_of folder) made inputs ≡ texts_of values folder made inputs
   texts_same values made [] = refl
   texts_same values made (file ∷ inputs) =
       ap (λ text. with_text text (texts_of values (hand_of folder) made inputs)) (input_same made (chosen values file))
       ∙ ap (with_text (input_text folder made (chosen values file))) (texts_same values made inputs)
 
   module _ (solve : BundleParts → Result Made Refusal) where
-    visit_same : (values : List ℤ) (made : List MadeFile) (stage : Stage) → visit_of solve values (hand_of folder) made stage ≡ visit_of solve values folder made stage
+    visit_same : (values : List ℤ) (made : List MadeFile) (stage : Stage)
+        → visit_of solve values (hand_of folder) made stage ≡ visit_of solve values folder made stage
     unfolding visit_of
     visit_same values made stage = ap (λ texts. tried solve values folder (bundle_told values stage texts)) (texts_same values made (stage_inputs stage))
 
-    chain_same : (values : List ℤ) (made : List MadeFile) (stages : List Stage) → chain_from solve values (hand_of folder) made stages ≡ chain_from solve values folder made stages
+    chain_same : (values : List ℤ) (made : List MadeFile) (stages : List Stage)
+        → chain_from solve values (hand_of folder) made stages ≡ chain_from solve values folder made stages
     chain_same values made [] = refl
     chain_same values made (stage ∷ stages) =
         ap (λ visit. go_on visit (λ visit. chain_from solve values (hand_of folder) (made ++ visit.made.files) stages)) (visit_same values made stage)
         ∙ ap (go_on (visit_of solve values folder made stage)) (λ i visit. chain_same values (made ++ visit.made.files) stages i)
 
-  under_same : (settings : Result (List ℤ) ConfigFault) → trace_under settings (hand_of folder) ≡ trace_under settings folder
+  under_same : (settings : Result (List ℤ) ConfigFault)
+      → trace_under settings (hand_of folder) ≡ trace_under settings folder
   under_same (Err reason) = refl
   under_same (Ok values) = chain_same run_stage values [] (to_run values built)
 
   -- the chain over a folder is that over its hand files
   pub hand_alone : trace_of (hand_of folder) ≡ trace_of folder
   unfolding trace_of
-  hand_alone = ap (λ settings. trace_under settings (hand_of folder)) (settings_same folder) ∙ under_same (effective (look_in folder))
+  hand_alone =
+      ap (λ settings. trace_under settings (hand_of folder)) (settings_same folder)
+      ∙ under_same (effective (look_in folder))

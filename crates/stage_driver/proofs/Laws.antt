@@ -1,5 +1,6 @@
 -- What each stage that is built owes to the chain: one line a stage.
-use Rattle.std.proofs.Common.{◌≡◌, ℕ, ℤ, ltb, List, [], ◌∷◌, map, filter, Result, Ok, Err, refl, subst}
+use Rattle.std.proofs.Common.{◌≡◌, ℕ, ℤ, ltb, List, [], ◌∷◌, map, filter, Result, Ok, Err, refl}
+use Rattle.std.proofs.Common.{subst}
 use Rattle.giv_files.specs.declared.file_id.FileId.{FileId}
 use Rattle.giv_files.specs.declared.made.Made.{Made}
 use Rattle.giv_files.specs.declared.refusal.Refusal.{Refusal}
@@ -23,33 +24,46 @@ use Rattle.stage_driver.specs.Right.{IsRightAs}
 
 -- what a stage is given over one look of texts, in which each file has one
 abbrev pub bundle_over : List ℤ → (FileId → List ℕ) → Stage → BundleParts
-bundle_over values look stage = bundle_for values stage (map (λ file. look (chosen values file)) (stage_inputs stage))
+bundle_over values look stage =
+    bundle_for values stage (map (λ file. look (chosen values file)) (stage_inputs stage))
 
 -- files that a stage may make have texts in such a look that are right over it
 pub record IsRightOver (values : List ℤ) (look : FileId → List ℕ) (stage : Stage) : Type 0 where
   pub ids : List FileId
   pub makes : MakesAs stage ids
-  pub right : IsRightAs stage (bundle_over values look stage) (map (λ file. record { file = file; text = look file }) ids)
+  pub right : IsRightAs stage (bundle_over values look stage) (map (λ file. record {
+    file =
+        file;
+    text = look file;
+  }) ids)
 
 abbrev pub AreRightOver : List ℤ → (FileId → List ℕ) → List Stage → Type 0
 AreRightOver values look [] = Unit {0}
-AreRightOver values look (stage ∷ stages) = IsRightOver values look stage × AreRightOver values look stages
+AreRightOver values look (stage ∷ stages) =
+    IsRightOver values look stage × AreRightOver values look stages
 
 -- the stages that are built and run before one
 abbrev pub earlier : Stage → List Stage
 earlier stage = filter (λ other. ltb (stage_place other) (stage_place stage)) built
 
--- A stage makes the files that it is to make, and they are right. Where the stages before it are right over one look of texts, it
+-- A stage makes the files that it is to make, and they are right. Where the stages before it are
+-- right over one look of texts, it
 -- refuses over it no row of a file but those that people write.
 pub record StageLaws (stage : Stage) : Type 0 where
-  pub makes : (bundle : BundleParts) (made : Made) → stage_function stage bundle ≡ Ok made → MakesAs stage (ids_of made.files)
-  pub right : (bundle : BundleParts) (made : Made) → bundle.stage ≡ stage → Fits bundle → stage_function stage bundle ≡ Ok made → IsRightAs stage bundle made.files
-  pub refuses : (values : List ℤ) (look : FileId → List ℕ) (reason : Refusal) → AreRightOver values look (earlier stage)
-      → stage_function stage (bundle_over values look stage) ≡ Err reason → NamesOnly is_hand_file reason
+  pub makes : (bundle : BundleParts) (made : Made) → stage_function stage bundle ≡ Ok made
+      → MakesAs stage (ids_of made.files)
+  pub right : (bundle : BundleParts) (made : Made) → bundle.stage ≡ stage → Fits bundle
+      → stage_function stage bundle ≡ Ok made → IsRightAs stage bundle made.files
+  pub refuses : (values : List ℤ) (look : FileId → List ℕ) (reason : Refusal)
+      → AreRightOver values look (earlier stage)
+      → stage_function stage (bundle_over values look stage) ≡ Err reason
+      → NamesOnly is_hand_file reason
 
 -- a stage that is not built refuses everything, and names no row
-not_built : (told : Result Made Refusal) (reason : Refusal) → told ≡ Err refusal.NoSolution → told ≡ Err reason → NamesOnly is_hand_file reason
-not_built told reason none is = let same : refusal.NoSolution ≡ reason = cc in subst (NamesOnly is_hand_file) same tt
+not_built : (told : Result Made Refusal) (reason : Refusal) → told ≡ Err refusal.NoSolution
+    → told ≡ Err reason → NamesOnly is_hand_file reason
+not_built told reason none is =
+    let same : refusal.NoSolution ≡ reason = cc in subst (NamesOnly is_hand_file) same tt
 
 pub stage_laws : (stage : Stage) → StageLaws stage
 unfolding stage_function is_hand
@@ -58,5 +72,6 @@ stage_laws stage.Cost = record { makes = cost_stage_makes; right = costs_are_rig
 stage_laws _ = record { makes = λ bundle made is. absurd (cc); right = λ bundle made same fits is. absurd (cc); refuses = λ values look reason _ is. not_built _ reason refl is }
 
 -- the same of what is made of a bundle
-pub run_makes : (bundle : BundleParts) (made : Made) → run_stage bundle ≡ Ok made → MakesAs bundle.stage (ids_of made.files)
+pub run_makes : (bundle : BundleParts) (made : Made) → run_stage bundle ≡ Ok made
+    → MakesAs bundle.stage (ids_of made.files)
 run_makes bundle made is = (stage_laws bundle.stage).makes bundle made is

@@ -1,5 +1,7 @@
 -- What a run leaves in its folder is right there.
-use Rattle.std.proofs.Common.{◌≡◌, ℕ, ℤ, Bool, true, false, cond, leb, not, List, [], ◌∷◌, Option, Some, None, IfSome, IfOk, OnOk, Result, Ok, Err, refl, ap, subst, sym, ◌∙◌}
+use Rattle.std.proofs.Common.{◌≡◌, ℕ, ℤ, Bool, true, false, cond, leb, not, List, [], ◌∷◌, Option}
+use Rattle.std.proofs.Common.{Some, None, IfSome, IfOk, OnOk, Result, Ok, Err, refl, ap, subst, sym}
+use Rattle.std.proofs.Common.{◌∙◌}
 use Rattle.std.specs.List.{list_all}
 use Rattle.std.specs.Option.{ok_or}
 use Rattle.std.specs.Str.{bytes_eq}
@@ -29,7 +31,8 @@ use Rattle.stage_driver.specs.declared.cause.Cause.TheVariants as cause
 use Rattle.stage_driver.specs.Built.{built, run_stage, files_of, trace_of, made}
 use Rattle.stage_driver.specs.Chain.{Visit, Trace, hand_text, made_text, input_text, stage_place}
 use Rattle.stage_driver.specs.Hand.{is_among, is_hand, hand_of, names_made_by}
-use Rattle.stage_driver.specs.Right.{made_in, text_in, files_by, StandsRight, AllStandRight, StandRightIn, MadeFilesAreRight, IsLeftRight}
+use Rattle.stage_driver.specs.Right.{made_in, text_in, files_by, StandsRight, AllStandRight}
+use Rattle.stage_driver.specs.Right.{StandRightIn, MadeFilesAreRight, IsLeftRight}
 use Rattle.stage_driver.specs.Runs.{name_of, with_files, without_made, after, writes_of, IsLeft}
 use Rattle.stage_driver.proofs.Differing.{all_filter, differs_from, differing, same_way, not_among}
 use Rattle.stage_driver.proofs.HandAlone.{look_same, settings_same}
@@ -48,7 +51,9 @@ abbrev or_text : Result (List ℕ) Cause → Result (List ℕ) Cause → Result 
 or_text (Ok text) other = Ok text
 or_text (Err why) other = other
 
-put_found : (file : FileId) (other : MadeFile) (made : List MadeFile) (base : Option (List ℕ)) (here : Bool) → bytes_eq (file_name file) (name_of other) ≡ here → differs_from (names_of made) (name_of other) ≡ true
+put_found : (file : FileId) (other : MadeFile) (made : List MadeFile) (base : Option (List ℕ))
+    (here : Bool) → bytes_eq (file_name file) (name_of other) ≡ here
+    → differs_from (names_of made) (name_of other) ≡ true
     → or_text (made_text made file) (ok_or (cond here (Some other.text) base) (cause.Missing file)) ≡ or_text (cond here (Ok other.text) (made_text made file)) (ok_or base (cause.Missing file))
 put_found file other made base true is out =
     let same : name_of other ≡ file_name file = sym ((bytes_eq-Decides (file_name file) (name_of other)).0 is) in
@@ -56,7 +61,9 @@ put_found file other made base true is out =
 put_found file other made base false is out = refl
 
 -- a file that was made is found with the text that was made, and every other as before
-with_found : (made : List MadeFile) (base : Folder) (file : FileId) → differing (names_of made) ≡ true → made_in (with_files made base) file ≡ or_text (made_text made file) (made_in base file)
+with_found : (made : List MadeFile) (base : Folder) (file : FileId)
+    → differing (names_of made) ≡ true
+    → made_in (with_files made base) file ≡ or_text (made_text made file) (made_in base file)
 with_found [] base file h = refl
 with_found (other ∷ made) base file h =
     let parts = and_parts _ _ h in
@@ -65,15 +72,19 @@ with_found (other ∷ made) base file h =
     ∙ put_found file other made (files.get base (file_name file)) (bytes_eq (file_name file) (name_of other)) refl parts.0
     ∙ ap (λ here. or_text (cond here (Ok other.text) (made_text made file)) (made_in base file)) (same_way (file_name file) (name_of other))
 
-found_first : (text other : Result (List ℕ) Cause) (bytes : List ℕ) → text ≡ Ok bytes → or_text text other ≡ Ok bytes
+found_first : (text other : Result (List ℕ) Cause) (bytes : List ℕ) → text ≡ Ok bytes
+    → or_text text other ≡ Ok bytes
 found_first (Ok text) other bytes e = e
 found_first (Err why) other bytes e = absurd (cc)
 
-found_missing : (made : List MadeFile) (file : FileId) → or_text (made_text made file) (Err (cause.Missing file)) ≡ made_text made file
+found_missing : (made : List MadeFile) (file : FileId)
+    → or_text (made_text made file) (Err (cause.Missing file)) ≡ made_text made file
 found_missing [] file = refl
-found_missing (other ∷ made) file = by (bytes_eq (name_of other) (file_name file)) (found_missing made file)
+found_missing (other ∷ made) file =
+    by (bytes_eq (name_of other) (file_name file)) (found_missing made file)
   where
-    by : (here : Bool) → or_text (made_text made file) (Err (cause.Missing file)) ≡ made_text made file
+    by : (here : Bool)
+        → or_text (made_text made file) (Err (cause.Missing file)) ≡ made_text made file
         → or_text (cond here (Ok other.text) (made_text made file)) (Err (cause.Missing file)) ≡ cond here (Ok other.text) (made_text made file)
     by true rest = refl
     by false rest = rest
@@ -88,46 +99,67 @@ module _ (folder : Folder) where
   unfolding made
   all_differ = traced (hand_of folder) (λ trace. differing (names_of (files_of trace.visits)) ≡ true) (λ reason is. refl) (λ values is. made_differ values (hand_of folder))
 
-  found_after : (file : FileId) → made_in (after folder) file ≡ or_text (made_text all file) (made_in (without_made folder) file)
+  found_after : (file : FileId)
+      → made_in (after folder) file ≡ or_text (made_text all file) (made_in (without_made folder) file)
   unfolding after
   found_after file = with_found all (without_made folder) file all_differ
 
   -- a text that was made stands there
-  get_after : (file : FileId) (text : List ℕ) → made_text all file ≡ Ok text → made_in (after folder) file ≡ Ok text
-  get_after file text e = found_after file ∙ found_first (made_text all file) (made_in (without_made folder) file) text e
+  get_after : (file : FileId) (text : List ℕ) → made_text all file ≡ Ok text
+      → made_in (after folder) file ≡ Ok text
+  get_after file text e =
+      found_after file
+      ∙ found_first (made_text all file) (made_in (without_made folder) file) text e
 
   -- and of the files that the built stages make no other one
-  same_after : (file : FileId) → is_among (file_name file) (names_made_by built) ≡ true → made_in (after folder) file ≡ made_text all file
+  same_after : (file : FileId) → is_among (file_name file) (names_made_by built) ≡ true
+      → made_in (after folder) file ≡ made_text all file
   same_after file is =
       let gone : files.get (without_made folder) (file_name file) ≡ None =
       get_part (λ name. not (is_among name (names_made_by built))) folder (file_name file) ∙ ap (λ b. cond (not b) (files.get folder (file_name file)) None) is in
       found_after file ∙ ap (λ found. or_text (made_text all file) (ok_or found (cause.Missing file))) gone ∙ found_missing all file
 
-  agree_after : (some : List FileId) → list_all (λ file. is_among (file_name file) (names_made_by built)) some ≡ true → Agree (made_in (after folder)) (made_text all) some
+  agree_after : (some : List FileId)
+      → list_all (λ file. is_among (file_name file) (names_made_by built)) some ≡ true
+      → Agree (made_in (after folder)) (made_text all) some
   agree_after [] h = tt
-  agree_after (file ∷ some) h = let parts = and_parts _ _ h in (same_after file parts.0, agree_after some parts.1)
+  agree_after (file ∷ some) h =
+      let parts = and_parts _ _ h in (same_after file parts.0, agree_after some parts.1)
 
   hand_after : hand_of (after folder) ≡ hand_of folder
   unfolding after hand_of
-  hand_after = ap (λ left. files.retain_keys left is_hand) (sym (writes_leave all folder)) ∙ part_after is_hand (writes_of folder) folder (writes_outside folder)
+  hand_after =
+      ap (λ left. files.retain_keys left is_hand) (sym (writes_leave all folder))
+      ∙ part_after is_hand (writes_of folder) folder (writes_outside folder)
 
   -- a hand file is found as before
-  look_after : (name : List ℕ) → is_hand name ≡ true → look_in (after folder) name ≡ look_in (hand_of folder) name
-  look_after name is = sym (look_same (after folder) name is) ∙ ap (λ hand. look_in hand name) hand_after
+  look_after : (name : List ℕ) → is_hand name ≡ true
+      → look_in (after folder) name ≡ look_in (hand_of folder) name
+  look_after name is =
+      sym (look_same (after folder) name is) ∙ ap (λ hand. look_in hand name) hand_after
 
   -- what a stage was given is found there
-  input_after : (file : FileId) (text : List ℕ) → input_text (hand_of folder) all file ≡ Ok text → text_in (after folder) file ≡ Ok text
+  input_after : (file : FileId) (text : List ℕ) → input_text (hand_of folder) all file ≡ Ok text
+      → text_in (after folder) file ≡ Ok text
   unfolding is_hand
-  input_after file.Stop text e = ap (hand_text false file.Stop) (look_after (file_name file.Stop) refl) ∙ e
-  input_after file.Edge text e = ap (hand_text false file.Edge) (look_after (file_name file.Edge) refl) ∙ e
-  input_after file.LoadGiven text e = ap (hand_text false file.LoadGiven) (look_after (file_name file.LoadGiven) refl) ∙ e
-  input_after file.Od text e = ap (hand_text false file.Od) (look_after (file_name file.Od) refl) ∙ e
-  input_after file.Pool text e = ap (hand_text false file.Pool) (look_after (file_name file.Pool) refl) ∙ e
-  input_after file.EventDelays text e = ap (hand_text true file.EventDelays) (look_after (file_name file.EventDelays) refl) ∙ e
-  input_after file.ActivityDelays text e = ap (hand_text true file.ActivityDelays) (look_after (file_name file.ActivityDelays) refl) ∙ e
+  input_after file.Stop text e =
+      ap (hand_text false file.Stop) (look_after (file_name file.Stop) refl) ∙ e
+  input_after file.Edge text e =
+      ap (hand_text false file.Edge) (look_after (file_name file.Edge) refl) ∙ e
+  input_after file.LoadGiven text e =
+      ap (hand_text false file.LoadGiven) (look_after (file_name file.LoadGiven) refl) ∙ e
+  input_after file.Od text e =
+      ap (hand_text false file.Od) (look_after (file_name file.Od) refl) ∙ e
+  input_after file.Pool text e =
+      ap (hand_text false file.Pool) (look_after (file_name file.Pool) refl) ∙ e
+  input_after file.EventDelays text e =
+      ap (hand_text true file.EventDelays) (look_after (file_name file.EventDelays) refl) ∙ e
+  input_after file.ActivityDelays text e =
+      ap (hand_text true file.ActivityDelays) (look_after (file_name file.ActivityDelays) refl) ∙ e
   input_after other text e = get_after other text e
 
-  looks_after : (stage : Stage) → files_by (text_in (after folder)) (stage_makes stage) ≡ files_by (made_in (after folder)) (stage_makes stage)
+  looks_after : (stage : Stage)
+      → files_by (text_in (after folder)) (stage_makes stage) ≡ files_by (made_in (after folder)) (stage_makes stage)
   looks_after stage.Load = refl
   looks_after stage.Cost = refl
   looks_after stage.Concept = refl
@@ -140,10 +172,13 @@ module _ (folder : Folder) where
 
   -- the built stages make no other files than the built stages make
   abbrev is_own : Stage → Bool
-  is_own stage = list_all (λ file. is_among (file_name file) (names_made_by built)) (stage_makes stage)
+  is_own stage =
+      list_all (λ file. is_among (file_name file) (names_made_by built)) (stage_makes stage)
 
   -- what is right over what was made is right in the folder that is left
-  one_after : (values : List ℤ) (visit : Visit) → is_own visit.bundle.stage ≡ true → StandsRight (input_text (hand_of folder) all) values visit.bundle visit.made.files → StandsRight (text_in (after folder)) values visit.bundle visit.made.files
+  one_after : (values : List ℤ) (visit : Visit) → is_own visit.bundle.stage ≡ true
+      → StandsRight (input_text (hand_of folder) all) values visit.bundle visit.made.files
+      → StandsRight (text_in (after folder)) values visit.bundle visit.made.files
   one_after values visit own h =
       let stage = visit.bundle.stage in
       record {
@@ -152,8 +187,11 @@ module _ (folder : Folder) where
         right = h.right;
       }
 
-  all_after : (values : List ℤ) (stages : List Stage) (visits : List Visit) → list_all is_own stages ≡ true → ArePlaced run_stage run_makes values (hand_of folder) all stages visits
-      → AllStandRight (input_text (hand_of folder) all) values visits → AllStandRight (text_in (after folder)) values visits
+  all_after : (values : List ℤ) (stages : List Stage) (visits : List Visit)
+      → list_all is_own stages ≡ true
+      → ArePlaced run_stage run_makes values (hand_of folder) all stages visits
+      → AllStandRight (input_text (hand_of folder) all) values visits
+      → AllStandRight (text_in (after folder)) values visits
   all_after values stages [] own placed h = tt
   all_after values [] (visit ∷ visits) own placed h = absurd placed
   all_after values (stage ∷ stages) (visit ∷ visits) own placed h =
@@ -165,10 +203,14 @@ module _ (folder : Folder) where
 built_own : (folder : Folder) → list_all (is_own folder) built ≡ true
 built_own folder = refl
 
-settings_after : (folder : Folder) → effective (look_in (after folder)) ≡ effective (look_in (hand_of folder))
-settings_after folder = sym (settings_same (after folder)) ∙ ap (λ hand. effective (look_in hand)) (hand_after folder)
+settings_after : (folder : Folder)
+    → effective (look_in (after folder)) ≡ effective (look_in (hand_of folder))
+settings_after folder =
+    sym (settings_same (after folder)) ∙ ap (λ hand. effective (look_in hand)) (hand_after folder)
 
-left_by : (folder : Folder) (values : List ℤ) → effective (look_in (hand_of folder)) ≡ Ok values → (made (hand_of folder)).files ≡ files_of (chain values (hand_of folder)).visits → AllStandRight (text_in (after folder)) values (chain values (hand_of folder)).visits
+left_by : (folder : Folder) (values : List ℤ) → effective (look_in (hand_of folder)) ≡ Ok values
+    → (made (hand_of folder)).files ≡ files_of (chain values (hand_of folder)).visits
+    → AllStandRight (text_in (after folder)) values (chain values (hand_of folder)).visits
 left_by folder values is same =
     let hand = hand_of folder in
     let visits = (chain values hand).visits in
@@ -176,10 +218,13 @@ left_by folder values is same =
     all_after folder values (stages_run values) visits (all_filter (is_own folder) (λ stage. leb (stage_place stage) (stage_place (last_stage_of values))) built (built_own folder)) placed
     (visits_right values hand (effective_settings (look_in hand) values is) (made hand).files (stages_run values) visits placed)
 
-under : (folder : Folder) (visits : List Visit) (values : List ℤ) → effective (look_in (after folder)) ≡ Ok values → AllStandRight (text_in (after folder)) values visits → StandRightIn (after folder) visits
+under : (folder : Folder) (visits : List Visit) (values : List ℤ)
+    → effective (look_in (after folder)) ≡ Ok values
+    → AllStandRight (text_in (after folder)) values visits → StandRightIn (after folder) visits
 under folder visits values is h = subst (λ settings. IfOk settings (λ values. AllStandRight (text_in (after folder)) values visits)) (sym is) h
 
-files_are : (hand : Folder) (trace : Trace) → trace_of hand ≡ trace → (made hand).files ≡ files_of trace.visits
+files_are : (hand : Folder) (trace : Trace) → trace_of hand ≡ trace
+    → (made hand).files ≡ files_of trace.visits
 unfolding made
 files_are hand trace same = ap (λ (trace : Trace). files_of trace.visits) same
 
@@ -192,11 +237,15 @@ left_right folder =
     refl
 
 -- the folder that a finished run left is that one
-left_in : (folder : Folder) (left : Option Folder) → left ≡ Some (after folder) → IsLeftRight folder left
+left_in : (folder : Folder) (left : Option Folder) → left ≡ Some (after folder)
+    → IsLeftRight folder left
 unfolding MadeFilesAreRight
 left_in folder left is = rw is (left_right folder)
 
-pub told_left : (contents left : Option Folder) (before now : Option (List Write)) (result : Result Outcome ChainFault) → IfSome contents (λ folder. OnOk result (IsLeft folder left before now)) → IfSome contents (λ folder. OnOk result (IsLeftRight folder left))
+pub told_left : (contents left : Option Folder) (before now : Option (List Write))
+    (result : Result Outcome ChainFault)
+    → IfSome contents (λ folder. OnOk result (IsLeft folder left before now))
+    → IfSome contents (λ folder. OnOk result (IsLeftRight folder left))
 told_left None left before now result h = tt
 told_left (Some folder) left before now (Ok outcome) h = left_in folder left h.folder
 told_left (Some folder) left before now (Err fault) h = tt

@@ -1,5 +1,6 @@
 -- What was made by the stages of a chain is found among all that the chain made.
-use Rattle.std.proofs.Common.{◌≡◌, ℕ, ℤ, Bool, true, List, [], ◌∷◌, ◌++◌, map, filter, Option, Result, Ok, Err, refl, ap, subst, sym, ◌∙◌, append_assoc}
+use Rattle.std.proofs.Common.{◌≡◌, ℕ, ℤ, Bool, true, List, [], ◌∷◌, ◌++◌, map, filter, Option}
+use Rattle.std.proofs.Common.{Result, Ok, Err, refl, ap, subst, sym, ◌∙◌, append_assoc}
 use Rattle.std.specs.List.{list_all, flat_map}
 use Rattle.std.proofs.lemmas.Bool.{and_parts}
 use Rattle.std.proofs.lemmas.List.{map-append}
@@ -20,45 +21,61 @@ use Rattle.stage_driver.specs.declared.cause.Cause.{Cause}
 use Rattle.stage_driver.specs.declared.origin.Origin.{Origin}
 use Rattle.stage_driver.specs.declared.origin.Origin.TheVariants as origin
 use Rattle.stage_driver.specs.Built.{files_of}
-use Rattle.stage_driver.specs.Chain.{Visit, Halt, origin_of, made_text, text_from, input_text, chosen, with_text, texts_by, bundle_told, bundle_by}
+use Rattle.stage_driver.specs.Chain.{Visit, Halt, origin_of, made_text, text_from, input_text}
+use Rattle.stage_driver.specs.Chain.{chosen, with_text, texts_by, bundle_told, bundle_by}
 use Rattle.stage_driver.specs.Hand.{is_among, names_made_by}
 use Rattle.stage_driver.specs.Right.{files_by}
 use Rattle.stage_driver.specs.Runs.{name_of}
-use Rattle.stage_driver.proofs.Differing.{all_both, all_parts, differs_from, Differ, differing, not_among, differ_swap, differ_both, differing_parts, parts_differing}
+use Rattle.stage_driver.proofs.Differing.{all_both, all_parts, differs_from, Differ, differing}
+use Rattle.stage_driver.proofs.Differing.{not_among, differ_swap, differ_both, differing_parts}
+use Rattle.stage_driver.proofs.Differing.{parts_differing}
 use Rattle.stage_driver.proofs.MadeLists.{made_list}
-use Rattle.stage_driver.proofs.MadeTexts.{names_of, text_behind, text_front, text_stays, Agree, files_same, found_own}
+use Rattle.stage_driver.proofs.MadeTexts.{names_of, text_behind, text_front, text_stays, Agree}
+use Rattle.stage_driver.proofs.MadeTexts.{files_same, found_own}
 use Rattle.stage_driver.proofs.Visits.{bundle_stage, IsVisit, AreVisits}
 
 -- ---- what is found stays found
 
-text_more : (text : Result (List ℕ) Cause) (rest more : Result (List (List ℕ)) Cause) (other : Result (List ℕ) Cause) (texts : List (List ℕ)) → ((t : List ℕ) → text ≡ Ok t → other ≡ Ok t) → ((ts : List (List ℕ)) → rest ≡ Ok ts → more ≡ Ok ts)
+text_more : (text : Result (List ℕ) Cause) (rest more : Result (List (List ℕ)) Cause)
+    (other : Result (List ℕ) Cause) (texts : List (List ℕ))
+    → ((t : List ℕ) → text ≡ Ok t → other ≡ Ok t)
+    → ((ts : List (List ℕ)) → rest ≡ Ok ts → more ≡ Ok ts)
     → with_text text rest ≡ Ok texts → with_text other more ≡ Ok texts
 text_more (Err why) rest more other texts h k e = absurd (cc)
 text_more (Ok text) (Err why) more other texts h k e = absurd (cc)
-text_more (Ok text) (Ok found) more other texts h k e = ap (λ t. with_text t more) (h text refl) ∙ ap (with_text (Ok text)) (k found refl) ∙ e
+text_more (Ok text) (Ok found) more other texts h k e =
+    ap (λ t. with_text t more) (h text refl) ∙ ap (with_text (Ok text)) (k found refl) ∙ e
 
 module _ (look other : FileId → Result (List ℕ) Cause) (more : (file : FileId) (text : List ℕ) → look file ≡ Ok text → other file ≡ Ok text) (values : List ℤ) where
-  texts_more : (files : List FileId) (texts : List (List ℕ)) → texts_by look values files ≡ Ok texts → texts_by other values files ≡ Ok texts
+  texts_more : (files : List FileId) (texts : List (List ℕ)) → texts_by look values files ≡ Ok texts
+      → texts_by other values files ≡ Ok texts
   texts_more [] texts e = e
   texts_more (file ∷ files) texts e =
       text_more (look (chosen values file)) (texts_by look values files) (texts_by other values files) (other (chosen values file)) texts (more (chosen values file)) (texts_more files) e
 
-  told_more : (stage : Stage) (texts : Result (List (List ℕ)) Cause) (others : Result (List (List ℕ)) Cause) (bundle : BundleParts) → ((ts : List (List ℕ)) → texts ≡ Ok ts → others ≡ Ok ts) → bundle_told values stage texts ≡ Ok bundle → bundle_told values stage others ≡ Ok bundle
+  told_more : (stage : Stage) (texts : Result (List (List ℕ)) Cause)
+      (others : Result (List (List ℕ)) Cause) (bundle : BundleParts)
+      → ((ts : List (List ℕ)) → texts ≡ Ok ts → others ≡ Ok ts)
+      → bundle_told values stage texts ≡ Ok bundle → bundle_told values stage others ≡ Ok bundle
   told_more stage (Err why) others bundle h e = absurd (cc)
   told_more stage (Ok texts) others bundle h e = ap (bundle_told values stage) (h texts refl) ∙ e
 
   -- where a way to look finds what another one does, a stage is given the same by it
-  pub bundle_more : (stage : Stage) (bundle : BundleParts) → bundle_by look values stage ≡ Ok bundle → bundle_by other values stage ≡ Ok bundle
+  pub bundle_more : (stage : Stage) (bundle : BundleParts) → bundle_by look values stage ≡ Ok bundle
+      → bundle_by other values stage ≡ Ok bundle
   bundle_more stage bundle e = told_more stage (texts_by look values (stage_inputs stage)) (texts_by other values (stage_inputs stage)) bundle (texts_more (stage_inputs stage)) e
 
-from_stays : (from : Origin) (hand : Folder) (made more : List MadeFile) (file : FileId) (text : List ℕ) → text_from from hand made file ≡ Ok text → text_from from hand (made ++ more) file ≡ Ok text
+from_stays : (from : Origin) (hand : Folder) (made more : List MadeFile) (file : FileId)
+    (text : List ℕ) → text_from from hand made file ≡ Ok text
+    → text_from from hand (made ++ more) file ≡ Ok text
 from_stays origin.Needed hand made more file text e = e
 from_stays origin.Optional hand made more file text e = e
 from_stays origin.Earlier hand made more file text e = text_stays made more file text e
 
 -- ---- the files of a stage come of no hand
 
-pub made_looks : (hand : Folder) (made : List MadeFile) (stage : Stage) → files_by (input_text hand made) (stage_makes stage) ≡ files_by (made_text made) (stage_makes stage)
+pub made_looks : (hand : Folder) (made : List MadeFile) (stage : Stage)
+    → files_by (input_text hand made) (stage_makes stage) ≡ files_by (made_text made) (stage_makes stage)
 made_looks hand made stage.Load = refl
 made_looks hand made stage.Cost = refl
 made_looks hand made stage.Concept = refl
@@ -74,12 +91,14 @@ names_are made = map-map file_name (λ (file : MadeFile). file.file) made
 
 -- ---- names that are made
 
-pub names_more : (stage : Stage) (stages : List Stage) → names_made_by (stage ∷ stages) ≡ map file_name (stage_makes stage) ++ names_made_by stages
+pub names_more : (stage : Stage) (stages : List Stage)
+    → names_made_by (stage ∷ stages) ≡ map file_name (stage_makes stage) ++ names_made_by stages
 names_more stage stages = map-append file_name (stage_makes stage) (flat_map stage_makes stages)
 
 module _ (stage : Stage) (made : List MadeFile) (makes : MakesAs stage (ids_of made)) where
   -- what holds of the names that a stage makes holds of those that it made
-  own_within : (p : List ℕ → Bool) → list_all p (map file_name (stage_makes stage)) ≡ true → list_all p (names_of made) ≡ true
+  own_within : (p : List ℕ → Bool) → list_all p (map file_name (stage_makes stage)) ≡ true
+      → list_all p (names_of made) ≡ true
   own_within p h =
       ap (list_all p) (sym (names_are made)) ∙ list_all-map p file_name (ids_of made)
       ∙ (made_list stage (ids_of made) makes).within (λ file. p (file_name file)) (sym (list_all-map p file_name (stage_makes stage)) ∙ h)
@@ -91,7 +110,8 @@ module _ (stage : Stage) (made : List MadeFile) (makes : MakesAs stage (ids_of m
   own_found = found_own made (stage_makes stage) own_differ (subst (λ names. filter (λ file. is_among (file_name file) names) (stage_makes stage) ≡ ids_of made) (names_are made) (made_list stage (ids_of made) makes).kept)
 
 -- what is found of files whose names are none of those before and behind
-between : (before own later : List MadeFile) (files : List FileId) → Differ (map file_name files) (names_of before) → Differ (map file_name files) (names_of later)
+between : (before own later : List MadeFile) (files : List FileId)
+    → Differ (map file_name files) (names_of before) → Differ (map file_name files) (names_of later)
     → Agree (made_text (before ++ (own ++ later))) (made_text own) files
 between before own later [] h k = tt
 between before own later (file ∷ files) h k =
@@ -104,11 +124,14 @@ between before own later (file ∷ files) h k =
 -- ---- the visits of a chain
 
 module _ (solve : BundleParts → Result Made Refusal) (makes : (bundle : BundleParts) (made : Made) → solve bundle ≡ Ok made → MakesAs bundle.stage (ids_of made.files)) (values : List ℤ) (hand : Folder) where
-  own_makes : (before : List MadeFile) (stage : Stage) (visit : Visit) → IsVisit solve values hand before stage visit → MakesAs stage (ids_of visit.made.files)
+  own_makes : (before : List MadeFile) (stage : Stage) (visit : Visit)
+      → IsVisit solve values hand before stage visit → MakesAs stage (ids_of visit.made.files)
   own_makes before stage visit is = subst (λ own. MakesAs own (ids_of visit.made.files)) (bundle_stage values stage _ visit.bundle is.given) (makes visit.bundle visit.made is.solved)
 
   -- what holds of the names that some stages make holds of those that they made
-  pub visits_within : (p : List ℕ → Bool) (before : List MadeFile) (stages : List Stage) (visits : List Visit) (halt : Option Halt) → AreVisits solve values hand before stages visits halt
+  pub visits_within : (p : List ℕ → Bool) (before : List MadeFile) (stages : List Stage)
+      (visits : List Visit) (halt : Option Halt)
+      → AreVisits solve values hand before stages visits halt
       → list_all p (names_made_by stages) ≡ true → list_all p (names_of (files_of visits)) ≡ true
   visits_within p before stages [] halt are h = refl
   visits_within p before [] (visit ∷ visits) halt are h = absurd are
@@ -118,7 +141,8 @@ module _ (solve : BundleParts → Result Made Refusal) (makes : (bundle : Bundle
       ∙ all_both p (names_of visit.made.files) (names_of (files_of visits)) (own_within stage visit.made.files (own_makes before stage visit are.0) p parts.0) (visits_within p (before ++ visit.made.files) stages visits halt are.1 parts.1)
 
   -- and they differ where these do
-  pub visits_differ : (before : List MadeFile) (stages : List Stage) (visits : List Visit) (halt : Option Halt) → AreVisits solve values hand before stages visits halt
+  pub visits_differ : (before : List MadeFile) (stages : List Stage) (visits : List Visit)
+      (halt : Option Halt) → AreVisits solve values hand before stages visits halt
       → differing (names_made_by stages) ≡ true → differing (names_of (files_of visits)) ≡ true
   visits_differ before stages [] halt are h = refl
   visits_differ before [] (visit ∷ visits) halt are h = absurd are
@@ -134,7 +158,8 @@ module _ (solve : BundleParts → Result Made Refusal) (makes : (bundle : Bundle
         apart = own_within stage visit.made.files own (differs_from later) apart;
       })
 
-  -- a stage was made of what it is given over all files that were made, and what it made is found among them
+  -- a stage was made of what it is given over all files that were made, and what it made is found
+  -- among them
   pub record IsPlaced (all : List MadeFile) (stage : Stage) (visit : Visit) : Type 0 where
     pub own : visit.bundle.stage ≡ stage
     pub given : bundle_by (input_text hand all) values stage ≡ Ok visit.bundle
@@ -145,10 +170,13 @@ module _ (solve : BundleParts → Result Made Refusal) (makes : (bundle : Bundle
   abbrev pub ArePlaced : List MadeFile → List Stage → List Visit → Type 0
   ArePlaced all stages [] = Unit {0}
   ArePlaced all [] (visit ∷ visits) = ⊥
-  ArePlaced all (stage ∷ stages) (visit ∷ visits) = IsPlaced all stage visit × ArePlaced all stages visits
+  ArePlaced all (stage ∷ stages) (visit ∷ visits) =
+      IsPlaced all stage visit × ArePlaced all stages visits
 
-  pub visits_placed : (before all : List MadeFile) (stages : List Stage) (visits : List Visit) (halt : Option Halt) → AreVisits solve values hand before stages visits halt
-      → differing (names_made_by stages) ≡ true → Differ (names_made_by stages) (names_of before) → before ++ files_of visits ≡ all → ArePlaced all stages visits
+  pub visits_placed : (before all : List MadeFile) (stages : List Stage) (visits : List Visit)
+      (halt : Option Halt) → AreVisits solve values hand before stages visits halt
+      → differing (names_made_by stages) ≡ true → Differ (names_made_by stages) (names_of before)
+      → before ++ files_of visits ≡ all → ArePlaced all stages visits
   visits_placed before all stages [] halt are h k e = tt
   visits_placed before all [] (visit ∷ visits) halt are h k e = absurd are
   visits_placed before all (stage ∷ stages) (visit ∷ visits) halt are h k e =

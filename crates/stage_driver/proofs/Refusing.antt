@@ -1,8 +1,16 @@
 -- Why a chain ends early names a file that people write.
+<<<<<<< ours
 use Rattle.std.proofs.Common.{◌≡◌, ℕ, ℤ, ltb, leb, Bool, true, false, cond, not, ◌&&◌, ◌||◌, List, [], ◌∷◌, ◌++◌, map, filter, Option, Some, None, IfSome, IfErr, Result, Ok, Err, refl, ap, subst, sym, ◌∙◌, append_assoc, append-nil, arith, ⊎_elim}
+=======
+use Rattle.std.proofs.Common.{◌≡◌, ℕ, ℤ, ltb, leb, Bool, true, false, cond, not, ◌&&◌, ◌||◌, List}
+use Rattle.std.proofs.Common.{[], ◌∷◌, ◌++◌, map, filter, Option, Some, None, IfSome, IfErr, Result}
+use Rattle.std.proofs.Common.{Ok, Err, refl, ap, subst, sym, ◌∙◌, append_assoc, append-nil, arith}
+use Rattle.std.proofs.Common.{⊎_elim, ◌⊎◌}
+>>>>>>> theirs
 use Rattle.std.specs.List.{list_all, flat_map}
 use Rattle.std.specs.Str.{bytes_eq}
-use Rattle.std.proofs.lemmas.Bool.{false≢true, and_parts, and_from, ltb-true, leb-true, le-leb, le-ltb}
+use Rattle.std.proofs.lemmas.Bool.{false≢true, and_parts, and_from, ltb-true, leb-true, le-leb}
+use Rattle.std.proofs.lemmas.Bool.{le-ltb}
 use Rattle.std.proofs.lemmas.Slice.Eq.{bytes_eq-Decides}
 use Rattle.plan_files.specs.declared.store.Got.{Got}
 use Rattle.plan_files.specs.declared.store.Got.TheVariants.{Bytes, Absent, TooLong as Long}
@@ -25,9 +33,12 @@ use Rattle.stage_driver.specs.declared.cause.Cause.TheVariants as cause
 use Rattle.stage_driver.specs.declared.origin.Origin.{Origin}
 use Rattle.stage_driver.specs.declared.origin.Origin.TheVariants as origin
 use Rattle.stage_driver.specs.Hand.{is_among, is_hand, is_hand_file, hand_of}
-use Rattle.stage_driver.specs.Chain.{Visit, Halt, origin_of, hand_text, made_text, input_text, chosen, with_text, texts_by, bundle_for, bundle_told, stage_place}
+use Rattle.stage_driver.specs.Chain.{Visit, Halt, origin_of, hand_text, made_text, input_text}
+use Rattle.stage_driver.specs.Chain.{chosen, with_text, texts_by, bundle_for, bundle_told}
+use Rattle.stage_driver.specs.Chain.{stage_place}
 use Rattle.stage_driver.specs.Built.{built, run_stage, cause_of, files_of}
-use Rattle.stage_driver.specs.Right.{NamesHand, RefusesHand, files_by, found_file, IsRightAs, AllStandRight}
+use Rattle.stage_driver.specs.Right.{NamesHand, RefusesHand, files_by, found_file, IsRightAs}
+use Rattle.stage_driver.specs.Right.{AllStandRight}
 use Rattle.stage_driver.specs.Runs.{name_of}
 use Rattle.stage_driver.proofs.Differing.{all_both, all_parts, all_filter, same_way}
 use Rattle.stage_driver.proofs.HandAlone.{path_is_hand, config_is_hand}
@@ -45,20 +56,25 @@ use Rattle.stage_driver.proofs.Visits.{IsHalt, AreVisits}
 abbrev NoText : {T : Type 0} → Result T Cause → Type 0
 NoText told = IfErr told (λ why. NamesHand (Some why))
 
-hand_names : (optional : Bool) (file : FileId) → is_hand_file file ≡ true → (got : Got) → NoText (hand_text optional file got)
+hand_names : (optional : Bool) (file : FileId) → is_hand_file file ≡ true → (got : Got)
+    → NoText (hand_text optional file got)
 hand_names optional file is (Bytes text) = tt
 hand_names true file is Absent = tt
 hand_names false file is Absent = is
 hand_names optional file is Long = is
 
-there_text : (made : List MadeFile) (file : FileId) → is_among (file_name file) (names_of made) ≡ true → NoText (made_text made file)
+there_text : (made : List MadeFile) (file : FileId)
+    → is_among (file_name file) (names_of made) ≡ true → NoText (made_text made file)
 there_text [] file h = absurd (false≢true h)
 there_text (other ∷ made) file h = by (bytes_eq (name_of other) (file_name file)) (same_way (file_name file) (name_of other)) (there_text made file) h
   where
-    by : (here : Bool) → bytes_eq (file_name file) (name_of other) ≡ here → (is_among (file_name file) (names_of made) ≡ true → NoText (made_text made file)) → (bytes_eq (file_name file) (name_of other) || is_among (file_name file) (names_of made)) ≡ true
+    by : (here : Bool) → bytes_eq (file_name file) (name_of other) ≡ here
+        → (is_among (file_name file) (names_of made) ≡ true → NoText (made_text made file))
+        → (bytes_eq (file_name file) (name_of other) || is_among (file_name file) (names_of made)) ≡ true
         → NoText (cond here (Ok other.text) (made_text made file))
     by true is rest h = tt
-    by false is rest h = rest (sym (ap (λ b. b || is_among (file_name file) (names_of made)) is) ∙ h)
+    by false is rest h =
+        rest (sym (ap (λ b. b || is_among (file_name file) (names_of made)) is) ∙ h)
 
 is_earlier : Origin → Bool
 is_earlier origin.Earlier = true
@@ -69,18 +85,26 @@ is_earlier origin.Optional = false
 abbrev is_there : List MadeFile → FileId → Bool
 is_there made file = not (is_earlier (origin_of file)) || is_among (file_name file) (names_of made)
 
-there_names : (hand : Folder) (made : List MadeFile) (file : FileId) → is_there made file ≡ true → NoText (input_text hand made file)
+there_names : (hand : Folder) (made : List MadeFile) (file : FileId) → is_there made file ≡ true
+    → NoText (input_text hand made file)
 unfolding is_hand is_earlier
-there_names hand made file.Stop h = hand_names false file.Stop refl (look_in hand (file_name file.Stop))
-there_names hand made file.Edge h = hand_names false file.Edge refl (look_in hand (file_name file.Edge))
-there_names hand made file.LoadGiven h = hand_names false file.LoadGiven refl (look_in hand (file_name file.LoadGiven))
+there_names hand made file.Stop h =
+    hand_names false file.Stop refl (look_in hand (file_name file.Stop))
+there_names hand made file.Edge h =
+    hand_names false file.Edge refl (look_in hand (file_name file.Edge))
+there_names hand made file.LoadGiven h =
+    hand_names false file.LoadGiven refl (look_in hand (file_name file.LoadGiven))
 there_names hand made file.Od h = hand_names false file.Od refl (look_in hand (file_name file.Od))
-there_names hand made file.Pool h = hand_names false file.Pool refl (look_in hand (file_name file.Pool))
-there_names hand made file.EventDelays h = hand_names true file.EventDelays refl (look_in hand (file_name file.EventDelays))
-there_names hand made file.ActivityDelays h = hand_names true file.ActivityDelays refl (look_in hand (file_name file.ActivityDelays))
+there_names hand made file.Pool h =
+    hand_names false file.Pool refl (look_in hand (file_name file.Pool))
+there_names hand made file.EventDelays h =
+    hand_names true file.EventDelays refl (look_in hand (file_name file.EventDelays))
+there_names hand made file.ActivityDelays h =
+    hand_names true file.ActivityDelays refl (look_in hand (file_name file.ActivityDelays))
 there_names hand made other h = there_text made other h
 
-chosen_there : (values : List ℤ) (made : List MadeFile) (file : FileId) → is_there made file ≡ true → is_there made (chosen values file) ≡ true
+chosen_there : (values : List ℤ) (made : List MadeFile) (file : FileId) → is_there made file ≡ true
+    → is_there made (chosen values file) ≡ true
 unfolding is_earlier
 chosen_there values made file.Od h = by _
   where
@@ -89,20 +113,25 @@ chosen_there values made file.Od h = by _
     by false = refl
 chosen_there values made other h = h
 
-both_names : (text : Result (List ℕ) Cause) (texts : Result (List (List ℕ)) Cause) → NoText text → NoText texts → NoText (with_text text texts)
+both_names : (text : Result (List ℕ) Cause) (texts : Result (List (List ℕ)) Cause) → NoText text
+    → NoText texts → NoText (with_text text texts)
 both_names (Err why) texts h k = h
 both_names (Ok text) (Err why) h k = k
 both_names (Ok text) (Ok texts) h k = tt
 
-texts_names : (values : List ℤ) (hand : Folder) (made : List MadeFile) (inputs : List FileId) → list_all (is_there made) inputs ≡ true → NoText (texts_by (input_text hand made) values inputs)
+texts_names : (values : List ℤ) (hand : Folder) (made : List MadeFile) (inputs : List FileId)
+    → list_all (is_there made) inputs ≡ true
+    → NoText (texts_by (input_text hand made) values inputs)
 texts_names values hand made [] h = tt
 texts_names values hand made (file ∷ inputs) h =
     let parts = and_parts _ _ h in
     both_names (input_text hand made (chosen values file)) (texts_by (input_text hand made) values inputs) (there_names hand made (chosen values file) (chosen_there values made file parts.0)) (texts_names values hand made inputs parts.1)
 
-told_names : (values : List ℤ) (stage : Stage) (texts : Result (List (List ℕ)) Cause) (why : Cause) → NoText texts → bundle_told values stage texts ≡ Err why → NamesHand (Some why)
+told_names : (values : List ℤ) (stage : Stage) (texts : Result (List (List ℕ)) Cause) (why : Cause)
+    → NoText texts → bundle_told values stage texts ≡ Err why → NamesHand (Some why)
 told_names values stage (Ok texts) why h e = absurd (cc)
-told_names values stage (Err reason) why h e = let same : reason ≡ why = cc in subst (λ why. NamesHand (Some why)) same h
+told_names values stage (Err reason) why h e =
+    let same : reason ≡ why = cc in subst (λ why. NamesHand (Some why)) same h
 
 -- ---- the stages that were made before a chain ended
 
@@ -116,7 +145,10 @@ record IsEnded (values : List ℤ) (hand : Folder) (before : List MadeFile) (sta
   split : stages ≡ done_of stages visits ++ stage ∷ rest
   halts : IsHalt run_stage values hand (before ++ files_of visits) stage halt
 
-ended_by : (values : List ℤ) (hand : Folder) (before : List MadeFile) (stages : List Stage) (visits : List Visit) (halt : Halt) → AreVisits run_stage values hand before stages visits (Some halt) → IsEnded values hand before stages visits halt
+ended_by : (values : List ℤ) (hand : Folder) (before : List MadeFile) (stages : List Stage)
+    (visits : List Visit) (halt : Halt)
+    → AreVisits run_stage values hand before stages visits (Some halt)
+    → IsEnded values hand before stages visits halt
 ended_by values hand before [] [] halt are = absurd are
 ended_by values hand before [] (visit ∷ visits) halt are = absurd are
 ended_by values hand before (stage ∷ stages) [] halt are = record { stage = stage; rest = stages; split = refl; halts = subst (λ made. IsHalt run_stage values hand made stage halt) (sym (append-nil before)) are }
@@ -132,9 +164,12 @@ ended_by values hand before (stage ∷ stages) (visit ∷ visits) halt are =
 -- they are all those that are built and come before the one that ended it
 rising : List Stage → Bool
 rising [] = true
-rising (stage ∷ stages) = list_all (λ other. ltb (stage_place stage) (stage_place other)) stages && rising stages
+rising (stage ∷ stages) =
+    list_all (λ other. ltb (stage_place stage) (stage_place other)) stages && rising stages
 
-none_before : (stage : Stage) (stages : List Stage) → list_all (λ other. ltb (stage_place stage) (stage_place other)) stages ≡ true → filter (λ other. ltb (stage_place other) (stage_place stage)) stages ≡ []
+none_before : (stage : Stage) (stages : List Stage)
+    → list_all (λ other. ltb (stage_place stage) (stage_place other)) stages ≡ true
+    → filter (λ other. ltb (stage_place other) (stage_place stage)) stages ≡ []
 none_before stage [] h = refl
 none_before stage (other ∷ stages) h =
     let parts = and_parts _ _ h in
@@ -145,19 +180,24 @@ all_pass : (p : Stage → Bool) (stages : List Stage) → list_all p (filter p s
 all_pass p [] = refl
 all_pass p (stage ∷ stages) = by (p stage) refl (all_pass p stages)
   where
-    by : (b : Bool) → p stage ≡ b → list_all p (filter p stages) ≡ true → list_all p (cond b (stage ∷ filter p stages) (filter p stages)) ≡ true
+    by : (b : Bool) → p stage ≡ b → list_all p (filter p stages) ≡ true
+        → list_all p (cond b (stage ∷ filter p stages) (filter p stages)) ≡ true
     by true is rest = rw is rest
     by false is rest = rest
 
-of_middle : (p : Stage → Bool) (done : List Stage) (stage : Stage) (rest : List Stage) → list_all p (done ++ stage ∷ rest) ≡ true → p stage ≡ true
-of_middle p done stage rest h = (and_parts (p stage) (list_all p rest) (all_parts p done (stage ∷ rest) h).1).0
+of_middle : (p : Stage → Bool) (done : List Stage) (stage : Stage) (rest : List Stage)
+    → list_all p (done ++ stage ∷ rest) ≡ true → p stage ≡ true
+of_middle p done stage rest h =
+    (and_parts (p stage) (list_all p rest) (all_parts p done (stage ∷ rest) h).1).0
 
 module _ (values : List ℤ) where
   abbrev in_time : Stage → Bool
   in_time stage = leb (stage_place stage) (stage_place (last_stage_of values))
 
   -- a stage before one that runs does run
-  not_late : (first : Stage) (stages done : List Stage) (stage : Stage) (rest : List Stage) → list_all (λ other. ltb (stage_place first) (stage_place other)) stages ≡ true → filter in_time stages ≡ done ++ stage ∷ rest
+  not_late : (first : Stage) (stages done : List Stage) (stage : Stage) (rest : List Stage)
+      → list_all (λ other. ltb (stage_place first) (stage_place other)) stages ≡ true
+      → filter in_time stages ≡ done ++ stage ∷ rest
       → (ltb (stage_place first) (stage_place stage) ≡ true) × (in_time first ≡ true)
   not_late first stages done stage rest above e =
       let below : list_all (λ other. ltb (stage_place first) (stage_place other)) (done ++ stage ∷ rest) ≡ true = ap (list_all (λ other. ltb (stage_place first) (stage_place other))) (sym e) ∙ all_filter (λ other. ltb (stage_place first) (stage_place other)) in_time stages above in
@@ -167,7 +207,9 @@ module _ (values : List ℤ) where
       let last = leb-true (stage_place stage) (stage_place (last_stage_of values)) (of_middle in_time done stage rest runs) in
       (lower, le-leb (stage_place first) (stage_place (last_stage_of values)) (omega (arith, less, last)))
 
-  ran_before : (stages done : List Stage) (stage : Stage) (rest : List Stage) → rising stages ≡ true → filter in_time stages ≡ done ++ stage ∷ rest → filter (λ other. ltb (stage_place other) (stage_place stage)) stages ≡ done
+  ran_before : (stages done : List Stage) (stage : Stage) (rest : List Stage) → rising stages ≡ true
+      → filter in_time stages ≡ done ++ stage ∷ rest
+      → filter (λ other. ltb (stage_place other) (stage_place stage)) stages ≡ done
   unfolding rising
   ran_before [] [] stage rest h e = absurd (cc)
   ran_before [] (other ∷ done) stage rest h e = absurd (cc)
@@ -181,9 +223,13 @@ module _ (values : List ℤ) where
       before : List Stage
       before = filter (λ other. ltb (stage_place other) (stage_place stage)) stages
 
-      by : (b : Bool) → in_time first ≡ b → list_all (λ other. ltb (stage_place first) (stage_place other)) stages ≡ true → (done : List Stage) → cond b (first ∷ kept) kept ≡ done ++ stage ∷ rest
-          → ((done : List Stage) → kept ≡ done ++ stage ∷ rest → before ≡ done) → cond (ltb (stage_place first) (stage_place stage)) (first ∷ before) before ≡ done
-      by false is above done e more = absurd (false≢true (sym is ∙ (not_late first stages done stage rest above e).1))
+      by : (b : Bool) → in_time first ≡ b
+          → list_all (λ other. ltb (stage_place first) (stage_place other)) stages ≡ true
+          → (done : List Stage) → cond b (first ∷ kept) kept ≡ done ++ stage ∷ rest
+          → ((done : List Stage) → kept ≡ done ++ stage ∷ rest → before ≡ done)
+          → cond (ltb (stage_place first) (stage_place stage)) (first ∷ before) before ≡ done
+      by false is above done e more =
+          absurd (false≢true (sym is ∙ (not_late first stages done stage rest above e).1))
       by true is above [] e more =
           let same : first ≡ stage = cc in
           let not : ltb (stage_place first) (stage_place stage) ≡ false = ap (λ s. ltb (stage_place first) (stage_place s)) (sym same) ∙ le-ltb (stage_place first) (stage_place first) (omega arith) in
@@ -207,21 +253,33 @@ module _ (look : FileId → Result (List ℕ) Cause) where
   abbrev looked : FileId → List ℕ
   looked file = text_or (look file)
 
-  one_looked : (text : Result (List ℕ) Cause) (rest : Result (List (List ℕ)) Cause) (some texts : List (List ℕ)) → ((found : List (List ℕ)) → rest ≡ Ok found → some ≡ found) → with_text text rest ≡ Ok texts → text_or text ∷ some ≡ texts
+  one_looked : (text : Result (List ℕ) Cause) (rest : Result (List (List ℕ)) Cause)
+      (some texts : List (List ℕ)) → ((found : List (List ℕ)) → rest ≡ Ok found → some ≡ found)
+      → with_text text rest ≡ Ok texts → text_or text ∷ some ≡ texts
   unfolding text_or
   one_looked (Err why) rest some texts h e = absurd (cc)
   one_looked (Ok text) (Err why) some texts h e = absurd (cc)
-  one_looked (Ok text) (Ok found) some texts h e = let same : text ∷ found ≡ texts = cc in ap (λ more. text ∷ more) (h found refl) ∙ same
+  one_looked (Ok text) (Ok found) some texts h e =
+      let same : text ∷ found ≡ texts = cc in ap (λ more. text ∷ more) (h found refl) ∙ same
 
-  texts_looked : (values : List ℤ) (inputs : List FileId) (texts : List (List ℕ)) → texts_by look values inputs ≡ Ok texts → map (λ file. looked (chosen values file)) inputs ≡ texts
+  texts_looked : (values : List ℤ) (inputs : List FileId) (texts : List (List ℕ))
+      → texts_by look values inputs ≡ Ok texts
+      → map (λ file. looked (chosen values file)) inputs ≡ texts
   texts_looked values [] texts e = cc
   texts_looked values (file ∷ inputs) texts e = one_looked (look (chosen values file)) (texts_by look values inputs) (map (λ file. looked (chosen values file)) inputs) texts (texts_looked values inputs) e
 
-  told_looked : (values : List ℤ) (stage : Stage) (texts : Result (List (List ℕ)) Cause) (some : List (List ℕ)) (bundle : BundleParts) → ((found : List (List ℕ)) → texts ≡ Ok found → some ≡ found) → bundle_told values stage texts ≡ Ok bundle → bundle_for values stage some ≡ bundle
+  told_looked : (values : List ℤ) (stage : Stage) (texts : Result (List (List ℕ)) Cause)
+      (some : List (List ℕ)) (bundle : BundleParts)
+      → ((found : List (List ℕ)) → texts ≡ Ok found → some ≡ found)
+      → bundle_told values stage texts ≡ Ok bundle → bundle_for values stage some ≡ bundle
   told_looked values stage (Err why) some bundle h e = absurd (cc)
-  told_looked values stage (Ok texts) some bundle h e = let same : bundle_for values stage texts ≡ bundle = cc in ap (bundle_for values stage) (h texts refl) ∙ same
+  told_looked values stage (Ok texts) some bundle h e =
+      let same : bundle_for values stage texts ≡ bundle = cc in ap (bundle_for values stage) (h texts refl)
+      ∙ same
 
-  bundle_looked : (values : List ℤ) (stage : Stage) (bundle : BundleParts) → bundle_told values stage (texts_by look values (stage_inputs stage)) ≡ Ok bundle → bundle_over values looked stage ≡ bundle
+  bundle_looked : (values : List ℤ) (stage : Stage) (bundle : BundleParts)
+      → bundle_told values stage (texts_by look values (stage_inputs stage)) ≡ Ok bundle
+      → bundle_over values looked stage ≡ bundle
   bundle_looked values stage bundle e = told_looked values stage (texts_by look values (stage_inputs stage)) (map (λ file. looked (chosen values file)) (stage_inputs stage)) bundle (texts_looked values (stage_inputs stage)) e
 
   abbrev made_over : List FileId → List MadeFile
@@ -232,9 +290,12 @@ module _ (look : FileId → Result (List ℕ) Cause) where
   files_looked [] = refl
   files_looked (file ∷ some) = by (look file) refl (files_looked some)
     where
-      by : (found : Result (List ℕ) Cause) → look file ≡ found → made_over (ids_of (files_by look some)) ≡ files_by look some
+      by : (found : Result (List ℕ) Cause) → look file ≡ found
+          → made_over (ids_of (files_by look some)) ≡ files_by look some
           → made_over (ids_of (found_file file found (files_by look some))) ≡ found_file file found (files_by look some)
-      by (Ok text) is rest = ap (λ t. record { file = file; text = text_or t } ∷ made_over (ids_of (files_by look some))) is ∙ ap (λ more. record { file = file; text = text } ∷ more) rest
+      by (Ok text) is rest =
+          ap (λ t. record { file = file; text = text_or t } ∷ made_over (ids_of (files_by look some))) is
+          ∙ ap (λ more. record { file = file; text = text } ∷ more) rest
       by (Err why) is rest = rest
 
 -- ---- what the stages before one made
@@ -244,7 +305,9 @@ module _ (values : List ℤ) (hand : Folder) (all : List MadeFile) where
   Placed stages visits = ArePlaced run_stage run_makes values hand all stages visits
 
   -- it is right over one look of texts
-  done_right : (stages : List Stage) (visits : List Visit) → Placed stages visits → AllStandRight (input_text hand all) values visits → AreRightOver values (looked (input_text hand all)) (done_of stages visits)
+  done_right : (stages : List Stage) (visits : List Visit) → Placed stages visits
+      → AllStandRight (input_text hand all) values visits
+      → AreRightOver values (looked (input_text hand all)) (done_of stages visits)
   done_right [] [] placed right = tt
   done_right [] (visit ∷ visits) placed right = tt
   done_right (stage ∷ stages) [] placed right = tt
@@ -267,17 +330,23 @@ module _ (values : List ℤ) (hand : Folder) (all : List MadeFile) where
     where
       by : (b : Bool) → is_made file ≡ b → b ≡ true
       by true is = refl
-      by false is = let none : Err (cause.Missing file) ≡ Ok text = sym (text_nowhere all file is) ∙ e in absurd (cc)
+      by false is =
+          let none : Err (cause.Missing file) ≡ Ok text = sym (text_nowhere all file is)
+          ∙ e in absurd (cc)
 
-  found_made : (some : List FileId) → list_all is_made (ids_of (files_by (made_text all) some)) ≡ true
+  found_made : (some : List FileId)
+      → list_all is_made (ids_of (files_by (made_text all) some)) ≡ true
   found_made [] = refl
   found_made (file ∷ some) = by (made_text all file) refl (found_made some)
     where
-      by : (found : Result (List ℕ) Cause) → made_text all file ≡ found → list_all is_made (ids_of (files_by (made_text all) some)) ≡ true → list_all is_made (ids_of (found_file file found (files_by (made_text all) some))) ≡ true
+      by : (found : Result (List ℕ) Cause) → made_text all file ≡ found
+          → list_all is_made (ids_of (files_by (made_text all) some)) ≡ true
+          → list_all is_made (ids_of (found_file file found (files_by (made_text all) some))) ≡ true
       by (Ok text) is rest = and_from (is_made file) _ (text_made file text is) rest
       by (Err why) is rest = rest
 
-  done_there : (stages : List Stage) (visits : List Visit) → Placed stages visits → list_all is_made (flat_map always_made (done_of stages visits)) ≡ true
+  done_there : (stages : List Stage) (visits : List Visit) → Placed stages visits
+      → list_all is_made (flat_map always_made (done_of stages visits)) ≡ true
   done_there [] [] placed = refl
   done_there [] (visit ∷ visits) placed = refl
   done_there (stage ∷ stages) [] placed = refl
@@ -296,17 +365,25 @@ built_needs : list_all needs built ≡ true
 unfolding is_earlier
 built_needs = refl
 
-among_through : (some : List FileId) (names : List (List ℕ)) (name : List ℕ) → is_among name (map file_name some) ≡ true → list_all (λ file. is_among (file_name file) names) some ≡ true → is_among name names ≡ true
+among_through : (some : List FileId) (names : List (List ℕ)) (name : List ℕ)
+    → is_among name (map file_name some) ≡ true
+    → list_all (λ file. is_among (file_name file) names) some ≡ true → is_among name names ≡ true
 among_through [] names name h k = absurd (false≢true h)
 among_through (file ∷ some) names name h k =
     let parts = and_parts _ _ k in
     by (bytes_eq name (file_name file)) refl h parts.0 (λ h. among_through some names name h parts.1)
   where
-    by : (b : Bool) → bytes_eq name (file_name file) ≡ b → (b || is_among name (map file_name some)) ≡ true → is_among (file_name file) names ≡ true → (is_among name (map file_name some) ≡ true → is_among name names ≡ true) → is_among name names ≡ true
-    by true is h here rest = ap (λ n. is_among n names) ((bytes_eq-Decides name (file_name file)).0 is) ∙ here
+    by : (b : Bool) → bytes_eq name (file_name file) ≡ b
+        → (b || is_among name (map file_name some)) ≡ true → is_among (file_name file) names ≡ true
+        → (is_among name (map file_name some) ≡ true → is_among name names ≡ true)
+        → is_among name names ≡ true
+    by true is h here rest =
+        ap (λ n. is_among n names) ((bytes_eq-Decides name (file_name file)).0 is) ∙ here
     by false is h here rest = rest h
 
-all_there : (made : List MadeFile) (some inputs : List FileId) → list_all (λ file. not (is_earlier (origin_of file)) || is_among (file_name file) (map file_name some)) inputs ≡ true → list_all (λ file. is_among (file_name file) (names_of made)) some ≡ true
+all_there : (made : List MadeFile) (some inputs : List FileId)
+    → list_all (λ file. not (is_earlier (origin_of file)) || is_among (file_name file) (map file_name some)) inputs ≡ true
+    → list_all (λ file. is_among (file_name file) (names_of made)) some ≡ true
     → list_all (is_there made) inputs ≡ true
 all_there made some [] h k = refl
 all_there made some (file ∷ inputs) h k =
@@ -319,8 +396,11 @@ all_there made some (file ∷ inputs) h k =
 
 -- ---- why a chain ends early
 
-halt_names : (values : List ℤ) (hand : Folder) (all : List MadeFile) (stage : Stage) (halt : Halt) → needs stage ≡ true → list_all (λ file. is_among (file_name file) (names_of all)) (flat_map always_made (earlier stage)) ≡ true
-    → AreRightOver values (looked (input_text hand all)) (earlier stage) → IsHalt run_stage values hand all stage halt → NamesHand (Some halt.cause)
+halt_names : (values : List ℤ) (hand : Folder) (all : List MadeFile) (stage : Stage) (halt : Halt)
+    → needs stage ≡ true
+    → list_all (λ file. is_among (file_name file) (names_of all)) (flat_map always_made (earlier stage)) ≡ true
+    → AreRightOver values (looked (input_text hand all)) (earlier stage)
+    → IsHalt run_stage values hand all stage halt → NamesHand (Some halt.cause)
 halt_names values hand all stage halt need there right halts =
     let look = input_text hand all in
     ⊎_elim (λ none. told_names values stage (texts_by look values (stage_inputs stage)) halt.cause (texts_names values hand all (stage_inputs stage) (all_there all (flat_map always_made (earlier stage)) (stage_inputs stage) need there)) none)
@@ -330,8 +410,11 @@ halt_names values hand all stage halt need there right halts =
     subst (λ why. NamesHand (Some why)) (sym refused.cause) names)
     halts
 
-chain_names : (values : List ℤ) (hand : Folder) (visits : List Visit) (halt : Option Halt) → AllStandRight (input_text hand (files_of visits)) values visits → AreVisits run_stage values hand [] (stages_run values) visits halt
-    → ArePlaced run_stage run_makes values hand (files_of visits) (stages_run values) visits → NamesHand (cause_of halt)
+chain_names : (values : List ℤ) (hand : Folder) (visits : List Visit) (halt : Option Halt)
+    → AllStandRight (input_text hand (files_of visits)) values visits
+    → AreVisits run_stage values hand [] (stages_run values) visits halt
+    → ArePlaced run_stage run_makes values hand (files_of visits) (stages_run values) visits
+    → NamesHand (cause_of halt)
 chain_names values hand visits None right are placed = tt
 chain_names values hand visits (Some halt) right are placed =
     let all = files_of visits in
@@ -353,6 +436,7 @@ refuses_hand hand = traced hand (λ trace. NamesHand (cause_of trace.halt))
     (are_visits values hand) (are_placed values hand))
 
 -- the same over the hand files of a folder that may be told
-pub told_refuses : (contents : Option Folder) → IfSome contents (λ folder. RefusesHand (hand_of folder))
+pub told_refuses : (contents : Option Folder)
+    → IfSome contents (λ folder. RefusesHand (hand_of folder))
 told_refuses None = tt
 told_refuses (Some folder) = refuses_hand (hand_of folder)

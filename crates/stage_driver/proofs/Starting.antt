@@ -1,5 +1,6 @@
 -- A chain starts with the settings of its dataset.
-use Rattle.std.proofs.Common.{◌≡◌, ℕ, ℤ, List, [], Option, Some, None, IfSome, Result, Ok, Err, refl, sym, subst, arith}
+use Rattle.std.proofs.Common.{◌≡◌, ℕ, ℤ, List, [], Option, Some, None, IfSome, Result, Ok, Err}
+use Rattle.std.proofs.Common.{refl, sym, subst, arith}
 use Rattle.plan_files.specs.Folder.{Folder}
 use Rattle.config_keys.specs.declared.config_end.ConfigEnd.{ConfigEnd}
 use Rattle.config_keys.specs.declared.config_end.ConfigEnd.TheVariants as config
@@ -12,22 +13,39 @@ use Rattle.stage_driver.specs.Built.{built, run_stage, stage_work, trace_under, 
 use Rattle.stage_driver.specs.Ends.{end_of_config}
 use Rattle.stage_driver.specs.Progress.{SoFar, nothing, ChainGives}
 
-refused_in : (folder : Folder) (end : ConfigEnd) (count : ℕ) → ConfigGives (effective (look_in folder)) (Err end) → ChainGives stage_work (trace_of folder) nothing count count (Err (end_of_config end))
+refused_in : (folder : Folder) (end : ConfigEnd) (count : ℕ)
+    → ConfigGives (effective (look_in folder)) (Err end)
+    → ChainGives stage_work (trace_of folder) nothing count count (Err (end_of_config end))
 unfolding trace_of
 refused_in folder (config.Refused reason) count told =
-    subst (λ settings. ChainGives stage_work (trace_under settings folder) nothing count count (Err (end_of_config (config.Refused reason)))) (sym told) (refl, record { files = refl; report = refl }, omega arith)
+    subst (λ settings. ChainGives stage_work (trace_under settings folder) nothing count count (Err (end_of_config (config.Refused reason)))) (sym told) (
+      refl,
+      record {
+        files =
+            refl;
+        report = refl;
+      },
+      omega arith,
+    )
 refused_in folder config.FileFault count told = (omega arith, omega arith)
 refused_in folder config.NoMemory count told = (omega arith, omega arith)
 
 -- the settings are refused
-pub refused : (contents : Option Folder) (end : ConfigEnd) (so_far : SoFar) (count : ℕ) (result : Result (Unit {0}) ChainEnd) → so_far ≡ nothing → IfSome contents (λ folder. ConfigGives (effective (look_in folder)) (Err end)) → result ≡ Err (end_of_config end)
+pub refused : (contents : Option Folder) (end : ConfigEnd) (so_far : SoFar) (count : ℕ)
+    (result : Result (Unit {0}) ChainEnd) → so_far ≡ nothing
+    → IfSome contents (λ folder. ConfigGives (effective (look_in folder)) (Err end))
+    → result ≡ Err (end_of_config end)
     → IfSome contents (λ folder. ChainGives stage_work (trace_of folder) so_far count count result)
 refused None end so_far count result none told e = tt
-refused (Some folder) end so_far count result none told e = rw (none, e) (refused_in folder end count told)
+refused (Some folder) end so_far count result none told e =
+    rw (none, e) (refused_in folder end count told)
 
 -- the stages run under the settings
-pub settled : (contents now : Option Folder) (values : List ℤ) (new : SoFar) (before count : ℕ) (result : Result (Unit {0}) ChainEnd) → now ≡ contents → IfSome contents (λ folder. ConfigGives (effective (look_in folder)) (Ok values))
-    → IfSome now (λ folder. ChainGives stage_work (chain_from run_stage values folder [] (to_run values built)) new before count result) → IfSome contents (λ folder. ChainGives stage_work (trace_of folder) new before count result)
+pub settled : (contents now : Option Folder) (values : List ℤ) (new : SoFar) (before count : ℕ)
+    (result : Result (Unit {0}) ChainEnd) → now ≡ contents
+    → IfSome contents (λ folder. ConfigGives (effective (look_in folder)) (Ok values))
+    → IfSome now (λ folder. ChainGives stage_work (chain_from run_stage values folder [] (to_run values built)) new before count result)
+    → IfSome contents (λ folder. ChainGives stage_work (trace_of folder) new before count result)
 unfolding trace_of
 settled None now values new before count result same told h = tt
 settled (Some folder) now values new before count result same told h =

@@ -1,5 +1,6 @@
 -- The chain over hand files.
-use Rattle.std.proofs.Common.{◌≡◌, ℕ, ℤ, Bool, true, false, cond, leb, List, [], ◌∷◌, map, filter, Result, Ok, Err, refl, ap, sym, ◌∙◌}
+use Rattle.std.proofs.Common.{◌≡◌, ℕ, ℤ, Bool, true, false, cond, leb, List, [], ◌∷◌, map, filter}
+use Rattle.std.proofs.Common.{Result, Ok, Err, refl, ap, sym, ◌∙◌}
 use Rattle.std.specs.List.{list_all}
 use Rattle.plan_files.specs.Folder.{Folder}
 use Rattle.giv_files.specs.declared.stage.Stage.{Stage}
@@ -13,35 +14,47 @@ use Rattle.stage_driver.specs.Built.{built, run_stage, files_of, trace_under, tr
 use Rattle.stage_driver.specs.Chain.{Trace, stage_place, to_run}
 use Rattle.stage_driver.specs.Hand.{names_made_by}
 use Rattle.stage_driver.specs.Runs.{name_of}
-use Rattle.stage_driver.proofs.Differing.{all_both, all_parts, differs_from, Differ, differing, none_differ, differ_swap, differing_parts, parts_differing}
+use Rattle.stage_driver.proofs.Differing.{all_both, all_parts, differs_from, Differ, differing}
+use Rattle.stage_driver.proofs.Differing.{none_differ, differ_swap, differing_parts}
+use Rattle.stage_driver.proofs.Differing.{parts_differing}
 use Rattle.stage_driver.proofs.Laws.{run_makes}
 use Rattle.stage_driver.proofs.Placed.{names_more, ArePlaced, visits_placed, visits_differ}
 use Rattle.stage_driver.proofs.Visits.{AreVisits, chain_visits}
 
--- what holds of a chain whose settings are refused, and of one that runs, holds of the chain over hand files
-pub traced : (hand : Folder) (P : Trace → Type 0) → ((reason : ConfigFault) → effective (look_in hand) ≡ Err reason → P (trace_under (Err reason) hand))
-    → ((values : List ℤ) → effective (look_in hand) ≡ Ok values → P (trace_under (Ok values) hand)) → P (trace_of hand)
+-- what holds of a chain whose settings are refused, and of one that runs, holds of the chain over
+-- hand files
+pub traced : (hand : Folder) (P : Trace → Type 0)
+    → ((reason : ConfigFault) → effective (look_in hand) ≡ Err reason → P (trace_under (Err reason) hand))
+    → ((values : List ℤ) → effective (look_in hand) ≡ Ok values → P (trace_under (Ok values) hand))
+    → P (trace_of hand)
 unfolding trace_of
 traced hand P refused run = by (effective (look_in hand)) refl
   where
-    by : (settings : Result (List ℤ) ConfigFault) → effective (look_in hand) ≡ settings → P (trace_under settings hand)
+    by : (settings : Result (List ℤ) ConfigFault) → effective (look_in hand) ≡ settings
+        → P (trace_under settings hand)
     by (Err reason) is = refused reason is
     by (Ok values) is = run values is
 
 -- ---- some of the stages make some of the names
 
 module _ (p : Stage → Bool) where
-  some_within : (q : List ℕ → Bool) (stages : List Stage) → list_all q (names_made_by stages) ≡ true → list_all q (names_made_by (filter p stages)) ≡ true
+  some_within : (q : List ℕ → Bool) (stages : List Stage) → list_all q (names_made_by stages) ≡ true
+      → list_all q (names_made_by (filter p stages)) ≡ true
   some_within q [] h = refl
   some_within q (stage ∷ stages) h =
       let parts = all_parts q (map file_name (stage_makes stage)) (names_made_by stages) (ap (list_all q) (sym (names_more stage stages)) ∙ h) in
       by (p stage) parts.0 (some_within q stages parts.1)
     where
-      by : (b : Bool) → list_all q (map file_name (stage_makes stage)) ≡ true → list_all q (names_made_by (filter p stages)) ≡ true → list_all q (names_made_by (cond b (stage ∷ filter p stages) (filter p stages))) ≡ true
-      by true own rest = ap (list_all q) (names_more stage (filter p stages)) ∙ all_both q (map file_name (stage_makes stage)) (names_made_by (filter p stages)) own rest
+      by : (b : Bool) → list_all q (map file_name (stage_makes stage)) ≡ true
+          → list_all q (names_made_by (filter p stages)) ≡ true
+          → list_all q (names_made_by (cond b (stage ∷ filter p stages) (filter p stages))) ≡ true
+      by true own rest =
+          ap (list_all q) (names_more stage (filter p stages))
+          ∙ all_both q (map file_name (stage_makes stage)) (names_made_by (filter p stages)) own rest
       by false own rest = rest
 
-  some_differ : (stages : List Stage) → differing (names_made_by stages) ≡ true → differing (names_made_by (filter p stages)) ≡ true
+  some_differ : (stages : List Stage) → differing (names_made_by stages) ≡ true
+      → differing (names_made_by (filter p stages)) ≡ true
   some_differ [] h = refl
   some_differ (stage ∷ stages) h =
       let names = map file_name (stage_makes stage) in
@@ -49,9 +62,13 @@ module _ (p : Stage → Bool) where
       let apart = differ_swap (names_made_by (filter p stages)) names (some_within (differs_from names) stages (differ_swap names (names_made_by stages) parts.apart)) in
       by (p stage) parts.front (some_differ stages parts.back) apart
     where
-      by : (b : Bool) → differing (map file_name (stage_makes stage)) ≡ true → differing (names_made_by (filter p stages)) ≡ true → Differ (map file_name (stage_makes stage)) (names_made_by (filter p stages))
+      by : (b : Bool) → differing (map file_name (stage_makes stage)) ≡ true
+          → differing (names_made_by (filter p stages)) ≡ true
+          → Differ (map file_name (stage_makes stage)) (names_made_by (filter p stages))
           → differing (names_made_by (cond b (stage ∷ filter p stages) (filter p stages))) ≡ true
-      by true own rest apart = ap differing (names_more stage (filter p stages)) ∙ parts_differing (map file_name (stage_makes stage)) (names_made_by (filter p stages)) (record { front = own; back = rest; apart = apart })
+      by true own rest apart =
+          ap differing (names_more stage (filter p stages))
+          ∙ parts_differing (map file_name (stage_makes stage)) (names_made_by (filter p stages)) (record { front = own; back = rest; apart = apart })
       by false own rest apart = rest
 
 built_differ : differing (names_made_by built) ≡ true

@@ -1,5 +1,6 @@
 -- One stage of a chain is run.
-use Rattle.std.proofs.Common.{◌≡◌, ℕ, ℤ, ◌+◌, ◌≤◌, List, Option, Some, None, IfSome, Result, Ok, Err, refl, ap, sym, ◌∙◌, subst, arith}
+use Rattle.std.proofs.Common.{◌≡◌, ℕ, ℤ, ◌+◌, ◌≤◌, List, Option, Some, None, IfSome, Result, Ok}
+use Rattle.std.proofs.Common.{Err, refl, ap, sym, ◌∙◌, subst, arith}
 use Rattle.plan_files.specs.Folder.{Folder}
 use Rattle.giv_files.specs.declared.made.Made.{Made}
 use Rattle.giv_files.specs.declared.made.MadeFile.{MadeFile}
@@ -19,7 +20,8 @@ use Rattle.stage_driver.proofs.Visits.{bundle_stage}
 module _ (solve : BundleParts → Result Made Refusal) (work : BundleParts → ℕ) (values : List ℤ) (stage : Stage) (old new : SoFar) where
   -- what the stage is given, where some files were made
   abbrev pub told_with : List MadeFile → Folder → Result BundleParts Cause
-  told_with made folder = bundle_told values stage (texts_of values folder made (stage_inputs stage))
+  told_with made folder =
+      bundle_told values stage (texts_of values folder made (stage_inputs stage))
 
   abbrev pub told_in : Folder → Result BundleParts Cause
   told_in folder = told_with old.files folder
@@ -28,13 +30,17 @@ module _ (solve : BundleParts → Result Made Refusal) (work : BundleParts → �
   visit_in folder = visit_of solve values folder old.files stage
 
   -- the work of a stage that has its inputs
-  solved_work : (folder : Folder) (bundle : BundleParts) (made : Result Made Refusal) → visit_work work (solved solve values folder bundle made) ≡ work bundle
+  solved_work : (folder : Folder) (bundle : BundleParts) (made : Result Made Refusal)
+      → visit_work work (solved solve values folder bundle made) ≡ work bundle
   solved_work folder bundle (Ok made) = omega arith
   solved_work folder bundle (Err refusal) = omega arith
 
-  given_work_is : (folder : Folder) (bundle : BundleParts) → told_in folder ≡ Ok bundle → visit_work work (visit_in folder) ≡ work bundle
+  given_work_is : (folder : Folder) (bundle : BundleParts) → told_in folder ≡ Ok bundle
+      → visit_work work (visit_in folder) ≡ work bundle
   unfolding visit_of
-  given_work_is folder bundle told = ap (λ told. visit_work work (tried solve values folder told)) told ∙ solved_work folder bundle (solve bundle)
+  given_work_is folder bundle told =
+      ap (λ told. visit_work work (tried solve values folder told)) told
+      ∙ solved_work folder bundle (solve bundle)
 
   -- an input is not there
   ungiven : (folder : Folder) (why : ChainEnd) (count : ℕ) → Gives {T = BundleParts} (told_in folder) (Err why) → VisitGives work (visit_in folder) old old count count (Err why)
@@ -45,13 +51,17 @@ module _ (solve : BundleParts → Result Made Refusal) (work : BundleParts → �
   ungiven folder end.FileFault count told = (omega arith, omega arith)
   ungiven folder end.NoMemory count told = (omega arith, omega arith)
 
-  pub not_given : (contents : Option Folder) (made : List MadeFile) (why : ChainEnd) (count : ℕ) (result : Result (Unit {0}) ChainEnd) → made ≡ old.files → IfSome contents (λ folder. Gives {T = BundleParts} (told_with made folder) (Err why)) → result ≡ Err why
+  pub not_given : (contents : Option Folder) (made : List MadeFile) (why : ChainEnd) (count : ℕ) (result : Result (Unit {0}) ChainEnd) → made ≡ old.files → IfSome contents (λ folder. Gives {T =
+      BundleParts} (told_with made folder) (Err why)) → result ≡ Err why
       → IfSome contents (λ folder. VisitGives work (visit_in folder) old old count count result)
   not_given None made why count result same told e = tt
   not_given (Some folder) made why count result same told e = rw e (ungiven folder why count (subst (λ files. Gives {T = BundleParts} (told_with files folder) (Err why)) same told))
 
   -- the stage is made
-  pub is_made : (contents : Option Folder) (files : List MadeFile) (bundle : BundleParts) (made : Made) (before now : ℕ) → files ≡ old.files → IfSome contents (λ folder. told_with files folder ≡ Ok bundle) → solve bundle ≡ Ok made → new ≡ with_made old made → now ≡ before + work bundle
+  pub is_made : (contents : Option Folder) (files : List MadeFile) (bundle : BundleParts)
+      (made : Made) (before now : ℕ) → files ≡ old.files
+      → IfSome contents (λ folder. told_with files folder ≡ Ok bundle) → solve bundle ≡ Ok made
+      → new ≡ with_made old made → now ≡ before + work bundle
       → IfSome contents (λ folder. VisitGives work (visit_in folder) old new before now (Ok tt))
   unfolding visit_of
   is_made None files bundle made before now same told is more count = tt
@@ -60,7 +70,10 @@ module _ (solve : BundleParts → Result Made Refusal) (work : BundleParts → �
       (record { bundle = bundle; made = made }, ap (tried solve values folder) told ∙ ap (solved solve values folder bundle) is, more, count ∙ ap (λ n. before + n) (sym (given_work_is folder bundle told)))
 
   -- the stage refuses what it is given
-  pub is_refused : (contents : Option Folder) (files : List MadeFile) (bundle : BundleParts) (refusal : Refusal) (before now : ℕ) → files ≡ old.files → IfSome contents (λ folder. told_with files folder ≡ Ok bundle) → solve bundle ≡ Err refusal → now ≡ before + work bundle
+  pub is_refused : (contents : Option Folder) (files : List MadeFile) (bundle : BundleParts)
+      (refusal : Refusal) (before now : ℕ) → files ≡ old.files
+      → IfSome contents (λ folder. told_with files folder ≡ Ok bundle) → solve bundle ≡ Err refusal
+      → now ≡ before + work bundle
       → IfSome contents (λ folder. VisitGives work (visit_in folder) old old before now (Err (end.Stopped (cause.Refused stage refusal))))
   unfolding visit_of
   is_refused None files bundle refusal before now same told is count = tt
@@ -74,7 +87,10 @@ module _ (solve : BundleParts → Result Made Refusal) (work : BundleParts → �
       )
 
   -- memory is refused on the way
-  pub is_cut : (contents : Option Folder) (files : List MadeFile) (bundle : BundleParts) (before now : ℕ) (result : Result (Unit {0}) ChainEnd) → files ≡ old.files → IfSome contents (λ folder. told_with files folder ≡ Ok bundle) → before ≤ now → now ≤ before + work bundle → result ≡ Err end.NoMemory
+  pub is_cut : (contents : Option Folder) (files : List MadeFile) (bundle : BundleParts)
+      (before now : ℕ) (result : Result (Unit {0}) ChainEnd) → files ≡ old.files
+      → IfSome contents (λ folder. told_with files folder ≡ Ok bundle) → before ≤ now
+      → now ≤ before + work bundle → result ≡ Err end.NoMemory
       → IfSome contents (λ folder. VisitGives work (visit_in folder) old new before now result)
   is_cut None files bundle before now result same told least most e = tt
   is_cut (Some folder) files bundle before now result same given least most e =

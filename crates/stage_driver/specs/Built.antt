@@ -25,7 +25,8 @@ use Rattle.stage_driver.specs.Reports.{stage_lines, last_line, end_of}
 abbrev pub built : List Stage
 built = stage.Load ∷ stage.Cost ∷ []
 
--- what each stage makes of what it is given; one that is not built makes nothing, and no chain has it
+-- what each stage makes of what it is given; one that is not built makes nothing, and no chain has
+-- it
 unfoldable pub stage_function : Stage → BundleParts → Result Made Refusal
 stage_function stage.Load bundle = load_stage bundle
 stage_function stage.Cost bundle = cost_stage bundle
@@ -41,7 +42,8 @@ stage_work bundle = 1
 
 -- what the chain over hand files does, under settings or a fault of them
 abbrev pub trace_under : Result (List ℤ) ConfigFault → Folder → Trace
-trace_under (Err reason) hand = record { visits = []; halt = Some (record { cause = cause.BadConfig reason; given = None }) }
+trace_under (Err reason) hand =
+    record { visits = []; halt = Some (record { cause = cause.BadConfig reason; given = None }) }
 trace_under (Ok values) hand = chain_from run_stage values hand [] (to_run values built)
 
 -- what the chain over hand files does from scratch

@@ -1,5 +1,7 @@
--- A chain of stages over hand files: each stage takes hand files, and files that stages before it made.
-use Rattle.std.specs.Prelude.{ℕ, ℤ, pos, if◌then◌else◌, Bool, true, false, List, [], ◌∷◌, ◌++◌, map, filter, nat_le, Option, Some, None, Result, Ok, Err}
+-- A chain of stages over hand files: each stage takes hand files, and files that stages before it
+-- made.
+use Rattle.std.specs.Prelude.{ℕ, ℤ, pos, if◌then◌else◌, Bool, true, false, List, [], ◌∷◌, ◌++◌, map}
+use Rattle.std.specs.Prelude.{filter, nat_le, Option, Some, None, Result, Ok, Err}
 use Rattle.std.specs.Ordering.{int_eq}
 use Rattle.std.specs.Str.{bytes_eq}
 use Rattle.plan_files.specs.declared.store.Got.{Got}
@@ -73,20 +75,26 @@ abbrev pub input_text : Folder → List MadeFile → FileId → Result (List ℕ
 input_text hand made file = text_from (origin_of file) hand made file
 
 -- one text more, or the first reason why one is not there
-abbrev pub with_text : Result (List ℕ) Cause → Result (List (List ℕ)) Cause → Result (List (List ℕ)) Cause
+abbrev pub with_text : Result (List ℕ) Cause → Result (List (List ℕ)) Cause
+    → Result (List (List ℕ)) Cause
 with_text (Err why) texts = Err why
 with_text (Ok text) (Err why) = Err why
 with_text (Ok text) (Ok texts) = Ok (text ∷ texts)
 
--- the file that an input stands for: given loads stand in the place of the demand where loads are given
+-- the file that an input stands for: given loads stand in the place of the demand where loads are
+-- given
 abbrev pub chosen : List ℤ → FileId → FileId
-chosen values file.Od = if int_eq (value_at values key.LoadSource) (pos 1) then file.LoadGiven else file.Od
+chosen values file.Od =
+    if int_eq (value_at values key.LoadSource) (pos 1) then file.LoadGiven else file.Od
 chosen values other = other
 
--- the texts of some inputs under the settings of a dataset, by what is found of each file, or why the first of them that is not there is not
-abbrev pub texts_by : (FileId → Result (List ℕ) Cause) → List ℤ → List FileId → Result (List (List ℕ)) Cause
+-- the texts of some inputs under the settings of a dataset, by what is found of each file, or why
+-- the first of them that is not there is not
+abbrev pub texts_by : (FileId → Result (List ℕ) Cause) → List ℤ → List FileId
+    → Result (List (List ℕ)) Cause
 texts_by look values [] = Ok []
-texts_by look values (file ∷ files) = with_text (look (chosen values file)) (texts_by look values files)
+texts_by look values (file ∷ files) =
+    with_text (look (chosen values file)) (texts_by look values files)
 
 -- the same over hand files, and files that were made
 abbrev pub texts_of : List ℤ → Folder → List MadeFile → List FileId → Result (List (List ℕ)) Cause
@@ -97,7 +105,8 @@ pub record Visit : Type 0 where
   pub bundle : BundleParts
   pub made : Made
 
--- where a chain ends early: why, and what the stage was given that ended it, where it had all its inputs
+-- where a chain ends early: why, and what the stage was given that ended it, where it had all its
+-- inputs
 pub record Halt : Type 0 where
   pub cause : Cause
   pub given : Option BundleParts
@@ -109,7 +118,8 @@ pub record Trace : Type 0 where
 
 -- what a stage is given under the settings of a dataset
 abbrev pub bundle_for : List ℤ → Stage → List (List ℕ) → BundleParts
-bundle_for values stage texts = record { stage = stage; settings = part_of values stage; inputs = texts }
+bundle_for values stage texts =
+    record { stage = stage; settings = part_of values stage; inputs = texts }
 
 -- the same, where its texts are there
 abbrev pub bundle_told : List ℤ → Stage → Result (List (List ℕ)) Cause → Result BundleParts Cause
@@ -129,7 +139,8 @@ module _ (solve : BundleParts → Result Made Refusal) (values : List ℤ) (hand
   -- a stage is made, or refuses what it is given
   abbrev pub solved : BundleParts → Result Made Refusal → Result Visit Halt
   solved bundle (Ok made) = Ok (record { bundle = bundle; made = made })
-  solved bundle (Err refusal) = Err (record { cause = cause.Refused bundle.stage refusal; given = Some bundle })
+  solved bundle (Err refusal) =
+      Err (record { cause = cause.Refused bundle.stage refusal; given = Some bundle })
 
   -- a stage that is given its inputs is solved; without them the chain ends
   abbrev pub tried : Result BundleParts Cause → Result Visit Halt
@@ -138,12 +149,14 @@ module _ (solve : BundleParts → Result Made Refusal) (values : List ℤ) (hand
 
   -- one stage, where so many files were made before it
   unfoldable pub visit_of : List MadeFile → Stage → Result Visit Halt
-  visit_of made stage = tried (bundle_told values stage (texts_of values hand made (stage_inputs stage)))
+  visit_of made stage =
+      tried (bundle_told values stage (texts_of values hand made (stage_inputs stage)))
 
   -- the stages of a list one after the other, where so many files were made before them
   abbrev pub chain_from : List MadeFile → List Stage → Trace
   chain_from made [] = record { visits = []; halt = None }
-  chain_from made (stage ∷ stages) = go_on (visit_of made stage) (λ visit. chain_from (made ++ visit.made.files) stages)
+  chain_from made (stage ∷ stages) =
+      go_on (visit_of made stage) (λ visit. chain_from (made ++ visit.made.files) stages)
 
 -- the bundle that a stage was handed which ended the chain, where it had its inputs
 abbrev pub handed_last : Option BundleParts → List BundleParts
@@ -177,4 +190,5 @@ stage_place stage.Statistic = 8
 
 -- those of some stages that are to run: none comes after the last stage that the settings name
 abbrev pub to_run : List ℤ → List Stage → List Stage
-to_run values stages = filter (λ stage. nat_le (stage_place stage) (stage_place (last_stage_of values))) stages
+to_run values stages =
+    filter (λ stage. nat_le (stage_place stage) (stage_place (last_stage_of values))) stages

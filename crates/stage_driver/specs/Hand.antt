@@ -26,7 +26,8 @@ keep_name stage = codes "keep/" ++ stage_name stage ++ codes ".keep"
 
 -- people write a file: no stage makes it, and no stage keeps its last result in it
 unfoldable pub is_hand : List ℕ → Bool
-is_hand name = not (is_among name (names_made_by all_stages) || is_among name (map keep_name all_stages))
+is_hand name =
+    not (is_among name (names_made_by all_stages) || is_among name (map keep_name all_stages))
 
 -- the files of a folder that people write
 unfoldable pub hand_of : Folder → Folder

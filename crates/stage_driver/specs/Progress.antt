@@ -1,5 +1,6 @@
 -- What a chain has made so far, and what is still to come.
-use Rattle.std.specs.Prelude.{ℕ, ◌≡◌, ◌≤◌, ◌+◌, List, [], ◌++◌, Option, Some, None, Result, Ok, Err, ⊤}
+use Rattle.std.specs.Prelude.{ℕ, ◌≡◌, ◌≤◌, ◌+◌, List, [], ◌++◌, Option, Some, None, Result, Ok, Err}
+use Rattle.std.specs.Prelude.{⊤}
 use Rattle.std.specs.List.{sum_by}
 use Rattle.giv_files.specs.declared.made.Made.{Made}
 use Rattle.giv_files.specs.declared.made.MadeFile.{MadeFile}
@@ -24,7 +25,8 @@ nothing = record { files = []; report = [] }
 
 -- with one stage more
 abbrev pub with_made : SoFar → Made → SoFar
-with_made so_far made = record { files = so_far.files ++ made.files; report = so_far.report ++ line_of made.report }
+with_made so_far made =
+    record { files = so_far.files ++ made.files; report = so_far.report ++ line_of made.report }
 
 -- all that a chain made
 pub record IsAll (trace : Trace) (so_far : SoFar) : Type 0 where
@@ -39,7 +41,8 @@ HasNoHandFile so_far (Err end.FileFault) = ⊤
 HasNoHandFile so_far (Err end.NoMemory) = ⊤
 
 module _ (work : BundleParts → ℕ) where
-  -- A chain is what was made so far, and then the rest of it. The count of steps rose from one value to another by the work so far.
+  -- A chain is what was made so far, and then the rest of it. The count of steps rose from one
+  -- value to another by the work so far.
   pub record IsRest (whole rest : Trace) (so_far : SoFar) (before now : ℕ) : Type 0 where
     pub files : files_of whole.visits ≡ so_far.files ++ files_of rest.visits
     pub report : stage_lines whole.visits ≡ so_far.report ++ stage_lines rest.visits
@@ -53,21 +56,31 @@ module _ (work : BundleParts → ℕ) where
   abbrev pub trace_work : Trace → ℕ
   trace_work trace = sum_by work (handed trace)
 
-  -- what one stage gives: it is made, or the chain stops there; after a fault the count rose by at most its work
-  abbrev pub VisitGives : Result Visit Halt → SoFar → SoFar → ℕ → ℕ → Result (Unit {0}) ChainEnd → Type 0
+  -- what one stage gives: it is made, or the chain stops there; after a fault the count rose by at
+  -- most its work
+  abbrev pub VisitGives : Result Visit Halt → SoFar → SoFar → ℕ → ℕ → Result (Unit {0}) ChainEnd
+      → Type 0
   VisitGives told old new before now (Ok _) = (visit : Visit) × (told ≡ Ok visit) × (new ≡ with_made old visit.made) × (now ≡ before + visit_work told)
   VisitGives told old new before now (Err (end.Stopped why)) = (halt : Halt) × (told ≡ Err halt) × (halt.cause ≡ why) × (new ≡ old) × (now ≡ before + visit_work told)
-  VisitGives told old new before now (Err end.FileFault) = (before ≤ now) × (now ≤ before + visit_work told)
-  VisitGives told old new before now (Err end.NoMemory) = (before ≤ now) × (now ≤ before + visit_work told)
+  VisitGives told old new before now (Err end.FileFault) =
+      (before ≤ now) × (now ≤ before + visit_work told)
+  VisitGives told old new before now (Err end.NoMemory) =
+      (before ≤ now) × (now ≤ before + visit_work told)
 
-  -- what running a chain gives: all of it is made up to where it ends; after a fault the count rose by at most its work
+  -- what running a chain gives: all of it is made up to where it ends; after a fault the count rose
+  -- by at most its work
   abbrev pub ChainGives : Trace → SoFar → ℕ → ℕ → Result (Unit {0}) ChainEnd → Type 0
-  ChainGives trace new before now (Ok _) = (cause_of trace.halt ≡ None) × IsAll trace new × (now ≡ before + trace_work trace)
-  ChainGives trace new before now (Err (end.Stopped why)) = (cause_of trace.halt ≡ Some why) × IsAll trace new × (now ≡ before + trace_work trace)
-  ChainGives trace new before now (Err end.FileFault) = (before ≤ now) × (now ≤ before + trace_work trace)
-  ChainGives trace new before now (Err end.NoMemory) = (before ≤ now) × (now ≤ before + trace_work trace)
+  ChainGives trace new before now (Ok _) =
+      (cause_of trace.halt ≡ None) × IsAll trace new × (now ≡ before + trace_work trace)
+  ChainGives trace new before now (Err (end.Stopped why)) =
+      (cause_of trace.halt ≡ Some why) × IsAll trace new × (now ≡ before + trace_work trace)
+  ChainGives trace new before now (Err end.FileFault) =
+      (before ≤ now) × (now ≤ before + trace_work trace)
+  ChainGives trace new before now (Err end.NoMemory) =
+      (before ≤ now) × (now ≤ before + trace_work trace)
 
   -- what running a chain to its end gives: all of it, and why it ended early, if it did
   abbrev pub EndGives : Trace → SoFar → ℕ → ℕ → Result (Option Cause) ChainFault → Type 0
-  EndGives trace new before now (Ok why) = (cause_of trace.halt ≡ why) × IsAll trace new × (now ≡ before + trace_work trace)
+  EndGives trace new before now (Ok why) =
+      (cause_of trace.halt ≡ why) × IsAll trace new × (now ≡ before + trace_work trace)
   EndGives trace new before now (Err fault) = (before ≤ now) × (now ≤ before + trace_work trace)

@@ -19,7 +19,8 @@ use Rattle.stage_driver.specs.Chain.{Visit}
 
 -- a row of a file is refused
 abbrev pub row_text : List ℕ → ℕ → List ℕ → List ℕ
-row_text name row why = codes "refused: " ++ name ++ codes " row " ++ decimal row ++ codes ": " ++ why
+row_text name row why =
+    codes "refused: " ++ name ++ codes " row " ++ decimal row ++ codes ": " ++ why
 
 -- a file is not there, or it is too long
 abbrev pub missing_text : List ℕ → List ℕ
@@ -32,7 +33,8 @@ too_long_text name = codes "refused: " ++ name ++ codes " is too long"
 abbrev pub config_text : ConfigFault → List ℕ
 config_text (fault.BadRow name row why) = row_text name row (why_text why)
 config_text (fault.MissingInclude name) = missing_text name
-config_text (fault.IncludeOutside name row) = row_text name row (codes "include outside the dataset")
+config_text (fault.IncludeOutside name row) =
+    row_text name row (codes "include outside the dataset")
 config_text (fault.TooDeep name row) = row_text name row (codes "includes too deep")
 config_text (fault.TooManyIncludes name row) = row_text name row (codes "too many includes")
 config_text (fault.TooLong name) = too_long_text name
@@ -41,9 +43,11 @@ config_text (fault.BadValue key) = codes "refused: value of " ++ key_name key
 -- what a stage refuses
 abbrev pub refusal_text : Stage → Refusal → List ℕ
 refusal_text stage (refusal.BadRow file row why) = row_text (file_name file) row (why_text why)
-refusal_text stage (refusal.TooMany what count) = codes "refused: too many " ++ counted_text what ++ codes ": " ++ decimal count
+refusal_text stage (refusal.TooMany what count) =
+    codes "refused: too many " ++ counted_text what ++ codes ": " ++ decimal count
 refusal_text stage refusal.NoSolution = codes "no solution: " ++ stage_name stage
-refusal_text stage (refusal.Spent entries) = codes "spent: " ++ stage_name stage ++ codes " after " ++ decimal entries ++ codes " entries"
+refusal_text stage (refusal.Spent entries) =
+    codes "spent: " ++ stage_name stage ++ codes " after " ++ decimal entries ++ codes " entries"
 
 -- why a chain ends early
 unfoldable pub cause_text : Cause → List ℕ

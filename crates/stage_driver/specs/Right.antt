@@ -1,5 +1,6 @@
 -- What holds of what the stages of a chain make and refuse.
-use Rattle.std.specs.Prelude.{ℕ, ℤ, ◌≡◌, true, false, List, [], ◌∷◌, Option, Some, None, Result, Ok, Err, IfSome, IfOk}
+use Rattle.std.specs.Prelude.{ℕ, ℤ, ◌≡◌, true, false, List, [], ◌∷◌, Option, Some, None, Result, Ok}
+use Rattle.std.specs.Prelude.{Err, IfSome, IfOk}
 use Rattle.std.specs.Option.{ok_or}
 use Rattle.std.specs.FinMap as files
 use Rattle.plan_files.specs.Folder.{Folder}
@@ -25,7 +26,8 @@ use Rattle.stage_driver.specs.Chain.{Visit, hand_text, origin_of, bundle_by}
 use Rattle.stage_driver.specs.Hand.{is_hand, is_hand_file, hand_of}
 use Rattle.stage_driver.specs.Runs.{after}
 
--- The files of a stage are right over what it was given: its inputs have no fault, and the files, read again, have none and satisfy
+-- The files of a stage are right over what it was given: its inputs have no fault, and the files,
+-- read again, have none and satisfy
 -- its model. A stage that is not built makes nothing.
 abbrev pub IsRightAs : Stage → BundleParts → List MadeFile → Type 0
 IsRightAs stage.Load bundle files = LoadFilesAreRight bundle files
@@ -54,7 +56,8 @@ abbrev pub files_by : (FileId → Result (List ℕ) Cause) → List FileId → L
 files_by look [] = []
 files_by look (file ∷ files) = found_file file (look file) (files_by look files)
 
--- What a stage is given by what is found of each file, and those of its files that are found, are right.
+-- What a stage is given by what is found of each file, and those of its files that are found, are
+-- right.
 pub record StandsRight (look : FileId → Result (List ℕ) Cause) (values : List ℤ) (bundle : BundleParts) (made : List MadeFile) : Type 0 where
   pub given : bundle_by look values bundle.stage ≡ Ok bundle
   pub found : files_by look (stage_makes bundle.stage) ≡ made
@@ -63,13 +66,16 @@ pub record StandsRight (look : FileId → Result (List ℕ) Cause) (values : Lis
 -- each of some stages does, with the files that it made
 abbrev pub AllStandRight : (FileId → Result (List ℕ) Cause) → List ℤ → List Visit → Type 0
 AllStandRight look values [] = Unit {0}
-AllStandRight look values (visit ∷ visits) = StandsRight look values visit.bundle visit.made.files × AllStandRight look values visits
+AllStandRight look values (visit ∷ visits) =
+    StandsRight look values visit.bundle visit.made.files × AllStandRight look values visits
 
 -- In a folder, under its settings, each of some stages does.
 abbrev pub StandRightIn : Folder → List Visit → Type 0
-StandRightIn folder visits = IfOk (effective (look_in folder)) (λ values. AllStandRight (text_in folder) values visits)
+StandRightIn folder visits =
+    IfOk (effective (look_in folder)) (λ values. AllStandRight (text_in folder) values visits)
 
--- In the folder that a run over a folder leaves, each stage that was made has the files that it made, and they are right over the files
+-- In the folder that a run over a folder leaves, each stage that was made has the files that it
+-- made, and they are right over the files
 -- there from which they were made.
 unfoldable pub MadeFilesAreRight : Folder → Type 0
 MadeFilesAreRight folder = StandRightIn (after folder) (trace_of (hand_of folder)).visits

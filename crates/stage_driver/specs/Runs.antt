@@ -28,12 +28,14 @@ with_files (file ∷ more) folder = with_files more (files.insert folder (name_o
 abbrev pub without_made : Folder → Folder
 without_made folder = files.retain_keys folder (λ name. not (is_among name (names_made_by built)))
 
--- The folder after a run: of the files that the built stages make it has those which its hand files determine, and no
+-- The folder after a run: of the files that the built stages make it has those which its hand files
+-- determine, and no
 -- others. Every other file is as before.
 unfoldable pub after : Folder → Folder
 after folder = with_files (made (hand_of folder)).files (without_made folder)
 
--- the writes that bring a folder there: a put of each file that was made, and a removal of each other one that the stages make
+-- the writes that bring a folder there: a put of each file that was made, and a removal of each
+-- other one that the stages make
 abbrev pub put_of : MadeFile → Write
 put_of file = Put (name_of file) file.text
 
@@ -41,7 +43,8 @@ abbrev pub names_besides : List MadeFile → List (List ℕ) → List (List ℕ)
 names_besides made_files names = filter (λ name. not (is_among name (map name_of made_files))) names
 
 unfoldable pub writes_for : List MadeFile → List Write
-writes_for made_files = map put_of made_files ++ map Removal (names_besides made_files (names_made_by built))
+writes_for made_files =
+    map put_of made_files ++ map Removal (names_besides made_files (names_made_by built))
 
 -- the writes of a run over a folder
 abbrev pub writes_of : Folder → List Write
@@ -57,14 +60,18 @@ pub record IsLeft (read : Folder) (left : Option Folder) (before now : Option (L
   pub folder : left ≡ Some (after read)
   pub writes : now ≡ option_map (λ writes. writes ++ writes_of read) before
 
--- the files that people write, and every other file that no stage makes or keeps, are as before, where a folder is told
+-- the files that people write, and every other file that no stage makes or keeps, are as before,
+-- where a folder is told
 abbrev pub SameHand : Option Folder → Option Folder → Type 0
 SameHand old new = option_map hand_of new ≡ option_map hand_of old
 
--- What is left where not all writes were made, by why they were not: nothing was written yet, or some first ones were made. Only
+-- What is left where not all writes were made, by why they were not: nothing was written yet, or
+-- some first ones were made. Only
 -- after the fault of a file the next one may be made in part.
-abbrev pub AreNotAll : ChainFault → List Write → Option Folder → Option Folder → Option (List Write) → Option (List Write) → Type 0
-AreNotAll fault writes old new before now = ((new ≡ old) × (now ≡ before)) ⊎ AreCutShort (file_fault_of fault) writes old new before now
+abbrev pub AreNotAll : ChainFault → List Write → Option Folder → Option Folder → Option (List Write)
+    → Option (List Write) → Type 0
+AreNotAll fault writes old new before now =
+    ((new ≡ old) × (now ≡ before)) ⊎ AreCutShort (file_fault_of fault) writes old new before now
 
 -- where the list of writes is told, those that were added name no file that people write
 pub record AddsNoHandFile (before now : Option (List Write)) : Type 0 where

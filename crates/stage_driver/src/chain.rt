@@ -20,7 +20,8 @@ use plan_files::Files;
 use plan_num::{Ledger, Steps};
 use std::alloc::Global;
 
-/// Runs the stages that are built over the files of a dataset, up to the last one that its settings name or to
+/// Runs the stages that are built over the files of a dataset, up to the last one that its settings
+/// name or to
 /// where the chain ends early.
 pub(crate) fn run_built<F: Files, L: Ledger>(
     alloc: Global,
@@ -29,7 +30,8 @@ pub(crate) fn run_built<F: Files, L: Ledger>(
     progress: &mut Progress,
 ) -> Result<(), ChainEnd>
     requires { progress.old ≡ nothing }
-    ensures chain { IfSome (F.contents files.old) (λ folder. ChainGives stage_work (trace_of folder) progress.new steps.old steps.new result) }
+    ensures chain { IfSome (F.contents files.old) (λ folder.
+        ChainGives stage_work (trace_of folder) progress.new steps.old steps.new result) }
     ensures only_reads { OnlyReads F.contents F.writes F.faults files.old files.new
         (is_broken result) }
     ensures no_hand_file { HasNoHandFile progress.new result }
@@ -48,7 +50,9 @@ fn run_stages<F: Files, L: Ledger>(
     progress: &mut Progress,
 ) -> Result<(), ChainEnd>
     requires { progress.old ≡ nothing }
-    ensures chain { IfSome (F.contents files.old) (λ folder. ChainGives stage_work (chain_from run_stage config.now folder [] (to_run config.now built)) progress.new steps.old steps.new result) }
+    ensures chain { IfSome (F.contents files.old) (λ folder.
+        ChainGives stage_work (chain_from run_stage config.now folder [] (to_run config.now built))
+        progress.new steps.old steps.new result) }
     ensures only_reads { OnlyReads F.contents F.writes F.faults files.old files.new
         (is_broken result) }
     ensures no_hand_file { HasNoHandFile progress.new result }
@@ -72,7 +76,9 @@ fn visit<F: Files, L: Ledger>(
     progress: &mut Progress,
 ) -> Result<(), ChainEnd>
     requires { AreNoHandFiles progress.old.files }
-    ensures visit { IfSome (F.contents files.old) (λ folder. VisitGives stage_work (visit_of run_stage config.now folder progress.old.files stage) progress.old progress.new steps.old steps.new result) }
+    ensures visit { IfSome (F.contents files.old) (λ folder.
+        VisitGives stage_work (visit_of run_stage config.now folder progress.old.files stage)
+        progress.old progress.new steps.old steps.new result) }
     ensures only_reads { OnlyReads F.contents F.writes F.faults files.old files.new
         (is_broken result) }
     ensures no_hand_file { HasNoHandFile progress.new result }

@@ -25,7 +25,9 @@ pub(crate) fn gather<F: Files>(
     stage: Stage,
     made: &[MadeFile],
 ) -> Result<Bundle, ChainEnd>
-    ensures bundle { IfSome (F.contents files.old) (λ folder. Gives (bundle_told config.now stage (texts_of config.now folder made.now (stage_inputs stage))) result) }
+    ensures bundle { IfSome (F.contents files.old) (λ folder.
+        Gives (bundle_told config.now stage
+        (texts_of config.now folder made.now (stage_inputs stage))) result) }
     ensures fits { IfOk result (λ bundle. Fits bundle) }
     ensures only_reads { OnlyReads F.contents F.writes F.faults files.old files.new
         (is_broken result) }
@@ -46,7 +48,8 @@ fn input<F: Files>(
     file: FileId,
     made: &[MadeFile],
 ) -> Result<Text, ChainEnd>
-    ensures text { IfSome (F.contents files.old) (λ folder. Gives (input_text folder made.now file) result) }
+    ensures text { IfSome (F.contents files.old) (λ folder.
+        Gives (input_text folder made.now file) result) }
     ensures only_reads { OnlyReads F.contents F.writes F.faults files.old files.new
         (is_broken result) }
 {
@@ -64,7 +67,8 @@ fn hand_text<F: Files>(
     file: FileId,
     optional: bool,
 ) -> Result<Text, ChainEnd>
-    ensures text { IfSome (F.contents files.old) (λ folder. Gives (hand_text optional file (look_in folder (file_name file))) result) }
+    ensures text { IfSome (F.contents files.old) (λ folder.
+        Gives (hand_text optional file (look_in folder (file_name file))) result) }
     ensures only_reads { OnlyReads F.contents F.writes F.faults files.old files.new
         (is_broken result) }
 {
@@ -79,7 +83,7 @@ fn hand_text<F: Files>(
 // The text of a file that a stage before made.
 fn made_text(alloc: Global, made: &[MadeFile], file: FileId) -> Result<Text, ChainEnd>
     ensures text { Gives (made_text made.now file) result }
-    ensures calm { is_broken result ≡ false }
+    ensures fault_free { is_broken result ≡ false }
 {
     for other in made {
         if other.file.name() == file.name() {

@@ -42,7 +42,8 @@ pub(crate) fn origin_of(file: FileId) -> Origin
     }
 }
 
-/// The file that an input stands for under the settings of a dataset: given loads in the place of the demand.
+/// The file that an input stands for under the settings of a dataset: given loads in the place of
+/// the demand.
 pub(crate) fn chosen(config: &Config, file: FileId) -> FileId
     ensures { result ≡ chosen config.now file }
 {

@@ -7,7 +7,8 @@ use plan_num::NoMemory;
 use std::alloc::Global;
 use std::marker::Model;
 
-/// The files that the stages of a chain made so far, and their lines of the report. Contracts see it as these two.
+/// The files that the stages of a chain made so far, and their lines of the report. Contracts see
+/// it as these two.
 #[derive(Drop)]
 pub(crate) struct Progress {
     files: Vec<MadeFile>,

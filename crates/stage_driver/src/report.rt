@@ -1,7 +1,9 @@
 // The lines of a report.
 ghost use Rattle.std.specs.Prelude.{◌≡◌, ◌++◌, OnOk, IfOk};
 ghost use Rattle.std.specs.Option.{option_copied};
-ghost use Rattle.stage_driver.specs.Reports.{row_text, missing_text, too_long_text, config_text, refusal_text, cause_text, last_line, end_of, end_of_refusal};
+ghost use Rattle.stage_driver.specs.Reports.{row_text, missing_text, too_long_text, config_text};
+ghost use Rattle.stage_driver.specs.Reports.{refusal_text, cause_text, last_line, end_of};
+ghost use Rattle.stage_driver.specs.Reports.{end_of_refusal};
 
 use crate::cause::Cause;
 use crate::outcome::{Outcome, RunEnd};

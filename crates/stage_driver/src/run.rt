@@ -10,7 +10,8 @@ ghost use Rattle.stage_driver.specs.Hand.{hand_of, is_hand, AreNoHandFiles};
 ghost use Rattle.stage_driver.specs.Progress.{EndGives, nothing};
 ghost use Rattle.stage_driver.specs.Reports.{last_line, end_of};
 ghost use Rattle.stage_driver.specs.Right.{IsLeftRight, MadeFilesAreRight, RefusesHand};
-ghost use Rattle.stage_driver.specs.Runs.{AddsNoHandFile, AreNotAll, IsOutcome, IsLeft, SameHand, writes_for, writes_of};
+ghost use Rattle.stage_driver.specs.Runs.{AddsNoHandFile, AreNotAll, IsOutcome, IsLeft, SameHand};
+ghost use Rattle.stage_driver.specs.Runs.{writes_for, writes_of};
 
 use crate::cause::Cause;
 use crate::chain::run_built;
@@ -23,7 +24,8 @@ use plan_files::{Files, apply_all};
 use plan_num::{Ledger, Steps};
 use std::alloc::Global;
 
-/// Runs the stages that are built over the files of a dataset. The folder then has the made files that its hand files
+/// Runs the stages that are built over the files of a dataset. The folder then has the made files
+/// that its hand files
 /// determine and no others of these stages, and every other file is as before.
 pub fn run_chain<F: Files, L: Ledger>(
     alloc: Global,
@@ -31,16 +33,25 @@ pub fn run_chain<F: Files, L: Ledger>(
     mode: Mode,
     steps: &mut Steps<L>,
 ) -> Result<Outcome, ChainFault>
-    ensures outcome { IfSome (F.contents files.old) (λ folder. IfOk result (IsOutcome (hand_of folder))) }
+    ensures outcome { IfSome (F.contents files.old) (λ folder.
+        IfOk result (IsOutcome (hand_of folder))) }
     ensures made_files_are_right { IfSome (F.contents files.old) MadeFilesAreRight }
     ensures refusal { IfSome (F.contents files.old) (λ folder. RefusesHand (hand_of folder)) }
-    ensures left { IfSome (F.contents files.old) (λ folder. OnOk result (IsLeft folder (F.contents files.new) (F.writes files.old) (F.writes files.new))) }
-    ensures left_is_right { IfSome (F.contents files.old) (λ folder. OnOk result (IsLeftRight folder (F.contents files.new))) }
-    ensures work { IfSome (F.contents files.old) (λ folder. OnOk result (steps.new ≡ steps.old + (made (hand_of folder)).work)) }
-    ensures unfinished { IfSome (F.contents files.old) (λ folder. IfErr result (λ fault. AreNotAll fault (writes_of folder) (Some folder) (F.contents files.new) (F.writes files.old) (F.writes files.new))) }
-    ensures outside { IfSome (F.contents files.old) (λ folder. AreOutside is_hand (writes_of folder)) }
+    ensures left { IfSome (F.contents files.old) (λ folder.
+        OnOk result (IsLeft folder
+        (F.contents files.new) (F.writes files.old) (F.writes files.new))) }
+    ensures left_is_right { IfSome (F.contents files.old) (λ folder.
+        OnOk result (IsLeftRight folder (F.contents files.new))) }
+    ensures work { IfSome (F.contents files.old) (λ folder.
+        OnOk result (steps.new ≡ steps.old + (made (hand_of folder)).work)) }
+    ensures unfinished { IfSome (F.contents files.old) (λ folder.
+        IfErr result (λ fault. AreNotAll fault (writes_of folder) (Some folder)
+        (F.contents files.new) (F.writes files.old) (F.writes files.new))) }
+    ensures outside { IfSome (F.contents files.old) (λ folder.
+        AreOutside is_hand (writes_of folder)) }
     ensures writes_no_hand_file { AddsNoHandFile (F.writes files.old) (F.writes files.new) }
-    ensures no_more { IfSome (F.contents files.old) (λ folder. steps.new ≤ steps.old + (made (hand_of folder)).work) }
+    ensures no_more { IfSome (F.contents files.old) (λ folder.
+        steps.new ≤ steps.old + (made (hand_of folder)).work) }
     ensures no_less { steps.old ≤ steps.new }
     ensures hand { SameHand (F.contents files.old) (F.contents files.new) }
     ensures faults { Counts (has_failed result) (F.faults files.old) (F.faults files.new) }
@@ -60,7 +71,8 @@ fn run_to_end<F: Files, L: Ledger>(
     progress: &mut Progress,
 ) -> Result<Option<Cause>, ChainFault>
     requires { progress.old ≡ nothing }
-    ensures end { IfSome (F.contents files.old) (λ folder. EndGives stage_work (trace_of folder) progress.new steps.old steps.new result) }
+    ensures end { IfSome (F.contents files.old) (λ folder.
+        EndGives stage_work (trace_of folder) progress.new steps.old steps.new result) }
     ensures only_reads { OnlyReads F.contents F.writes F.faults files.old files.new
         (has_failed result) }
     ensures no_hand_file { OnOk result (AreNoHandFiles progress.new.files) }
@@ -83,8 +95,10 @@ fn finish<F: Files>(
 ) -> Result<Outcome, ChainFault>
     ensures report { IfOk result (λ outcome. outcome.report ≡ progress.report ++ last_line cause) }
     ensures end { IfOk result (λ outcome. outcome.end ≡ end_of cause) }
-    ensures left { OnOk result (AreApplied (writes_for progress.files) (F.contents files.old) (F.contents files.new) (F.writes files.old) (F.writes files.new)) }
-    ensures unfinished { IfErr result (λ fault. AreNotAll fault (writes_for progress.files) (F.contents files.old) (F.contents files.new) (F.writes files.old) (F.writes files.new)) }
+    ensures left { OnOk result (AreApplied (writes_for progress.files)
+        (F.contents files.old) (F.contents files.new) (F.writes files.old) (F.writes files.new)) }
+    ensures unfinished { IfErr result (λ fault. AreNotAll fault (writes_for progress.files)
+        (F.contents files.old) (F.contents files.new) (F.writes files.old) (F.writes files.new)) }
     ensures faults { Counts (has_failed result) (F.faults files.old) (F.faults files.new) }
 {
     let (made, lines) = progress.into_parts();

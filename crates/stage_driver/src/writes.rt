@@ -38,7 +38,8 @@ fn puts(alloc: Global, made: Vec<MadeFile>) -> Result<Vec<Write>, NoMemory>
 
 // A removal of each file that the built stages make and that is not among those that were made.
 fn removals(alloc: Global, made: &[MadeFile]) -> Result<Vec<Write>, NoMemory>
-    ensures { IfOk result (λ writes. writes.items ≡ map Removal (names_besides made.now (names_made_by built))) }
+    ensures { IfOk result (λ writes.
+        writes.items ≡ map Removal (names_besides made.now (names_made_by built))) }
 {
     let mut writes = Vec::new(alloc);
     for stage in built() {
@@ -54,7 +55,8 @@ fn add_removals(
     stage: Stage,
     made: &[MadeFile],
 ) -> Result<(), NoMemory>
-    ensures { OnOk result (writes.new.items ≡ writes.old.items ++ map Removal (names_besides made.now (map file_name (stage_makes stage)))) }
+    ensures { OnOk result (writes.new.items ≡ writes.old.items
+        ++ map Removal (names_besides made.now (map file_name (stage_makes stage)))) }
 {
     for file in stage.makes() {
         if !is_among(*file, made) {

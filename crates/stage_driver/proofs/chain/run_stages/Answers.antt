@@ -9,7 +9,8 @@ use Rattle.stage_driver.specs.Built.{run_stage, stage_work}
 use Rattle.stage_driver.specs.Chain.{stage_place}
 use Rattle.stage_driver.specs.Hand.{is_hand_file}
 use Rattle.stage_driver.specs.Progress.{SoFar}
-use Rattle.stage_driver.proofs.Going.{in_time, told_first, told_more, told_same, told_ended, told_finished}
+use Rattle.stage_driver.proofs.Going.{in_time, told_first, told_more, told_same, told_ended}
+use Rattle.stage_driver.proofs.Going.{told_finished}
 use Rattle.stage_driver.proofs.chain.run_stages.Goals as goal
 use Rattle.stage_driver.proofs.chain.run_stages.Goals.{then-place_of+in_ok-visit, else-place_of}
 

@@ -1,6 +1,8 @@
 use Rattle.stage_driver.proofs.LeftRight.{told_left, told_right}
 use Rattle.stage_driver.proofs.Refusing.{told_refuses}
-use Rattle.stage_driver.proofs.Running.{outcome_is, left_is, unfinished_is, untouched, work_told, work_bound, hand_is, hand_untouched, told_outside, adds_none, adds_nothing}
+use Rattle.stage_driver.proofs.Running.{outcome_is, left_is, unfinished_is, untouched, work_told}
+use Rattle.stage_driver.proofs.Running.{work_bound, hand_is, hand_untouched, told_outside}
+use Rattle.stage_driver.proofs.Running.{adds_none, adds_nothing}
 use Rattle.stage_driver.proofs.run.run_chain.Goals as goal
 
 pub returns-clause-outcome : goal.returns-clause-outcome
@@ -52,7 +54,8 @@ pub returns-clause-writes_no_hand_file : goal.returns-clause-writes_no_hand_file
 returns-clause-writes_no_hand_file g c = adds_none c.run_to_end.new.progress.files _ _ _ _ _ _ c.in_ok-cause.ensures.no_hand_file c.in_ok-cause.ensures.only_reads.writes c.finish.ensures.left c.finish.ensures.unfinished
 
 pub returns-in_err-cause-clause-writes_no_hand_file : goal.returns-in_err-cause-clause-writes_no_hand_file
-returns-in_err-cause-clause-writes_no_hand_file g c = adds_nothing _ _ c.in_err-cause.ensures.only_reads.writes
+returns-in_err-cause-clause-writes_no_hand_file g c =
+    adds_nothing _ _ c.in_err-cause.ensures.only_reads.writes
 
 pub returns-clause-left_is_right : goal.returns-clause-left_is_right
 returns-clause-left_is_right g c = told_left _ _ _ _ _ (returns-clause-left g c)
