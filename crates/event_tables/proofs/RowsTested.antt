@@ -5,7 +5,8 @@ use Rattle.giv_files.specs.Inputs.{RowRule, broken_whys}
 
 -- the first rule that a row breaks, with the same rules, the same rows before it and the same row
 pub tested : {X : Type 0} (rules others : List (RowRule X)) (rows before : List X) (row is : X) (why : Option RowWhy) → rules ≡ others → rows ≡ before → row ≡ is
-    → why ≡ slice_get (broken_whys rules rows row) 0 → why ≡ slice_get (broken_whys others before is) 0
+    → why ≡ slice_get (broken_whys rules rows row) 0 → why
+    ≡ slice_get (broken_whys others before is) 0
 tested rules others rows before row is why same are of first = first ∙ rw (same, are, of) refl
 
 -- nothing stands first in a list that is empty

@@ -18,7 +18,8 @@ abbrev pub event_with : List ExpandedEvent → ℕ → Option ExpandedEvent
 event_with events id = find (λ event. id == event.id) events
 
 -- two events pass a test, where they are there
-abbrev pub both_pass : (ExpandedEvent → ExpandedEvent → Bool) → Option ExpandedEvent → Option ExpandedEvent → Bool
+abbrev pub both_pass : (ExpandedEvent → ExpandedEvent → Bool) → Option ExpandedEvent
+    → Option ExpandedEvent → Bool
 both_pass test (Some event) (Some other) = test event other
 both_pass test _ _ = false
 

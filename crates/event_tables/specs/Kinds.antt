@@ -18,7 +18,8 @@ direction_at place = get_or (direction.Forward ∷ direction.Backward ∷ []) pl
 
 abbrev pub activity_kind_at : ℕ → ActivityKind
 activity_kind_at place =
-    get_or (activity.Drive ∷ activity.Wait ∷ activity.Change ∷ activity.Sync ∷ []) place activity.Drive
+    get_or (activity.Drive ∷ activity.Wait ∷ activity.Change ∷ activity.Sync
+    ∷ []) place activity.Drive
 
 abbrev pub schedule_kind_at : ℕ → ScheduleKind
 schedule_kind_at place = get_or (schedule.Trip ∷ schedule.Empty ∷ []) place schedule.Trip

@@ -23,7 +23,8 @@ rows_by cells_of rows = map (λ row. record { number = 0; cells = cells_of row }
 
 -- read as a table of these columns a text has no fault, and its rows stand for these records
 abbrev pub ReadsAs : {X : Type 0} → List ColumnKind → (List ℤ → X) → List X → List ℕ → Type 0
-ReadsAs columns of rows text = (faults columns text ≡ []) × (records_by of (table_of columns text) ≡ rows)
+ReadsAs columns of rows text = (faults columns text ≡ []) × (records_by of (table_of columns text)
+    ≡ rows)
 
 -- the limits of a file that has at most one, of its rows
 abbrev pub limits_of : {X : Type 0} → Option RowLimit → List (Limit X)

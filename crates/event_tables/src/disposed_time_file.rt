@@ -23,8 +23,10 @@ pub fn disposed_times(
     text: &[u8],
 ) -> Result<Vec<DisposedTime>, StageFault>
     requires { AreNumbered (λ event. event.id) events.now }
-    ensures read { UnlessFault (input_faults (disposed_time_input (expanded_event_ids events.now)) text.now)
-        (λ times. times.items ≡ records_of (disposed_time_input (expanded_event_ids events.now)) text.now) result }
+    ensures read { UnlessFault
+        (input_faults (disposed_time_input (expanded_event_ids events.now)) text.now)
+        (λ times. times.items
+        ≡ records_of (disposed_time_input (expanded_event_ids events.now)) text.now) result }
     ensures sound { IfOk result (λ times. AreDisposedTimes (length events.now) times.items) }
 {
     let tests = TimeTests {

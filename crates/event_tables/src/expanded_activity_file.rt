@@ -28,7 +28,8 @@ pub fn expanded_activities(
 ) -> Result<Vec<ExpandedActivity>, StageFault>
     requires { AreNumbered (λ event. event.id) events.now }
     ensures read { UnlessFault (input_faults (expanded_activity_input events.now) text.now)
-        (λ activities. activities.items ≡ records_of (expanded_activity_input events.now) text.now) result }
+        (λ activities. activities.items
+        ≡ records_of (expanded_activity_input events.now) text.now) result }
     ensures sound { IfOk result (λ activities. AreExpandedActivities events.now activities.items) }
 {
     read_file(

@@ -20,7 +20,8 @@ const LIMIT: RowLimit = RowLimit {
 
 /// The expanded events of a text, or its first fault.
 pub fn expanded_events(alloc: Global, text: &[u8]) -> Result<Vec<ExpandedEvent>, StageFault>
-    ensures read { UnlessFault (input_faults expanded_event_input text.now) (λ events. events.items ≡ records_of expanded_event_input text.now) result }
+    ensures read { UnlessFault (input_faults expanded_event_input text.now)
+        (λ events. events.items ≡ records_of expanded_event_input text.now) result }
     ensures sound { IfOk result (λ events. AreExpandedEvents events.items) }
 {
     let tests = EventTests;

@@ -27,9 +27,12 @@ pub fn periodic_activities(
     text: &[u8],
 ) -> Result<Vec<PeriodicActivity>, StageFault>
     requires { AreNumbered (λ event. event.id) events.now }
-    ensures read { UnlessFault (input_faults (periodic_activity_input (periodic_event_ids events.now)) text.now)
-        (λ activities. activities.items ≡ records_of (periodic_activity_input (periodic_event_ids events.now)) text.now) result }
-    ensures sound { IfOk result (λ activities. ArePeriodicActivities (length events.now) activities.items) }
+    ensures read { UnlessFault
+        (input_faults (periodic_activity_input (periodic_event_ids events.now)) text.now)
+        (λ activities. activities.items
+        ≡ records_of (periodic_activity_input (periodic_event_ids events.now)) text.now) result }
+    ensures sound { IfOk result
+        (λ activities. ArePeriodicActivities (length events.now) activities.items) }
 {
     let tests = ActivityTests {
         events: events.len(),

@@ -20,7 +20,8 @@ const LIMIT: RowLimit = RowLimit {
 
 /// The periodic events of a text, or its first fault.
 pub fn periodic_events(alloc: Global, text: &[u8]) -> Result<Vec<PeriodicEvent>, StageFault>
-    ensures read { UnlessFault (input_faults periodic_event_input text.now) (λ events. events.items ≡ records_of periodic_event_input text.now) result }
+    ensures read { UnlessFault (input_faults periodic_event_input text.now)
+        (λ events. events.items ≡ records_of periodic_event_input text.now) result }
     ensures sound { IfOk result (λ events. ArePeriodicEvents events.items) }
 {
     let tests = EventTests;

@@ -29,5 +29,6 @@ returns g c =
     let table = c.in_ok-table.table in
     let read = c.in_ok-table.ensures.table in
     rows_read input c.args.text.now table read.0 read.1 (λ rows. rows.items) refl
-    (few_rows c.args.limit (records input table) c.len.result c.too_many.result (c.len.ensures.len ∙ sym (length-map table (λ row. input.read row.cells))) c.too_many.ensures c.in_default.is)
+    (few_rows c.args.limit (records input table) c.len.result c.too_many.result (c.len.ensures.len
+    ∙ sym (length-map table (λ row. input.read row.cells))) c.too_many.ensures c.in_default.is)
     c.read_records.result c.read_records.ensures
