@@ -1,5 +1,5 @@
 -- The cells of a row in the ranges of their columns, and the record that they stand for.
-use Rattle.std.proofs.Common.{◌≡◌, ℕ, ℤ, pos, negsuc, zero, suc, ◌+◌, ◌<◌, ◌≤◌, ◌≤ℤ◌, arith, true, false, ◌&&◌, Bool, cond, List, [], ◌∷◌, length, map, get_or, int_le, neg_ℤ, refl, ap, sym, subst, ◌∙◌, unsigned_abs, All}
+use Rattle.std.proofs.Common.{◌≡◌, ℕ, ℤ, pos, negsuc, zero, suc, ◌+◌, ◌<◌, ◌≤◌, ◌≤ℤ◌, arith, true, false, ◌&&◌, Bool, List, [], ◌∷◌, length, map, get_or, int_le, neg_ℤ, refl, ap, sym, subst, ◌∙◌, unsigned_abs, All}
 use Rattle.std.specs.List.{list_all, range_with_len}
 use Rattle.std.specs.Int.Signed.{le_z_yes}
 use Rattle.std.proofs.lemmas.Bool.{and_parts}
@@ -9,7 +9,6 @@ use Rattle.std.proofs.lemmas.List.Elements.{All-nil, All-cons}
 use Rattle.giv_files.specs.declared.column.ColumnKind.{ColumnKind}
 use Rattle.giv_files.specs.declared.column.ColumnKind.TheVariants as kind
 use Rattle.giv_files.specs.declared.words.WordTable.TheVariants as table
-use Rattle.giv_files.specs.Columns.{events_p_columns, activities_p_columns, times_p_columns, events_x_columns, activities_x_columns, trips_columns, schedule_columns, disposed_columns, delays_columns}
 use Rattle.giv_files.specs.Names.{table_words}
 use Rattle.giv_files.specs.Writing.{InColumn, InColumns, CanWrite, IsSmall as IsSmallRange}
 use Rattle.event_tables.specs.declared.activity_kind.ActivityKind.{ActivityKind}

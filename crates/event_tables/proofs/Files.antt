@@ -1,12 +1,11 @@
 -- From the table of a text to the text: what refuses the one refuses the other.
-use Rattle.std.proofs.Common.{◌≡◌, ℕ, List, [], length, ◌++◌, All, IfOk, refl, ap, subst, sym, ◌∙◌, Result, Ok, Err, Option, Some, None, slice_get}
-use Rattle.std.proofs.lemmas.List.{append-nil, length-map}
+use Rattle.std.proofs.Common.{◌≡◌, ℕ, List, [], length, All, IfOk, refl, ap, subst, sym, ◌∙◌, Result, Ok, Err, Option, Some, None, slice_get}
+use Rattle.std.proofs.lemmas.List.{append-nil}
 use Rattle.giv_files.specs.declared.column.ColumnKind.{ColumnKind}
 use Rattle.giv_files.specs.declared.file_id.FileId.{FileId}
 use Rattle.giv_files.specs.declared.refusal.Refusal.{Refusal}
 use Rattle.giv_files.specs.declared.refusal.StageFault.{StageFault}
-use Rattle.giv_files.specs.declared.refusal.StageFault.TheVariants as stage
-use Rattle.giv_files.specs.Inputs.{Input, records, records_of, cell_faults, limit_faults, table_row_faults, table_faults, input_faults, Refuses, UnlessFault}
+use Rattle.giv_files.specs.Inputs.{Input, records, records_of, cell_faults, limit_faults, table_row_faults, input_faults, Refuses, UnlessFault}
 use Rattle.giv_files.specs.Reading.{table_of}
 use Rattle.giv_files.specs.Tables.{TableRow}
 use Rattle.giv_files.specs.Writing.{InColumns}

@@ -7,7 +7,7 @@ use Rattle.std.proofs.lemmas.List.FromFn.{length-range_with_len, get_or-range_wi
 use Rattle.std.specs.List.{list_any, range_with_len, find}
 use Rattle.giv_files.specs.declared.file_id.FileId.{FileId}
 use Rattle.giv_files.specs.declared.refusal.Refusal.TheVariants as refusal
-use Rattle.giv_files.specs.Inputs.{Numbered, Input, RowRule, records, records_of, broken_whys, row_faults, numbered, input_faults}
+use Rattle.giv_files.specs.Inputs.{Input, RowRule, records_of, broken_whys, row_faults, numbered, input_faults}
 use Rattle.giv_files.specs.Reading.{table_of}
 use Rattle.giv_files.specs.Tables.{TableRow}
 use Rattle.giv_files.proofs.Inputs.{rules_sound, parts_sound, table_sound}

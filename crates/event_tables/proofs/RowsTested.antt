@@ -1,5 +1,5 @@
 -- What a test of a row says about the row of a table.
-use Rattle.std.proofs.Common.{◌≡◌, List, [], ◌∷◌, slice_get, refl, sym, ◌∙◌, ap, Option, Some, None}
+use Rattle.std.proofs.Common.{◌≡◌, List, [], ◌∷◌, slice_get, refl, ◌∙◌, Option, None}
 use Rattle.giv_files.specs.declared.row_why.RowWhy.{RowWhy}
 use Rattle.giv_files.specs.Inputs.{RowRule, broken_whys}
 

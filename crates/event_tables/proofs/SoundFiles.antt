@@ -1,13 +1,11 @@
 -- What holds of the records of each file, where its text has no fault.
-use Rattle.std.proofs.Common.{◌≡◌, ℕ, List, [], ◌∷◌, ◌||◌, false, length, refl, ap, sym, subst, ◌∙◌, Result, Ok, Err, IfOk}
+use Rattle.std.proofs.Common.{◌≡◌, ℕ, List, [], ◌∷◌, length, refl, ap, sym, subst, ◌∙◌, Result, Ok, Err, IfOk}
 use Rattle.std.specs.List.{range_with_len}
 use Rattle.std.proofs.lemmas.Bool.{or_parts, ltb-false, not-false}
 use Rattle.giv_files.specs.declared.counted.Counted.TheVariants as counted
 use Rattle.giv_files.specs.declared.refusal.Refusal.{Refusal}
 use Rattle.giv_files.specs.declared.refusal.StageFault.{StageFault}
 use Rattle.giv_files.specs.Inputs.{UnlessFault, RowRule, row_limit, input_faults, records_of, broken_whys}
-use Rattle.giv_files.specs.Columns.{activities_p_columns, activities_x_columns}
-use Rattle.giv_files.specs.Writing.{InColumns}
 use Rattle.giv_files.proofs.Inputs.{few_rows, rules_sound}
 use Rattle.event_tables.specs.declared.periodic_activity.PeriodicActivity.{PeriodicActivity}
 use Rattle.event_tables.specs.declared.expanded_activity.ExpandedActivity.{ExpandedActivity}

@@ -1,11 +1,9 @@
 -- What holds of periodic and of disposed times, where their texts have no fault.
-use Rattle.std.proofs.Common.{◌≡◌, ℕ, ◌<◌, List, [], ◌∷◌, length, refl, All}
+use Rattle.std.proofs.Common.{◌≡◌, ℕ, ◌<◌, List, [], ◌∷◌, refl}
 use Rattle.std.specs.List.{range_with_len}
 use Rattle.std.proofs.lemmas.Bool.{leb-false}
 use Rattle.giv_files.specs.declared.file_id.FileId.{FileId}
-use Rattle.giv_files.specs.Columns.{times_p_columns, disposed_columns}
 use Rattle.giv_files.specs.Inputs.{RowRule, input_faults, records_of, broken_whys}
-use Rattle.giv_files.specs.Writing.{InColumns}
 use Rattle.giv_files.proofs.Inputs.{rules_sound}
 use Rattle.event_tables.specs.declared.disposed_time.DisposedTime.{DisposedTime}
 use Rattle.event_tables.specs.declared.periodic_time.PeriodicTime.{PeriodicTime}

@@ -1,21 +1,20 @@
 -- What holds of trips, of delays and of the rows of a schedule, where their texts have no fault.
-use Rattle.std.proofs.Common.{◌≡◌, ℕ, ℤ, pos, ◌<◌, ◌≤◌, Bool, true, false, ◌&&◌, ◌||◌, List, [], ◌∷◌, length, filter, refl, ap, sym, subst, ◌∙◌, Option, All}
+use Rattle.std.proofs.Common.{◌≡◌, ℕ, ℤ, pos, Bool, true, false, ◌&&◌, ◌||◌, List, [], ◌∷◌, length, refl, ap, sym, ◌∙◌, Option}
 use Rattle.std.specs.List.{range_with_len}
 use Rattle.std.proofs.lemmas.Bool.{leb-false, ltb-false, or_parts, not-false}
 use Rattle.giv_files.specs.declared.counted.Counted.TheVariants as counted
 use Rattle.giv_files.specs.declared.file_id.FileId.{FileId}
 use Rattle.giv_files.specs.declared.row_why.RowWhy.{RowWhy}
-use Rattle.giv_files.specs.Columns.{trips_columns, delays_columns, schedule_columns}
-use Rattle.giv_files.specs.Inputs.{RowRule, row_limit, own_id, input_faults, records_of, broken_whys, limit_faults}
+use Rattle.giv_files.specs.Columns.{schedule_columns}
+use Rattle.giv_files.specs.Inputs.{RowRule, row_limit, own_id, input_faults, records_of, broken_whys}
 use Rattle.giv_files.specs.Reading.{table_of}
-use Rattle.giv_files.specs.Writing.{InColumns}
 use Rattle.giv_files.proofs.Inputs.{few_rows, rules_sound, limits_sound, parts_sound, table_sound}
 use Rattle.event_tables.specs.declared.delay_row.DelayRow.{DelayRow}
 use Rattle.event_tables.specs.declared.expanded_event.ExpandedEvent.{ExpandedEvent}
 use Rattle.event_tables.specs.declared.schedule_row.ScheduleRow.{ScheduleRow}
 use Rattle.event_tables.specs.declared.trip.Trip.{Trip}
 use Rattle.event_tables.specs.Cells.{trip_cells, delay_cells, schedule_cells}
-use Rattle.event_tables.specs.Delays.{delay_input, delay_rules, is_there, AreDelays}
+use Rattle.event_tables.specs.Delays.{delay_input, is_there, AreDelays}
 use Rattle.event_tables.specs.ExpandedFiles.{expanded_event_ids}
 use Rattle.event_tables.specs.ForwardOrder.{goes_forward}
 use Rattle.event_tables.specs.Places.{known_ends, is_none_of, AreNumbered, IsOneOf}

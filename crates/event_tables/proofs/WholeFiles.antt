@@ -1,5 +1,5 @@
 -- Files in which each event has a row.
-use Rattle.std.proofs.Common.{◌≡◌, ◌==◌, ℕ, zero, suc, ◌+◌, ◌<◌, ◌≤◌, arith, Bool, true, false, not, ◌||◌, nat_eq, nat_lt, eqb, ltb, List, [], ◌∷◌, ◌++◌, length, map, get_or, slice_get, refl, ap, sym, subst, ◌∙◌, Result, Ok, Err, Option, Some, None, MatchResult, All}
+use Rattle.std.proofs.Common.{◌≡◌, ℕ, ◌+◌, ◌<◌, ◌≤◌, arith, Bool, true, false, nat_lt, ltb, List, [], ◌∷◌, ◌++◌, length, map, get_or, slice_get, refl, ap, sym, subst, ◌∙◌, Result, Ok, Err, Some, MatchResult, All}
 use Rattle.std.proofs.lemmas.Bool.{lt-ltb, le-ltb, ltb-true, ltb-false}
 use Rattle.std.proofs.lemmas.List.{append-nil, get_or-map}
 use Rattle.std.proofs.lemmas.List.FromFn.{get_or-range_with_len}
@@ -9,7 +9,7 @@ use Rattle.giv_files.specs.declared.refusal.Refusal.{Refusal}
 use Rattle.giv_files.specs.declared.refusal.Refusal.TheVariants as refusal
 use Rattle.giv_files.specs.declared.refusal.StageFault.{StageFault}
 use Rattle.giv_files.specs.declared.refusal.StageFault.TheVariants as stage
-use Rattle.giv_files.specs.Inputs.{Input, RowRule, whole_rule, records, records_of, numbered, cell_faults, limit_faults, table_row_faults, table_faults, whole_faults, input_faults, or_else, Refuses, UnlessFault}
+use Rattle.giv_files.specs.Inputs.{Input, RowRule, records, records_of, numbered, cell_faults, limit_faults, table_row_faults, whole_faults, input_faults, or_else, Refuses, UnlessFault}
 use Rattle.giv_files.specs.Reading.{table_of}
 use Rattle.giv_files.proofs.Inputs.{parts_sound, table_sound, faults_of_table, refused_append, refused_whole, no_faults, whole_rule_broken, whole_rule_kept, whole_rule_sound}
 use Rattle.event_tables.specs.Places.{own_place, all_there, is_none_of, AreNumbered, IsOneOf}

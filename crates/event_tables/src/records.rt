@@ -1,9 +1,9 @@
 // Reading records with their rules.
 ghost use Rattle.std.specs.Prelude.{ℤ, ◌≡◌, ◌<◌, ◌^◌, List, [], map, All, IfOk};
-ghost use Rattle.giv_files.specs.Inputs.{cell_faults, row_faults, input_faults, records_of, UnlessFault};
+ghost use Rattle.giv_files.specs.Inputs.{cell_faults, row_faults, UnlessFault};
 ghost use Rattle.giv_files.specs.Reading.{table_of};
 ghost use Rattle.giv_files.specs.Writing.{InColumns};
-ghost use Rattle.event_tables.specs.RowsOfTables.{numbered_by, records_by, plain_input};
+ghost use Rattle.event_tables.specs.RowsOfTables.{ReadsFile, numbered_by, records_by, plain_input};
 
 use crate::record::Record;
 use crate::row_limit::{RowLimit, too_many};
@@ -24,10 +24,7 @@ pub(crate) fn read_file<const C: usize, X: Record<C>, T: RowTests<X>>(
     requires narrow { C < 2 ^ 32 }
     requires fits { (cells : List ℤ) → InColumns kinds.now cells → X.Fits cells }
     requires knows { T.Knows tests [] }
-    ensures { UnlessFault
-        (input_faults (plain_input file kinds.now X.of_cells limit (T.rules tests)) text.now)
-        (λ rows. rows.items
-        ≡ records_of (plain_input file kinds.now X.of_cells limit (T.rules tests)) text.now) result }
+    ensures { ReadsFile (plain_input file kinds.now X.of_cells limit (T.rules tests)) text.now result }
 {
     let table = read_cells(alloc, file, text, kinds)?;
     if let Some(refusal) = too_many(limit, table.len()) {

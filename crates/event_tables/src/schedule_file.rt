@@ -1,10 +1,10 @@
 // Reading the rows of a vehicle schedule.
 ghost use Rattle.std.specs.Prelude.{◌≡◌, ◌||◌, false, All, filter, length, slice_get, IfOk, [], ◌∷◌};
 ghost use Rattle.std.specs.List.{range_with_len};
-ghost use Rattle.giv_files.specs.Inputs.{input_faults, records_of, limit_faults, UnlessFault};
+ghost use Rattle.giv_files.specs.Inputs.{limit_faults};
 ghost use Rattle.event_tables.specs.Cells.{schedule_row, AreSmall};
 ghost use Rattle.event_tables.specs.Places.{AreNumbered, is_none_of};
-ghost use Rattle.event_tables.specs.RowsOfTables.{records_by};
+ghost use Rattle.event_tables.specs.RowsOfTables.{ReadsFile, records_by};
 ghost use Rattle.event_tables.specs.Schedules.{schedule_input, schedule_rules, kind_limit, is_trip_row, is_empty_row, ends_early, lacks_room, goes_back, AreScheduleRows};
 
 use crate::expanded_event::ExpandedEvent;
@@ -32,8 +32,7 @@ pub fn schedule_rows(
     text: &[u8],
 ) -> Result<Vec<ScheduleRow>, StageFault>
     requires { AreNumbered (λ event. event.id) events.now }
-    ensures read { UnlessFault (input_faults (schedule_input events.now) text.now)
-        (λ rows. rows.items ≡ records_of (schedule_input events.now) text.now) result }
+    ensures read { ReadsFile (schedule_input events.now) text.now result }
     ensures sound { IfOk result (λ rows. AreScheduleRows events.now rows.items) }
 {
     let table = read_cells(alloc, FileId::Schedule, text, &columns!(Schedule))?;

@@ -1,8 +1,9 @@
-use Rattle.std.proofs.Common.{◌≡◌, List, ℕ, length, refl, subst, sym}
+use Rattle.std.proofs.Common.{List, ℕ, length, refl, subst, sym}
 use Rattle.std.specs.List.{range_with_len}
 use Rattle.std.proofs.lemmas.Result.{err_from_is_err_and}
-use Rattle.giv_files.specs.Inputs.{input_faults, records_of, Refuses, UnlessFault}
+use Rattle.giv_files.specs.Inputs.{input_faults, records_of, Refuses}
 use Rattle.event_tables.specs.DisposedTimes.{disposed_time_input, AreDisposedTimes}
+use Rattle.event_tables.specs.RowsOfTables.{ReadsFile}
 use Rattle.event_tables.proofs.SoundFiles.{sound_read}
 use Rattle.event_tables.proofs.SoundTimes.{disposed_times_sound}
 use Rattle.event_tables.proofs.WholeFiles.{refused_without, read_whole}
@@ -22,8 +23,7 @@ returns-clause-read c =
     let count = length c.args.events.now in
     let input = disposed_time_input (range_with_len 1 count) in
     let read = c.in_ok-rows.ensures in
-    subst (λ (ids : List ℕ). UnlessFault (input_faults (disposed_time_input ids) text)
-    (λ times. times.items ≡ records_of (disposed_time_input ids) text) c.all_there.result)
+    subst (λ (ids : List ℕ). ReadsFile (disposed_time_input ids) text c.all_there.result)
     (sym c.requires)
     (read_whole input text (λ row. row.event) count refl
     (λ rows. rows.items) _ c.in_ok-rows.rows refl read.0 read.1 c.all_there.result c.all_there.ensures)

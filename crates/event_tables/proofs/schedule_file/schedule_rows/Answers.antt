@@ -3,7 +3,7 @@ use Rattle.std.proofs.lemmas.Result.{err_from_is_err_and}
 use Rattle.std.proofs.lemmas.List.Elements.{All-weaker}
 use Rattle.giv_files.specs.declared.refusal.StageFault.TheVariants as stage
 use Rattle.giv_files.specs.Columns.{schedule_columns}
-use Rattle.giv_files.specs.Inputs.{input_faults, records, records_of}
+use Rattle.giv_files.specs.Inputs.{input_faults, records_of}
 use Rattle.giv_files.specs.Writing.{InColumns}
 use Rattle.giv_files.proofs.Inputs.{refused_cells}
 use Rattle.event_tables.specs.Cells.{AreSmall}

@@ -1,4 +1,4 @@
-use Rattle.std.proofs.Common.{◌≡◌, ◌≤◌, ◌+◌, ◌-◌, arith, ap, sym, ◌∙◌, length, filter, refl, Option, Some, slice_get}
+use Rattle.std.proofs.Common.{◌≡◌, ◌-◌, arith, ap, ◌∙◌, length, filter, Option, Some, slice_get}
 use Rattle.std.specs.Option.{option_or}
 use Rattle.giv_files.specs.declared.counted.Counted.TheVariants as counted
 use Rattle.event_tables.specs.declared.row_limit.RowLimit.{RowLimit}

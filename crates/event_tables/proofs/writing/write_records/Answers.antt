@@ -1,4 +1,4 @@
-use Rattle.std.proofs.Common.{◌≡◌, ap, subst, sym, ◌∙◌, arith, All}
+use Rattle.std.proofs.Common.{ap, subst, sym, ◌∙◌, arith, All}
 use Rattle.std.proofs.lemmas.List.{take_all}
 use Rattle.giv_files.specs.Writing.{InColumns}
 use Rattle.event_tables.specs.RowsOfTables.{rows_by}
