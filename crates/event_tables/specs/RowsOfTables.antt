@@ -9,6 +9,7 @@ use Rattle.giv_files.specs.declared.refusal.StageFault.{StageFault}
 use Rattle.giv_files.specs.Inputs.{Numbered, Input, Limit, RowRule, row_limit, input_faults, records_of, UnlessFault}
 use Rattle.giv_files.specs.Reading.{faults, table_of}
 use Rattle.giv_files.specs.Tables.{TableRow}
+use Rattle.giv_files.specs.Writing.{table_text}
 use Rattle.event_tables.specs.declared.row_limit.RowLimit.{RowLimit}
 
 -- what the rows of a table stand for
@@ -22,6 +23,10 @@ numbered_by of rows = map (λ row. record { number = row.number; row = of row.ce
 -- the rows of a table for some records; in a text each gets its number
 abbrev pub rows_by : {X : Type 0} → (X → List ℤ) → List X → List TableRow
 rows_by cells_of rows = map (λ row. record { number = 0; cells = cells_of row }) rows
+
+-- the text of a file with a row for each record
+abbrev pub file_text : {X : Type 0} → List ℕ → List ColumnKind → (X → List ℤ) → List X → List ℕ
+file_text header columns cells_of rows = table_text header columns (rows_by cells_of rows)
 
 -- read as a table of these columns a text has no fault, and its rows stand for these records
 abbrev pub ReadsAs : {X : Type 0} → List ColumnKind → (List ℤ → X) → List X → List ℕ → Type 0

@@ -1,10 +1,10 @@
 // The texts of the files that are made.
 ghost use Rattle.std.specs.Prelude.{◌≡◌, All, IfOk};
 ghost use Rattle.giv_files.specs.Columns.{events_p_columns, activities_p_columns, times_p_columns, events_x_columns, activities_x_columns, trips_columns, schedule_columns, disposed_columns};
-ghost use Rattle.giv_files.specs.Writing.{InColumns, table_text};
+ghost use Rattle.giv_files.specs.Writing.{InColumns};
 ghost use Rattle.event_tables.specs.Cells.{periodic_event, periodic_activity, periodic_time, expanded_event, expanded_activity, trip, schedule_row, disposed_time, periodic_event_cells, periodic_activity_cells, periodic_time_cells, expanded_event_cells, expanded_activity_cells, trip_cells, schedule_cells, disposed_time_cells};
 ghost use Rattle.event_tables.specs.Headers.{periodic_event_header, periodic_activity_header, periodic_time_header, expanded_event_header, expanded_activity_header, trip_header, schedule_header, disposed_time_header};
-ghost use Rattle.event_tables.specs.RowsOfTables.{ReadsAs, rows_by};
+ghost use Rattle.event_tables.specs.RowsOfTables.{ReadsAs, file_text};
 
 use crate::disposed_time::DisposedTime;
 use crate::expanded_activity::ExpandedActivity;
@@ -23,8 +23,7 @@ use std::alloc::Global;
 pub fn periodic_events_text(alloc: Global, events: &[PeriodicEvent]) -> Result<Text, NoMemory>
     requires { All (λ row. InColumns events_p_columns (periodic_event_cells row)) events.now }
     ensures text { IfOk result
-        (λ text. text
-        ≡ table_text periodic_event_header events_p_columns (rows_by periodic_event_cells events.now)) }
+        (λ text. text ≡ file_text periodic_event_header events_p_columns periodic_event_cells events.now) }
     ensures back { IfOk result (ReadsAs events_p_columns periodic_event events.now) }
 {
     write_records(
@@ -43,8 +42,7 @@ pub fn periodic_activities_text(
     requires { All
         (λ row. InColumns activities_p_columns (periodic_activity_cells row)) activities.now }
     ensures text { IfOk result
-        (λ text. text
-        ≡ table_text periodic_activity_header activities_p_columns (rows_by periodic_activity_cells activities.now)) }
+        (λ text. text ≡ file_text periodic_activity_header activities_p_columns periodic_activity_cells activities.now) }
     ensures back { IfOk result (ReadsAs activities_p_columns periodic_activity activities.now) }
 {
     write_records(
@@ -59,8 +57,7 @@ pub fn periodic_activities_text(
 pub fn periodic_times_text(alloc: Global, times: &[PeriodicTime]) -> Result<Text, NoMemory>
     requires { All (λ row. InColumns times_p_columns (periodic_time_cells row)) times.now }
     ensures text { IfOk result
-        (λ text. text
-        ≡ table_text periodic_time_header times_p_columns (rows_by periodic_time_cells times.now)) }
+        (λ text. text ≡ file_text periodic_time_header times_p_columns periodic_time_cells times.now) }
     ensures back { IfOk result (ReadsAs times_p_columns periodic_time times.now) }
 {
     write_records(alloc, b"# event-id; time", &columns!(TimesP), times)
@@ -70,8 +67,7 @@ pub fn periodic_times_text(alloc: Global, times: &[PeriodicTime]) -> Result<Text
 pub fn expanded_events_text(alloc: Global, events: &[ExpandedEvent]) -> Result<Text, NoMemory>
     requires { All (λ row. InColumns events_x_columns (expanded_event_cells row)) events.now }
     ensures text { IfOk result
-        (λ text. text
-        ≡ table_text expanded_event_header events_x_columns (rows_by expanded_event_cells events.now)) }
+        (λ text. text ≡ file_text expanded_event_header events_x_columns expanded_event_cells events.now) }
     ensures back { IfOk result (ReadsAs events_x_columns expanded_event events.now) }
 {
     write_records(
@@ -90,8 +86,7 @@ pub fn expanded_activities_text(
     requires { All
         (λ row. InColumns activities_x_columns (expanded_activity_cells row)) activities.now }
     ensures text { IfOk result
-        (λ text. text
-        ≡ table_text expanded_activity_header activities_x_columns (rows_by expanded_activity_cells activities.now)) }
+        (λ text. text ≡ file_text expanded_activity_header activities_x_columns expanded_activity_cells activities.now) }
     ensures back { IfOk result (ReadsAs activities_x_columns expanded_activity activities.now) }
 {
     write_records(
@@ -106,7 +101,7 @@ pub fn expanded_activities_text(
 pub fn trips_text(alloc: Global, trips: &[Trip]) -> Result<Text, NoMemory>
     requires { All (λ row. InColumns trips_columns (trip_cells row)) trips.now }
     ensures text { IfOk result
-        (λ text. text ≡ table_text trip_header trips_columns (rows_by trip_cells trips.now)) }
+        (λ text. text ≡ file_text trip_header trips_columns trip_cells trips.now) }
     ensures back { IfOk result (ReadsAs trips_columns trip trips.now) }
 {
     write_records(
@@ -121,8 +116,7 @@ pub fn trips_text(alloc: Global, trips: &[Trip]) -> Result<Text, NoMemory>
 pub fn schedule_text(alloc: Global, rows: &[ScheduleRow]) -> Result<Text, NoMemory>
     requires { All (λ row. InColumns schedule_columns (schedule_cells row)) rows.now }
     ensures text { IfOk result
-        (λ text. text
-        ≡ table_text schedule_header schedule_columns (rows_by schedule_cells rows.now)) }
+        (λ text. text ≡ file_text schedule_header schedule_columns schedule_cells rows.now) }
     ensures back { IfOk result (ReadsAs schedule_columns schedule_row rows.now) }
 {
     write_records(
@@ -137,8 +131,7 @@ pub fn schedule_text(alloc: Global, rows: &[ScheduleRow]) -> Result<Text, NoMemo
 pub fn disposed_times_text(alloc: Global, times: &[DisposedTime]) -> Result<Text, NoMemory>
     requires { All (λ row. InColumns disposed_columns (disposed_time_cells row)) times.now }
     ensures text { IfOk result
-        (λ text. text
-        ≡ table_text disposed_time_header disposed_columns (rows_by disposed_time_cells times.now)) }
+        (λ text. text ≡ file_text disposed_time_header disposed_columns disposed_time_cells times.now) }
     ensures back { IfOk result (ReadsAs disposed_columns disposed_time times.now) }
 {
     write_records(alloc, b"# event-id; time", &columns!(Disposed), times)
