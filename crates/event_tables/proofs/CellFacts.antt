@@ -1,5 +1,5 @@
 -- The cells of a row in the ranges of their columns, and the record that they stand for.
-use Rattle.std.proofs.Common.{◌≡◌, ℕ, ℤ, pos, negsuc, zero, suc, ◌+◌, ◌<◌, ◌≤◌, ◌≤ℤ◌, arith, true, false, ◌&&◌, Bool, cond, List, [], ◌∷◌, length, map, get_or, int_le, neg_ℤ, refl, ap, sym, subst, ◌∙◌, unsigned_abs, All}
+use Rattle.std.proofs.Common.{◌≡◌, ℕ, ℤ, pos, negsuc, zero, suc, ◌+◌, ◌<◌, ◌≤◌, ◌≤ℤ◌, arith, true, false, ◌&&◌, Bool, List, [], ◌∷◌, length, map, get_or, int_le, neg_ℤ, refl, ap, sym, subst, ◌∙◌, unsigned_abs, All}
 use Rattle.std.specs.List.{list_all, range_with_len}
 use Rattle.std.specs.Int.Signed.{le_z_yes}
 use Rattle.std.proofs.lemmas.Bool.{and_parts}
@@ -9,7 +9,6 @@ use Rattle.std.proofs.lemmas.List.Elements.{All-nil, All-cons}
 use Rattle.giv_files.specs.declared.column.ColumnKind.{ColumnKind}
 use Rattle.giv_files.specs.declared.column.ColumnKind.TheVariants as kind
 use Rattle.giv_files.specs.declared.words.WordTable.TheVariants as table
-use Rattle.giv_files.specs.Columns.{events_p_columns, activities_p_columns, times_p_columns, events_x_columns, activities_x_columns, trips_columns, schedule_columns, disposed_columns, delays_columns}
 use Rattle.giv_files.specs.Names.{table_words}
 use Rattle.giv_files.specs.Writing.{InColumn, InColumns, CanWrite, IsSmall as IsSmallRange}
 use Rattle.event_tables.specs.declared.activity_kind.ActivityKind.{ActivityKind}
@@ -39,18 +38,21 @@ few_words table.NodeKind = omega arith
 few_words table.ScheduleKind = omega arith
 few_words table.ReasonKind = omega arith
 
-small_in : (column : ColumnKind) (cell : ℤ) → is_small column ≡ true → InColumn column cell → IsSmall cell
+small_in : (column : ColumnKind) (cell : ℤ) → is_small column ≡ true → InColumn column cell
+    → IsSmall cell
 small_in (kind.Whole min max) cell small h =
     let parts = and_parts (int_le (pos 0) min) (int_le max (pos 4294967295)) small in
     let low : pos 0 ≤ℤ min = le_z_yes (T_from_true _ parts.0) in
     let high : max ≤ℤ pos 4294967295 = le_z_yes (T_from_true _ parts.1) in
     (omega (arith, ints, low, h.0), omega (arith, ints, high, h.1))
-small_in (kind.Word words) cell small h = subst IsSmall (sym h.2) (omega (arith, ints), omega (arith, ints, few_words words, h.1))
+small_in (kind.Word words) cell small h = subst IsSmall (sym h.2)
+    (omega (arith, ints), omega (arith, ints, few_words words, h.1))
 small_in (kind.Fixed min max) cell small h = cc
 small_in kind.Skip cell small h = cc
 
 -- cells in such columns are small
-pub small_cells : (kinds : List ColumnKind) (cells : List ℤ) → list_all is_small kinds ≡ true → InColumns kinds cells → AreSmall cells
+pub small_cells : (kinds : List ColumnKind) (cells : List ℤ) → list_all is_small kinds ≡ true
+    → InColumns kinds cells → AreSmall cells
 small_cells [] [] small h = All-nil IsSmall
 small_cells [] (cell ∷ cells) small h = elim h [ ]
 small_cells (column ∷ kinds) [] small h = elim h [ ]
@@ -59,20 +61,25 @@ small_cells (column ∷ kinds) (cell ∷ cells) small h =
     All-cons IsSmall cell cells (small_in column cell parts.0 h.0) (small_cells kinds cells parts.1 h.1)
 
 -- the cell in a column lies in its range
-pub in_column : (kinds : List ColumnKind) (cells : List ℤ) (i : ℕ) → InColumns kinds cells → i < length kinds → InColumn (get_or kinds i kind.Skip) (get_or cells i (pos 0))
+pub in_column : (kinds : List ColumnKind) (cells : List ℤ) (i : ℕ) → InColumns kinds cells
+    → i < length kinds → InColumn (get_or kinds i kind.Skip) (get_or cells i (pos 0))
 in_column [] cells i h within = absurd (omega arith)
 in_column (column ∷ kinds) [] i h within = elim h [ ]
 in_column (column ∷ kinds) (cell ∷ cells) zero h within = h.0
-in_column (column ∷ kinds) (cell ∷ cells) (suc i) h within = in_column kinds cells i h.1 (omega arith)
+in_column (column ∷ kinds) (cell ∷ cells) (suc i) h within = in_column kinds cells i h.1
+    (omega arith)
 
 -- cells are those of all columns, one after the other
-listed_from : (kinds : List ColumnKind) (cells : List ℤ) (f : ℕ → ℤ) (from : ℕ) → InColumns kinds cells → ((i : ℕ) → f (from + i) ≡ get_or cells i (pos 0)) → cells ≡ map f (range_with_len from (length kinds))
+listed_from : (kinds : List ColumnKind) (cells : List ℤ) (f : ℕ → ℤ) (from : ℕ)
+    → InColumns kinds cells → ((i : ℕ) → f (from + i) ≡ get_or cells i (pos 0)) → cells
+    ≡ map f (range_with_len from (length kinds))
 listed_from [] [] f from h at = refl
 listed_from [] (cell ∷ cells) f from h at = elim h [ ]
 listed_from (column ∷ kinds) [] f from h at = elim h [ ]
 listed_from (column ∷ kinds) (cell ∷ cells) f from h at =
     let first : f from ≡ cell = ap f (sym (add_zero from)) ∙ at 0 in
-    rw first (ap (λ rest. cell ∷ rest) (listed_from kinds cells f (from + 1) h.1 (λ i. ap f (moved from i) ∙ at (suc i))))
+    rw first (ap (λ rest. cell ∷ rest) (listed_from kinds cells f (from + 1) h.1
+    (λ i. ap f (moved from i) ∙ at (suc i))))
   where
     add_zero : (n : ℕ) → n + 0 ≡ n
     add_zero n = omega arith
@@ -80,8 +87,10 @@ listed_from (column ∷ kinds) (cell ∷ cells) f from h at =
     moved : (n i : ℕ) → (n + 1) + i ≡ n + suc i
     moved n i = omega arith
 
-pub listed : (kinds : List ColumnKind) (cells : List ℤ) → InColumns kinds cells → cells ≡ map (λ i. get_or cells i (pos 0)) (range_with_len 0 (length kinds))
-listed kinds cells h = listed_from kinds cells (λ i. get_or cells i (pos 0)) 0 h (λ i. ap (λ n. get_or cells n (pos 0)) (plus i))
+pub listed : (kinds : List ColumnKind) (cells : List ℤ) → InColumns kinds cells → cells ≡ map
+    (λ i. get_or cells i (pos 0)) (range_with_len 0 (length kinds))
+listed kinds cells h = listed_from kinds cells (λ i. get_or cells i (pos 0)) 0 h
+    (λ i. ap (λ n. get_or cells n (pos 0)) (plus i))
   where
     plus : (i : ℕ) → 0 + i ≡ i
     plus i = omega arith
@@ -93,7 +102,9 @@ can_write (kind.Fixed min max) = int_le (neg_ℤ (pos 1000000000000000000)) min 
 can_write (kind.Word words) = true
 can_write kind.Skip = false
 
-small_range : (min max : ℤ) → (int_le (neg_ℤ (pos 1000000000000000000)) min && int_le max (pos 1000000000000000000)) ≡ true → IsSmallRange min max
+small_range : (min max : ℤ)
+    → (int_le (neg_ℤ (pos 1000000000000000000)) min && int_le max (pos 1000000000000000000)) ≡ true
+    → IsSmallRange min max
 small_range min max h =
     let parts = and_parts (int_le (neg_ℤ (pos 1000000000000000000)) min) (int_le max (pos 1000000000000000000)) h in
     (le_z_yes (T_from_true _ parts.0), le_z_yes (T_from_true _ parts.1))
@@ -104,7 +115,8 @@ written (kind.Fixed min max) h = small_range min max h
 written (kind.Word words) h = tt
 written kind.Skip h = cc
 
-pub columns_written : (kinds : List ColumnKind) → list_all can_write kinds ≡ true → All CanWrite kinds
+pub columns_written : (kinds : List ColumnKind) → list_all can_write kinds ≡ true
+    → All CanWrite kinds
 columns_written [] h = All-nil CanWrite
 columns_written (column ∷ kinds) h =
     let parts = and_parts (can_write column) (list_all can_write kinds) h in
@@ -122,34 +134,41 @@ abbrev pub is_low : ColumnKind → Bool
 is_low (kind.Whole min max) = int_le (pos 0) min
 is_low _ = false
 
-low_in : (column : ColumnKind) (cell : ℤ) → is_low column ≡ true → InColumn column cell → pos 0 ≤ℤ cell
+low_in : (column : ColumnKind) (cell : ℤ) → is_low column ≡ true → InColumn column cell
+    → pos 0 ≤ℤ cell
 low_in (kind.Whole min max) cell low h = let from : pos 0 ≤ℤ min = le_z_yes (T_from_true _ low) in omega (arith, ints, from, h.0)
 low_in (kind.Word words) cell low h = cc
 low_in (kind.Fixed min max) cell low h = cc
 low_in kind.Skip cell low h = cc
 
 -- the number in such a column is its cell
-pub cell_back : (kinds : List ColumnKind) (cells : List ℤ) (i : ℕ) → InColumns kinds cells → i < length kinds → is_low (get_or kinds i kind.Skip) ≡ true → pos (unsigned_abs (get_or cells i (pos 0))) ≡ get_or cells i (pos 0)
+pub cell_back : (kinds : List ColumnKind) (cells : List ℤ) (i : ℕ) → InColumns kinds cells
+    → i < length kinds → is_low (get_or kinds i kind.Skip) ≡ true
+    → pos (unsigned_abs (get_or cells i (pos 0))) ≡ get_or cells i (pos 0)
 cell_back kinds cells i h within low = number_back (get_or cells i (pos 0)) (low_in (get_or kinds i kind.Skip) (get_or cells i (pos 0)) low (in_column kinds cells i h within))
 
-pub event_kind_back : (cell : ℤ) → InColumn (kind.Word table.EventKind) cell → pos (event_kind_place (event_kind_at (unsigned_abs cell))) ≡ cell
+pub event_kind_back : (cell : ℤ) → InColumn (kind.Word table.EventKind) cell
+    → pos (event_kind_place (event_kind_at (unsigned_abs cell))) ≡ cell
 event_kind_back cell (zero, within, is) = rw is refl
 event_kind_back cell (suc zero, within, is) = rw is refl
 event_kind_back cell (suc (suc more), within, is) = absurd (omega arith)
 
-pub direction_back : (cell : ℤ) → InColumn (kind.Word table.Direction) cell → pos (direction_place (direction_at (unsigned_abs cell))) ≡ cell
+pub direction_back : (cell : ℤ) → InColumn (kind.Word table.Direction) cell
+    → pos (direction_place (direction_at (unsigned_abs cell))) ≡ cell
 direction_back cell (zero, within, is) = rw is refl
 direction_back cell (suc zero, within, is) = rw is refl
 direction_back cell (suc (suc more), within, is) = absurd (omega arith)
 
-pub activity_kind_back : (cell : ℤ) → InColumn (kind.Word table.ActivityKind) cell → pos (activity_kind_place (activity_kind_at (unsigned_abs cell))) ≡ cell
+pub activity_kind_back : (cell : ℤ) → InColumn (kind.Word table.ActivityKind) cell
+    → pos (activity_kind_place (activity_kind_at (unsigned_abs cell))) ≡ cell
 activity_kind_back cell (zero, within, is) = rw is refl
 activity_kind_back cell (suc zero, within, is) = rw is refl
 activity_kind_back cell (suc (suc zero), within, is) = rw is refl
 activity_kind_back cell (suc (suc (suc zero)), within, is) = rw is refl
 activity_kind_back cell (suc (suc (suc (suc more))), within, is) = absurd (omega arith)
 
-pub schedule_kind_back : (cell : ℤ) → InColumn (kind.Word table.ScheduleKind) cell → pos (schedule_kind_place (schedule_kind_at (unsigned_abs cell))) ≡ cell
+pub schedule_kind_back : (cell : ℤ) → InColumn (kind.Word table.ScheduleKind) cell
+    → pos (schedule_kind_place (schedule_kind_at (unsigned_abs cell))) ≡ cell
 schedule_kind_back cell (zero, within, is) = rw is refl
 schedule_kind_back cell (suc zero, within, is) = rw is refl
 schedule_kind_back cell (suc (suc more), within, is) = absurd (omega arith)

@@ -1,8 +1,7 @@
 -- Each record is the one of its cells, and cells in the ranges of their columns are those of their record.
-use Rattle.std.proofs.Common.{◌≡◌, ℤ, pos, ◌<◌, arith, List, length, get_or, refl, sym}
+use Rattle.std.proofs.Common.{◌≡◌, ℤ, pos, arith, List, get_or, refl, sym}
 use Rattle.giv_files.specs.Columns.{events_p_columns, activities_p_columns, times_p_columns, events_x_columns, activities_x_columns, trips_columns, schedule_columns, delays_columns, disposed_columns}
 use Rattle.giv_files.specs.Writing.{InColumns}
-use Rattle.event_tables.specs.declared.delay_row.DelayRow.{DelayRow}
 use Rattle.event_tables.specs.declared.disposed_time.DisposedTime.{DisposedTime}
 use Rattle.event_tables.specs.declared.expanded_activity.ExpandedActivity.{ExpandedActivity}
 use Rattle.event_tables.specs.declared.expanded_event.ExpandedEvent.{ExpandedEvent}
@@ -17,7 +16,8 @@ use Rattle.event_tables.proofs.CellFacts.{in_column, listed, cell_back, event_ki
 pub periodic_event_same : (row : PeriodicEvent) → periodic_event (periodic_event_cells row) ≡ row
 periodic_event_same row = rw (event_kind_same row.kind, direction_same row.direction) refl
 
-pub periodic_event_back : (cells : List ℤ) → InColumns events_p_columns cells → periodic_event_cells (periodic_event cells) ≡ cells
+pub periodic_event_back : (cells : List ℤ) → InColumns events_p_columns cells
+    → periodic_event_cells (periodic_event cells) ≡ cells
 periodic_event_back cells h =
     rw (
       cell_back events_p_columns cells 0 h (omega arith) refl,
@@ -28,14 +28,17 @@ periodic_event_back cells h =
       cell_back events_p_columns cells 5 h (omega arith) refl,
     ) (sym (listed events_p_columns cells h))
 
-pub periodic_activity_same : (row : PeriodicActivity) → periodic_activity (periodic_activity_cells row) ≡ row
+pub periodic_activity_same : (row : PeriodicActivity)
+    → periodic_activity (periodic_activity_cells row) ≡ row
 periodic_activity_same row = rw (activity_kind_same row.kind) refl
 
-pub periodic_activity_back : (cells : List ℤ) → InColumns activities_p_columns cells → periodic_activity_cells (periodic_activity cells) ≡ cells
+pub periodic_activity_back : (cells : List ℤ) → InColumns activities_p_columns cells
+    → periodic_activity_cells (periodic_activity cells) ≡ cells
 periodic_activity_back cells h =
     rw (
       cell_back activities_p_columns cells 0 h (omega arith) refl,
-      activity_kind_back (get_or cells 1 (pos 0)) (in_column activities_p_columns cells 1 h (omega arith)),
+      activity_kind_back (get_or cells 1 (pos 0)) (in_column activities_p_columns cells 1 h
+          (omega arith)),
       cell_back activities_p_columns cells 2 h (omega arith) refl,
       cell_back activities_p_columns cells 3 h (omega arith) refl,
       cell_back activities_p_columns cells 4 h (omega arith) refl,
@@ -45,7 +48,8 @@ periodic_activity_back cells h =
 pub periodic_time_same : (row : PeriodicTime) → periodic_time (periodic_time_cells row) ≡ row
 periodic_time_same row = refl
 
-pub periodic_time_back : (cells : List ℤ) → InColumns times_p_columns cells → periodic_time_cells (periodic_time cells) ≡ cells
+pub periodic_time_back : (cells : List ℤ) → InColumns times_p_columns cells
+    → periodic_time_cells (periodic_time cells) ≡ cells
 periodic_time_back cells h =
     rw (
       cell_back times_p_columns cells 0 h (omega arith) refl,
@@ -55,7 +59,8 @@ periodic_time_back cells h =
 pub expanded_event_same : (row : ExpandedEvent) → expanded_event (expanded_event_cells row) ≡ row
 expanded_event_same row = rw (event_kind_same row.kind) refl
 
-pub expanded_event_back : (cells : List ℤ) → InColumns events_x_columns cells → expanded_event_cells (expanded_event cells) ≡ cells
+pub expanded_event_back : (cells : List ℤ) → InColumns events_x_columns cells
+    → expanded_event_cells (expanded_event cells) ≡ cells
 expanded_event_back cells h =
     rw (
       cell_back events_x_columns cells 0 h (omega arith) refl,
@@ -65,15 +70,18 @@ expanded_event_back cells h =
       cell_back events_x_columns cells 4 h (omega arith) refl,
     ) (sym (listed events_x_columns cells h))
 
-pub expanded_activity_same : (row : ExpandedActivity) → expanded_activity (expanded_activity_cells row) ≡ row
+pub expanded_activity_same : (row : ExpandedActivity)
+    → expanded_activity (expanded_activity_cells row) ≡ row
 expanded_activity_same row = rw (activity_kind_same row.kind) refl
 
-pub expanded_activity_back : (cells : List ℤ) → InColumns activities_x_columns cells → expanded_activity_cells (expanded_activity cells) ≡ cells
+pub expanded_activity_back : (cells : List ℤ) → InColumns activities_x_columns cells
+    → expanded_activity_cells (expanded_activity cells) ≡ cells
 expanded_activity_back cells h =
     rw (
       cell_back activities_x_columns cells 0 h (omega arith) refl,
       cell_back activities_x_columns cells 1 h (omega arith) refl,
-      activity_kind_back (get_or cells 2 (pos 0)) (in_column activities_x_columns cells 2 h (omega arith)),
+      activity_kind_back (get_or cells 2 (pos 0)) (in_column activities_x_columns cells 2 h
+          (omega arith)),
       cell_back activities_x_columns cells 3 h (omega arith) refl,
       cell_back activities_x_columns cells 4 h (omega arith) refl,
       cell_back activities_x_columns cells 5 h (omega arith) refl,
@@ -100,13 +108,15 @@ trip_back cells h =
 pub schedule_row_same : (row : ScheduleRow) → schedule_row (schedule_cells row) ≡ row
 schedule_row_same row = rw (schedule_kind_same row.kind) refl
 
-pub schedule_row_back : (cells : List ℤ) → InColumns schedule_columns cells → schedule_cells (schedule_row cells) ≡ cells
+pub schedule_row_back : (cells : List ℤ) → InColumns schedule_columns cells
+    → schedule_cells (schedule_row cells) ≡ cells
 schedule_row_back cells h =
     rw (
       cell_back schedule_columns cells 0 h (omega arith) refl,
       cell_back schedule_columns cells 1 h (omega arith) refl,
       cell_back schedule_columns cells 2 h (omega arith) refl,
-      schedule_kind_back (get_or cells 3 (pos 0)) (in_column schedule_columns cells 3 h (omega arith)),
+      schedule_kind_back (get_or cells 3 (pos 0)) (in_column schedule_columns cells 3 h
+          (omega arith)),
       cell_back schedule_columns cells 4 h (omega arith) refl,
       cell_back schedule_columns cells 5 h (omega arith) refl,
       cell_back schedule_columns cells 6 h (omega arith) refl,
@@ -118,7 +128,8 @@ schedule_row_back cells h =
       cell_back schedule_columns cells 12 h (omega arith) refl,
     ) (sym (listed schedule_columns cells h))
 
-pub delay_row_back : (cells : List ℤ) → InColumns delays_columns cells → delay_cells (delay_row cells) ≡ cells
+pub delay_row_back : (cells : List ℤ) → InColumns delays_columns cells
+    → delay_cells (delay_row cells) ≡ cells
 delay_row_back cells h =
     rw (
       cell_back delays_columns cells 0 h (omega arith) refl,
@@ -128,7 +139,8 @@ delay_row_back cells h =
 pub disposed_time_same : (row : DisposedTime) → disposed_time (disposed_time_cells row) ≡ row
 disposed_time_same row = refl
 
-pub disposed_time_back : (cells : List ℤ) → InColumns disposed_columns cells → disposed_time_cells (disposed_time cells) ≡ cells
+pub disposed_time_back : (cells : List ℤ) → InColumns disposed_columns cells
+    → disposed_time_cells (disposed_time cells) ≡ cells
 disposed_time_back cells h =
     rw (
       cell_back disposed_columns cells 0 h (omega arith) refl,

@@ -1,12 +1,11 @@
 -- From the table of a text to the text: what refuses the one refuses the other.
-use Rattle.std.proofs.Common.{◌≡◌, ℕ, List, [], length, ◌++◌, All, IfOk, refl, ap, subst, sym, ◌∙◌, Result, Ok, Err, Option, Some, None, slice_get}
-use Rattle.std.proofs.lemmas.List.{append-nil, length-map}
+use Rattle.std.proofs.Common.{◌≡◌, ℕ, List, [], length, All, IfOk, refl, ap, subst, sym, ◌∙◌, Result, Ok, Err, Option, Some, None, slice_get}
+use Rattle.std.proofs.lemmas.List.{append-nil}
 use Rattle.giv_files.specs.declared.column.ColumnKind.{ColumnKind}
 use Rattle.giv_files.specs.declared.file_id.FileId.{FileId}
 use Rattle.giv_files.specs.declared.refusal.Refusal.{Refusal}
 use Rattle.giv_files.specs.declared.refusal.StageFault.{StageFault}
-use Rattle.giv_files.specs.declared.refusal.StageFault.TheVariants as stage
-use Rattle.giv_files.specs.Inputs.{Input, records, records_of, cell_faults, limit_faults, table_row_faults, table_faults, input_faults, Refuses, UnlessFault}
+use Rattle.giv_files.specs.Inputs.{Input, records, records_of, cell_faults, limit_faults, table_row_faults, input_faults, Refuses, UnlessFault}
 use Rattle.giv_files.specs.Reading.{table_of}
 use Rattle.giv_files.specs.Tables.{TableRow}
 use Rattle.giv_files.specs.Writing.{InColumns}
@@ -18,34 +17,47 @@ use Rattle.event_tables.proofs.RowsTested.{none_broken}
 
 -- the cells of a text that was read are in the ranges of their columns
 pub cells_inside : (file : FileId) (kinds : List ColumnKind) (text : List ℕ) (read : Result (List TableRow) StageFault)
-    → UnlessFault (cell_faults file kinds text) (λ table. table ≡ table_of kinds text) read → IfOk read (All (λ row. InColumns kinds row.cells))
-cells_inside file kinds text (Ok table) h = subst (All (λ row. InColumns kinds row.cells)) (sym h.1) (table_in_columns kinds text (unmapped _ _ h.0))
+    → UnlessFault (cell_faults file kinds text) (λ table. table ≡ table_of kinds text) read
+    → IfOk read (All (λ row. InColumns kinds row.cells))
+cells_inside file kinds text (Ok table) h = subst (All (λ row. InColumns kinds row.cells))
+    (sym h.1) (table_in_columns kinds text (unmapped _ _ h.0))
 cells_inside file kinds text (Err fault) h = tt
 
 -- what a limit of the number of rows refuses
-pub limits_are : {X : Type 0} (limit : Option RowLimit) (rows : List X) → limit_faults (limits_of limit) rows ≡ too_many_rows limit (length rows)
+pub limits_are : {X : Type 0} (limit : Option RowLimit) (rows : List X)
+    → limit_faults (limits_of limit) rows ≡ too_many_rows limit (length rows)
 limits_are None rows = refl
 limits_are (Some limit) rows = append-nil (too_many_rows (Some limit) (length rows))
 
 module _ {X : Type 0} (limit : Option RowLimit) (rows : List X) (count : ℕ) (told : Option Refusal) (is : count ≡ length rows) (first : told ≡ slice_get (too_many_rows limit count) 0) where
   -- so many rows are too many
-  pub limit_refuses : (why : Refusal) → told ≡ Some why → slice_get (limit_faults (limits_of limit) rows) 0 ≡ Some why
-  limit_refuses why by = ap (λ all. slice_get all 0) (limits_are limit rows ∙ sym (ap (too_many_rows limit) is)) ∙ sym first ∙ by
+  pub limit_refuses : (why : Refusal) → told ≡ Some why
+      → slice_get (limit_faults (limits_of limit) rows) 0 ≡ Some why
+  limit_refuses why by = ap
+      (λ all. slice_get all 0) (limits_are limit rows ∙ sym (ap (too_many_rows limit) is))
+      ∙ sym first ∙ by
 
   -- or they are few enough
   pub few_rows : told ≡ None → limit_faults (limits_of limit) rows ≡ []
-  few_rows none = limits_are limit rows ∙ sym (ap (too_many_rows limit) is) ∙ none_broken (too_many_rows limit count) (sym first ∙ none)
+  few_rows none = limits_are limit rows ∙ sym (ap (too_many_rows limit) is)
+      ∙ none_broken (too_many_rows limit count) (sym first ∙ none)
 
 module _ {X : Type 0} (input : Input X) (text : List ℕ) (table : List TableRow) (cells : cell_faults input.file input.columns text ≡ []) (is : table ≡ table_of input.columns text) where
   -- a text whose table is refused by a limit
-  pub limits_refuse : (fault : StageFault) → Refuses (limit_faults input.limits (records input table)) fault → Refuses (input_faults input text) fault
-  limits_refuse fault by = subst (λ (all : List Refusal). Refuses all fault) (faults_of_table input text table cells is) (refused_limits input table fault by)
+  pub limits_refuse : (fault : StageFault)
+      → Refuses (limit_faults input.limits (records input table)) fault → Refuses
+      (input_faults input text) fault
+  limits_refuse fault by = subst
+      (λ (all : List Refusal). Refuses all fault) (faults_of_table input text table cells is) (refused_limits input table fault by)
 
   -- and one whose rows were read, where the file has no rule as a whole
-  pub rows_read : {A : Type 0} (view : A → List X) → input.table_rules ≡ [] → limit_faults input.limits (records input table) ≡ [] → (read : Result A StageFault)
-      → UnlessFault (table_row_faults input table) (λ rows. view rows ≡ records input table) read → UnlessFault (input_faults input text) (λ rows. view rows ≡ records_of input text) read
+  pub rows_read : {A : Type 0} (view : A → List X) → input.table_rules ≡ []
+      → limit_faults input.limits (records input table) ≡ [] → (read : Result A StageFault)
+      → UnlessFault (table_row_faults input table) (λ rows. view rows ≡ records input table) read
+      → UnlessFault (input_faults input text) (λ rows. view rows ≡ records_of input text) read
   rows_read view plain few (Ok rows) h = (
     sym (faults_of_table input text table cells is) ∙ no_faults input table few h.0 (rw plain refl),
     h.1 ∙ ap (records input) is,
   )
-  rows_read view plain few (Err fault) h = subst (λ (all : List Refusal). Refuses all fault) (faults_of_table input text table cells is) (refused_rows input table fault few h)
+  rows_read view plain few (Err fault) h = subst
+      (λ (all : List Refusal). Refuses all fault) (faults_of_table input text table cells is) (refused_rows input table fault few h)

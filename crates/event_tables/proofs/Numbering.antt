@@ -7,7 +7,7 @@ use Rattle.std.proofs.lemmas.List.FromFn.{length-range_with_len, get_or-range_wi
 use Rattle.std.specs.List.{list_any, range_with_len, find}
 use Rattle.giv_files.specs.declared.file_id.FileId.{FileId}
 use Rattle.giv_files.specs.declared.refusal.Refusal.TheVariants as refusal
-use Rattle.giv_files.specs.Inputs.{Numbered, Input, RowRule, records, records_of, broken_whys, row_faults, numbered, input_faults}
+use Rattle.giv_files.specs.Inputs.{Input, RowRule, records_of, broken_whys, row_faults, numbered, input_faults}
 use Rattle.giv_files.specs.Reading.{table_of}
 use Rattle.giv_files.specs.Tables.{TableRow}
 use Rattle.giv_files.proofs.Inputs.{rules_sound, parts_sound, table_sound}
@@ -18,31 +18,40 @@ use Rattle.event_tables.specs.Places.{own_place, is_none_of, AreNumbered, IsOneO
 among : (id a n : ℕ) → list_any (nat_eq id) (range_with_len a n) ≡ true → (a ≤ id) × (id < a + n)
 among id a zero h = cc
 among id a (suc n) h =
-    elim (eqb id a) as (λ b. eqb id a ≡ b → (b || list_any (nat_eq id) (range_with_len (a + 1) n)) ≡ true → (a ≤ id) × (id < a + suc n)) [
+    elim (eqb id a) as (λ b. eqb id a ≡ b → (b || list_any (nat_eq id) (range_with_len (a + 1) n))
+    ≡ true → (a ≤ id) × (id < a + suc n)) [
       | true ↦ λ is some. (omega (arith, eqb-true id a is), omega (arith, eqb-true id a is))
-      | false ↦ λ is some. let later = among id (a + 1) n some in (omega (arith, later.0), omega (arith, later.1))
+      | false ↦ λ is some. let later = among id (a + 1) n some in
+          (omega (arith, later.0), omega (arith, later.1))
     ] refl h
 
 -- a test that one of so many numbers passes, or that none does
-pub any_in : (test : ℕ → Bool) (id a n : ℕ) → a ≤ id → id < a + n → test id ≡ true → list_any test (range_with_len a n) ≡ true
+pub any_in : (test : ℕ → Bool) (id a n : ℕ) → a ≤ id → id < a + n → test id ≡ true
+    → list_any test (range_with_len a n) ≡ true
 any_in test id a n low high passes =
     let within : id - a < n = omega arith in
     let back : a + (id - a) ≡ id = omega arith in
-    list_any_at test (range_with_len a n) (id - a) 0 (subst (λ m. id - a < m) (sym (length-range_with_len a n)) within)
+    list_any_at test (range_with_len a n) (id - a) 0
+    (subst (λ m. id - a < m) (sym (length-range_with_len a n)) within)
     (ap test (get_or-range_with_len a n (id - a) 0 within ∙ back) ∙ passes)
 
-pub none_in : (test : ℕ → Bool) (a n : ℕ) → ((id : ℕ) → a ≤ id → id < a + n → test id ≡ false) → list_any test (range_with_len a n) ≡ false
+pub none_in : (test : ℕ → Bool) (a n : ℕ) → ((id : ℕ) → a ≤ id → id < a + n → test id ≡ false)
+    → list_any test (range_with_len a n) ≡ false
 none_in test a zero fails = refl
-none_in test a (suc n) fails = rw (fails a (omega arith) (omega arith)) (none_in test (a + 1) n (λ id low high. fails id (omega arith) (omega arith)))
+none_in test a (suc n) fails = rw (fails a (omega arith) (omega arith)) (none_in test (a + 1) n
+    (λ id low high. fails id (omega arith) (omega arith)))
 
 -- each of them is there
 there : (id a n : ℕ) → a ≤ id → id < a + n → list_any (nat_eq id) (range_with_len a n) ≡ true
 there id a n low high = any_in (nat_eq id) id a n low high (eq-eqb id id refl)
 
 -- an id is none of so many, which count from 1, where it is 0 or above their count
-pub none_of_places : (count id : ℕ) → is_none_of (range_with_len 1 count) id ≡ (nat_eq id 0 || nat_lt count id)
+pub none_of_places : (count id : ℕ) → is_none_of (range_with_len 1 count) id
+    ≡ (nat_eq id 0 || nat_lt count id)
 none_of_places count id =
-    elim (list_any (nat_eq id) (range_with_len 1 count)) as (λ b. list_any (nat_eq id) (range_with_len 1 count) ≡ b → not b ≡ (nat_eq id 0 || nat_lt count id)) [
+    elim (list_any (nat_eq id) (range_with_len 1 count)) as
+    (λ b. list_any (nat_eq id) (range_with_len 1 count) ≡ b → not b
+    ≡ (nat_eq id 0 || nat_lt count id)) [
       | true ↦ λ is. let low : 1 ≤ id = (among id 1 count is).0 in let high : id < 1 + count = (among id 1 count is).1 in
           rw (ne_eqb id 0 (λ e. omega (arith, e, low)), le-ltb count id (omega (arith, high))) refl
       | false ↦ λ is.
@@ -57,15 +66,27 @@ none_of_places count id =
     ] refl
 
 -- of so many ids one is missing among fewer of them
-pub some_missing : (n count : ℕ) → list_any (is_none_of (range_with_len 1 n)) (range_with_len 1 count) ≡ nat_lt n count
+pub some_missing : (n count : ℕ)
+    → list_any (is_none_of (range_with_len 1 n)) (range_with_len 1 count) ≡ nat_lt n count
 some_missing n count =
-    elim (ltb n count) as (λ b. ltb n count ≡ b → list_any (is_none_of (range_with_len 1 n)) (range_with_len 1 count) ≡ b) [
+    elim (ltb n count) as
+    (λ b. ltb n count ≡ b → list_any (is_none_of (range_with_len 1 n)) (range_with_len 1 count)
+    ≡ b) [
       | true ↦ λ is.
           let fewer : n < count = ltb-true n count is in
-          any_in (is_none_of (range_with_len 1 n)) (suc n) 1 count (omega arith) (omega (arith, fewer)) (none_of_places n (suc n) ∙ rw (ne_eqb (suc n) 0 (λ e. omega (arith, e)), lt-ltb n (suc n) (omega arith)) refl)
+          any_in (is_none_of (range_with_len 1 n)) (suc n) 1 count (omega arith)
+          (omega (arith, fewer))
+          (none_of_places n (suc n)
+          ∙ rw (ne_eqb (suc n) 0 (λ e. omega (arith, e)), lt-ltb n (suc n) (omega arith)) refl)
       | false ↦ λ is.
           let most : count ≤ n = ltb-false n count is in
-          none_in (is_none_of (range_with_len 1 n)) 1 count (λ id low high. none_of_places n id ∙ rw (ne_eqb id 0 (λ e. omega (arith, e, low)), le-ltb n id (omega (arith, high, most))) refl)
+          none_in (is_none_of (range_with_len 1 n)) 1 count
+          (λ id low high. none_of_places n id
+          ∙ rw (
+            ne_eqb id 0 (λ e. omega (arith, e, low)),
+            le-ltb n id
+                (omega (arith, high, most)),
+          ) refl)
     ] refl
 
 -- an id that is one of so many
@@ -74,39 +95,55 @@ is_place count id h =
     let is = among id 1 count (not-false (list_any (nat_eq id) (range_with_len 1 count)) h) in (is.0, omega (arith, is.1))
 
 -- rows whose first rule is that they are numbered, and that break none, are numbered
-numbered_from : {X : Type 0} (file : FileId) (id : X → ℕ) (of : TableRow → X) (rules : List (RowRule X)) (before : List X) (rows : List TableRow)
-    → row_faults file (own_place id ∷ rules) before (map (λ row. record { number = row.number; row = of row }) rows) ≡ [] → map id (map of rows) ≡ range_with_len (length before + 1) (length rows)
+numbered_from : {X : Type 0} (file : FileId) (id : X → ℕ) (of : TableRow
+    → X) (rules : List (RowRule X)) (before : List X) (rows : List TableRow)
+    → row_faults file (own_place id ∷ rules) before (map
+    (λ row. record { number = row.number; row = of row }) rows) ≡ [] → map id (map of rows)
+    ≡ range_with_len (length before + 1) (length rows)
 unfolding row_faults
 numbered_from file id of rules before [] none = refl
 numbered_from file id of rules before (row ∷ rows) none =
     let kept = rules_sound (own_place id) rules before (of row) (unmapped _ (broken_whys (own_place id ∷ rules) before (of row)) (front_none _ _ none)) in
     let first : id (of row) ≡ length before + 1 = eqb-true _ _ (not-false _ kept.0) in
-    let rest = numbered_from file id of rules (before ++ of row ∷ []) rows (back_none (map (λ why. refusal.BadRow file row.number why) (broken_whys (own_place id ∷ rules) before (of row))) _ none) in
-    rw first (ap (λ ids. (length before + 1) ∷ ids) (rest ∙ ap (λ n. range_with_len (n + 1) (length rows)) (length_push before (of row))))
+    let rest = numbered_from file id of rules (before ++ of row
+    ∷ []) rows (back_none (map
+    (λ why. refusal.BadRow file row.number why) (broken_whys (own_place id
+    ∷ rules) before (of row))) _ none) in
+    rw first (ap (λ ids. (length before + 1) ∷ ids) (rest ∙ ap
+    (λ n. range_with_len (n + 1) (length rows)) (length_push before (of row))))
 
-pub numbered_rows : {X : Type 0} (input : Input X) (id : X → ℕ) (rules : List (RowRule X)) (text : List ℕ) → input.row_rules ≡ own_place id ∷ rules → input_faults input text ≡ [] → AreNumbered id (records_of input text)
+pub numbered_rows : {X : Type 0} (input : Input X) (id : X
+    → ℕ) (rules : List (RowRule X)) (text : List ℕ) → input.row_rules ≡ own_place id ∷ rules
+    → input_faults input text ≡ [] → AreNumbered id (records_of input text)
 numbered_rows input id rules text is none =
     let table = table_of input.columns text in
     let kept = (table_sound input table (parts_sound input text none).1).1 in
-    let told : row_faults input.file (own_place id ∷ rules) [] (numbered input table) ≡ [] = ap (λ some. row_faults input.file some [] (numbered input table)) (sym is) ∙ kept in
-    numbered_from input.file id (λ row. input.read row.cells) rules [] table told ∙ ap (range_with_len 1) (sym (length-map table (λ row. input.read row.cells)))
+    let told : row_faults input.file (own_place id ∷ rules) [] (numbered input table) ≡ [] = ap
+    (λ some. row_faults input.file some [] (numbered input table)) (sym is) ∙ kept in
+    numbered_from input.file id (λ row. input.read row.cells) rules [] table told
+    ∙ ap (range_with_len 1) (sym (length-map table (λ row. input.read row.cells)))
 
 -- ---- numbered things by their ids
 
 module _ {X : Type 0} (id : X → ℕ) where
-  find_from : (a k : ℕ) (rows : List X) (d : X) → map id rows ≡ range_with_len a (length rows) → a ≤ k → k < a + length rows → find (λ row. k == id row) rows ≡ Some (get_or rows (k - a) d)
+  find_from : (a k : ℕ) (rows : List X) (d : X) → map id rows ≡ range_with_len a (length rows)
+      → a ≤ k → k < a + length rows → find (λ row. k == id row) rows ≡ Some (get_or rows (k - a) d)
   find_from a k [] d is low high = absurd (omega arith)
   find_from a k (row ∷ rows) d is low high =
       let first : id row ≡ a = let e = is in cc in
       let rest : map id rows ≡ range_with_len (a + 1) (length rows) = let e = is in cc in
-      elim (eqb k a) as (λ b. eqb k a ≡ b → find (λ at. k == id at) (row ∷ rows) ≡ Some (get_or (row ∷ rows) (k - a) d)) [
-        | true ↦ λ same. let here : k - a ≡ 0 = omega (arith, eqb-true k a same) in rw (first, same, here) refl
+      elim (eqb k a) as (λ b. eqb k a ≡ b → find (λ at. k == id at) (row ∷ rows) ≡ Some (get_or (row
+      ∷ rows) (k - a) d)) [
+        | true ↦ λ same. let here : k - a
+            ≡ 0 = omega (arith, eqb-true k a same) in rw (first, same, here) refl
         | false ↦ λ same.
             let other : k ≢ a = eqb-false k a same in
             let later : k - a ≡ suc (k - (a + 1)) = omega (arith, other) in
-            rw (first, same, later) (find_from (a + 1) k rows d rest (omega (arith, other)) (omega arith))
+            rw (first, same, later) (find_from (a + 1) k rows d rest (omega (arith, other))
+            (omega arith))
       ] refl
 
   -- the one of an id stands at the place of its id
-  pub find_numbered : (k : ℕ) (rows : List X) (d : X) → AreNumbered id rows → IsOneOf (length rows) k → find (λ row. k == id row) rows ≡ Some (get_or rows (k - 1) d)
+  pub find_numbered : (k : ℕ) (rows : List X) (d : X) → AreNumbered id rows
+      → IsOneOf (length rows) k → find (λ row. k == id row) rows ≡ Some (get_or rows (k - 1) d)
   find_numbered k rows d is one = find_from 1 k rows d is one.0 (omega (arith, one.1))

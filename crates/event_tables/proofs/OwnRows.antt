@@ -1,5 +1,5 @@
 -- Rows of which no two have one id.
-use Rattle.std.proofs.Common.{◌≡◌, ◌≢◌, ◌==◌, ℕ, ℤ, pos, arith, Bool, true, false, nat_eq, eqb, List, [], ◌∷◌, ◌++◌, map, refl, ap, sym, subst, ◌∙◌, append_assoc}
+use Rattle.std.proofs.Common.{◌≡◌, ◌≢◌, ℕ, pos, arith, true, false, nat_eq, eqb, List, [], ◌∷◌, ◌++◌, map, refl, ap, sym, subst, ◌∙◌, append_assoc}
 use Rattle.std.specs.List.{list_any, IsDistinct}
 use Rattle.std.specs.Cmp.{nat_eq_equiv}
 use Rattle.std.specs.Ordering.{int_eq}
@@ -10,7 +10,7 @@ use Rattle.std.proofs.lemmas.List.{append-nil, map_push}
 use Rattle.std.proofs.lemmas.Map.Keys.{IsDistinct-push}
 use Rattle.giv_files.specs.declared.file_id.FileId.{FileId}
 use Rattle.giv_files.specs.declared.refusal.Refusal.TheVariants as refusal
-use Rattle.giv_files.specs.Inputs.{Input, RowRule, own_id, broken_whys, row_faults, numbered, records_of, input_faults}
+use Rattle.giv_files.specs.Inputs.{Input, RowRule, own_id, broken_whys, row_faults, records_of, input_faults}
 use Rattle.giv_files.specs.Reading.{table_of}
 use Rattle.giv_files.specs.Tables.{TableRow}
 use Rattle.giv_files.proofs.Inputs.{parts_sound, table_sound}
@@ -24,36 +24,55 @@ same_number a b =
       | false ↦ λ is.
           let other : a ≢ b = eqb-false a b is in
           elim (int_eq (pos a) (pos b)) as (λ t. int_eq (pos a) (pos b) ≡ t → t ≡ false) [
-            | true ↦ λ same. let one : pos a ≡ pos b = (Decides-int_eq (pos a) (pos b)).0 same in absurd (omega (arith, ints, one, other))
+            | true ↦ λ same. let one : pos a
+                ≡ pos b = (Decides-int_eq (pos a) (pos b)).0 same in absurd
+                (omega (arith, ints, one, other))
             | false ↦ λ same. refl
           ] refl
     ] refl
 
-ids_among : {X : Type 0} (id : X → ℕ) (before : List X) (n : ℕ) → list_any (nat_eq n) (map id before) ≡ list_any (λ other. int_eq (pos n) (pos (id other))) before
+ids_among : {X : Type 0} (id : X → ℕ) (before : List X) (n : ℕ)
+    → list_any (nat_eq n) (map id before) ≡ list_any
+    (λ other. int_eq (pos n) (pos (id other))) before
 ids_among id [] n = refl
 ids_among id (other ∷ before) n = rw (same_number n (id other), ids_among id before n) refl
 
 -- an id that the rows before have not
-pub own_among : {X : Type 0} (id : X → ℕ) (before : List X) (row : X) → (own_id (λ (x : X). pos (id x))).is_broken before row ≡ false → list_any (nat_eq (id row)) (map id before) ≡ false
+pub own_among : {X : Type 0} (id : X → ℕ) (before : List X) (row : X)
+    → (own_id (λ (x : X). pos (id x))).is_broken before row ≡ false
+    → list_any (nat_eq (id row)) (map id before) ≡ false
 own_among id before row kept = ids_among id before (id row) ∙ kept
 
 none_apart : IsDistinct nat_eq []
 unfolding IsDistinct
 none_apart = tt
 
-module _ {X : Type 0} (id : X → ℕ) (file : FileId) (rules : List (RowRule X)) (of : TableRow → X) (own : (before : List X) (row : X) → broken_whys rules before row ≡ [] → list_any (nat_eq (id row)) (map id before) ≡ false) where
-  distinct_from : (before : List X) (rows : List TableRow) → IsDistinct nat_eq (map id before) → row_faults file rules before (map (λ row. record { number = row.number; row = of row }) rows) ≡ [] → IsDistinct nat_eq (map id (before ++ map of rows))
+module _ {X : Type 0} (id : X → ℕ) (file : FileId) (rules : List (RowRule X)) (of : TableRow
+    → X) (own : (before : List X) (row : X) → broken_whys rules before row ≡ []
+    → list_any (nat_eq (id row)) (map id before) ≡ false) where
+  distinct_from : (before : List X) (rows : List TableRow) → IsDistinct nat_eq (map id before)
+      → row_faults file rules before (map
+      (λ row. record { number = row.number; row = of row }) rows) ≡ []
+      → IsDistinct nat_eq (map id (before ++ map of rows))
   unfolding row_faults
-  distinct_from before [] apart none = subst (λ some. IsDistinct nat_eq (map id some)) (sym (append-nil before)) apart
+  distinct_from before [] apart none = subst (λ some. IsDistinct nat_eq (map id some))
+      (sym (append-nil before)) apart
   distinct_from before (row ∷ rows) apart none =
       let kept = own before (of row) (unmapped _ (broken_whys rules before (of row)) (front_none _ _ none)) in
-      let more = subst (IsDistinct nat_eq) (sym (map_push id before (of row))) (IsDistinct-push nat_eq_equiv (map id before) (id (of row)) apart kept) in
-      subst (λ some. IsDistinct nat_eq (map id some)) (append_assoc before (of row ∷ []) (map of rows))
-      (distinct_from (before ++ of row ∷ []) rows more (back_none (map (λ why. refusal.BadRow file row.number why) (broken_whys rules before (of row))) _ none))
+      let more = subst (IsDistinct nat_eq)
+      (sym (map_push id before (of row))) (IsDistinct-push nat_eq_equiv (map id before) (id (of row)) apart kept) in
+      subst (λ some. IsDistinct nat_eq (map id some)) (append_assoc before (of row
+      ∷ []) (map of rows))
+      (distinct_from (before ++ of row
+      ∷ []) rows more (back_none (map
+      (λ why. refusal.BadRow file row.number why) (broken_whys rules before (of row))) _ none))
 
 -- no two rows of a text without a fault have one id, where a rule says so
-pub own_rows : {X : Type 0} (id : X → ℕ) (input : Input X) (text : List ℕ) → ((before : List X) (row : X) → broken_whys input.row_rules before row ≡ [] → list_any (nat_eq (id row)) (map id before) ≡ false)
+pub own_rows : {X : Type 0} (id : X → ℕ) (input : Input X) (text : List ℕ)
+    → ((before : List X) (row : X) → broken_whys input.row_rules before row ≡ []
+    → list_any (nat_eq (id row)) (map id before) ≡ false)
     → input_faults input text ≡ [] → IsDistinct nat_eq (map id (records_of input text))
 own_rows id input text own none =
     let table = table_of input.columns text in
-    distinct_from id input.file input.row_rules (λ row. input.read row.cells) own [] table none_apart (table_sound input table (parts_sound input text none).1).1
+    distinct_from id input.file input.row_rules
+    (λ row. input.read row.cells) own [] table none_apart (table_sound input table (parts_sound input text none).1).1

@@ -1,13 +1,11 @@
 -- What holds of the records of each file, where its text has no fault.
-use Rattle.std.proofs.Common.{◌≡◌, ℕ, List, [], ◌∷◌, ◌||◌, false, length, refl, ap, sym, subst, ◌∙◌, Result, Ok, Err, IfOk}
+use Rattle.std.proofs.Common.{◌≡◌, ℕ, List, [], ◌∷◌, length, refl, ap, sym, subst, ◌∙◌, Result, Ok, Err, IfOk}
 use Rattle.std.specs.List.{range_with_len}
 use Rattle.std.proofs.lemmas.Bool.{or_parts, ltb-false, not-false}
 use Rattle.giv_files.specs.declared.counted.Counted.TheVariants as counted
 use Rattle.giv_files.specs.declared.refusal.Refusal.{Refusal}
 use Rattle.giv_files.specs.declared.refusal.StageFault.{StageFault}
 use Rattle.giv_files.specs.Inputs.{UnlessFault, RowRule, row_limit, input_faults, records_of, broken_whys}
-use Rattle.giv_files.specs.Columns.{activities_p_columns, activities_x_columns}
-use Rattle.giv_files.specs.Writing.{InColumns}
 use Rattle.giv_files.proofs.Inputs.{few_rows, rules_sound}
 use Rattle.event_tables.specs.declared.periodic_activity.PeriodicActivity.{PeriodicActivity}
 use Rattle.event_tables.specs.declared.expanded_activity.ExpandedActivity.{ExpandedActivity}
@@ -22,19 +20,24 @@ use Rattle.event_tables.proofs.Fitting.{fitting_records, sound_records}
 use Rattle.event_tables.proofs.Numbering.{numbered_rows, is_place}
 
 -- what holds of the records of a text without a fault holds of what was read
-pub sound_read : {X A : Type 0} (view : A → List X) (faults : List Refusal) (told : List X) (P : List X → Type 0) (read : Result A StageFault)
-    → UnlessFault faults (λ rows. view rows ≡ told) read → (faults ≡ [] → P told) → IfOk read (λ rows. P (view rows))
+pub sound_read : {X A : Type 0} (view : A
+    → List X) (faults : List Refusal) (told : List X) (P : List X
+    → Type 0) (read : Result A StageFault)
+    → UnlessFault faults (λ rows. view rows ≡ told) read → (faults ≡ [] → P told) → IfOk read
+    (λ rows. P (view rows))
 sound_read view faults told P (Ok rows) h sound = subst P (sym h.1) (sound h.0)
 sound_read view faults told P (Err fault) h sound = tt
 
-pub periodic_events_sound : (text : List ℕ) → input_faults periodic_event_input text ≡ [] → ArePeriodicEvents (records_of periodic_event_input text)
+pub periodic_events_sound : (text : List ℕ) → input_faults periodic_event_input text ≡ []
+    → ArePeriodicEvents (records_of periodic_event_input text)
 periodic_events_sound text none = record {
   numbered = numbered_rows periodic_event_input (λ event. event.id) [] text refl none;
   few = few_rows periodic_event_input text (row_limit counted.PeriodicEvents 4000) [] refl none;
   fit = fitting_records periodic_event_input text none periodic_event_cells periodic_event_back;
 }
 
-pub expanded_events_sound : (text : List ℕ) → input_faults expanded_event_input text ≡ [] → AreExpandedEvents (records_of expanded_event_input text)
+pub expanded_events_sound : (text : List ℕ) → input_faults expanded_event_input text ≡ []
+    → AreExpandedEvents (records_of expanded_event_input text)
 expanded_events_sound text none = record {
   numbered = numbered_rows expanded_event_input (λ event. event.id) [] text refl none;
   few = few_rows expanded_event_input text (row_limit counted.ExpandedEvents 100000) [] refl none;
@@ -42,7 +45,9 @@ expanded_events_sound text none = record {
 }
 
 module _ (count : ℕ) (text : List ℕ) (none : input_faults (periodic_activity_input (range_with_len 1 count)) text ≡ []) where
-  activity_sound : (some : List PeriodicActivity) (row : PeriodicActivity) → broken_whys (periodic_activity_rules (range_with_len 1 count)) some row ≡ [] → IsPeriodicActivity count row
+  activity_sound : (some : List PeriodicActivity) (row : PeriodicActivity)
+      → broken_whys (periodic_activity_rules (range_with_len 1 count)) some row ≡ []
+      → IsPeriodicActivity count row
   activity_sound some row kept =
       let ids = range_with_len 1 count in
       let bounds : RowRule PeriodicActivity = bounds_in_order (λ at. at.lower) (λ at. at.upper) in
@@ -56,7 +61,8 @@ module _ (count : ℕ) (text : List ℕ) (none : input_faults (periodic_activity
         in_order = ltb-false row.upper row.lower (rules_sound bounds [] some row known.1).0;
       }
 
-  pub periodic_activities_sound : ArePeriodicActivities count (records_of (periodic_activity_input (range_with_len 1 count)) text)
+  pub periodic_activities_sound : ArePeriodicActivities count
+      (records_of (periodic_activity_input (range_with_len 1 count)) text)
   periodic_activities_sound =
       let input = periodic_activity_input (range_with_len 1 count) in
       record {
@@ -66,14 +72,18 @@ module _ (count : ℕ) (text : List ℕ) (none : input_faults (periodic_activity
         fit = fitting_records input text none periodic_activity_cells periodic_activity_back;
       }
 
-module _ (events : List ExpandedEvent) (text : List ℕ) (are : AreNumbered (λ event. event.id) events) (none : input_faults (expanded_activity_input events) text ≡ []) where
-  expanded_sound : (some : List ExpandedActivity) (row : ExpandedActivity) → broken_whys (expanded_activity_rules events) some row ≡ [] → IsExpandedActivity events row
+module _ (events : List ExpandedEvent) (text : List ℕ) (are : AreNumbered
+    (λ event. event.id) events) (none : input_faults (expanded_activity_input events) text
+    ≡ []) where
+  expanded_sound : (some : List ExpandedActivity) (row : ExpandedActivity)
+      → broken_whys (expanded_activity_rules events) some row ≡ [] → IsExpandedActivity events row
   expanded_sound some row kept =
       let ids = expanded_event_ids events in
       let count = length events in
       let ends : RowRule ExpandedActivity = known_ends ids (λ at. at.from) (λ at. at.to) in
       let bounds : RowRule ExpandedActivity = bounds_in_order (λ at. at.lower) (λ at. at.upper) in
-      let behind = rules_sound (own_place (λ at. at.id)) (ends ∷ bounds ∷ no_sync ∷ forward events ∷ []) some row kept in
+      let behind = rules_sound (own_place (λ at. at.id)) (ends ∷ bounds ∷ no_sync ∷ forward events
+      ∷ []) some row kept in
       let known = rules_sound ends (bounds ∷ no_sync ∷ forward events ∷ []) some row behind.1 in
       let order = rules_sound bounds (no_sync ∷ forward events ∷ []) some row known.1 in
       let joins = rules_sound no_sync (forward events ∷ []) some row order.1 in
@@ -87,7 +97,8 @@ module _ (events : List ExpandedEvent) (text : List ℕ) (are : AreNumbered (λ 
         forward = not-false (goes_forward events row.from row.to) goes.0;
       }
 
-  pub expanded_activities_sound : AreExpandedActivities events (records_of (expanded_activity_input events) text)
+  pub expanded_activities_sound : AreExpandedActivities events
+      (records_of (expanded_activity_input events) text)
   expanded_activities_sound =
       let input = expanded_activity_input events in
       record {

@@ -1,11 +1,9 @@
 -- What holds of periodic and of disposed times, where their texts have no fault.
-use Rattle.std.proofs.Common.{◌≡◌, ℕ, ◌<◌, List, [], ◌∷◌, length, refl, All}
+use Rattle.std.proofs.Common.{◌≡◌, ℕ, ◌<◌, List, [], ◌∷◌, refl}
 use Rattle.std.specs.List.{range_with_len}
 use Rattle.std.proofs.lemmas.Bool.{leb-false}
 use Rattle.giv_files.specs.declared.file_id.FileId.{FileId}
-use Rattle.giv_files.specs.Columns.{times_p_columns, disposed_columns}
 use Rattle.giv_files.specs.Inputs.{RowRule, input_faults, records_of, broken_whys}
-use Rattle.giv_files.specs.Writing.{InColumns}
 use Rattle.giv_files.proofs.Inputs.{rules_sound}
 use Rattle.event_tables.specs.declared.disposed_time.DisposedTime.{DisposedTime}
 use Rattle.event_tables.specs.declared.periodic_time.PeriodicTime.{PeriodicTime}
@@ -19,37 +17,49 @@ use Rattle.event_tables.proofs.Numbering.{numbered_rows, is_place}
 use Rattle.event_tables.proofs.WholeFiles.{one_each}
 
 module _ (file : FileId) (period count : ℕ) (text : List ℕ) (none : input_faults (periodic_time_input file period (range_with_len 1 count)) text ≡ []) where
-  time_sound : (some : List PeriodicTime) (row : PeriodicTime) → broken_whys (periodic_time_rules period (range_with_len 1 count)) some row ≡ [] → IsOneOf count row.event × (row.time < period)
+  time_sound : (some : List PeriodicTime) (row : PeriodicTime)
+      → broken_whys (periodic_time_rules period (range_with_len 1 count)) some row ≡ []
+      → IsOneOf count row.event × (row.time < period)
   time_sound some row kept =
       let known : RowRule PeriodicTime = known_event (range_with_len 1 count) (λ at. at.event) in
-      let behind = rules_sound (own_place (λ at. at.event)) (known ∷ in_period period ∷ []) some row kept in
+      let behind = rules_sound (own_place (λ at. at.event)) (known ∷ in_period period
+      ∷ []) some row kept in
       let there = rules_sound known (in_period period ∷ []) some row behind.1 in
       (is_place count row.event there.0, leb-false period row.time (rules_sound (in_period period) [] some row there.1).0)
 
-  pub periodic_times_sound : ArePeriodicTimes period count (records_of (periodic_time_input file period (range_with_len 1 count)) text)
+  pub periodic_times_sound : ArePeriodicTimes period count
+      (records_of (periodic_time_input file period (range_with_len 1 count)) text)
   periodic_times_sound =
       let input = periodic_time_input file period (range_with_len 1 count) in
       let are = numbered_rows input (λ row. row.event) _ text refl none in
       record {
         numbered = are;
-        each_event = one_each input text (λ row. row.event) count refl none are (sound_records input text none (λ row. IsOneOf count row.event) (λ some row kept. (time_sound some row kept).0));
-        in_period = sound_records input text none (λ row. row.time < period) (λ some row kept. (time_sound some row kept).1);
+        each_event = one_each input text
+            (λ row. row.event) count refl none are (sound_records input text none
+            (λ row. IsOneOf count row.event) (λ some row kept. (time_sound some row kept).0));
+        in_period = sound_records input text none (λ row. row.time < period)
+            (λ some row kept. (time_sound some row kept).1);
         fit = fitting_records input text none periodic_time_cells periodic_time_back;
       }
 
 module _ (count : ℕ) (text : List ℕ) (none : input_faults (disposed_time_input (range_with_len 1 count)) text ≡ []) where
-  disposed_sound : (some : List DisposedTime) (row : DisposedTime) → broken_whys (disposed_time_rules (range_with_len 1 count)) some row ≡ [] → IsOneOf count row.event
+  disposed_sound : (some : List DisposedTime) (row : DisposedTime)
+      → broken_whys (disposed_time_rules (range_with_len 1 count)) some row ≡ []
+      → IsOneOf count row.event
   disposed_sound some row kept =
       let known : RowRule DisposedTime = known_event (range_with_len 1 count) (λ at. at.event) in
       let behind = rules_sound (own_place (λ at. at.event)) (known ∷ []) some row kept in
       is_place count row.event (rules_sound known [] some row behind.1).0
 
-  pub disposed_times_sound : AreDisposedTimes count (records_of (disposed_time_input (range_with_len 1 count)) text)
+  pub disposed_times_sound : AreDisposedTimes count
+      (records_of (disposed_time_input (range_with_len 1 count)) text)
   disposed_times_sound =
       let input = disposed_time_input (range_with_len 1 count) in
       let are = numbered_rows input (λ row. row.event) _ text refl none in
       record {
         numbered = are;
-        each_event = one_each input text (λ row. row.event) count refl none are (sound_records input text none (λ row. IsOneOf count row.event) disposed_sound);
+        each_event = one_each input text
+            (λ row. row.event) count refl none are (sound_records input text none
+            (λ row. IsOneOf count row.event) disposed_sound);
         fit = fitting_records input text none disposed_time_cells disposed_time_back;
       }

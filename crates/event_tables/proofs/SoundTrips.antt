@@ -1,21 +1,20 @@
 -- What holds of trips, of delays and of the rows of a schedule, where their texts have no fault.
-use Rattle.std.proofs.Common.{◌≡◌, ℕ, ℤ, pos, ◌<◌, ◌≤◌, Bool, true, false, ◌&&◌, ◌||◌, List, [], ◌∷◌, length, filter, refl, ap, sym, subst, ◌∙◌, Option, All}
+use Rattle.std.proofs.Common.{◌≡◌, ℕ, ℤ, pos, Bool, true, false, ◌&&◌, ◌||◌, List, [], ◌∷◌, length, refl, ap, sym, ◌∙◌, Option}
 use Rattle.std.specs.List.{range_with_len}
 use Rattle.std.proofs.lemmas.Bool.{leb-false, ltb-false, or_parts, not-false}
 use Rattle.giv_files.specs.declared.counted.Counted.TheVariants as counted
 use Rattle.giv_files.specs.declared.file_id.FileId.{FileId}
 use Rattle.giv_files.specs.declared.row_why.RowWhy.{RowWhy}
-use Rattle.giv_files.specs.Columns.{trips_columns, delays_columns, schedule_columns}
-use Rattle.giv_files.specs.Inputs.{RowRule, row_limit, own_id, input_faults, records_of, broken_whys, limit_faults}
+use Rattle.giv_files.specs.Columns.{schedule_columns}
+use Rattle.giv_files.specs.Inputs.{RowRule, row_limit, own_id, input_faults, records_of, broken_whys}
 use Rattle.giv_files.specs.Reading.{table_of}
-use Rattle.giv_files.specs.Writing.{InColumns}
 use Rattle.giv_files.proofs.Inputs.{few_rows, rules_sound, limits_sound, parts_sound, table_sound}
 use Rattle.event_tables.specs.declared.delay_row.DelayRow.{DelayRow}
 use Rattle.event_tables.specs.declared.expanded_event.ExpandedEvent.{ExpandedEvent}
 use Rattle.event_tables.specs.declared.schedule_row.ScheduleRow.{ScheduleRow}
 use Rattle.event_tables.specs.declared.trip.Trip.{Trip}
 use Rattle.event_tables.specs.Cells.{trip_cells, delay_cells, schedule_cells}
-use Rattle.event_tables.specs.Delays.{delay_input, delay_rules, is_there, AreDelays}
+use Rattle.event_tables.specs.Delays.{delay_input, is_there, AreDelays}
 use Rattle.event_tables.specs.ExpandedFiles.{expanded_event_ids}
 use Rattle.event_tables.specs.ForwardOrder.{goes_forward}
 use Rattle.event_tables.specs.Places.{known_ends, is_none_of, AreNumbered, IsOneOf}
@@ -28,8 +27,10 @@ use Rattle.event_tables.proofs.OwnRows.{own_among, own_rows}
 
 -- ---- trips
 
-module _ (stops : Option (List ℤ)) (text : List ℕ) (none : input_faults (trip_input stops) text ≡ []) where
-  trip_sound : (some : List Trip) (row : Trip) → broken_whys (trip_rules stops) some row ≡ [] → IsTrip stops row
+module _ (stops : Option (List ℤ)) (text : List ℕ) (none : input_faults (trip_input stops) text
+    ≡ []) where
+  trip_sound : (some : List Trip) (row : Trip) → broken_whys (trip_rules stops) some row ≡ []
+      → IsTrip stops row
   trip_sound some row kept =
       let behind = rules_sound own_start (known_stops stops ∷ takes_time ∷ []) some row kept in
       let known = rules_sound (known_stops stops) (takes_time ∷ []) some row behind.1 in
@@ -42,7 +43,9 @@ module _ (stops : Option (List ℤ)) (text : List ℕ) (none : input_faults (tri
   trips_sound = record {
     few = few_rows (trip_input stops) text (row_limit counted.Trips 2000) [] refl none;
     own = own_rows (λ trip. trip.start.event) (trip_input stops) text
-        (λ before row kept. own_among (λ (trip : Trip). trip.start.event) before row (rules_sound own_start (known_stops stops ∷ takes_time ∷ []) before row kept).0) none;
+        (λ before row kept. own_among
+        (λ (trip : Trip). trip.start.event) before row (rules_sound own_start (known_stops stops
+        ∷ takes_time ∷ []) before row kept).0) none;
     each = sound_records (trip_input stops) text none (IsTrip stops) trip_sound;
     fit = fitting_records (trip_input stops) text none trip_cells trip_back;
   }
@@ -50,39 +53,49 @@ module _ (stops : Option (List ℤ)) (text : List ℕ) (none : input_faults (tri
 -- ---- delays
 
 module _ (file : FileId) (unknown : RowWhy) (count : ℕ) (text : List ℕ) (none : input_faults (delay_input file unknown (range_with_len 1 count)) text ≡ []) where
-  pub delays_sound : AreDelays count (records_of (delay_input file unknown (range_with_len 1 count)) text)
+  pub delays_sound : AreDelays count
+      (records_of (delay_input file unknown (range_with_len 1 count)) text)
   delays_sound =
       let ids = range_with_len 1 count in
       let input = delay_input file unknown ids in
       let own : RowRule DelayRow = own_id (λ (row : DelayRow). pos row.id) in
       record {
         own = own_rows (λ row. row.id) input text
-            (λ before row kept. own_among (λ (at : DelayRow). at.id) before row (rules_sound own [] before row (rules_sound (is_there ids unknown) (own ∷ []) before row kept).1).0) none;
+            (λ before row kept. own_among
+            (λ (at : DelayRow). at.id) before row (rules_sound own [] before row (rules_sound (is_there ids unknown) (own ∷ []) before row kept).1).0) none;
         there = sound_records input text none (λ row. IsOneOf count row.id)
-            (λ some row kept. is_place count row.id (rules_sound (is_there ids unknown) (own ∷ []) some row kept).0);
+            (λ some row kept. is_place count row.id (rules_sound (is_there ids unknown) (own
+            ∷ []) some row kept).0);
         fit = fitting_records input text none delay_cells delay_row_back;
       }
 
 -- ---- the rows of a schedule
 
-module _ (events : List ExpandedEvent) (text : List ℕ) (are : AreNumbered (λ event. event.id) events) (none : input_faults (schedule_input events) text ≡ []) where
-  row_sound : (some : List ScheduleRow) (row : ScheduleRow) → broken_whys (schedule_rules events) some row ≡ [] → IsScheduleRow events row
+module _ (events : List ExpandedEvent) (text : List ℕ) (are : AreNumbered
+    (λ event. event.id) events) (none : input_faults (schedule_input events) text ≡ []) where
+  row_sound : (some : List ScheduleRow) (row : ScheduleRow)
+      → broken_whys (schedule_rules events) some row ≡ [] → IsScheduleRow events row
   row_sound some row kept =
       let ids = expanded_event_ids events in
       let count = length events in
-      let ends : RowRule ScheduleRow = known_ends ids (λ at. at.run.start.event) (λ at. at.run.end.event) in
+      let ends : RowRule ScheduleRow = known_ends ids (λ at. at.run.start.event)
+      (λ at. at.run.end.event) in
       let known = rules_sound ends (empty_forward events ∷ []) some row kept in
       let parts = or_parts (is_none_of ids row.run.start.event) (is_none_of ids row.run.end.event) known.0 in
       let whole = (rules_sound (empty_forward events) [] some row known.1).0 in
       let none_of_three = λ (empty : is_empty_row row ≡ true).
       or_parts (ends_early row || lacks_room events row) (goes_back events row) (behind_true _ _ empty whole) in
-      let early = λ (empty : is_empty_row row ≡ true). or_parts (ends_early row) (lacks_room events row) (none_of_three empty).0 in
+      let early = λ (empty : is_empty_row row
+      ≡ true). or_parts (ends_early row) (lacks_room events row) (none_of_three empty).0 in
       record {
-        start = is_place count row.run.start.event (ap (λ some. is_none_of some row.run.start.event) (sym are) ∙ parts.0);
-        end = is_place count row.run.end.event (ap (λ some. is_none_of some row.run.end.event) (sym are) ∙ parts.1);
+        start = is_place count row.run.start.event
+            (ap (λ some. is_none_of some row.run.start.event) (sym are) ∙ parts.0);
+        end = is_place count row.run.end.event
+            (ap (λ some. is_none_of some row.run.end.event) (sym are) ∙ parts.1);
         in_time = λ empty. ltb-false row.run.end.time row.run.start.time (early empty).0;
         room = λ empty. (early empty).1;
-        forward = λ empty. not-false (goes_forward events row.run.start.event row.run.end.event) (none_of_three empty).1;
+        forward = λ empty. not-false (goes_forward events row.run.start.event row.run.end.event)
+            (none_of_three empty).1;
       }
     where
       behind_true : (a b : Bool) → a ≡ true → (a && b) ≡ false → b ≡ false

@@ -57,7 +57,8 @@ unfolding runs_of table_of cells_from cell_of values rows cleaned spelling_of va
     fixed_of whole_of
 four_runs = refl
 
-their_neighbours : map {B = ℕ × ℕ} (λ pair. (pair.0.id, pair.1.id)) (flat_map neighbours (runs_of periodic))
+their_neighbours : map {B = ℕ × ℕ}
+    (λ pair. (pair.0.id, pair.1.id)) (flat_map neighbours (runs_of periodic))
     ≡ (1, 2) ∷ (2, 3) ∷ (3, 4) ∷ (5, 6) ∷ (6, 7) ∷ (7, 8) ∷ (9, 10) ∷ (11, 12) ∷ []
 unfolding runs_of table_of cells_from cell_of values rows cleaned spelling_of value_of value_at
     fixed_of whole_of
@@ -76,34 +77,41 @@ at id kind stop line = periodic_event (pos id ∷ pos kind ∷ pos stop ∷ pos 
 a_drive : joins activity.Drive (at 1 0 1 1) (at 2 1 2 1) ≡ true
 a_drive = refl
 
-no_drive : map (joins activity.Drive (at 1 0 1 1)) (at 3 1 2 1 ∷ at 2 1 2 2 ∷ []) ≡ false ∷ false ∷ []
+no_drive : map (joins activity.Drive (at 1 0 1 1)) (at 3 1 2 1 ∷ at 2 1 2 2 ∷ []) ≡ false ∷ false
+    ∷ []
 no_drive = refl
 
 drive_from_arrival : joins activity.Drive (at 1 1 1 1) (at 2 1 2 1) ≡ false
 drive_from_arrival = refl
 
-waits_and_others : map (joins activity.Wait (at 2 1 2 1)) (at 3 0 2 1 ∷ at 4 0 2 1 ∷ []) ≡ true ∷ false ∷ []
+waits_and_others : map (joins activity.Wait (at 2 1 2 1)) (at 3 0 2 1 ∷ at 4 0 2 1 ∷ []) ≡ true
+    ∷ false ∷ []
 waits_and_others = refl
 
 -- of another line, at the same stop, to a departure
-changes_and_others : map (joins activity.Change (at 2 1 2 1)) (at 9 0 2 2 ∷ at 9 0 2 1 ∷ at 9 0 3 2 ∷ at 9 1 2 2 ∷ []) ≡ true ∷ false ∷ false ∷ false ∷ []
+changes_and_others : map (joins activity.Change (at 2 1 2 1)) (at 9 0 2 2 ∷ at 9 0 2 1 ∷ at 9 0 3 2
+    ∷ at 9 1 2 2 ∷ []) ≡ true ∷ false ∷ false ∷ false ∷ []
 changes_and_others = refl
 
-syncs_and_others : map (joins activity.Sync (at 1 0 1 1)) (at 9 0 3 2 ∷ at 9 1 3 2 ∷ []) ≡ true ∷ false ∷ []
+syncs_and_others : map (joins activity.Sync (at 1 0 1 1)) (at 9 0 3 2 ∷ at 9 1 3 2 ∷ []) ≡ true
+    ∷ false ∷ []
 syncs_and_others = refl
 
 -- of the rules that a row breaks each is told, in its order
 activity_faults : input_faults (periodic_activity_input ids)
     (codes "1; drive; 1; 2; 4; 5\n2; wait; 2; 13; 3; 1\n2; change; 2; 11; 5; 5\n4; sync; 13; 1; 0; 0\n")
-    ≡ refusal.BadRow file.ActivitiesP 2 why.UnknownEvent ∷ refusal.BadRow file.ActivitiesP 2 why.BoundsCrossed
-    ∷ refusal.BadRow file.ActivitiesP 3 why.OrderGap ∷ refusal.BadRow file.ActivitiesP 4 why.UnknownEvent ∷ []
+    ≡ refusal.BadRow file.ActivitiesP 2 why.UnknownEvent
+    ∷ refusal.BadRow file.ActivitiesP 2 why.BoundsCrossed
+    ∷ refusal.BadRow file.ActivitiesP 3 why.OrderGap
+    ∷ refusal.BadRow file.ActivitiesP 4 why.UnknownEvent ∷ []
 unfolding input_faults row_faults faults table_of cells_from cell_of values errors row_whys rows
     cleaned spelling_of value_of value_at fixed_of whole_of
 activity_faults = refl
 
 time_faults : input_faults (periodic_time_input file.TimesP 20 (1 ∷ 2 ∷ 3 ∷ [])) (codes "1; 0\n2; 20\n4; 19\n")
     ≡ refusal.BadRow file.TimesP 2 why.OutOfPeriod ∷ refusal.BadRow file.TimesP 3 why.OrderGap
-    ∷ refusal.BadRow file.TimesP 3 why.UnknownEvent ∷ refusal.BadRow file.TimesP 0 why.MissingEvent ∷ []
+    ∷ refusal.BadRow file.TimesP 3 why.UnknownEvent ∷ refusal.BadRow file.TimesP 0 why.MissingEvent
+    ∷ []
 unfolding input_faults row_faults faults table_of cells_from cell_of values errors row_whys rows
     cleaned spelling_of value_of value_at fixed_of whole_of
 time_faults = refl
@@ -117,10 +125,12 @@ on id kind time = expanded_event (pos id ∷ pos 1 ∷ pos kind ∷ pos time ∷
 earlier_first : stands_before (on 2 0 9) (on 1 1 10) ≡ true
 earlier_first = refl
 
-arrivals_first : map (stands_before (on 2 1 10)) (on 1 0 10 ∷ on 1 1 10 ∷ on 3 1 10 ∷ []) ≡ true ∷ false ∷ true ∷ []
+arrivals_first : map (stands_before (on 2 1 10)) (on 1 0 10 ∷ on 1 1 10 ∷ on 3 1 10 ∷ []) ≡ true
+    ∷ false ∷ true ∷ []
 arrivals_first = refl
 
-ids_last : map (stands_before (on 2 0 10)) (on 3 0 10 ∷ on 2 0 10 ∷ on 1 0 10 ∷ on 9 1 10 ∷ []) ≡ true ∷ false ∷ false ∷ false ∷ []
+ids_last : map (stands_before (on 2 0 10)) (on 3 0 10 ∷ on 2 0 10 ∷ on 1 0 10 ∷ on 9 1 10 ∷ [])
+    ≡ true ∷ false ∷ false ∷ false ∷ []
 ids_last = refl
 
 abbrev day : List ExpandedEvent
@@ -132,10 +142,13 @@ unknown_ends = refl
 
 expanded_faults : input_faults (expanded_activity_input day)
     (codes "1; 1; drive; 1; 2; 8; 10\n2; 1; wait; 2; 5; 0; 0\n3; 1; wait; 5; 2; 0; 0\n4; 1; wait; 2; 2; 0; 0\n5; 1; sync; 3; 1; 3; 2\n7; 1; drive; 1; 6; 8; 10\n")
-    ≡ refusal.BadRow file.ActivitiesX 3 why.Backward ∷ refusal.BadRow file.ActivitiesX 4 why.Backward
-    ∷ refusal.BadRow file.ActivitiesX 5 why.BoundsCrossed ∷ refusal.BadRow file.ActivitiesX 5 why.StraySync
+    ≡ refusal.BadRow file.ActivitiesX 3 why.Backward
+    ∷ refusal.BadRow file.ActivitiesX 4 why.Backward
+    ∷ refusal.BadRow file.ActivitiesX 5 why.BoundsCrossed
+    ∷ refusal.BadRow file.ActivitiesX 5 why.StraySync
     ∷ refusal.BadRow file.ActivitiesX 5 why.Backward
-    ∷ refusal.BadRow file.ActivitiesX 6 why.OrderGap ∷ refusal.BadRow file.ActivitiesX 6 why.UnknownEvent
+    ∷ refusal.BadRow file.ActivitiesX 6 why.OrderGap
+    ∷ refusal.BadRow file.ActivitiesX 6 why.UnknownEvent
     ∷ refusal.BadRow file.ActivitiesX 6 why.Backward ∷ []
 unfolding input_faults row_faults faults table_of cells_from cell_of values errors row_whys rows
     cleaned spelling_of value_of value_at fixed_of whole_of
@@ -160,7 +173,8 @@ unfolding input_faults row_faults faults table_of cells_from cell_of values erro
 trip_faults = refl
 
 -- where the stops are not known, their rule is left out
-without_stops : input_faults (trip_input None) trip_text ≡ refusal.BadRow file.Trips 2 why.RepeatedId ∷ refusal.BadRow file.Trips 4 why.Backward ∷ []
+without_stops : input_faults (trip_input None) trip_text
+    ≡ refusal.BadRow file.Trips 2 why.RepeatedId ∷ refusal.BadRow file.Trips 4 why.Backward ∷ []
 unfolding input_faults row_faults faults table_of cells_from cell_of values errors row_whys rows
     cleaned spelling_of value_of value_at fixed_of whole_of
 without_stops = refl
@@ -217,7 +231,8 @@ too_late = refl
 
 disposed_faults : input_faults (disposed_time_input (1 ∷ 2 ∷ 3 ∷ [])) (codes "1; 5\n3; 9\n4; 9\n")
     ≡ refusal.BadRow file.Disposed 2 why.OrderGap ∷ refusal.BadRow file.Disposed 3 why.OrderGap
-    ∷ refusal.BadRow file.Disposed 3 why.UnknownEvent ∷ refusal.BadRow file.Disposed 0 why.MissingEvent ∷ []
+    ∷ refusal.BadRow file.Disposed 3 why.UnknownEvent
+    ∷ refusal.BadRow file.Disposed 0 why.MissingEvent ∷ []
 unfolding input_faults row_faults faults table_of cells_from cell_of values errors row_whys rows
     cleaned spelling_of value_of value_at fixed_of whole_of
 disposed_faults = refl

@@ -115,7 +115,8 @@ expanded_event_cells event = pos event.id ∷ pos event.periodic ∷ pos (event_
 
 abbrev pub expanded_activity_cells : ExpandedActivity → List ℤ
 expanded_activity_cells activity = pos activity.id ∷ pos activity.periodic
-    ∷ pos (activity_kind_place activity.kind) ∷ pos activity.from ∷ pos activity.to ∷ pos activity.lower
+    ∷ pos (activity_kind_place activity.kind) ∷ pos activity.from ∷ pos activity.to
+    ∷ pos activity.lower
     ∷ pos activity.upper ∷ []
 
 abbrev pub trip_end_cells : TripEnd → List ℤ

@@ -1,5 +1,5 @@
 -- The files of delays, and their rules.
-use Rattle.std.specs.Prelude.{ℕ, pos, nat_eq, List, [], ◌∷◌, length, map, All}
+use Rattle.std.specs.Prelude.{ℕ, pos, nat_eq, List, [], ◌∷◌, map, All}
 use Rattle.std.specs.List.{IsDistinct}
 use Rattle.giv_files.specs.declared.file_id.FileId.{FileId}
 use Rattle.giv_files.specs.declared.file_id.FileId.TheVariants as file

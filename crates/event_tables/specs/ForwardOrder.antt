@@ -1,5 +1,5 @@
 -- The order in which a day goes forward.
-use Rattle.std.specs.Prelude.{ℕ, ◌==◌, Bool, false, if◌then◌else◌, List, [], ◌∷◌, find, Option, Some, None}
+use Rattle.std.specs.Prelude.{ℕ, ◌==◌, Bool, false, if◌then◌else◌, List, [], ◌∷◌, find, Option, Some}
 use Rattle.std.specs.Cmp.Lexicographic.{slice_cmp}
 use Rattle.std.specs.Ordering.{nat_cmp, is_lt}
 use Rattle.event_tables.specs.declared.expanded_event.ExpandedEvent.{ExpandedEvent}
@@ -18,7 +18,8 @@ abbrev pub event_with : List ExpandedEvent → ℕ → Option ExpandedEvent
 event_with events id = find (λ event. id == event.id) events
 
 -- two events pass a test, where they are there
-abbrev pub both_pass : (ExpandedEvent → ExpandedEvent → Bool) → Option ExpandedEvent → Option ExpandedEvent → Bool
+abbrev pub both_pass : (ExpandedEvent → ExpandedEvent → Bool) → Option ExpandedEvent
+    → Option ExpandedEvent → Bool
 both_pass test (Some event) (Some other) = test event other
 both_pass test _ _ = false
 

@@ -1,5 +1,5 @@
 -- Kinds and directions, by the places of their words.
-use Rattle.std.specs.Prelude.{ℕ, Bool, true, false, List, [], ◌∷◌, get_or}
+use Rattle.std.specs.Prelude.{ℕ, Bool, true, false, [], ◌∷◌, get_or}
 use Rattle.event_tables.specs.declared.activity_kind.ActivityKind.{ActivityKind}
 use Rattle.event_tables.specs.declared.activity_kind.ActivityKind.TheVariants as activity
 use Rattle.event_tables.specs.declared.direction.Direction.{Direction}
@@ -18,7 +18,8 @@ direction_at place = get_or (direction.Forward ∷ direction.Backward ∷ []) pl
 
 abbrev pub activity_kind_at : ℕ → ActivityKind
 activity_kind_at place =
-    get_or (activity.Drive ∷ activity.Wait ∷ activity.Change ∷ activity.Sync ∷ []) place activity.Drive
+    get_or (activity.Drive ∷ activity.Wait ∷ activity.Change ∷ activity.Sync
+    ∷ []) place activity.Drive
 
 abbrev pub schedule_kind_at : ℕ → ScheduleKind
 schedule_kind_at place = get_or (schedule.Trip ∷ schedule.Empty ∷ []) place schedule.Trip

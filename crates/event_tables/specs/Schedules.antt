@@ -74,7 +74,8 @@ pub record IsScheduleRow (events : List ExpandedEvent) (row : ScheduleRow) : Typ
   pub end : IsOneOf (length events) row.run.end.event
   pub in_time : is_empty_row row ≡ true → row.run.start.time ≤ row.run.end.time
   pub room : is_empty_row row ≡ true → lacks_room events row ≡ false
-  pub forward : is_empty_row row ≡ true → goes_forward events row.run.start.event row.run.end.event ≡ true
+  pub forward : is_empty_row row ≡ true → goes_forward events row.run.start.event row.run.end.event
+      ≡ true
 
 -- what holds of the rows of a schedule
 pub record AreScheduleRows (events : List ExpandedEvent) (rows : List ScheduleRow) : Type 0 where

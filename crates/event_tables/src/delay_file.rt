@@ -2,7 +2,7 @@
 ghost use Rattle.std.specs.Prelude.{ℕ, ◌≡◌, nat_eq, length, map, IfOk};
 ghost use Rattle.std.specs.HashSet.{contains};
 ghost use Rattle.std.specs.List.{list_any, range_with_len};
-ghost use Rattle.giv_files.specs.Inputs.{input_faults, records_of, UnlessFault};
+ghost use Rattle.event_tables.specs.RowsOfTables.{ReadsFile};
 ghost use Rattle.event_tables.specs.Delays.{delay_input, event_delay_input, activity_delay_input, delay_rules, AreDelays};
 ghost use Rattle.event_tables.specs.ExpandedFiles.{expanded_event_ids, expanded_activity_ids};
 ghost use Rattle.event_tables.specs.Places.{AreNumbered};
@@ -25,8 +25,7 @@ pub fn event_delays(
     text: &[u8],
 ) -> Result<Vec<DelayRow>, StageFault>
     requires { AreNumbered (λ event. event.id) events.now }
-    ensures read { UnlessFault (input_faults (event_delay_input (expanded_event_ids events.now)) text.now)
-        (λ rows. rows.items ≡ records_of (event_delay_input (expanded_event_ids events.now)) text.now) result }
+    ensures read { ReadsFile (event_delay_input (expanded_event_ids events.now)) text.now result }
     ensures sound { IfOk result (λ rows. AreDelays (length events.now) rows.items) }
 {
     read_delays(
@@ -45,8 +44,7 @@ pub fn activity_delays(
     text: &[u8],
 ) -> Result<Vec<DelayRow>, StageFault>
     requires { AreNumbered (λ activity. activity.id) activities.now }
-    ensures read { UnlessFault (input_faults (activity_delay_input (expanded_activity_ids activities.now)) text.now)
-        (λ rows. rows.items ≡ records_of (activity_delay_input (expanded_activity_ids activities.now)) text.now) result }
+    ensures read { ReadsFile (activity_delay_input (expanded_activity_ids activities.now)) text.now result }
     ensures sound { IfOk result (λ rows. AreDelays (length activities.now) rows.items) }
 {
     read_delays(
@@ -66,8 +64,7 @@ fn read_delays(
     count: usize,
     text: &[u8],
 ) -> Result<Vec<DelayRow>, StageFault>
-    ensures read { UnlessFault (input_faults (delay_input file unknown (range_with_len 1 count)) text.now)
-        (λ rows. rows.items ≡ records_of (delay_input file unknown (range_with_len 1 count)) text.now) result }
+    ensures read { ReadsFile (delay_input file unknown (range_with_len 1 count)) text.now result }
     ensures sound { IfOk result (λ rows. AreDelays count rows.items) }
 {
     let tests = DelayTests {
@@ -89,7 +86,8 @@ struct DelayTests {
 impl RowTests<DelayRow> for DelayTests {
     ghost rules = { λ tests. delay_rules tests.unknown (range_with_len 1 tests.count) };
 
-    ghost Knows = { λ tests before. (id : ℕ) → contains nat_eq tests.seen id ≡ list_any (λ row. nat_eq id row.id) before };
+    ghost Knows = { λ tests before. (id : ℕ) → contains nat_eq tests.seen id ≡ list_any
+        (λ row. nat_eq id row.id) before };
 
     fn test(&mut self, _before: &[DelayRow], row: &DelayRow) -> Result<Option<RowWhy>, NoMemory> {
         if is_unknown(row.id, self.count) {

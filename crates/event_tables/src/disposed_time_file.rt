@@ -1,7 +1,7 @@
 // Reading disposed times.
 ghost use Rattle.std.specs.Prelude.{◌≡◌, length, ⊤, IfOk};
 ghost use Rattle.std.specs.List.{range_with_len};
-ghost use Rattle.giv_files.specs.Inputs.{input_faults, records_of, UnlessFault};
+ghost use Rattle.event_tables.specs.RowsOfTables.{ReadsFile};
 ghost use Rattle.event_tables.specs.DisposedTimes.{disposed_time_input, disposed_time_rules, AreDisposedTimes};
 ghost use Rattle.event_tables.specs.ExpandedFiles.{expanded_event_ids};
 ghost use Rattle.event_tables.specs.Places.{AreNumbered};
@@ -23,8 +23,7 @@ pub fn disposed_times(
     text: &[u8],
 ) -> Result<Vec<DisposedTime>, StageFault>
     requires { AreNumbered (λ event. event.id) events.now }
-    ensures read { UnlessFault (input_faults (disposed_time_input (expanded_event_ids events.now)) text.now)
-        (λ times. times.items ≡ records_of (disposed_time_input (expanded_event_ids events.now)) text.now) result }
+    ensures read { ReadsFile (disposed_time_input (expanded_event_ids events.now)) text.now result }
     ensures sound { IfOk result (λ times. AreDisposedTimes (length events.now) times.items) }
 {
     let tests = TimeTests {

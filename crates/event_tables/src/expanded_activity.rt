@@ -8,7 +8,8 @@ use crate::record::Record;
 use giv_files::Table;
 use std::mem::size_of;
 
-/// An activity of a day: its id, the id of its periodic activity, its kind, the ids of its two events, and its bounds in minutes.
+/// An activity of a day: its id, the id of its periodic activity, its kind, the ids of its two
+/// events, and its bounds in minutes.
 #[derive(Clone, Copy, Debug, PartialEq, Eq)]
 pub struct ExpandedActivity {
     pub id: u32,

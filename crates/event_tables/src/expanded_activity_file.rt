@@ -1,6 +1,6 @@
 // Reading expanded activities.
 ghost use Rattle.std.specs.Prelude.{◌≡◌, IfOk};
-ghost use Rattle.giv_files.specs.Inputs.{input_faults, records_of, UnlessFault};
+ghost use Rattle.event_tables.specs.RowsOfTables.{ReadsFile};
 ghost use Rattle.event_tables.specs.ExpandedFiles.{expanded_activity_input, expanded_activity_rules, AreExpandedActivities};
 ghost use Rattle.event_tables.specs.Places.{AreNumbered};
 
@@ -27,8 +27,7 @@ pub fn expanded_activities(
     text: &[u8],
 ) -> Result<Vec<ExpandedActivity>, StageFault>
     requires { AreNumbered (λ event. event.id) events.now }
-    ensures read { UnlessFault (input_faults (expanded_activity_input events.now) text.now)
-        (λ activities. activities.items ≡ records_of (expanded_activity_input events.now) text.now) result }
+    ensures read { ReadsFile (expanded_activity_input events.now) text.now result }
     ensures sound { IfOk result (λ activities. AreExpandedActivities events.now activities.items) }
 {
     read_file(

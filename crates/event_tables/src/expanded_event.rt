@@ -7,7 +7,8 @@ use crate::event_kind::EventKind;
 use crate::record::Record;
 use giv_files::Table;
 
-/// An event of a day: its id, the id of its periodic event, its kind, its planned time in minutes, and its stop.
+/// An event of a day: its id, the id of its periodic event, its kind, its planned time in minutes,
+/// and its stop.
 #[derive(Clone, Copy, Debug, PartialEq, Eq)]
 pub struct ExpandedEvent {
     pub id: u32,

@@ -1,6 +1,6 @@
 // Reading expanded events.
 ghost use Rattle.std.specs.Prelude.{◌≡◌, [], ◌∷◌, ⊤, IfOk};
-ghost use Rattle.giv_files.specs.Inputs.{input_faults, records_of, UnlessFault};
+ghost use Rattle.event_tables.specs.RowsOfTables.{ReadsFile};
 ghost use Rattle.event_tables.specs.ExpandedFiles.{expanded_event_input, AreExpandedEvents};
 ghost use Rattle.event_tables.specs.Places.{own_place};
 
@@ -20,7 +20,7 @@ const LIMIT: RowLimit = RowLimit {
 
 /// The expanded events of a text, or its first fault.
 pub fn expanded_events(alloc: Global, text: &[u8]) -> Result<Vec<ExpandedEvent>, StageFault>
-    ensures read { UnlessFault (input_faults expanded_event_input text.now) (λ events. events.items ≡ records_of expanded_event_input text.now) result }
+    ensures read { ReadsFile expanded_event_input text.now result }
     ensures sound { IfOk result (λ events. AreExpandedEvents events.items) }
 {
     let tests = EventTests;

@@ -21,7 +21,8 @@ fn rows_are_events_in_forward_order(rt: HostRuntime) -> Result<(), Fail> {
     assert_eq!(rt; events.len(), 7);
     assert_eq!(rt; events.get(0), Some(&first));
     assert_eq!(rt; first.cells(), [1, 1, 0, 5, 1]);
-    // At 14 the arrivals 4 and 7 come first, and then the departures 5 and 6. These are the places from 0.
+    // At 14 the arrivals 4 and 7 come first, and then the departures 5 and 6. These are the places
+    // from 0.
     let order = [0, 1, 2, 3, 6, 4, 5];
     for pair in order.windows(2) {
         if let [before, after] = pair
@@ -92,7 +93,8 @@ fn activities_are_refused_by_their_first_fault(rt: HostRuntime) -> Result<(), Fa
         (b"1; 1; sync; 1; 3; 0; 5\n", 1, RowWhy::StraySync),
         // The head is earlier.
         (b"1; 1; drive; 2; 1; 0; 5\n", 1, RowWhy::Backward),
-        // At one time a departure does not stand before an arrival, nor an event before one of a lower id.
+        // At one time a departure does not stand before an arrival, nor an event before one of a
+        // lower id.
         (b"1; 1; wait; 3; 2; 0; 5\n", 1, RowWhy::Backward),
         (b"1; 1; wait; 6; 5; 0; 5\n", 1, RowWhy::Backward),
         (b"1; 1; wait; 7; 4; 0; 5\n", 1, RowWhy::Backward),

@@ -7,7 +7,8 @@ ghost use Rattle.event_tables.specs.Places.{AreNumbered, is_none_of};
 use crate::expanded_event::ExpandedEvent;
 
 impl ExpandedEvent {
-    /// Whether it stands before another event in the forward order: by planned time, arrivals first, then by id.
+    /// Whether it stands before another event in the forward order: by planned time, arrivals
+    /// first, then by id.
     pub fn stands_before(&self, other: &ExpandedEvent) -> bool
         ensures { result ≡ stands_before self.now other.now }
     {

@@ -1,5 +1,5 @@
-//! The rows that several stages read: events, activities and times of a period and of a day, trips, rows of a
-//! vehicle schedule, delays and disposed times.
+//! The rows that several stages read: events, activities and times of a period and of a day, trips,
+//! rows of a vehicle schedule, delays and disposed times.
 #![tactic(auto)]
 
 mod activity_kind;

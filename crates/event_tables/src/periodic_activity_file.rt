@@ -1,7 +1,7 @@
 // Reading periodic activities.
 ghost use Rattle.std.specs.Prelude.{◌≡◌, List, length, ⊤, IfOk};
 ghost use Rattle.std.specs.List.{range_with_len};
-ghost use Rattle.giv_files.specs.Inputs.{input_faults, records_of, UnlessFault};
+ghost use Rattle.event_tables.specs.RowsOfTables.{ReadsFile};
 ghost use Rattle.event_tables.specs.PeriodicFiles.{periodic_activity_input, periodic_activity_rules, periodic_event_ids, ArePeriodicActivities};
 ghost use Rattle.event_tables.specs.Places.{AreNumbered};
 
@@ -27,9 +27,9 @@ pub fn periodic_activities(
     text: &[u8],
 ) -> Result<Vec<PeriodicActivity>, StageFault>
     requires { AreNumbered (λ event. event.id) events.now }
-    ensures read { UnlessFault (input_faults (periodic_activity_input (periodic_event_ids events.now)) text.now)
-        (λ activities. activities.items ≡ records_of (periodic_activity_input (periodic_event_ids events.now)) text.now) result }
-    ensures sound { IfOk result (λ activities. ArePeriodicActivities (length events.now) activities.items) }
+    ensures read { ReadsFile (periodic_activity_input (periodic_event_ids events.now)) text.now result }
+    ensures sound { IfOk result
+        (λ activities. ArePeriodicActivities (length events.now) activities.items) }
 {
     let tests = ActivityTests {
         events: events.len(),

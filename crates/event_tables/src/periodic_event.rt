@@ -8,7 +8,8 @@ use crate::event_kind::EventKind;
 use crate::record::Record;
 use giv_files::Table;
 
-/// A periodic event: its id, its kind, its stop, and the run of the line that it is of. Ids count from 1, and the events of a run stand together.
+/// A periodic event: its id, its kind, its stop, and the run of the line that it is of. Ids count
+/// from 1, and the events of a run stand together.
 #[derive(Clone, Copy, Debug, PartialEq, Eq)]
 pub struct PeriodicEvent {
     pub id: u32,

@@ -1,6 +1,6 @@
 // Reading periodic events.
 ghost use Rattle.std.specs.Prelude.{◌≡◌, [], ◌∷◌, ⊤, IfOk};
-ghost use Rattle.giv_files.specs.Inputs.{input_faults, records_of, UnlessFault};
+ghost use Rattle.event_tables.specs.RowsOfTables.{ReadsFile};
 ghost use Rattle.event_tables.specs.PeriodicFiles.{periodic_event_input, ArePeriodicEvents};
 ghost use Rattle.event_tables.specs.Places.{own_place};
 
@@ -20,7 +20,7 @@ const LIMIT: RowLimit = RowLimit {
 
 /// The periodic events of a text, or its first fault.
 pub fn periodic_events(alloc: Global, text: &[u8]) -> Result<Vec<PeriodicEvent>, StageFault>
-    ensures read { UnlessFault (input_faults periodic_event_input text.now) (λ events. events.items ≡ records_of periodic_event_input text.now) result }
+    ensures read { ReadsFile periodic_event_input text.now result }
     ensures sound { IfOk result (λ events. ArePeriodicEvents events.items) }
 {
     let tests = EventTests;

@@ -1,7 +1,7 @@
 // Reading periodic times.
 ghost use Rattle.std.specs.Prelude.{◌≡◌, length, ⊤, IfOk};
 ghost use Rattle.std.specs.List.{range_with_len};
-ghost use Rattle.giv_files.specs.Inputs.{input_faults, records_of, UnlessFault};
+ghost use Rattle.event_tables.specs.RowsOfTables.{ReadsFile};
 ghost use Rattle.event_tables.specs.PeriodicFiles.{periodic_time_input, periodic_time_rules, periodic_event_ids, ArePeriodicTimes};
 ghost use Rattle.event_tables.specs.Places.{AreNumbered};
 
@@ -15,7 +15,8 @@ use giv_files::{FileId, RowWhy, StageFault, columns};
 use plan_num::NoMemory;
 use std::alloc::Global;
 
-/// The times of periodic events in a period of so many minutes, by a text of a file, or its first fault.
+/// The times of periodic events in a period of so many minutes, by a text of a file, or its first
+/// fault.
 pub fn periodic_times(
     alloc: Global,
     file: FileId,
@@ -24,8 +25,7 @@ pub fn periodic_times(
     text: &[u8],
 ) -> Result<Vec<PeriodicTime>, StageFault>
     requires { AreNumbered (λ event. event.id) events.now }
-    ensures read { UnlessFault (input_faults (periodic_time_input file period (periodic_event_ids events.now)) text.now)
-        (λ times. times.items ≡ records_of (periodic_time_input file period (periodic_event_ids events.now)) text.now) result }
+    ensures read { ReadsFile (periodic_time_input file period (periodic_event_ids events.now)) text.now result }
     ensures sound { IfOk result (λ times. ArePeriodicTimes period (length events.now) times.items) }
 {
     let tests = TimeTests {

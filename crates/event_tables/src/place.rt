@@ -20,7 +20,8 @@ pub(crate) fn is_unknown(id: u32, count: usize) -> bool
 
 /// Whether one of two ids is none of so many, which count from 1.
 pub(crate) fn is_either_unknown(id: u32, other: u32, count: usize) -> bool
-    ensures { result ≡ (is_none_of (range_with_len 1 count) id || is_none_of (range_with_len 1 count) other) }
+    ensures { result
+        ≡ (is_none_of (range_with_len 1 count) id || is_none_of (range_with_len 1 count) other) }
 {
     is_unknown(id, count) || is_unknown(other, count)
 }

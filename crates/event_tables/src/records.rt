@@ -1,9 +1,9 @@
 // Reading records with their rules.
 ghost use Rattle.std.specs.Prelude.{ℤ, ◌≡◌, ◌<◌, ◌^◌, List, [], map, All, IfOk};
-ghost use Rattle.giv_files.specs.Inputs.{cell_faults, row_faults, input_faults, records_of, UnlessFault};
+ghost use Rattle.giv_files.specs.Inputs.{cell_faults, row_faults, UnlessFault};
 ghost use Rattle.giv_files.specs.Reading.{table_of};
 ghost use Rattle.giv_files.specs.Writing.{InColumns};
-ghost use Rattle.event_tables.specs.RowsOfTables.{numbered_by, records_by, plain_input};
+ghost use Rattle.event_tables.specs.RowsOfTables.{ReadsFile, numbered_by, records_by, plain_input};
 
 use crate::record::Record;
 use crate::row_limit::{RowLimit, too_many};
@@ -11,7 +11,8 @@ use crate::row_tests::RowTests;
 use giv_files::{ColumnKind, FileId, Refusal, StageFault, Table, read_input};
 use std::alloc::Global;
 
-/// Reads the text of a file whose rows have rules as what its rows stand for, or refuses it by its first fault.
+/// Reads the text of a file whose rows have rules as what its rows stand for, or refuses it by its
+/// first fault.
 pub(crate) fn read_file<const C: usize, X: Record<C>, T: RowTests<X>>(
     alloc: Global,
     file: FileId,
@@ -23,8 +24,7 @@ pub(crate) fn read_file<const C: usize, X: Record<C>, T: RowTests<X>>(
     requires narrow { C < 2 ^ 32 }
     requires fits { (cells : List ℤ) → InColumns kinds.now cells → X.Fits cells }
     requires knows { T.Knows tests [] }
-    ensures { UnlessFault (input_faults (plain_input file kinds.now X.of_cells limit (T.rules tests)) text.now)
-        (λ rows. rows.items ≡ records_of (plain_input file kinds.now X.of_cells limit (T.rules tests)) text.now) result }
+    ensures { ReadsFile (plain_input file kinds.now X.of_cells limit (T.rules tests)) text.now result }
 {
     let table = read_cells(alloc, file, text, kinds)?;
     if let Some(refusal) = too_many(limit, table.len()) {
@@ -33,8 +33,8 @@ pub(crate) fn read_file<const C: usize, X: Record<C>, T: RowTests<X>>(
     read_records(alloc, file, &table, tests)
 }
 
-/// Reads the text of an input as a table whose cells are in the ranges of their columns, or refuses it by its first
-/// cell that is at fault.
+/// Reads the text of an input as a table whose cells are in the ranges of their columns, or refuses
+/// it by its first cell that is at fault.
 pub(crate) fn read_cells<const C: usize>(
     alloc: Global,
     file: FileId,
@@ -42,7 +42,8 @@ pub(crate) fn read_cells<const C: usize>(
     kinds: &[ColumnKind; C],
 ) -> Result<Table<C>, StageFault>
     requires { C < 2 ^ 32 }
-    ensures table { UnlessFault (cell_faults file kinds.now text.now) (λ table. table ≡ table_of kinds.now text.now) result }
+    ensures table { UnlessFault (cell_faults file kinds.now text.now)
+        (λ table. table ≡ table_of kinds.now text.now) result }
     ensures cells { IfOk result (All (λ row. InColumns kinds.now row.cells)) }
 {
     read_input(alloc, file, text, kinds)

@@ -15,6 +15,8 @@ pub(crate) trait RowTests<X>: Drop {
     fn test(&mut self, before: &[X], row: &X) -> Result<Option<RowWhy>, NoMemory>
         requires { Knows self.old before.now }
         ensures rules { rules self.new ≡ rules self.old }
-        ensures first { IfOk result (λ why. why ≡ slice_get (broken_whys (rules self.old) before.now row.now) 0) }
-        ensures knows { IfOk result (λ why. why ≡ None → Knows self.new (before.now ++ row.now ∷ [])) };
+        ensures first { IfOk result
+            (λ why. why ≡ slice_get (broken_whys (rules self.old) before.now row.now) 0) }
+        ensures knows { IfOk result
+            (λ why. why ≡ None → Knows self.new (before.now ++ row.now ∷ [])) };
 }

@@ -1,10 +1,10 @@
 // Reading the rows of a vehicle schedule.
 ghost use Rattle.std.specs.Prelude.{◌≡◌, ◌||◌, false, All, filter, length, slice_get, IfOk, [], ◌∷◌};
 ghost use Rattle.std.specs.List.{range_with_len};
-ghost use Rattle.giv_files.specs.Inputs.{input_faults, records_of, limit_faults, UnlessFault};
+ghost use Rattle.giv_files.specs.Inputs.{limit_faults};
 ghost use Rattle.event_tables.specs.Cells.{schedule_row, AreSmall};
 ghost use Rattle.event_tables.specs.Places.{AreNumbered, is_none_of};
-ghost use Rattle.event_tables.specs.RowsOfTables.{records_by};
+ghost use Rattle.event_tables.specs.RowsOfTables.{ReadsFile, records_by};
 ghost use Rattle.event_tables.specs.Schedules.{schedule_input, schedule_rules, kind_limit, is_trip_row, is_empty_row, ends_early, lacks_room, goes_back, AreScheduleRows};
 
 use crate::expanded_event::ExpandedEvent;
@@ -32,8 +32,7 @@ pub fn schedule_rows(
     text: &[u8],
 ) -> Result<Vec<ScheduleRow>, StageFault>
     requires { AreNumbered (λ event. event.id) events.now }
-    ensures read { UnlessFault (input_faults (schedule_input events.now) text.now)
-        (λ rows. rows.items ≡ records_of (schedule_input events.now) text.now) result }
+    ensures read { ReadsFile (schedule_input events.now) text.now result }
     ensures sound { IfOk result (λ rows. AreScheduleRows events.now rows.items) }
 {
     let table = read_cells(alloc, FileId::Schedule, text, &columns!(Schedule))?;
@@ -46,7 +45,8 @@ pub fn schedule_rows(
 // The refusal of a table with too many trips or, where it has not, with too many empty rides.
 fn too_many_of_a_kind(table: &Table<13>) -> Option<Refusal>
     requires { All (λ row. AreSmall row.cells) table.now }
-    ensures { result ≡ slice_get (limit_faults (kind_limit is_trip_row ∷ kind_limit is_empty_row ∷ []) (records_by schedule_row table.now)) 0 }
+    ensures { result ≡ slice_get (limit_faults (kind_limit is_trip_row ∷ kind_limit is_empty_row
+        ∷ []) (records_by schedule_row table.now)) 0 }
 {
     let empty = count_empty(table);
     too_many(Some(LIMIT), table.len() - empty).or(too_many(Some(LIMIT), empty))
@@ -93,9 +93,12 @@ impl<'a> RowTests<ScheduleRow> for ScheduleTests<'a> {
 // Whether a row is backward in one of three ways, taken for an empty ride.
 fn is_backward(events: &[ExpandedEvent], row: &ScheduleRow) -> bool
     requires numbered { AreNumbered (λ event. event.id) events.now }
-    requires start_known { is_none_of (range_with_len 1 (length events.now)) row.now.run.start.event ≡ false }
-    requires end_known { is_none_of (range_with_len 1 (length events.now)) row.now.run.end.event ≡ false }
-    ensures { result ≡ (ends_early row.now || lacks_room events.now row.now || goes_back events.now row.now) }
+    requires start_known { is_none_of (range_with_len 1 (length events.now)) row.now.run.start.event
+        ≡ false }
+    requires end_known { is_none_of (range_with_len 1 (length events.now)) row.now.run.end.event
+        ≡ false }
+    ensures { result
+        ≡ (ends_early row.now || lacks_room events.now row.now || goes_back events.now row.now) }
 {
     let (start, end) = (row.run.start.event, row.run.end.event);
     row.run.end.time < row.run.start.time
@@ -106,8 +109,10 @@ fn is_backward(events: &[ExpandedEvent], row: &ScheduleRow) -> bool
 // Whether a row has more minutes than there are between its events as planned.
 fn lacks_room(events: &[ExpandedEvent], row: &ScheduleRow) -> bool
     requires numbered { AreNumbered (λ event. event.id) events.now }
-    requires start_known { is_none_of (range_with_len 1 (length events.now)) row.now.run.start.event ≡ false }
-    requires end_known { is_none_of (range_with_len 1 (length events.now)) row.now.run.end.event ≡ false }
+    requires start_known { is_none_of (range_with_len 1 (length events.now)) row.now.run.start.event
+        ≡ false }
+    requires end_known { is_none_of (range_with_len 1 (length events.now)) row.now.run.end.event
+        ≡ false }
     ensures { result ≡ lacks_room events.now row.now }
 {
     let start = event_of(events, row.run.start.event);

@@ -8,8 +8,8 @@ use crate::schedule_kind::ScheduleKind;
 use crate::trip::{Trip, TripEnd};
 use giv_files::Table;
 
-/// A row of a vehicle schedule: its circulation, its vehicle, its number among the rows of the vehicle, what it is, and
-/// the run from one event to another. The line of an empty ride is 0.
+/// A row of a vehicle schedule: its circulation, its vehicle, its number among the rows of the
+/// vehicle, what it is, and the run from one event to another. The line of an empty ride is 0.
 #[derive(Clone, Copy, Debug, PartialEq, Eq)]
 pub struct ScheduleRow {
     pub circulation: u32,

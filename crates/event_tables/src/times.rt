@@ -6,7 +6,8 @@ ghost use Rattle.giv_files.specs.declared.refusal.StageFault.TheVariants as faul
 
 use giv_files::{FileId, Refusal, RowWhy, StageFault};
 
-/// The rows of a file, where there is one for each of so many events; else the refusal of the whole file.
+/// The rows of a file, where there is one for each of so many events; else the refusal of the whole
+/// file.
 pub(crate) fn all_there<X: Drop>(
     rows: Vec<X>,
     file: FileId,
@@ -14,7 +15,8 @@ pub(crate) fn all_there<X: Drop>(
 ) -> Result<Vec<X>, StageFault>
     ensures { MatchResult result
         (λ all. (all ≡ rows) × (events ≤ length rows.items))
-        (λ fault. (fault ≡ faults.Refused (refusals.BadRow file 0 whys.MissingEvent)) × (length rows.items < events)) }
+        (λ fault. (fault
+        ≡ faults.Refused (refusals.BadRow file 0 whys.MissingEvent)) × (length rows.items < events)) }
 {
     if rows.len() < events {
         return Err(StageFault::Refused(Refusal::BadRow {

@@ -7,8 +7,8 @@ use crate::cells::number;
 use crate::record::Record;
 use giv_files::Table;
 
-/// The start or the end of a trip: the id of an event of the day, the id of its periodic event, its stop, and its
-/// planned time in minutes.
+/// The start or the end of a trip: the id of an event of the day, the id of its periodic event, its
+/// stop, and its planned time in minutes.
 #[derive(Clone, Copy, Debug, PartialEq, Eq)]
 pub struct TripEnd {
     pub event: u32,

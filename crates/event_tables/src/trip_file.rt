@@ -2,7 +2,7 @@
 ghost use Rattle.std.specs.Prelude.{ℕ, ◌≡◌, nat_eq, option_map, IfOk};
 ghost use Rattle.std.specs.HashSet.{contains};
 ghost use Rattle.std.specs.List.{list_any};
-ghost use Rattle.giv_files.specs.Inputs.{input_faults, records_of, UnlessFault};
+ghost use Rattle.event_tables.specs.RowsOfTables.{ReadsFile};
 ghost use Rattle.event_tables.specs.Trips.{trip_input, trip_rules, is_stop, lacks_stop, AreTrips};
 
 use crate::records::read_file;
@@ -19,12 +19,12 @@ const LIMIT: RowLimit = RowLimit {
     most: 2_000,
 };
 
-/// The trips of a text between stops, or its first fault. Where no ids of stops are given, the stops of trips are not
-/// looked at.
+/// The trips of a text between stops, or its first fault. Where no ids of stops are given, the
+/// stops of trips are not looked at.
 pub fn trips(alloc: Global, stops: Option<&[i64]>, text: &[u8]) -> Result<Vec<Trip>, StageFault>
-    ensures read { UnlessFault (input_faults (trip_input (option_map (λ ids. ids.now) stops.entry)) text.now)
-        (λ trips. trips.items ≡ records_of (trip_input (option_map (λ ids. ids.now) stops.entry)) text.now) result }
-    ensures sound { IfOk result (λ trips. AreTrips (option_map (λ ids. ids.now) stops.entry) trips.items) }
+    ensures read { ReadsFile (trip_input (option_map (λ ids. ids.now) stops.entry)) text.now result }
+    ensures sound { IfOk result
+        (λ trips. AreTrips (option_map (λ ids. ids.now) stops.entry) trips.items) }
 {
     let tests = TripTests {
         stops,
@@ -50,7 +50,8 @@ struct TripTests<'a> {
 impl<'a> RowTests<Trip> for TripTests<'a> {
     ghost rules = { λ tests. trip_rules (option_map (λ ids. ids.now) tests.stops) };
 
-    ghost Knows = { λ tests before. (id : ℕ) → contains nat_eq tests.starts id ≡ list_any (λ trip. nat_eq id trip.start.event) before };
+    ghost Knows = { λ tests before. (id : ℕ) → contains nat_eq tests.starts id ≡ list_any
+        (λ trip. nat_eq id trip.start.event) before };
 
     fn test(&mut self, _before: &[Trip], row: &Trip) -> Result<Option<RowWhy>, NoMemory> {
         if !self.starts.insert(row.start.event)? {

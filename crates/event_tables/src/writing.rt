@@ -1,7 +1,7 @@
 // Writing records as the text of a table.
 ghost use Rattle.std.specs.Prelude.{ℤ, ◌≡◌, ◌<◌, ◌^◌, List, All, IfOk};
-ghost use Rattle.giv_files.specs.Writing.{table_text, CanWrite, InColumns, IsHeader};
-ghost use Rattle.event_tables.specs.RowsOfTables.{ReadsAs, rows_by};
+ghost use Rattle.giv_files.specs.Writing.{CanWrite, InColumns, IsHeader};
+ghost use Rattle.event_tables.specs.RowsOfTables.{ReadsAs, file_text};
 
 use crate::record::Record;
 use giv_files::{ColumnKind, Table, write_table};
@@ -22,7 +22,7 @@ pub(crate) fn write_records<const C: usize, X: Record<C>>(
     requires fits { (cells : List ℤ) → InColumns kinds.now cells → X.Fits cells }
     requires cells { All (λ row. InColumns kinds.now (X.cells_of row)) rows.now }
     requires back { (row : X) → X.of_cells (X.cells_of row) ≡ row }
-    ensures text { IfOk result (λ text. text ≡ table_text header.now kinds.now (rows_by X.cells_of rows.now)) }
+    ensures text { IfOk result (λ text. text ≡ file_text header.now kinds.now X.cells_of rows.now) }
     ensures back { IfOk result (ReadsAs kinds.now X.of_cells rows.now) }
 {
     let mut table = Table::new(alloc);

@@ -9,4 +9,5 @@ pub bounds-events-id : goal.bounds-events-id
 bounds-events-id c = let one = is_place (length c.args.events.now) c.args.id c.requires.known in omega (arith, one.0, one.1)
 
 pub returns : goal.returns
-returns c = find_numbered (λ event. event.id) c.args.id c.args.events.now _ c.requires.numbered (is_place (length c.args.events.now) c.args.id c.requires.known)
+returns c = find_numbered
+    (λ event. event.id) c.args.id c.args.events.now _ c.requires.numbered (is_place (length c.args.events.now) c.args.id c.requires.known)

@@ -7,4 +7,10 @@ use Rattle.event_tables.proofs.CellsBack.{expanded_event_same}
 use Rattle.event_tables.proofs.made_texts.expanded_events_text.Goals as goal
 
 pub write_records-requires : goal.write_records-requires
-write_records-requires c = (omega arith, (omega arith, (omega arith, (columns_written events_x_columns refl, ((refl, plain_header expanded_event_header refl), (λ cells h. small_cells events_x_columns cells refl h, (c.requires, expanded_event_same)))))))
+write_records-requires c = (
+  omega arith,
+  (
+    omega arith,
+    (omega arith, (columns_written events_x_columns refl, ((refl, plain_header expanded_event_header refl), (λ cells h. small_cells events_x_columns cells refl h, (c.requires, expanded_event_same))))),
+  ),
+)

@@ -7,4 +7,10 @@ use Rattle.event_tables.proofs.CellsBack.{periodic_activity_same}
 use Rattle.event_tables.proofs.made_texts.periodic_activities_text.Goals as goal
 
 pub write_records-requires : goal.write_records-requires
-write_records-requires c = (omega arith, (omega arith, (omega arith, (columns_written activities_p_columns refl, ((refl, plain_header periodic_activity_header refl), (λ cells h. small_cells activities_p_columns cells refl h, (c.requires, periodic_activity_same)))))))
+write_records-requires c = (
+  omega arith,
+  (
+    omega arith,
+    (omega arith, (columns_written activities_p_columns refl, ((refl, plain_header periodic_activity_header refl), (λ cells h. small_cells activities_p_columns cells refl h, (c.requires, periodic_activity_same))))),
+  ),
+)

@@ -7,4 +7,10 @@ use Rattle.event_tables.proofs.CellsBack.{periodic_time_same}
 use Rattle.event_tables.proofs.made_texts.periodic_times_text.Goals as goal
 
 pub write_records-requires : goal.write_records-requires
-write_records-requires c = (omega arith, (omega arith, (omega arith, (columns_written times_p_columns refl, ((refl, plain_header periodic_time_header refl), (λ cells h. small_cells times_p_columns cells refl h, (c.requires, periodic_time_same)))))))
+write_records-requires c = (
+  omega arith,
+  (
+    omega arith,
+    (omega arith, (columns_written times_p_columns refl, ((refl, plain_header periodic_time_header refl), (λ cells h. small_cells times_p_columns cells refl h, (c.requires, periodic_time_same))))),
+  ),
+)

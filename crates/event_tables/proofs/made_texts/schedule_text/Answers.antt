@@ -7,4 +7,10 @@ use Rattle.event_tables.proofs.CellsBack.{schedule_row_same}
 use Rattle.event_tables.proofs.made_texts.schedule_text.Goals as goal
 
 pub write_records-requires : goal.write_records-requires
-write_records-requires c = (omega arith, (omega arith, (omega arith, (columns_written schedule_columns refl, ((refl, plain_header schedule_header refl), (λ cells h. small_cells schedule_columns cells refl h, (c.requires, schedule_row_same)))))))
+write_records-requires c = (
+  omega arith,
+  (
+    omega arith,
+    (omega arith, (columns_written schedule_columns refl, ((refl, plain_header schedule_header refl), (λ cells h. small_cells schedule_columns cells refl h, (c.requires, schedule_row_same))))),
+  ),
+)

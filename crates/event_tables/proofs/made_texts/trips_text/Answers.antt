@@ -7,4 +7,19 @@ use Rattle.event_tables.proofs.CellsBack.{trip_same}
 use Rattle.event_tables.proofs.made_texts.trips_text.Goals as goal
 
 pub write_records-requires : goal.write_records-requires
-write_records-requires c = (omega arith, (omega arith, (omega arith, (columns_written trips_columns refl, ((refl, plain_header trip_header refl), (λ cells h. small_cells trips_columns cells refl h, (c.requires, trip_same)))))))
+write_records-requires c = (
+  omega arith,
+  (
+    omega arith,
+    (
+      omega arith,
+      (
+        columns_written trips_columns refl,
+        (
+          (refl, plain_header trip_header refl),
+          (λ cells h. small_cells trips_columns cells refl h, (c.requires, trip_same)),
+        ),
+      ),
+    ),
+  ),
+)

@@ -6,4 +6,5 @@ use Rattle.event_tables.proofs.periodic_event_file.periodic_events.Goals as goal
 pub returns-clause-sound : goal.returns-clause-sound
 returns-clause-sound c =
     let text = c.args.text.now in
-    sound_read (λ events. events.items) (input_faults periodic_event_input text) (records_of periodic_event_input text) ArePeriodicEvents c.read_file.result c.read_file.ensures (periodic_events_sound text)
+    sound_read (λ events. events.items) (input_faults periodic_event_input text)
+    (records_of periodic_event_input text) ArePeriodicEvents c.read_file.result c.read_file.ensures (periodic_events_sound text)

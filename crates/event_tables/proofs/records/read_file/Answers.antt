@@ -1,4 +1,4 @@
-use Rattle.std.proofs.Common.{refl, ap, sym, ◌∙◌}
+use Rattle.std.proofs.Common.{refl, sym, ◌∙◌}
 use Rattle.std.proofs.lemmas.List.{length-map}
 use Rattle.std.proofs.lemmas.Result.{err_from_is_err_and}
 use Rattle.giv_files.specs.declared.refusal.StageFault.TheVariants as stage
@@ -6,7 +6,6 @@ use Rattle.giv_files.specs.Inputs.{records}
 use Rattle.giv_files.proofs.Inputs.{refused_cells}
 use Rattle.event_tables.specs.RowsOfTables.{plain_input}
 use Rattle.event_tables.proofs.Files.{limit_refuses, few_rows, limits_refuse, rows_read}
-use Rattle.event_tables.proofs.RowsTested.{none_broken}
 use Rattle.event_tables.proofs.records.read_file.Goals as goal
 
 pub returns-in_err-table : goal.returns-in_err-table
@@ -29,5 +28,6 @@ returns g c =
     let table = c.in_ok-table.table in
     let read = c.in_ok-table.ensures.table in
     rows_read input c.args.text.now table read.0 read.1 (λ rows. rows.items) refl
-    (few_rows c.args.limit (records input table) c.len.result c.too_many.result (c.len.ensures.len ∙ sym (length-map table (λ row. input.read row.cells))) c.too_many.ensures c.in_default.is)
+    (few_rows c.args.limit (records input table) c.len.result c.too_many.result (c.len.ensures.len
+    ∙ sym (length-map table (λ row. input.read row.cells))) c.too_many.ensures c.in_default.is)
     c.read_records.result c.read_records.ensures

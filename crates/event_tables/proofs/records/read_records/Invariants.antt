@@ -1,5 +1,5 @@
 -- None of the rows so far breaks a rule, and the records are theirs.
-use Rattle.std.proofs.Common.{◌≡◌, [], map, take, drop}
+use Rattle.std.proofs.Common.{◌≡◌, [], take, drop}
 use Rattle.giv_files.specs.Inputs.{row_faults}
 use Rattle.event_tables.specs.RowsOfTables.{numbered_by, records_by}
 use Rattle.event_tables.proofs.records.read_records.Given as goal

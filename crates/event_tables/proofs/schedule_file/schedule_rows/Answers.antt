@@ -3,7 +3,7 @@ use Rattle.std.proofs.lemmas.Result.{err_from_is_err_and}
 use Rattle.std.proofs.lemmas.List.Elements.{All-weaker}
 use Rattle.giv_files.specs.declared.refusal.StageFault.TheVariants as stage
 use Rattle.giv_files.specs.Columns.{schedule_columns}
-use Rattle.giv_files.specs.Inputs.{input_faults, records, records_of}
+use Rattle.giv_files.specs.Inputs.{input_faults, records_of}
 use Rattle.giv_files.specs.Writing.{InColumns}
 use Rattle.giv_files.proofs.Inputs.{refused_cells}
 use Rattle.event_tables.specs.Cells.{AreSmall}
@@ -21,7 +21,9 @@ returns-in_err-table-clause-read c =
     rw (p.1, p.2) (refused_cells (schedule_input c.args.events.now) c.args.text.now c.in_err-table.field-0.0 c.in_err-table.ensures.table)
 
 pub too_many_of_a_kind-requires : goal.too_many_of_a_kind-requires
-too_many_of_a_kind-requires c = All-weaker (λ row. InColumns schedule_columns row.cells) (λ row. AreSmall row.cells) (λ row h. small_cells schedule_columns row.cells refl h) c.in_ok-table.table c.in_ok-table.ensures.cells
+too_many_of_a_kind-requires c = All-weaker (λ row. InColumns schedule_columns row.cells)
+    (λ row. AreSmall row.cells)
+    (λ row h. small_cells schedule_columns row.cells refl h) c.in_ok-table.table c.in_ok-table.ensures.cells
 
 pub returns-in-Some-clause-read : goal.returns-in-Some-clause-read
 returns-in-Some-clause-read c =
@@ -29,18 +31,33 @@ returns-in-Some-clause-read c =
     limits_refuse (schedule_input c.args.events.now) c.args.text.now c.in_ok-table.table read.0 read.1 (stage.Refused c.in-Some.refusal) (sym c.too_many_of_a_kind.ensures ∙ c.in-Some.is)
 
 pub read_records-requires : goal.read_records-requires
-read_records-requires c = (omega arith, (All-weaker (λ row. InColumns schedule_columns row.cells) (λ row. AreSmall row.cells) (λ row h. small_cells schedule_columns row.cells refl h) c.in_ok-table.table c.in_ok-table.ensures.cells, c.requires))
+read_records-requires c = (
+  omega arith,
+  (
+    All-weaker (λ row. InColumns schedule_columns row.cells)
+        (λ row. AreSmall row.cells)
+        (λ row h. small_cells schedule_columns row.cells refl h) c.in_ok-table.table c.in_ok-table.ensures.cells,
+    c.requires,
+  ),
+)
 
 pub returns-clause-read : goal.returns-clause-read
 returns-clause-read c =
     let read = c.in_ok-table.ensures.table in
-    rows_read (schedule_input c.args.events.now) c.args.text.now c.in_ok-table.table read.0 read.1 (λ rows. rows.items) refl (none_broken _ (sym c.too_many_of_a_kind.ensures ∙ c.in_default.is)) c.read_records.result c.read_records.ensures
+    rows_read (schedule_input c.args.events.now) c.args.text.now c.in_ok-table.table read.0 read.1
+    (λ rows. rows.items) refl (none_broken _
+    (sym c.too_many_of_a_kind.ensures
+    ∙ c.in_default.is)) c.read_records.result c.read_records.ensures
 
 pub returns-clause-sound : goal.returns-clause-sound
 returns-clause-sound c =
     let text = c.args.text.now in
     let input = schedule_input c.args.events.now in
     let read = c.in_ok-table.ensures.table in
-    sound_read (λ rows. rows.items) (input_faults input text) (records_of input text) (AreScheduleRows c.args.events.now) c.read_records.result
-    (rows_read input text c.in_ok-table.table read.0 read.1 (λ rows. rows.items) refl (none_broken _ (sym c.too_many_of_a_kind.ensures ∙ c.in_default.is)) c.read_records.result c.read_records.ensures)
+    sound_read (λ rows. rows.items) (input_faults input text)
+    (records_of input text) (AreScheduleRows c.args.events.now) c.read_records.result
+    (rows_read input text c.in_ok-table.table read.0 read.1
+    (λ rows. rows.items) refl (none_broken _
+    (sym c.too_many_of_a_kind.ensures
+    ∙ c.in_default.is)) c.read_records.result c.read_records.ensures)
     (schedule_rows_sound c.args.events.now text c.requires)

@@ -1,4 +1,4 @@
-use Rattle.std.proofs.Common.{◌≡◌, ◌≤◌, ◌+◌, ◌-◌, arith, ap, sym, ◌∙◌, length, filter, refl, Option, Some, slice_get}
+use Rattle.std.proofs.Common.{◌≡◌, ◌-◌, arith, ap, ◌∙◌, length, filter, Option, Some, slice_get}
 use Rattle.std.specs.Option.{option_or}
 use Rattle.giv_files.specs.declared.counted.Counted.TheVariants as counted
 use Rattle.event_tables.specs.declared.row_limit.RowLimit.{RowLimit}
@@ -16,8 +16,10 @@ returns c =
     let rows = records_by schedule_row c.args.table.now in
     let limit : Option RowLimit = Some (record { what = counted.Trips; most = 2000 }) in
     let both = both_kinds c.args.table.now in
-    let trips : c.len.result - c.count_empty-empty.result ≡ length (filter is_trip_row rows) = omega (arith, both, c.len.ensures.len, c.count_empty-empty.ensures) in
+    let trips : c.len.result - c.count_empty-empty.result
+    ≡ length (filter is_trip_row rows) = omega (arith, both, c.len.ensures.len, c.count_empty-empty.ensures) in
     c.or.ensures
-    ∙ ap (λ first. option_or first c.too_many-2.result) (c.too_many.ensures ∙ ap (λ n. slice_get (too_many_rows limit n) 0) trips)
+    ∙ ap (λ first. option_or first c.too_many-2.result) (c.too_many.ensures ∙ ap
+    (λ n. slice_get (too_many_rows limit n) 0) trips)
     ∙ ap (option_or (slice_get (too_many_rows limit (length (filter is_trip_row rows))) 0)) (c.too_many-2.ensures ∙ ap (λ n. slice_get (too_many_rows limit n) 0) c.count_empty-empty.ensures)
     ∙ first_of_two (too_many_rows limit (length (filter is_trip_row rows))) (too_many_rows limit (length (filter is_empty_row rows)))

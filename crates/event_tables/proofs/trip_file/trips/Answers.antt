@@ -12,7 +12,9 @@ pub returns-clause-sound : goal.returns-clause-sound
 returns-clause-sound c =
     let text = c.args.text.now in
     let stops = option_map (λ ids. ids.now) c.args.stops in
-    sound_read (λ rows. rows.items) (input_faults (trip_input stops) text) (records_of (trip_input stops) text) (AreTrips stops) c.read_file.result c.read_file.ensures (trips_sound stops text)
+    sound_read (λ rows. rows.items) (input_faults (trip_input stops) text)
+    (records_of (trip_input stops) text) (AreTrips stops) c.read_file.result c.read_file.ensures (trips_sound stops text)
 
 pub read_file-requires : goal.read_file-requires
-read_file-requires c = (omega arith, (omega arith, (λ cells h. small_cells trips_columns cells refl h, search rules)))
+read_file-requires c =
+    (omega arith, (omega arith, (λ cells h. small_cells trips_columns cells refl h, search rules)))

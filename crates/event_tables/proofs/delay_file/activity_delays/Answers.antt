@@ -1,0 +1,9 @@
+use Rattle.std.proofs.Common.{ℕ, List, subst, sym}
+use Rattle.event_tables.specs.Delays.{activity_delay_input}
+use Rattle.event_tables.specs.RowsOfTables.{ReadsFile}
+use Rattle.event_tables.proofs.delay_file.activity_delays.Goals as goal
+
+pub returns-clause-read : goal.returns-clause-read
+returns-clause-read c =
+    subst (λ (ids : List ℕ). ReadsFile (activity_delay_input ids) c.args.text.now c.read_delays.result)
+    (sym c.requires) c.read_delays.ensures.read
