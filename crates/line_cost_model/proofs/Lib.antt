@@ -1,4 +1,6 @@
+pub mod Driven
 pub mod Duality
+pub mod FewLines
 pub mod Minima
 pub mod Pushed
 pub mod Rising

@@ -3,6 +3,7 @@
 #![tactic(auto)]
 
 mod bound;
+mod concept;
 mod edge;
 mod line;
 mod multipliers;
@@ -10,6 +11,7 @@ mod problem;
 mod range;
 mod region;
 mod side;
+mod sums;
 
 pub use bound::Bound;
 pub use multipliers::Multipliers;

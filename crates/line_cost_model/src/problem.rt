@@ -137,7 +137,8 @@ impl LineProblem {
     /// The indexes of the lines over the edge at an index.
     pub(crate) fn lines_over(&self, edge: usize) -> &[usize]
         requires { edge < length self.now.edges }
-        ensures { result.now ≡ lines_over self.now.lines edge }
+        ensures lines { result.now ≡ lines_over self.now.lines edge }
+        ensures there { All (λ line. line < length self.now.lines) result.now }
     {
         self.edges[edge].lines()
     }
