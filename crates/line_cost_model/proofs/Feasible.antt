@@ -1,5 +1,5 @@
 -- The test of feasible concepts, edge by edge.
-use Rattle.std.proofs.Common.{◌≡◌, ℕ, ◌+◌, ◌≤◌, ◌<◌, ◌&&◌, ◌==◌, ◌↔◌, Bool, true, false, List, [], ◌∷◌, length, get_or, drop, slice_get, Some, None, option_map, unwrap_or, IsTrue, nat_le, zero, suc, refl, arith, sym, ap, subst, ◌∙◌}
+use Rattle.std.proofs.Common.{◌≡◌, ℕ, ◌+◌, ◌≤◌, ◌&&◌, ◌==◌, ◌↔◌, Bool, true, false, List, [], ◌∷◌, length, drop, slice_get, Some, None, option_map, unwrap_or, IsTrue, nat_le, zero, suc, refl, arith, sym, ap, subst, ◌∙◌}
 use Rattle.std.specs.List.{list_all, enumerate_from}
 use Rattle.std.proofs.lemmas.List.{drop_more, drop_all}
 use Rattle.std.proofs.lemmas.Bool.{eq-eqb, eqb-true, and_parts, leb-true, le-leb}
@@ -9,7 +9,7 @@ use Rattle.line_cost_model.specs.Problems.{ProblemParts}
 use Rattle.line_cost_model.specs.Concepts.{IsFeasible, KeepsBounds, frequency_on, is_feasible, keeps_bounds}
 
 -- the edges that are left, with their indexes
-abbrev left_from : List BoundedEdge → ℕ → List (ℕ × BoundedEdge)
+abbrev pub left_from : List BoundedEdge → ℕ → List (ℕ × BoundedEdge)
 left_from edges edge = enumerate_from edge (drop edge edges)
 
 pub left_more : (edges : List BoundedEdge) (edge : ℕ) (at : BoundedEdge) → slice_get edges edge ≡ Some at

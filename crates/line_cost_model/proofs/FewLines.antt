@@ -1,5 +1,5 @@
 -- A line problem has no more lines than there are ids, and what a concept of it costs fits.
-use Rattle.std.proofs.Common.{◌≡◌, ℕ, ℤ, pos, ◌+◌, ◌*◌, ◌≤◌, ◌<◌, ◌≤ℤ◌, ◌<ℤ◌, Bool, true, false, cond, T, int_lt, List, [], ◌∷◌, ◌++◌, length, get_or, map, take, sum_by, suc, zip, slice_get, refl, Some, None, option_map, unwrap_or, All, arith, sym, ap, ◌∙◌}
+use Rattle.std.proofs.Common.{◌≡◌, ℕ, ℤ, pos, ◌+◌, ◌*◌, ◌≤◌, ◌<◌, ◌≤ℤ◌, ◌<ℤ◌, Bool, true, false, cond, T, int_lt, List, [], ◌∷◌, length, get_or, map, take, sum_by, suc, zip, slice_get, refl, Some, None, option_map, unwrap_or, All, arith, sym, ap, ◌∙◌}
 use Rattle.std.specs.List.{AllByRecursion}
 use Rattle.std.specs.List.Sorted.{IsStrictlySortedBy}
 use Rattle.std.specs.Ordering.{int_cmp}

@@ -1,5 +1,6 @@
 pub mod Driven
 pub mod Duality
+pub mod EmptyEdges
 pub mod Feasible
 pub mod FewLines
 pub mod Minima

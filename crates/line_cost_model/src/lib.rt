@@ -5,6 +5,7 @@
 mod bound;
 mod concept;
 mod edge;
+mod empty;
 mod line;
 mod multipliers;
 mod problem;

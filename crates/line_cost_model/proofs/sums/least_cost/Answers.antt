@@ -1,4 +1,4 @@
-use Rattle.std.proofs.Common.{◌≡◌, ◌<◌, ◌∙◌, ◌*◌, ◌≤◌, ◌+◌, ℕ, List, length, map, get_or, slice_index_or, ap, sym, subst, arith, Some, All}
+use Rattle.std.proofs.Common.{◌≡◌, ◌<◌, ◌∙◌, ◌*◌, ◌≤◌, ◌+◌, List, length, slice_index_or, ap, sym, subst, arith, Some, All}
 use Rattle.std.proofs.lemmas.List.{get_or-map, length-map}
 use Rattle.line_cost_model.specs.declared.range.LineRange.{LineRange}
 use Rattle.line_cost_model.specs.Concepts.{cost_of}
