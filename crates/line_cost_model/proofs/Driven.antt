@@ -11,7 +11,7 @@ use Rattle.line_cost_model.specs.Regions.{range_of}
 use Rattle.line_cost_model.proofs.Duality.{frequency_step}
 
 -- the indexes of the lines over an edge, where the first line has some index
-abbrev over_from : ℕ → List CostedLine → ℕ → List ℕ
+abbrev pub over_from : ℕ → List CostedLine → ℕ → List ℕ
 over_from first lines edge = map (λ at. at.0) (filter (λ at. goes_over edge at.1) (enumerate_from first lines))
 
 gated : (goes : Bool) (number : ℕ → ℕ) (index : ℕ) (line : CostedLine) (rest : List (ℕ × CostedLine))
@@ -50,7 +50,7 @@ unfolding lines_over
 sum_is_frequency number lines fs edge same are = sum_from number 0 lines fs edge same are
 
 -- what holds of the lines over an edge, where it holds of an index and of the lines behind it
-each_gated : (P : ℕ → Type 0) (goes : Bool) (index : ℕ) (line : CostedLine) (rest : List (ℕ × CostedLine)) → P index
+pub each_gated : (P : ℕ → Type 0) (goes : Bool) (index : ℕ) (line : CostedLine) (rest : List (ℕ × CostedLine)) → P index
     → AllByRecursion P (map (λ at. at.0) rest)
     → AllByRecursion P (map (λ at. at.0) (cond goes ((index, line) ∷ rest) rest))
 each_gated P true index line rest own all = (own, all)

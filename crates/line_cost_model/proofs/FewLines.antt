@@ -57,7 +57,8 @@ few_lines problem sound =
 
 -- ---- costs
 
-abbrev no_line : CostedLine
+-- a line that is not there
+abbrev pub no_line : CostedLine
 no_line = record { id = pos 0; cost = 0; edges = [] }
 
 -- a line that has a cost is there

@@ -3,6 +3,9 @@ pub mod Duality
 pub mod EmptyEdges
 pub mod Feasible
 pub mod FewLines
+pub mod LeastLeft
+pub mod Lowered
+pub mod Mapped
 pub mod Minima
 pub mod Pushed
 pub mod Rising

@@ -10,6 +10,7 @@ use Rattle.line_cost_model.specs.declared.range.LineRange.{LineRange}
 use Rattle.std.proofs.lemmas.List.{take_more, take_all, length-map}
 use Rattle.std.proofs.lemmas.Option.{get_or_from_slice_get, slice_get_within, slice_get-map, none-some}
 use Rattle.line_cost_model.proofs.Duality.{frequency_step}
+use Rattle.line_cost_model.proofs.Mapped.{map_more, map_whole}
 
 pub one_by_one : {X : Type 0} (P : X → Type 0) (xs : List X) → All P xs → AllByRecursion P xs
 one_by_one P [] all = tt
@@ -139,15 +140,11 @@ pub root_more : (problem : ProblemParts) (line hi : ℕ)
     → option_map (most_of problem.edges) (slice_get problem.lines line) ≡ Some hi
     → take (line + 1) (root_of problem) ≡ take line (root_of problem) ++ from_zero hi ∷ []
 root_more problem line hi at =
-    let there : slice_get (root_of problem) line ≡ Some (from_zero hi) =
-        slice_get-map (λ line. from_zero (most_of problem.edges line)) problem.lines line
-        ∙ range_to (most_of problem.edges) (slice_get problem.lines line) hi at in
-    take_more (root_of problem) line (from_zero hi) (slice_get_within (root_of problem) line (from_zero hi) there)
-    ∙ ap (λ range. take line (root_of problem) ++ range ∷ [])
-    (get_or_from_slice_get (root_of problem) line (from_zero hi) (from_zero hi) there)
+    map_more (λ line. from_zero (most_of problem.edges line)) problem.lines line (from_zero hi)
+    (range_to (most_of problem.edges) (slice_get problem.lines line) hi at)
 
 pub root_whole : (problem : ProblemParts) (ranges : List LineRange) (count line : ℕ)
     → ranges ≡ take line (root_of problem) → count ≤ line → count ≡ length problem.lines
     → ranges ≡ root_of problem
 root_whole problem ranges count line is past all =
-    is ∙ take_all line (root_of problem) (rw (length-map problem.lines (λ line. from_zero (most_of problem.edges line))) (omega (arith, past, all)))
+    is ∙ map_whole (λ line. from_zero (most_of problem.edges line)) problem.lines count line all past

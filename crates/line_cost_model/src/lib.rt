@@ -8,6 +8,7 @@ mod edge;
 mod empty;
 mod line;
 mod multipliers;
+mod pass;
 mod problem;
 mod range;
 mod region;
