@@ -10,7 +10,8 @@ use Rattle.std.proofs.lemmas.List.Sums.{sum_by-append}
 use Rattle.std.proofs.lemmas.Nat.{mul-le}
 use Rattle.std.proofs.lemmas.Option.{slice_get_within, get_or_from_slice_get, none-some}
 use Rattle.std.proofs.lemmas.Slice.Zip.{get_or-zip, length-zip}
-use Rattle.line_cost_model.specs.Problems.{CostedLine, ProblemParts, IsCostedLine, IsProblem}
+use Rattle.line_cost_model.specs.declared.edge.BoundedEdge.{BoundedEdge}
+use Rattle.line_cost_model.specs.Problems.{IsBoundedEdge, CostedLine, ProblemParts, IsCostedLine, IsProblem}
 use Rattle.line_cost_model.specs.Concepts.{cost_of}
 
 less_shown : (less greater : Bool) → cond less Less (cond greater Greater Equal) ≡ Less → T less
@@ -54,6 +55,19 @@ few_lines problem sound =
     omega (arith, few_between 1 1000000000 (map (λ line. line.id) problem.lines) (omega arith) sound.lines_rise
     (ids_between (length problem.edges) problem.lines sound.lines),
     length-map problem.lines (λ line. line.id))
+
+bounded_ids : (edges : List BoundedEdge) → All IsBoundedEdge edges
+    → AllByRecursion (LiesBetween 1 1000000000) (map (λ edge. edge.id) edges)
+bounded_ids [] all = tt
+bounded_ids (edge ∷ edges) all =
+    let first = all 0 edge (omega arith) in
+    ((first.id.low, first.id.high), bounded_ids edges (λ k d h. all (suc k) d (omega (arith, h))))
+
+pub few_edges : (problem : ProblemParts) → IsProblem problem → length problem.edges ≤ 1000000000
+few_edges problem sound =
+    omega (arith, few_between 1 1000000000 (map (λ edge. edge.id) problem.edges) (omega arith) sound.edges_rise
+    (bounded_ids problem.edges sound.edges),
+    length-map problem.edges (λ edge. edge.id))
 
 -- ---- costs
 

@@ -1,5 +1,5 @@
 -- The least that is left of the costs of the open lines over an edge.
-use Rattle.std.proofs.Common.{◌≡◌, ℕ, zero, suc, ◌+◌, ◌-◌, ◌≤◌, ◌<◌, Bool, true, false, cond, if◌then◌else◌, min, List, [], ◌∷◌, ◌++◌, length, get_or, map, filter, filter_map, take, zip, unwrap_or, Option, Some, None, option_map, refl, arith, ap, sym, ◌∙◌}
+use Rattle.std.proofs.Common.{◌≡◌, ℕ, suc, ◌+◌, ◌≤◌, ◌<◌, Bool, true, false, cond, if◌then◌else◌, min, List, [], ◌∷◌, ◌++◌, length, get_or, map, filter, filter_map, take, zip, unwrap_or, Option, Some, None, refl, arith, ap, sym, ◌∙◌}
 use Rattle.std.specs.List.{enumerate_from, reduce, cons_option}
 use Rattle.std.specs.Option.{option_map_or}
 use Rattle.std.proofs.lemmas.List.{take_more, take_all, append-nil}

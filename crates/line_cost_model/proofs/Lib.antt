@@ -7,7 +7,9 @@ pub mod LeastLeft
 pub mod Lowered
 pub mod Mapped
 pub mod Minima
+pub mod PassSteps
 pub mod Pushed
 pub mod Rising
 pub mod Roots
+pub mod Within
 mod Tried

@@ -1,6 +1,6 @@
 -- An amount is taken off what is left of the costs of the lines over an edge, line by line.
-use Rattle.std.proofs.Common.{◌≡◌, ℕ, zero, suc, ◌+◌, ◌-◌, ◌<◌, ◌≤◌, Bool, true, false, ◌||◌, cond, if◌then◌else◌, nat_eq, List, [], ◌∷◌, ◌++◌, length, get_or, set, map, filter, sum_by, take, refl, ap, subst, sym, ◌∙◌, arith, inl, inr, get_or-set_other, get_or-set_same}
-use Rattle.std.specs.List.{All, AllByRecursion, IsDistinct, enumerate_from, list_any}
+use Rattle.std.proofs.Common.{◌≡◌, ℕ, zero, suc, ◌+◌, ◌-◌, ◌<◌, ◌≤◌, Bool, true, false, ◌||◌, cond, if◌then◌else◌, nat_eq, List, [], ◌∷◌, ◌++◌, length, get_or, set, map, filter, take, refl, ap, subst, sym, ◌∙◌, arith, inl, inr, get_or-set_other, get_or-set_same}
+use Rattle.std.specs.List.{AllByRecursion, IsDistinct, enumerate_from, list_any}
 use Rattle.std.proofs.lemmas.Bool.{ne_eqb, eq-eqb, cases_eq}
 use Rattle.std.proofs.lemmas.Cmp.{nat_eq_equiv}
 use Rattle.std.proofs.lemmas.Grind.{get_or_default_zero, same_number_lists}
@@ -13,7 +13,7 @@ use Rattle.line_cost_model.specs.declared.multipliers.Multiplier.{Multiplier}
 use Rattle.line_cost_model.specs.Problems.{CostedLine}
 use Rattle.line_cost_model.specs.Concepts.{goes_over}
 use Rattle.line_cost_model.specs.Crossings.{lines_over}
-use Rattle.line_cost_model.specs.DualBounds.{left_of, taken_off}
+use Rattle.line_cost_model.specs.DualBounds.{left_of}
 use Rattle.line_cost_model.specs.Passes.{AreLowered}
 use Rattle.line_cost_model.proofs.Driven.{over_from, each_gated}
 use Rattle.line_cost_model.proofs.FewLines.{no_line}

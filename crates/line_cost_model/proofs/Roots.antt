@@ -7,8 +7,7 @@ use Rattle.line_cost_model.specs.Problems.{CostedLine, ProblemParts, IsBoundedEd
 use Rattle.line_cost_model.specs.Concepts.{goes_over, frequency_on}
 use Rattle.line_cost_model.specs.Regions.{HasEachFeasible, IsRange, LiesIn, most_on, most_of, root_of}
 use Rattle.line_cost_model.specs.declared.range.LineRange.{LineRange}
-use Rattle.std.proofs.lemmas.List.{take_more, take_all, length-map}
-use Rattle.std.proofs.lemmas.Option.{get_or_from_slice_get, slice_get_within, slice_get-map, none-some}
+use Rattle.std.proofs.lemmas.Option.{get_or_from_slice_get, slice_get_within, none-some}
 use Rattle.line_cost_model.proofs.Duality.{frequency_step}
 use Rattle.line_cost_model.proofs.Mapped.{map_more, map_whole}
 

@@ -1,6 +1,6 @@
 -- Inner words: the pass over the edges that finds multipliers. A reader of the contracts of this crate needs none
 -- of them.
-use Rattle.std.specs.Prelude.{◌≡◌, ℕ, ◌+◌, ◌-◌, ◌*◌, ◌≤◌, ◌<◌, true, nat_eq, if◌then◌else◌, List, [], ◌∷◌, length, map, fold, drop, get_or, Option, Some, None}
+use Rattle.std.specs.Prelude.{◌≡◌, ℕ, ◌+◌, ◌-◌, ◌*◌, ◌≤◌, ◌<◌, true, nat_eq, if◌then◌else◌, List, length, map, fold, drop, get_or, Option, Some, None}
 use Rattle.std.specs.List.{enumerate_from, list_any}
 use Rattle.line_cost_model.specs.declared.multipliers.Multiplier.{Multiplier}
 use Rattle.line_cost_model.specs.declared.range.LineRange.{LineRange}
@@ -26,7 +26,7 @@ pub record IsPass (problem : ProblemParts) (region : List LineRange) (multiplier
     (value edge : ℕ) : Type 0 where
   pub left_is : left ≡ map (left_of multipliers) problem.lines
   pub value_is : value ≡ bound_by problem region multipliers
-  pub few : value ≤ 5000000000000000000000000000000000000 + edge * 1000000000000000000000
+  pub few : value ≤ 5000000000000000000000000000000000000 + edge * 4294967296000000000000000000
   pub within : are_within problem region multipliers ≡ true
   pub after : IsAfter multipliers edge
   pub rest : multipliers_of problem region ≡ fold (with_next problem region) multipliers

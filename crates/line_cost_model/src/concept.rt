@@ -4,7 +4,7 @@ ghost use Rattle.std.specs.Prelude.{All, IsTrue};
 ghost use Rattle.line_cost_model.specs.Concepts.{IsFeasible, is_feasible, keeps_bounds, cost_of};
 
 use crate::problem::LineProblem;
-use crate::sums::{cost_of, frequency_on};
+use crate::sums::{cost_of, frequency_on, signed};
 
 impl LineProblem {
     /// Whether a concept drives each edge as often as its bounds allow. The concept has a frequency for
@@ -29,7 +29,7 @@ impl LineProblem {
         requires few { All (λ frequency. frequency ≤ 1000) f.now }
         ensures { result ≡ pos (cost_of self.now f.now) }
     {
-        cost_of(self, f) as i128
+        signed(cost_of(self, f))
     }
 }
 

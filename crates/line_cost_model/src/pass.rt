@@ -3,8 +3,8 @@ ghost use Rattle.std.specs.Prelude.{◌≡◌, ◌<◌, ◌+◌, ◌≤◌, List
 ghost use Rattle.std.specs.Prelude.{option_map, IfOk, min, if◌then◌else◌};
 ghost use Rattle.std.specs.Option.{option_map_or};
 ghost use Rattle.line_cost_model.specs.declared.multipliers.Multiplier.{Multiplier};
-ghost use Rattle.line_cost_model.specs.DualBounds.{least_left, left_of, shortfall};
-ghost use Rattle.line_cost_model.specs.Passes.{AreLowered, IsPass};
+ghost use Rattle.line_cost_model.specs.DualBounds.{least_left, left_of, next_multiplier, shortfall};
+ghost use Rattle.line_cost_model.specs.Passes.{AreLowered};
 ghost use Rattle.line_cost_model.specs.Regions.{has_several};
 
 use crate::problem::LineProblem;
@@ -25,8 +25,8 @@ pub(crate) fn costs_of(alloc: Global, problem: &LineProblem) -> Result<Vec<u64>,
     Ok(costs)
 }
 
-/// How many drives the least frequencies of a region leave missing on the edge at an index.
-pub(crate) fn shortfall(problem: &LineProblem, region: &Region, edge: usize) -> u128
+// How many drives the least frequencies of a region leave missing on the edge at an index.
+fn shortfall(problem: &LineProblem, region: &Region, edge: usize) -> u128
     requires there { edge < length problem.now.edges }
     requires each { length region.now ≡ length problem.now.lines }
     ensures shortfall { option_map (shortfall problem.now.lines region.now edge) (slice_get problem.now.edges edge)
@@ -38,8 +38,27 @@ pub(crate) fn shortfall(problem: &LineProblem, region: &Region, edge: usize) -> 
     u128::from(bounds.least).saturating_sub(least)
 }
 
-/// The least that is left of the costs of the open lines over the edge at an index; 0 where there is none.
-pub(crate) fn least_left(problem: &LineProblem, region: &Region, edge: usize, left: &[u64]) -> u64
+/// How many drives are missing on the edge at an index, and its multiplier.
+pub(crate) fn next_multiplier(problem: &LineProblem, region: &Region, edge: usize, left: &[u64]) -> (u128, u64)
+    requires there { edge < length problem.now.edges }
+    requires each { length region.now ≡ length problem.now.lines }
+    requires left { length left.now ≡ length problem.now.lines }
+    ensures shortfall { option_map (shortfall problem.now.lines region.now edge) (slice_get problem.now.edges edge)
+        ≡ Some result.0 }
+    ensures few { result.0 < 4294967296 }
+    ensures amount { (multipliers : List Multiplier) → left.now ≡ map (left_of multipliers) problem.now.lines
+        → option_map (λ at. next_multiplier problem.now region.now multipliers (edge, at))
+            (slice_get problem.now.edges edge) ≡ Some result.1 }
+{
+    let missing = shortfall(problem, region, edge);
+    if missing == 0 {
+        return (missing, 0);
+    }
+    (missing, least_left(problem, region, edge, left))
+}
+
+// The least that is left of the costs of the open lines over the edge at an index; 0 where there is none.
+fn least_left(problem: &LineProblem, region: &Region, edge: usize, left: &[u64]) -> u64
     requires there { edge < length problem.now.edges }
     requires each { length region.now ≡ length problem.now.lines }
     requires left { length left.now ≡ length problem.now.lines }
@@ -71,7 +90,7 @@ fn lesser(least: Option<u64>, range: LineRange, left: u64) -> Option<u64>
 pub(crate) fn take_off(problem: &LineProblem, edge: usize, amount: u64, left: &mut Vec<u64>)
     requires there { edge < length problem.now.edges }
     requires each { vec_len left.old ≡ length problem.now.lines }
-    ensures size { vec_len left.new ≡ vec_len left.old }
+    ensures size { length left.new.items ≡ length left.old.items }
     ensures lowered { AreLowered problem.now.lines edge amount left.old.items left.new.items }
 {
     for line in problem.lines_over(edge) {

@@ -62,3 +62,11 @@ pub(crate) fn least_cost(problem: &LineProblem, region: &Region) -> u128
     }
     sum
 }
+
+/// The same number of millionths with a sign.
+pub(crate) fn signed(millionths: u128) -> i128
+    requires { millionths ≤ 10000000000000000000000000000000000000 }
+    ensures { result ≡ pos millionths }
+{
+    millionths as i128
+}
