@@ -112,8 +112,8 @@ more_driven (line ∷ lines) (range ∷ region) (f ∷ fs) e inside =
     gated true lo f x y h k = omega (arith, h, k)
     gated false lo f x y h k = omega (arith, k)
 
--- the drives that are missing on an edge, and those of the least frequencies, are no more than a feasible
--- concept has
+-- the drives that are missing on an edge, and those of the least frequencies, are no more than a
+-- feasible concept has
 filled : (problem : ProblemParts) (region : List LineRange) (fs : List ℕ) (e : ℕ) → IsFeasible problem fs
     → LiesIn region fs
     → shortfall_at problem region e + frequency_on problem.lines (least_in region) e

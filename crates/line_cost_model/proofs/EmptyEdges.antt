@@ -63,15 +63,15 @@ empty_at lines region edge bounds found is =
           let same : Some side.Over ≡ Some found = sym (ap (λ b. over_or b (nat_lt greatest bounds.least)) over) ∙ is in
           subst (IsEmptyAt lines region edge bounds) (ap (λ o. unwrap_or o found) same) (ltb-true bounds.most least over)
       | inr fits ↦ elim (cases_Bool (nat_lt greatest bounds.least)) [
-          | inl under ↦
-              let same : Some side.Under ≡ Some found =
-                  sym (ap (λ b. over_or b (nat_lt greatest bounds.least)) fits ∙ ap (over_or false) under) ∙ is in
-              subst (IsEmptyAt lines region edge bounds) (ap (λ o. unwrap_or o found) same) (ltb-true greatest bounds.least under)
-          | inr enough ↦
-              let same : None ≡ Some found =
-                  sym (ap (λ b. over_or b (nat_lt greatest bounds.least)) fits ∙ ap (over_or false) enough) ∙ is in
-              absurd (none-some found same)
-        ]
+        | inl under ↦
+            let same : Some side.Under ≡ Some found =
+            sym (ap (λ b. over_or b (nat_lt greatest bounds.least)) fits ∙ ap (over_or false) under) ∙ is in
+            subst (IsEmptyAt lines region edge bounds) (ap (λ o. unwrap_or o found) same) (ltb-true greatest bounds.least under)
+        | inr enough ↦
+            let same : None ≡ Some found =
+            sym (ap (λ b. over_or b (nat_lt greatest bounds.least)) fits ∙ ap (over_or false) enough) ∙ is in
+            absurd (none-some found same)
+      ]
     ]
 
 pub none_feasible : (problem : ProblemParts) (region : List LineRange) (edge : ℕ) (found : Side)

@@ -52,9 +52,12 @@ ids_between edges (line ∷ lines) all =
 
 pub few_lines : (problem : ProblemParts) → IsProblem problem → length problem.lines ≤ 1000000000
 few_lines problem sound =
-    omega (arith, few_between 1 1000000000 (map (λ line. line.id) problem.lines) (omega arith) sound.lines_rise
-    (ids_between (length problem.edges) problem.lines sound.lines),
-    length-map problem.lines (λ line. line.id))
+    omega (
+      arith,
+      few_between 1 1000000000 (map (λ line. line.id) problem.lines) (omega arith) sound.lines_rise
+          (ids_between (length problem.edges) problem.lines sound.lines),
+      length-map problem.lines (λ line. line.id),
+    )
 
 bounded_ids : (edges : List BoundedEdge) → All IsBoundedEdge edges
     → AllByRecursion (LiesBetween 1 1000000000) (map (λ edge. edge.id) edges)
@@ -65,9 +68,12 @@ bounded_ids (edge ∷ edges) all =
 
 pub few_edges : (problem : ProblemParts) → IsProblem problem → length problem.edges ≤ 1000000000
 few_edges problem sound =
-    omega (arith, few_between 1 1000000000 (map (λ edge. edge.id) problem.edges) (omega arith) sound.edges_rise
-    (bounded_ids problem.edges sound.edges),
-    length-map problem.edges (λ edge. edge.id))
+    omega (
+      arith,
+      few_between 1 1000000000 (map (λ edge. edge.id) problem.edges) (omega arith) sound.edges_rise
+          (bounded_ids problem.edges sound.edges),
+      length-map problem.edges (λ edge. edge.id),
+    )
 
 -- ---- costs
 
@@ -83,9 +89,9 @@ there_with lines line cost is =
     → option_map (λ at. at.cost) at ≡ Some cost → (line < length lines) × ((get_or lines line no_line).cost ≡ cost)) [
       | None ↦ λ _ none. absurd (none-some cost none)
       | Some at ↦ λ there same. (
-          slice_get_within lines line at there,
-          ap (λ (at : CostedLine). at.cost) (get_or_from_slice_get lines line at no_line there) ∙ ap (λ o. unwrap_or o 0) same,
-        )
+        slice_get_within lines line at there,
+        ap (λ (at : CostedLine). at.cost) (get_or_from_slice_get lines line at no_line there) ∙ ap (λ o. unwrap_or o 0) same,
+      )
     ] refl is
 
 cheap_line : (problem : ProblemParts) (line cost : ℕ) → IsProblem problem
@@ -115,7 +121,7 @@ cost_more problem fs line cost times same is times_is =
     let all = zip problem.lines fs in
     let both = get_or-zip problem.lines fs line (no_line, 0) at.0 (omega (arith, at.0, same)) in
     let own : term (get_or all line (no_line, 0)) ≡ cost * times =
-        ap term both ∙ ap (λ c. c * get_or fs line 0) at.1 ∙ ap (λ f. cost * f) (sym times_is) in
+    ap term both ∙ ap (λ c. c * get_or fs line 0) at.1 ∙ ap (λ f. cost * f) (sym times_is) in
     ap (sum_by term) (take_more all line (no_line, 0) (omega (arith, at.0, same, length-zip problem.lines fs)))
     ∙ sum_by-append term (take line all) (get_or all line (no_line, 0) ∷ [])
     ∙ ap (λ more. cost_up_to problem fs line + more) (omega (arith, own))

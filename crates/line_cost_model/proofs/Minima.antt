@@ -18,8 +18,8 @@ pub most_more : (all : List BoundedEdge) (edges : List ℕ) (i : ℕ) (least aft
 most_more all edges i least after bounds h there so_far is =
     let some = filter_map (most_on all) (take i edges) in
     let shown : filter_map (most_on all) (take (i + 1) edges) ≡ some ++ bounds.most ∷ [] =
-        ap (filter_map (most_on all)) (take_more edges i 0 h) ∙ filter_map-append (most_on all) (take i edges) (get_or edges i 0 ∷ [])
-        ∙ ap (λ (at : Option BoundedEdge). some ++ cons_option (option_map (λ at. at.most) at) []) there in
+    ap (filter_map (most_on all)) (take_more edges i 0 h) ∙ filter_map-append (most_on all) (take i edges) (get_or edges i 0 ∷ [])
+    ∙ ap (λ (at : Option BoundedEdge). some ++ cons_option (option_map (λ at. at.most) at) []) there in
     is ∙ ap (λ o. Some (option_map_or (λ some. min some bounds.most) o bounds.most)) so_far ∙ sym (reduce_push some bounds.most) ∙ sym (ap (reduce min) shown)
 
 pub most_all : (all : List BoundedEdge) (edges : List ℕ) (i : ℕ) → length edges ≤ i → reduce min (filter_map (most_on all) (take i edges)) ≡ reduce min (filter_map (most_on all) edges)

@@ -154,5 +154,5 @@ pub pass_last : (problem : ProblemParts) (region : List LineRange) (multipliers 
     → (multipliers ≡ multipliers_of problem region) × (value ≡ dual_bound problem region)
 pass_last problem region multipliers left value edge pass past =
     let all : multipliers ≡ multipliers_of problem region =
-        sym (pass.rest ∙ ap (fold (with_next problem region) multipliers) (left_none problem.edges edge past)) in
+    sym (pass.rest ∙ ap (fold (with_next problem region) multipliers) (left_none problem.edges edge past)) in
     (all, pass.value_is ∙ ap (bound_by problem region) all)

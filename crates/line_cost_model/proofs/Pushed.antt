@@ -187,9 +187,11 @@ taken_more edges line before one now after size taken there is put edge h =
     either : (b : Bool) → (cond b (crossed_at edges line one.edge) (edge_at edges one.edge)).bounds ≡ (edge_at edges one.edge).bounds
     either true = refl
     either false = refl
+
     or_true : (b : Bool) → (b || true) ≡ true
     or_true true = refl
     or_true false = refl
+
     or_false : (b : Bool) → (b || false) ≡ b
     or_false true = refl
     or_false false = refl

@@ -115,7 +115,8 @@ shared = refl
 
 -- ---- the order
 
--- two lines of equal cost: the concept with the lesser frequency of the line of lesser id comes first
+-- two lines of equal cost: the concept with the lesser frequency of the line of lesser id comes
+-- first
 abbrev equal : ProblemParts
 equal = record { edges = edge 1 1 1 ∷ []; lines = line 1 5000000 (0 ∷ []) ∷ line 2 5000000 (0 ∷ []) ∷ [] }
 

@@ -34,7 +34,7 @@ taken_more : (multipliers : List Multiplier) (edge amount : ℕ) (line : CostedL
     ≡ taken_off multipliers line + cond (goes_over edge line) amount 0
 taken_more multipliers edge amount line =
     let more = sum_by-append (λ (multiplier : Multiplier). if goes_over multiplier.edge line then multiplier.amount else 0)
-        multipliers (record { edge = edge; amount = amount } ∷ []) in
+    multipliers (record { edge = edge; amount = amount } ∷ []) in
     omega (arith, more)
 
 -- a line pays for what is left of its cost
@@ -61,7 +61,7 @@ paid_more multipliers edge amount (line ∷ lines) paid left =
     let parts = and_parts (is_paid multipliers line) (list_all (is_paid multipliers) lines) paid in
     let over = first_over (goes_over edge line) (λ line. amount ≤ left_of multipliers line) line (filter (goes_over edge) lines) left in
     let own = pays_more (goes_over edge line) (taken_off multipliers line) line.cost amount
-        (leb-true (taken_off multipliers line) line.cost parts.0) over.0 in
+    (leb-true (taken_off multipliers line) line.cost parts.0) over.0 in
     let more = taken_more multipliers edge amount line in
     rw (le-leb (taken_off (multipliers ++ record { edge = edge; amount = amount } ∷ []) line) line.cost (omega (arith, own, more)))
     (paid_more multipliers edge amount lines parts.1 over.1)

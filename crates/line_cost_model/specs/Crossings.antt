@@ -1,4 +1,5 @@
--- Inner words: the lines over each edge. A reader of the contracts of this crate needs none of them.
+-- Inner words: the lines over each edge. A reader of the contracts of this crate needs none of
+-- them.
 use Rattle.std.specs.Prelude.{◌≡◌, ℕ, pos, ◌<◌, nat_eq, if◌then◌else◌, List, [], ◌∷◌, ◌++◌, length, map, filter, slice_get, slice_index_or, Some, All}
 use Rattle.std.specs.List.{enumerate_from, list_any}
 use Rattle.line_cost_model.specs.declared.edge.BoundedEdge.{BoundedEdge}
@@ -38,11 +39,11 @@ crossed_at edges line edge =
 abbrev pub AreLonger : List CrossedEdge → ℕ → List Longer → Type 0
 AreLonger edges line longer =
     All (λ one. (one.edge < length edges)
-        × (one.lines.items ≡ (edge_at edges one.edge).lines ++ line ∷ [])) longer
+    × (one.lines.items ≡ (edge_at edges one.edge).lines ++ line ∷ [])) longer
 
 -- the edges that have such a list have it now, and the others are as before
 abbrev pub AreTaken : List CrossedEdge → ℕ → List Longer → List CrossedEdge → Type 0
 AreTaken edges line longer after =
     (edge : ℕ) → edge < length edges → edge_at after edge
-        ≡ (if list_any (λ one. nat_eq edge one.edge) longer then crossed_at edges line edge
-        else edge_at edges edge)
+    ≡ (if list_any (λ one. nat_eq edge one.edge) longer then crossed_at edges line edge
+    else edge_at edges edge)

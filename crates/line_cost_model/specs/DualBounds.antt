@@ -8,8 +8,8 @@ use Rattle.line_cost_model.specs.Problems.{CostedLine, ProblemParts}
 use Rattle.line_cost_model.specs.Concepts.{IsFeasible, goes_over, frequency_on, cost_of}
 use Rattle.line_cost_model.specs.Regions.{LiesIn, has_several, least_in}
 
--- how many drives over an edge the least frequencies of a region fall short of its minimal frequency; none
--- where they are enough
+-- how many drives over an edge the least frequencies of a region fall short of its minimal
+-- frequency; none where they are enough
 abbrev pub shortfall : List CostedLine → List LineRange → ℕ → BoundedEdge → ℕ
 shortfall lines region edge bounds = bounds.least - frequency_on lines (least_in region) edge
 
@@ -26,7 +26,8 @@ taken_off multipliers line =
 abbrev pub left_of : List Multiplier → CostedLine → ℕ
 left_of multipliers line = line.cost - taken_off multipliers line
 
--- multipliers are within the costs of the lines that are open: they take off none of them more than it costs
+-- multipliers are within the costs of the lines that are open: they take off none of them more than
+-- it costs
 abbrev pub are_within : ProblemParts → List LineRange → List Multiplier → Bool
 are_within problem region multipliers =
     list_all (λ line. nat_le (taken_off multipliers line) line.cost) (open_lines problem.lines region)
@@ -36,8 +37,8 @@ abbrev pub shortfall_at : ProblemParts → List LineRange → ℕ → ℕ
 shortfall_at problem region edge =
     unwrap_or (option_map (shortfall problem.lines region edge) (slice_get problem.edges edge)) 0
 
--- what multipliers prove: the cost of the least frequencies, and for each drive that is missing on an edge
--- its multiplier
+-- what multipliers prove: the cost of the least frequencies, and for each drive that is missing on
+-- an edge its multiplier
 unfoldable pub bound_by : ProblemParts → List LineRange → List Multiplier → ℕ
 bound_by problem region multipliers =
     cost_of problem (least_in region)
@@ -52,8 +53,8 @@ abbrev pub least_left : ProblemParts → List LineRange → List Multiplier → 
 least_left problem region before edge =
     unwrap_or (reduce min (map (left_of before) (open_over problem region edge))) 0
 
--- the multiplier of an edge behind those of the edges before it: where drives are missing, the least that
--- is left of the costs of the open lines over it
+-- the multiplier of an edge behind those of the edges before it: where drives are missing, the
+-- least that is left of the costs of the open lines over it
 abbrev pub next_multiplier : ProblemParts → List LineRange → List Multiplier → ℕ × BoundedEdge → ℕ
 next_multiplier problem region before at =
     if nat_lt 0 (shortfall problem.lines region at.0 at.1) then least_left problem region before at.0 else 0

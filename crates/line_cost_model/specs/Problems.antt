@@ -27,8 +27,8 @@ pub record IsBoundedEdge (edge : BoundedEdge) : Type 0 where
   pub in_order : edge.least ≤ edge.most
   pub few : edge.most ≤ 1000
 
--- a line over so many edges: it goes over one of them at least and over none twice, and its cost is not
--- too great
+-- a line over so many edges: it goes over one of them at least and over none twice, and its cost is
+-- not too great
 pub record IsCostedLine (edges : ℕ) (line : CostedLine) : Type 0 where
   pub id : IsId line.id
   pub cheap : line.cost ≤ 1000000000000000000

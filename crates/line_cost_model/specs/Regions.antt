@@ -47,12 +47,13 @@ concept_count (range ∷ region) = (range.hi + 1 - range.lo) * concept_count reg
 abbrev pub most_on : List BoundedEdge → ℕ → Option ℕ
 most_on edges edge = option_map (λ at. at.most) (slice_get edges edge)
 
--- the greatest frequency that its edges leave a line: the least of the maximal frequencies of its edges
+-- the greatest frequency that its edges leave a line: the least of the maximal frequencies of its
+-- edges
 abbrev pub most_of : List BoundedEdge → CostedLine → ℕ
 most_of edges line = unwrap_or (reduce min (filter_map (most_on edges) line.edges)) 0
 
--- the region with all feasible concepts: each line has a frequency from 0 to the greatest that its edges
--- leave it
+-- the region with all feasible concepts: each line has a frequency from 0 to the greatest that its
+-- edges leave it
 abbrev pub root_of : ProblemParts → List LineRange
 root_of problem = map (λ line. record { lo = 0; hi = most_of problem.edges line }) problem.lines
 
@@ -71,7 +72,8 @@ part_up_to region line at = with_range region line (range_of region line).lo at
 abbrev pub part_from : List LineRange → ℕ → ℕ → List LineRange
 part_from region line from = with_range region line from (range_of region line).hi
 
--- an edge is driven too often by the least frequencies of a region, or not often enough by the greatest
+-- an edge is driven too often by the least frequencies of a region, or not often enough by the
+-- greatest
 abbrev pub IsEmptyAt : List CostedLine → List LineRange → ℕ → BoundedEdge → Side → Type 0
 IsEmptyAt lines region edge bounds side.Over = bounds.most < frequency_on lines (least_in region) edge
 IsEmptyAt lines region edge bounds side.Under = frequency_on lines (greatest_in region) edge < bounds.least

@@ -1,6 +1,7 @@
 // Dual bounds.
 ghost use Rattle.std.specs.Prelude.{◌≡◌, pos, length, IfOk, true};
-ghost use Rattle.line_cost_model.specs.DualBounds.{CostsAtLeastIn, are_within, dual_bound, multipliers_of};
+ghost use Rattle.line_cost_model.specs.DualBounds.{CostsAtLeastIn, are_within, dual_bound};
+ghost use Rattle.line_cost_model.specs.DualBounds.{multipliers_of};
 
 use crate::multipliers::Multipliers;
 use crate::pass::{costs_of, next_multiplier, take_off};
@@ -18,15 +19,18 @@ pub struct Bound {
 }
 
 impl LineProblem {
-    /// What each feasible concept of a region costs at least, edge by edge: where drives are missing on an edge, its
-    /// multiplier is the least that the multipliers before leave of the costs of the open lines over it. The region
-    /// has a range for each line.
+    /// What each feasible concept of a region costs at least, edge by edge: where drives are
+    /// missing on an edge, its multiplier is the least that the multipliers before leave of the
+    /// costs of the open lines over it. The region has a range for each line.
     pub fn dual_bound(&self, alloc: Global, region: &Region) -> Result<Bound, NoMemory>
         requires { length region.now ≡ length self.now.lines }
         ensures value { IfOk result (λ bound. bound.value ≡ pos (dual_bound self.now region.now)) }
-        ensures multipliers { IfOk result (λ bound. bound.multipliers ≡ multipliers_of self.now region.now) }
-        ensures within { IfOk result (λ bound. are_within self.now region.now bound.multipliers ≡ true) }
-        ensures least { IfOk result (λ _. CostsAtLeastIn self.now region.now (dual_bound self.now region.now)) }
+        ensures multipliers { IfOk result
+            (λ bound. bound.multipliers ≡ multipliers_of self.now region.now) }
+        ensures within { IfOk result
+            (λ bound. are_within self.now region.now bound.multipliers ≡ true) }
+        ensures least { IfOk result
+            (λ _. CostsAtLeastIn self.now region.now (dual_bound self.now region.now)) }
     {
         let mut left = costs_of(alloc, self)?;
         let mut multipliers = Multipliers::new(alloc);

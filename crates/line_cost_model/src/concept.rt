@@ -7,8 +7,8 @@ use crate::problem::LineProblem;
 use crate::sums::{cost_of, frequency_on, signed};
 
 impl LineProblem {
-    /// Whether a concept drives each edge as often as its bounds allow. The concept has a frequency for
-    /// each line.
+    /// Whether a concept drives each edge as often as its bounds allow. The concept has a frequency
+    /// for each line.
     pub fn is_feasible(&self, f: &[u32]) -> bool
         requires each { length f.now ≡ length self.now.lines }
         requires few { All (λ frequency. frequency ≤ 1000) f.now }
@@ -37,8 +37,8 @@ impl LineProblem {
 fn keeps_bounds(problem: &LineProblem, f: &[u32], edge: usize) -> bool
     requires there { edge < length problem.now.edges }
     requires each { length f.now ≡ length problem.now.lines }
-    ensures { option_map (λ at. keeps_bounds problem.now.lines f.now (edge, at)) (slice_get problem.now.edges edge)
-        ≡ Some result }
+    ensures { option_map (λ at. keeps_bounds problem.now.lines f.now (edge, at))
+        (slice_get problem.now.edges edge) ≡ Some result }
 {
     let bounds = problem.bounds_of(edge);
     let driven = frequency_on(problem, f, edge);

@@ -13,7 +13,8 @@ pub(crate) struct BoundedEdge {
     pub(crate) most: u32,
 }
 
-/// An edge with its bounds, and the indexes of the lines over it, rising. Contracts see it as these.
+/// An edge with its bounds, and the indexes of the lines over it, rising. Contracts see it as
+/// these.
 #[derive(Debug, Drop)]
 pub(crate) struct CrossedEdge {
     bounds: BoundedEdge,

@@ -8,8 +8,9 @@ use crate::side::Side;
 use crate::sums::ends_on;
 
 impl LineProblem {
-    /// The first edge that shows that a region has no feasible concept, and how: its least frequencies drive
-    /// it too often, or its greatest ones not often enough. The region has a range for each line.
+    /// The first edge that shows that a region has no feasible concept, and how: its least
+    /// frequencies drive it too often, or its greatest ones not often enough. The region has a
+    /// range for each line.
     pub fn empty_edge(&self, region: &Region) -> Option<(usize, Side)>
         requires { length region.now ≡ length self.now.lines }
         ensures first { result ≡ empty_edge self.now region.now }
@@ -28,8 +29,8 @@ impl LineProblem {
 fn empty_side(problem: &LineProblem, region: &Region, edge: usize) -> Option<Side>
     requires there { edge < length problem.now.edges }
     requires each { length region.now ≡ length problem.now.lines }
-    ensures { option_map (empty_side problem.now.lines region.now edge) (slice_get problem.now.edges edge)
-        ≡ Some result }
+    ensures { option_map (empty_side problem.now.lines region.now edge)
+        (slice_get problem.now.edges edge) ≡ Some result }
 {
     let bounds = problem.bounds_of(edge);
     let (least, greatest) = ends_on(problem, region, edge);

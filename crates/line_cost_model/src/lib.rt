@@ -1,5 +1,6 @@
 //! The cost model of line planning: which frequencies of lines are feasible, what they cost, and
-//! what a region of them costs at least. After Schöbel, Line planning in public transportation (2012).
+//! what a region of them costs at least. After Schöbel, Line planning in public transportation
+//! (2012).
 #![tactic(auto)]
 
 mod bound;

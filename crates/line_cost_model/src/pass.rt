@@ -1,5 +1,5 @@
 // The pass over the edges that finds their multipliers.
-ghost use Rattle.std.specs.Prelude.{◌≡◌, ◌<◌, ◌+◌, ◌≤◌, List, length, map, slice_get, vec_len, Some};
+ghost use Rattle.std.specs.Prelude.{◌≡◌, ◌<◌, List, length, map, slice_get, vec_len, Some};
 ghost use Rattle.std.specs.Prelude.{option_map, IfOk, min, if◌then◌else◌};
 ghost use Rattle.std.specs.Option.{option_map_or};
 ghost use Rattle.line_cost_model.specs.declared.multipliers.Multiplier.{Multiplier};
@@ -29,8 +29,8 @@ pub(crate) fn costs_of(alloc: Global, problem: &LineProblem) -> Result<Vec<u64>,
 fn shortfall(problem: &LineProblem, region: &Region, edge: usize) -> u128
     requires there { edge < length problem.now.edges }
     requires each { length region.now ≡ length problem.now.lines }
-    ensures shortfall { option_map (shortfall problem.now.lines region.now edge) (slice_get problem.now.edges edge)
-        ≡ Some result }
+    ensures shortfall { option_map (shortfall problem.now.lines region.now edge)
+        (slice_get problem.now.edges edge) ≡ Some result }
     ensures few { result < 4294967296 }
 {
     let bounds = problem.bounds_of(edge);
@@ -39,16 +39,22 @@ fn shortfall(problem: &LineProblem, region: &Region, edge: usize) -> u128
 }
 
 /// How many drives are missing on the edge at an index, and its multiplier.
-pub(crate) fn next_multiplier(problem: &LineProblem, region: &Region, edge: usize, left: &[u64]) -> (u128, u64)
+pub(crate) fn next_multiplier(
+    problem: &LineProblem,
+    region: &Region,
+    edge: usize,
+    left: &[u64],
+) -> (u128, u64)
     requires there { edge < length problem.now.edges }
     requires each { length region.now ≡ length problem.now.lines }
     requires left { length left.now ≡ length problem.now.lines }
-    ensures shortfall { option_map (shortfall problem.now.lines region.now edge) (slice_get problem.now.edges edge)
-        ≡ Some result.0 }
+    ensures shortfall { option_map (shortfall problem.now.lines region.now edge)
+        (slice_get problem.now.edges edge) ≡ Some result.0 }
     ensures few { result.0 < 4294967296 }
-    ensures amount { (multipliers : List Multiplier) → left.now ≡ map (left_of multipliers) problem.now.lines
+    ensures amount { (multipliers : List Multiplier)
+        → left.now ≡ map (left_of multipliers) problem.now.lines
         → option_map (λ at. next_multiplier problem.now region.now multipliers (edge, at))
-            (slice_get problem.now.edges edge) ≡ Some result.1 }
+        (slice_get problem.now.edges edge) ≡ Some result.1 }
 {
     let missing = shortfall(problem, region, edge);
     if missing == 0 {
@@ -57,12 +63,14 @@ pub(crate) fn next_multiplier(problem: &LineProblem, region: &Region, edge: usiz
     (missing, least_left(problem, region, edge, left))
 }
 
-// The least that is left of the costs of the open lines over the edge at an index; 0 where there is none.
+// The least that is left of the costs of the open lines over the edge at an index; 0 where there is
+// none.
 fn least_left(problem: &LineProblem, region: &Region, edge: usize, left: &[u64]) -> u64
     requires there { edge < length problem.now.edges }
     requires each { length region.now ≡ length problem.now.lines }
     requires left { length left.now ≡ length problem.now.lines }
-    ensures { (multipliers : List Multiplier) → left.now ≡ map (left_of multipliers) problem.now.lines
+    ensures { (multipliers : List Multiplier)
+        → left.now ≡ map (left_of multipliers) problem.now.lines
         → result ≡ least_left problem.now region.now multipliers edge }
 {
     let ranges = region.ranges();
@@ -75,7 +83,8 @@ fn least_left(problem: &LineProblem, region: &Region, edge: usize, left: &[u64])
 
 // The lesser of two costs, where there is a first one and the second is that of an open line.
 fn lesser(least: Option<u64>, range: LineRange, left: u64) -> Option<u64>
-    ensures { result ≡ if has_several range then Some (option_map_or (λ some. min some left) least left) else least }
+    ensures { result ≡ if has_several range
+        then Some (option_map_or (λ some. min some left) least left) else least }
 {
     if range.lo >= range.hi {
         return least;

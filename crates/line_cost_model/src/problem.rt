@@ -31,12 +31,14 @@ impl Model for LineProblem {
     ghost Value = { ProblemParts };
 
     ghost view = { λ problem. record {
-        edges = map (λ at. at.bounds) problem.edges.items;
-        lines = problem.lines.items } };
+      edges = map (λ at. at.bounds) problem.edges.items;
+      lines = problem.lines.items;
+    } };
 
     ghost invariant = { λ problem. IsProblem (record {
-        edges = map (λ at. at.bounds) problem.edges.items;
-        lines = problem.lines.items }) × AreCrossed problem.lines.items problem.edges.items };
+      edges = map (λ at. at.bounds) problem.edges.items;
+      lines = problem.lines.items;
+    }) × AreCrossed problem.lines.items problem.edges.items };
 }
 
 impl LineProblem {
@@ -57,7 +59,8 @@ impl LineProblem {
         requires rising { All (λ edge. edge.id <ℤ id) self.old.edges }
         requires no_line { self.old.lines ≡ [] }
         ensures ok { OnOk result (self.new ≡ record self.old {
-            edges = self.old.edges ++ record { id = id; least = least; most = most } ∷ [] }) }
+          edges = self.old.edges ++ record { id = id; least = least; most = most } ∷ [];
+        }) }
         ensures err { OnErr result (self.new ≡ self.old) }
     {
         let bounds = BoundedEdge { id, least, most };
@@ -71,8 +74,10 @@ impl LineProblem {
         requires line { IsCostedLine (length self.old.edges)
             (record { id = id; cost = unsigned_abs cost; edges = edges.now }) }
         requires rising { All (λ line. line.id <ℤ id) self.old.lines }
-        ensures ok { OnOk result (self.new ≡ record self.old { lines = self.old.lines
-            ++ record { id = id; cost = unsigned_abs cost; edges = edges.now } ∷ [] }) }
+        ensures ok { OnOk result (self.new ≡ record self.old {
+          lines = self.old.lines
+              ++ record { id = id; cost = unsigned_abs cost; edges = edges.now } ∷ [];
+        }) }
         ensures err { OnErr result (self.new ≡ self.old) }
     {
         let line = Line::new(id, cost.unsigned_abs(), Vec::from_slice(self.alloc, edges)?);
@@ -146,7 +151,8 @@ impl LineProblem {
     /// The greatest frequency that its edges leave the line at an index.
     pub(crate) fn most_of_line(&self, line: usize) -> u32
         requires { line < length self.now.lines }
-        ensures { option_map (most_of self.now.edges) (slice_get self.now.lines line) ≡ Some result }
+        ensures { option_map (most_of self.now.edges) (slice_get self.now.lines line)
+            ≡ Some result }
     {
         self.least_most(self.lines[line].edges())
     }

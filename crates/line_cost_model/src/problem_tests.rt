@@ -1,12 +1,14 @@
-// Line problems: which concepts are feasible, what they cost, and what regions of them cost at least.
+// Line problems: which concepts are feasible, what they cost, and what regions of them cost at
+// least.
 ghost use Rattle.std.specs.Prelude.{◌≡◌, ◌<◌, ◌≤◌, length, IfOk};
+
 use crate::{LineProblem, Multipliers, Region, Side};
 use plan_num::NoMemory;
 use std::alloc::Global;
 use std::test::Fail;
 
-// Two edges in a row, from 2 and from `least` to `most` drives. Line 1 goes over both and costs 15, line 2 goes over the
-// first and costs 12.
+// Two edges in a row, from 2 and from `least` to `most` drives. Line 1 goes over both and costs 15,
+// line 2 goes over the first and costs 12.
 fn two_edges(alloc: Global, least: u32, most: u32) -> Result<LineProblem, NoMemory>
     requires in_order { least ≤ most }
     requires several { 2 ≤ most }

@@ -69,7 +69,8 @@ impl Region {
         requires few { hi ≤ 1000 }
         ensures { self.new ≡ with_range self.old line lo hi }
     {
-        self.ranges[line] = LineRange { lo, hi };
+        let range = LineRange { lo, hi };
+        self.ranges[line] = range;
     }
 
     /// A region with the same ranges.

@@ -23,8 +23,10 @@ pub(crate) fn frequency_on(problem: &LineProblem, frequencies: &[u32], edge: usi
 pub(crate) fn ends_on(problem: &LineProblem, region: &Region, edge: usize) -> (u128, u128)
     requires there { edge < length problem.now.edges }
     requires each { length region.now ≡ length problem.now.lines }
-    ensures { result ≡ (frequency_on problem.now.lines (least_in region.now) edge,
-        frequency_on problem.now.lines (greatest_in region.now) edge) }
+    ensures { result ≡ (
+      frequency_on problem.now.lines (least_in region.now) edge,
+      frequency_on problem.now.lines (greatest_in region.now) edge,
+    ) }
 {
     let ranges = region.ranges();
     let mut least = 0u128;

@@ -15,9 +15,10 @@ overflow_add-sum c = record { fits = omega (arith, c.loop-line.invariant.1, litt
 pub loop-line-preserved : goal.loop-line-preserved
 loop-line-preserved c =
     let more = cost_more c.args.problem.now c.args.frequencies.now c.loop-line.line c.from.result c.from-in-loop-line.result
-        c.requires.each (c.cost_of_line.ensures ∙ ap Some (sym c.from.ensures)) c.from-in-loop-line.ensures in
-    (ap (λ sum. sum + c.from.result * c.from-in-loop-line.result) c.loop-line.invariant.0 ∙ sym more,
-    omega (arith, c.loop-line.invariant.1, little c))
+    c.requires.each (c.cost_of_line.ensures ∙ ap Some (sym c.from.ensures)) c.from-in-loop-line.ensures in (
+      ap (λ sum. sum + c.from.result * c.from-in-loop-line.result) c.loop-line.invariant.0 ∙ sym more,
+      omega (arith, c.loop-line.invariant.1, little c),
+    )
 
 pub returns-clause-cost : goal.returns-clause-cost
 returns-clause-cost c =
@@ -26,5 +27,10 @@ returns-clause-cost c =
 
 pub returns-clause-few : goal.returns-clause-few
 returns-clause-few c =
-    omega (arith, c.loop-line.invariant.1, c.loop-line.auto.line-end, c.line_count-line-end.ensures.count,
-    few_lines c.args.problem.now c.line_count-line-end.ensures.sound)
+    omega (
+      arith,
+      c.loop-line.invariant.1,
+      c.loop-line.auto.line-end,
+      c.line_count-line-end.ensures.count,
+      few_lines c.args.problem.now c.line_count-line-end.ensures.sound,
+    )

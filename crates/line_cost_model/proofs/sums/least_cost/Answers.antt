@@ -16,9 +16,9 @@ within c = omega (arith, c.loop-line-test.true, c.line_count-line-end.ensures.co
 few : (c : goal.After-from-in-loop-line) → c.from-in-loop-line.result < 4294967296
 few c =
     let sound : All IsRange c.ranges-ranges.result.now =
-        subst (λ (ranges : List LineRange). All IsRange ranges) (sym c.ranges-ranges.ensures.ranges) c.ranges-ranges.ensures.sound in
+    subst (λ (ranges : List LineRange). All IsRange ranges) (sym c.ranges-ranges.ensures.ranges) c.ranges-ranges.ensures.sound in
     let range : IsRange (slice_index_or c.ranges-ranges.result.now c.loop-line.line (record { lo = 0; hi = 0 })) =
-        sound c.loop-line.line (record { lo = 0; hi = 0 }) (within c) in
+    sound c.loop-line.line (record { lo = 0; hi = 0 }) (within c) in
     omega (arith, c.from-in-loop-line.ensures, range.in_order, range.few)
 
 little : (c : goal.After-from-in-loop-line) → c.from.result * c.from-in-loop-line.result ≤ 4294967296000000000000000000
@@ -34,10 +34,11 @@ loop-line-preserved c =
     let ranges : List LineRange = c.ranges-ranges.result.now in
     let lo = get_or-map (λ (range : LineRange). range.lo) ranges c.loop-line.line (record { lo = 0; hi = 0 }) 0 (within c) in
     let more = cost_more c.args.problem.now (least_in ranges) c.loop-line.line c.from.result c.from-in-loop-line.result
-        (length-map ranges (λ range. range.lo) ∙ each c) (c.cost_of_line.ensures ∙ ap Some (sym c.from.ensures))
-        (c.from-in-loop-line.ensures ∙ sym lo) in
-    (ap (λ sum. sum + c.from.result * c.from-in-loop-line.result) c.loop-line.invariant.0 ∙ sym more,
-    omega (arith, c.loop-line.invariant.1, little c))
+    (length-map ranges (λ range. range.lo) ∙ each c) (c.cost_of_line.ensures ∙ ap Some (sym c.from.ensures))
+    (c.from-in-loop-line.ensures ∙ sym lo) in (
+      ap (λ sum. sum + c.from.result * c.from-in-loop-line.result) c.loop-line.invariant.0 ∙ sym more,
+      omega (arith, c.loop-line.invariant.1, little c),
+    )
 
 pub returns-clause-cost : goal.returns-clause-cost
 returns-clause-cost c =
@@ -49,5 +50,10 @@ returns-clause-cost c =
 
 pub returns-clause-few : goal.returns-clause-few
 returns-clause-few c =
-    omega (arith, c.loop-line.invariant.1, c.loop-line.auto.line-end, c.line_count-line-end.ensures.count,
-    few_lines c.args.problem.now c.line_count-line-end.ensures.sound)
+    omega (
+      arith,
+      c.loop-line.invariant.1,
+      c.loop-line.auto.line-end,
+      c.line_count-line-end.ensures.count,
+      few_lines c.args.problem.now c.line_count-line-end.ensures.sound,
+    )

@@ -38,9 +38,11 @@ little c =
     (next.ensures.amount c.loop-edge.multipliers (c.deref.ensures.value ∙ c.loop-edge.invariant.left_is)) c.if-amount-eq0.false next.ensures.few)
 
 pub overflow_add-value : goal.overflow_add-value
-overflow_add-value c = record { fits =
-    let few = c.loop-edge.invariant.few in
-    omega (arith, few, little c, c.loop-edge-test.true, c.edge_count-edge-end.ensures.count, few_edges c.args.self.now c.edge_count-edge-end.ensures.sound) }
+overflow_add-value c = record {
+  fits =
+      let few = c.loop-edge.invariant.few in
+      omega (arith, few, little c, c.loop-edge-test.true, c.edge_count-edge-end.ensures.count, few_edges c.args.self.now c.edge_count-edge-end.ensures.sound);
+}
 
 pub loop-edge-preserved : goal.loop-edge-preserved
 loop-edge-preserved c =
@@ -48,10 +50,10 @@ loop-edge-preserved c =
     let multipliers = c.loop-edge.multipliers in
     let more : List Multiplier = multipliers ++ record { edge = c.loop-edge.edge; amount = next.result.1 } ∷ [] in
     let lowered = pass_some c.args.self.now c.args.region.now multipliers c.loop-edge.edge next.result.0 next.result.1
-        c.edge_count-edge-end.ensures.sound next.ensures.shortfall
-        (next.ensures.amount multipliers (c.deref.ensures.value ∙ c.loop-edge.invariant.left_is)) c.if-amount-eq0.false
-        c.loop-edge.left.items c.take_off.new.left.items c.loop-edge.value next.ensures.few c.loop-edge.invariant
-        c.take_off.ensures.size c.take_off.ensures.lowered in
+    c.edge_count-edge-end.ensures.sound next.ensures.shortfall
+    (next.ensures.amount multipliers (c.deref.ensures.value ∙ c.loop-edge.invariant.left_is)) c.if-amount-eq0.false
+    c.loop-edge.left.items c.take_off.new.left.items c.loop-edge.value next.ensures.few c.loop-edge.invariant
+    c.take_off.ensures.size c.take_off.ensures.lowered in
     subst (λ (multipliers : List Multiplier). IsPass c.args.self.now c.args.region.now multipliers c.take_off.new.left.items
     (c.loop-edge.value + c.from.result * next.result.0) (c.loop-edge.edge + 1)) (sym c.in_ok-push_amount.ensures.ok)
     (subst (λ (amount : ℕ). IsPass c.args.self.now c.args.region.now more c.take_off.new.left.items
@@ -65,7 +67,7 @@ signed-requires c =
 pub returns-clause-value : goal.returns-clause-value
 returns-clause-value c =
     let last = pass_last c.args.self.now c.args.region.now c.loop-edge.multipliers c.loop-edge.left.items c.loop-edge.value c.loop-edge.edge
-        c.loop-edge.invariant (omega (arith, c.loop-edge-test.false, c.edge_count-edge-end.ensures.count)) in
+    c.loop-edge.invariant (omega (arith, c.loop-edge-test.false, c.edge_count-edge-end.ensures.count)) in
     to_z-of_z w128 c.signed.result (record { sfits = c.signed.type_inv }) ∙ c.signed.ensures ∙ ap pos last.1
 
 pub returns-clause-multipliers : goal.returns-clause-multipliers
@@ -76,6 +78,6 @@ returns-clause-multipliers c =
 pub returns-clause-least : goal.returns-clause-least
 returns-clause-least c =
     let last = pass_last c.args.self.now c.args.region.now c.loop-edge.multipliers c.loop-edge.left.items c.loop-edge.value c.loop-edge.edge
-        c.loop-edge.invariant (omega (arith, c.loop-edge-test.false, c.edge_count-edge-end.ensures.count)) in
+    c.loop-edge.invariant (omega (arith, c.loop-edge-test.false, c.edge_count-edge-end.ensures.count)) in
     bound_is_least c.args.self.now c.args.region.now (multipliers_of c.args.self.now c.args.region.now)
     (subst (λ (multipliers : List Multiplier). are_within c.args.self.now c.args.region.now multipliers ≡ true) last.0 c.loop-edge.invariant.within)
