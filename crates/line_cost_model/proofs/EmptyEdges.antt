@@ -1,0 +1,86 @@
+-- The first edge that shows that a region has no feasible concept.
+use Rattle.std.proofs.Common.{◌≡◌, ℕ, ◌+◌, ◌≤◌, Bool, false, if◌then◌else◌, nat_lt, List, length, filter_map, slice_get, Some, None, Option, option_map, unwrap_or, refl, ap, ◌∙◌, inl, inr, sym, subst}
+use Rattle.std.specs.List.{cons_option}
+use Rattle.std.proofs.lemmas.Bool.{ltb-true, cases_Bool}
+use Rattle.std.proofs.lemmas.Option.{none-some}
+use Rattle.line_cost_model.specs.declared.edge.BoundedEdge.{BoundedEdge}
+use Rattle.line_cost_model.specs.declared.range.LineRange.{LineRange}
+use Rattle.line_cost_model.specs.declared.side.Side.{Side}
+use Rattle.line_cost_model.specs.declared.side.Side.TheVariants as side
+use Rattle.line_cost_model.specs.Problems.{CostedLine, ProblemParts}
+use Rattle.line_cost_model.specs.Concepts.{frequency_on}
+use Rattle.line_cost_model.specs.Regions.{HasNoFeasible, IsEmptyAt, empty_edge, empty_side, least_in, greatest_in}
+use Rattle.line_cost_model.proofs.Duality.{empty_is_none}
+use Rattle.line_cost_model.proofs.Feasible.{left_from, left_more, left_none}
+
+-- the sides of the edges that are left
+abbrev sides_from : ProblemParts → List LineRange → ℕ → List (ℕ × Side)
+sides_from problem region edge =
+    filter_map (λ at. option_map (λ side. (at.0, side)) (empty_side problem.lines region at.0 at.1)) (left_from problem.edges edge)
+
+-- the first of them
+abbrev pub first_from : ProblemParts → List LineRange → ℕ → Option (ℕ × Side)
+first_from problem region edge = slice_get (sides_from problem region edge) 0
+
+sides_more : (problem : ProblemParts) (region : List LineRange) (edge : ℕ) (found : Option Side)
+    → option_map (empty_side problem.lines region edge) (slice_get problem.edges edge) ≡ Some found
+    → sides_from problem region edge ≡ cons_option (option_map (λ side. (edge, side)) found) (sides_from problem region (edge + 1))
+sides_more problem region edge found is =
+    elim (slice_get problem.edges edge) as (λ at. slice_get problem.edges edge ≡ at
+    → option_map (empty_side problem.lines region edge) at ≡ Some found
+    → sides_from problem region edge ≡ cons_option (option_map (λ side. (edge, side)) found) (sides_from problem region (edge + 1))) [
+      | None ↦ λ _ none. absurd (none-some found none)
+      | Some at ↦ λ there same.
+          ap (filter_map (λ at. option_map (λ side. (at.0, side)) (empty_side problem.lines region at.0 at.1))) (left_more problem.edges edge at there)
+          ∙ ap (λ (o : Option (Option Side)). cons_option (option_map (λ side. (edge, side)) (unwrap_or o None)) (sides_from problem region (edge + 1))) same
+    ] refl is
+
+pub first_more : (problem : ProblemParts) (region : List LineRange) (edge : ℕ) (found : Option Side)
+    → option_map (empty_side problem.lines region edge) (slice_get problem.edges edge) ≡ Some found
+    → first_from problem region edge ≡ slice_get (cons_option (option_map (λ side. (edge, side)) found) (sides_from problem region (edge + 1))) 0
+first_more problem region edge found is = ap (λ sides. slice_get sides 0) (sides_more problem region edge found is)
+
+pub first_none : (problem : ProblemParts) (region : List LineRange) (edge : ℕ) → length problem.edges ≤ edge
+    → first_from problem region edge ≡ None
+first_none problem region edge past =
+    ap (λ left. slice_get (filter_map (λ at. option_map (λ side. (at.0, side)) (empty_side problem.lines region at.0 at.1)) left) 0) (left_none problem.edges edge past)
+
+pub first_is : (problem : ProblemParts) (region : List LineRange) → empty_edge problem region ≡ first_from problem region 0
+unfolding empty_edge
+first_is problem region = refl
+
+abbrev over_or : (over under : Bool) → Option Side
+over_or over under = if over then Some side.Over else (if under then Some side.Under else None)
+
+-- an edge on such a side is driven too often, or not often enough
+empty_at : (lines : List CostedLine) (region : List LineRange) (edge : ℕ) (bounds : BoundedEdge) (found : Side)
+    → empty_side lines region edge bounds ≡ Some found → IsEmptyAt lines region edge bounds found
+empty_at lines region edge bounds found is =
+    let least = frequency_on lines (least_in region) edge in
+    let greatest = frequency_on lines (greatest_in region) edge in
+    elim (cases_Bool (nat_lt bounds.most least)) [
+      | inl over ↦
+          let same : Some side.Over ≡ Some found = sym (ap (λ b. over_or b (nat_lt greatest bounds.least)) over) ∙ is in
+          subst (IsEmptyAt lines region edge bounds) (ap (λ o. unwrap_or o found) same) (ltb-true bounds.most least over)
+      | inr fits ↦ elim (cases_Bool (nat_lt greatest bounds.least)) [
+        | inl under ↦
+            let same : Some side.Under ≡ Some found =
+            sym (ap (λ b. over_or b (nat_lt greatest bounds.least)) fits ∙ ap (over_or false) under) ∙ is in
+            subst (IsEmptyAt lines region edge bounds) (ap (λ o. unwrap_or o found) same) (ltb-true greatest bounds.least under)
+        | inr enough ↦
+            let same : None ≡ Some found =
+            sym (ap (λ b. over_or b (nat_lt greatest bounds.least)) fits ∙ ap (over_or false) enough) ∙ is in
+            absurd (none-some found same)
+      ]
+    ]
+
+pub none_feasible : (problem : ProblemParts) (region : List LineRange) (edge : ℕ) (found : Side)
+    → option_map (empty_side problem.lines region edge) (slice_get problem.edges edge) ≡ Some (Some found)
+    → HasNoFeasible problem region
+none_feasible problem region edge found is =
+    elim (slice_get problem.edges edge) as (λ at. slice_get problem.edges edge ≡ at
+    → option_map (empty_side problem.lines region edge) at ≡ Some (Some found) → HasNoFeasible problem region) [
+      | None ↦ λ _ none. absurd (none-some (Some found) none)
+      | Some at ↦ λ there same. empty_is_none problem region edge at found there
+          (empty_at problem.lines region edge at found (ap (λ o. unwrap_or o None) same))
+    ] refl is

@@ -1,0 +1,99 @@
+-- The test of feasible concepts, edge by edge.
+use Rattle.std.proofs.Common.{◌≡◌, ℕ, ◌+◌, ◌≤◌, ◌&&◌, ◌==◌, ◌↔◌, Bool, true, false, List, [], ◌∷◌, length, drop, slice_get, Some, None, option_map, unwrap_or, IsTrue, nat_le, zero, suc, refl, arith, sym, ap, subst, ◌∙◌}
+use Rattle.std.specs.List.{list_all, enumerate_from}
+use Rattle.std.proofs.lemmas.List.{drop_more, drop_all}
+use Rattle.std.proofs.lemmas.Bool.{eq-eqb, eqb-true, and_parts, leb-true, le-leb}
+use Rattle.std.proofs.lemmas.Option.{slice_get_within, get_or_from_slice_get, none-some}
+use Rattle.line_cost_model.specs.declared.edge.BoundedEdge.{BoundedEdge}
+use Rattle.line_cost_model.specs.Problems.{ProblemParts}
+use Rattle.line_cost_model.specs.Concepts.{IsFeasible, KeepsBounds, frequency_on, is_feasible, keeps_bounds}
+
+-- the edges that are left, with their indexes
+abbrev pub left_from : List BoundedEdge → ℕ → List (ℕ × BoundedEdge)
+left_from edges edge = enumerate_from edge (drop edge edges)
+
+pub left_more : (edges : List BoundedEdge) (edge : ℕ) (at : BoundedEdge) → slice_get edges edge ≡ Some at
+    → left_from edges edge ≡ (edge, at) ∷ left_from edges (edge + 1)
+left_more edges edge at there =
+    ap (enumerate_from edge) (drop_more edges edge at (slice_get_within edges edge at there)
+    ∙ ap (λ at. at ∷ drop (edge + 1) edges) (get_or_from_slice_get edges edge at at there))
+
+pub left_none : (edges : List BoundedEdge) (edge : ℕ) → length edges ≤ edge → left_from edges edge ≡ []
+left_none edges edge past = ap (enumerate_from edge) (drop_all edge edges past)
+
+pub feasible_first : (problem : ProblemParts) (f : List ℕ) → length f ≡ length problem.lines
+    → is_feasible problem f ≡ list_all (keeps_bounds problem.lines f) (enumerate_from 0 problem.edges)
+unfolding is_feasible
+feasible_first problem f same = ap (λ b. b && list_all (keeps_bounds problem.lines f) (enumerate_from 0 problem.edges)) (eq-eqb (length f) (length problem.lines) same)
+
+-- edges keep their bounds from an index on
+abbrev KeepFrom : ProblemParts → List ℕ → ℕ → List BoundedEdge → Type 0
+KeepFrom problem f first edges = (edge : ℕ) (at : BoundedEdge) → slice_get edges edge ≡ Some at
+    → KeepsBounds problem.lines f (first + edge) at
+
+kept : (problem : ProblemParts) (f : List ℕ) (edge : ℕ) (at : BoundedEdge)
+    → keeps_bounds problem.lines f (edge, at) ≡ true → KeepsBounds problem.lines f edge at
+kept problem f edge at h =
+    let both = and_parts (nat_le at.least (frequency_on problem.lines f edge)) (nat_le (frequency_on problem.lines f edge) at.most) h in
+    record {
+      enough = leb-true at.least (frequency_on problem.lines f edge) both.0;
+      few = leb-true (frequency_on problem.lines f edge) at.most both.1;
+    }
+
+shown : (problem : ProblemParts) (f : List ℕ) (edge : ℕ) (at : BoundedEdge)
+    → KeepsBounds problem.lines f edge at → keeps_bounds problem.lines f (edge, at) ≡ true
+shown problem f edge at keeps = rw (le-leb at.least (frequency_on problem.lines f edge) keeps.enough, le-leb (frequency_on problem.lines f edge) at.most keeps.few) refl
+
+tested_from : (problem : ProblemParts) (f : List ℕ) (first : ℕ) (edges : List BoundedEdge)
+    → list_all (keeps_bounds problem.lines f) (enumerate_from first edges) ≡ true → KeepFrom problem f first edges
+tested_from problem f first [] h edge at there = absurd (none-some at there)
+tested_from problem f first (one ∷ edges) h zero at there =
+    let both = and_parts (keeps_bounds problem.lines f (first, one)) (list_all (keeps_bounds problem.lines f) (enumerate_from (first + 1) edges)) h in
+    kept problem f (first + 0) at (ap (λ n. keeps_bounds problem.lines f (n, at)) (omega arith)
+    ∙ ap (λ o. keeps_bounds problem.lines f (first, unwrap_or o at)) (sym there) ∙ both.0)
+tested_from problem f first (one ∷ edges) h (suc edge) at there =
+    let both = and_parts (keeps_bounds problem.lines f (first, one)) (list_all (keeps_bounds problem.lines f) (enumerate_from (first + 1) edges)) h in
+    subst (λ n. KeepsBounds problem.lines f n at) (omega arith) (tested_from problem f (first + 1) edges both.1 edge at there)
+
+test_from : (problem : ProblemParts) (f : List ℕ) (first : ℕ) (edges : List BoundedEdge)
+    → KeepFrom problem f first edges → list_all (keeps_bounds problem.lines f) (enumerate_from first edges) ≡ true
+test_from problem f first [] keep = refl
+test_from problem f first (one ∷ edges) keep =
+    rw (shown problem f first one (subst (λ n. KeepsBounds problem.lines f n one) (omega arith) (keep 0 one refl)))
+    (test_from problem f (first + 1) edges
+    (λ edge at there. subst (λ n. KeepsBounds problem.lines f n at) (omega arith) (keep (suc edge) at there)))
+
+-- what the test tells
+pub test_means : (problem : ProblemParts) (f : List ℕ) (answer : Bool) → answer ≡ is_feasible problem f
+    → IsTrue answer ↔ IsFeasible problem f
+unfolding is_feasible
+test_means problem f answer is = (
+  λ yes.
+      let both = and_parts (length f == length problem.lines) (list_all (keeps_bounds problem.lines f) (enumerate_from 0 problem.edges)) (sym is ∙ yes) in
+      record {
+        each = eqb-true (length f) (length problem.lines) both.0;
+        bounds = λ edge at there. subst (λ n. KeepsBounds problem.lines f n at) (omega arith) (tested_from problem f 0 problem.edges both.1 edge at there);
+      },
+  λ feasible.
+      let all = test_from problem f 0 problem.edges (λ edge at there. subst (λ n. KeepsBounds problem.lines f n at) (omega arith) (feasible.bounds edge at there)) in
+      is ∙ rw (eq-eqb (length f) (length problem.lines) feasible.each, all) refl,
+)
+
+-- ---- one edge more
+
+-- a test of the edges that are left, where the first of them answers so
+pub tested_more : (test : ℕ × BoundedEdge → Bool) (edges : List BoundedEdge) (edge : ℕ) (answer : Bool)
+    → option_map (λ at. test (edge, at)) (slice_get edges edge) ≡ Some answer
+    → list_all test (left_from edges edge) ≡ (answer && list_all test (left_from edges (edge + 1)))
+tested_more test edges edge answer is =
+    elim (slice_get edges edge) as (λ at. slice_get edges edge ≡ at
+    → option_map (λ at. test (edge, at)) at ≡ Some answer
+    → list_all test (left_from edges edge) ≡ (answer && list_all test (left_from edges (edge + 1)))) [
+      | None ↦ λ _ none. absurd (none-some answer none)
+      | Some at ↦ λ there same. ap (list_all test) (left_more edges edge at there)
+          ∙ ap (λ o. unwrap_or o false && list_all test (left_from edges (edge + 1))) same
+    ] refl is
+
+pub tested_end : (test : ℕ × BoundedEdge → Bool) (edges : List BoundedEdge) (edge : ℕ) → length edges ≤ edge
+    → list_all test (left_from edges edge) ≡ true
+tested_end test edges edge past = ap (list_all test) (left_none edges edge past)

@@ -1,0 +1,158 @@
+-- The pass over the edges: before the first one, one edge more, and after the last one.
+use Rattle.std.proofs.Common.{◌≡◌, ◌≢◌, ℕ, suc, ◌+◌, ◌*◌, ◌≤◌, ◌<◌, nat_lt, Bool, true, false, if◌then◌else◌, List, [], ◌∷◌, ◌++◌, length, map, fold, slice_get, unwrap_or, Some, None, option_map, All, refl, arith, ap, sym, ◌∙◌}
+use Rattle.std.specs.List.{AllByRecursion}
+use Rattle.std.proofs.lemmas.Bool.{ne_eqb}
+use Rattle.std.proofs.lemmas.List.{append-nil}
+use Rattle.std.proofs.lemmas.List.Elements.{All-push, All-nil}
+use Rattle.std.proofs.lemmas.List.Sums.{sum_by-append}
+use Rattle.std.proofs.lemmas.Nat.{mul-le}
+use Rattle.std.proofs.lemmas.Option.{none-some}
+use Rattle.line_cost_model.specs.declared.multipliers.Multiplier.{Multiplier}
+use Rattle.line_cost_model.specs.declared.range.LineRange.{LineRange}
+use Rattle.line_cost_model.specs.Problems.{CostedLine, ProblemParts, IsCostedLine, IsProblem}
+use Rattle.line_cost_model.specs.Concepts.{cost_of}
+use Rattle.line_cost_model.specs.DualBounds.{bound_by, dual_bound, least_left, left_of, multipliers_of, next_multiplier, shortfall, shortfall_at, unless_zero, with_next}
+use Rattle.line_cost_model.specs.Multipliers.{IsAfter, IsAmount}
+use Rattle.line_cost_model.specs.Passes.{AreLowered, IsPass}
+use Rattle.line_cost_model.specs.Regions.{least_in}
+use Rattle.line_cost_model.proofs.Feasible.{left_from, left_more, left_none}
+use Rattle.line_cost_model.proofs.Lowered as lowered
+use Rattle.line_cost_model.proofs.Within.{IsCheap, few_left, within_more, within_none}
+
+-- ---- before the first edge
+
+costs_left : (lines : List CostedLine) → map (λ line. line.cost) lines ≡ map (left_of []) lines
+costs_left [] = refl
+costs_left (line ∷ lines) = λ i. own i ∷ costs_left lines i
+  where
+    own : line.cost ≡ left_of [] line
+    own = omega arith
+
+pub pass_first : (problem : ProblemParts) (region : List LineRange) (left : List ℕ) (value : ℕ)
+    → left ≡ map (λ line. line.cost) problem.lines → value ≡ cost_of problem (least_in region)
+    → value ≤ 5000000000000000000000000000000000000 → IsPass problem region [] left value 0
+unfolding bound_by multipliers_of
+pass_first problem region left value left_is value_is few = record {
+  left_is = left_is ∙ costs_left problem.lines;
+  value_is = omega (arith, value_is);
+  few = omega (arith, few);
+  within = within_none problem region;
+  after = All-nil (λ multiplier. multiplier.edge < 0);
+  rest = refl;
+}
+
+-- ---- one edge more
+
+fold_more : (problem : ProblemParts) (region : List LineRange) (multipliers : List Multiplier) (edge amount : ℕ)
+    → option_map (λ at. next_multiplier problem region multipliers (edge, at)) (slice_get problem.edges edge) ≡ Some amount
+    → fold (with_next problem region) multipliers (left_from problem.edges edge)
+    ≡ fold (with_next problem region) (multipliers ++ unless_zero edge amount) (left_from problem.edges (edge + 1))
+fold_more problem region multipliers edge amount is =
+    elim (slice_get problem.edges edge) as (λ at. slice_get problem.edges edge ≡ at
+    → option_map (λ at. next_multiplier problem region multipliers (edge, at)) at ≡ Some amount
+    → fold (with_next problem region) multipliers (left_from problem.edges edge)
+    ≡ fold (with_next problem region) (multipliers ++ unless_zero edge amount) (left_from problem.edges (edge + 1))) [
+      | None ↦ λ _ none. absurd (none-some amount none)
+      | Some at ↦ λ there same.
+          ap (fold (with_next problem region) multipliers) (left_more problem.edges edge at there)
+          ∙ ap (λ amount. fold (with_next problem region) (multipliers ++ unless_zero edge amount) (left_from problem.edges (edge + 1)))
+          (ap (λ o. unwrap_or o 0) same)
+    ] refl is
+
+later : (multipliers : List Multiplier) (edge : ℕ) → IsAfter multipliers edge → IsAfter multipliers (edge + 1)
+later multipliers edge after k d h = let before = after k d h in omega (arith, before)
+
+-- no multiplier
+pub pass_none : (problem : ProblemParts) (region : List LineRange) (multipliers : List Multiplier) (left : List ℕ)
+    (value edge amount : ℕ) → IsPass problem region multipliers left value edge
+    → option_map (λ at. next_multiplier problem region multipliers (edge, at)) (slice_get problem.edges edge) ≡ Some amount
+    → amount ≡ 0 → IsPass problem region multipliers left value (edge + 1)
+pass_none problem region multipliers left value edge amount pass next none = record {
+  left_is = pass.left_is;
+  value_is = pass.value_is;
+  few = let few = pass.few in omega (arith, few);
+  within = pass.within;
+  after = later multipliers edge pass.after;
+  rest = pass.rest ∙ fold_more problem region multipliers edge 0 (next ∙ ap Some none)
+      ∙ ap (λ some. fold (with_next problem region) some (left_from problem.edges (edge + 1))) (append-nil multipliers);
+}
+
+-- the next multiplier is the least that is left, where drives are missing
+next_is : (problem : ProblemParts) (region : List LineRange) (multipliers : List Multiplier) (edge missing amount : ℕ)
+    → option_map (shortfall problem.lines region edge) (slice_get problem.edges edge) ≡ Some missing
+    → option_map (λ at. next_multiplier problem region multipliers (edge, at)) (slice_get problem.edges edge) ≡ Some amount
+    → amount ≡ (if nat_lt 0 missing then least_left problem region multipliers edge else 0)
+next_is problem region multipliers edge missing amount short next =
+    elim (slice_get problem.edges edge) as (λ at. option_map (shortfall problem.lines region edge) at ≡ Some missing
+    → option_map (λ at. next_multiplier problem region multipliers (edge, at)) at ≡ Some amount
+    → amount ≡ (if nat_lt 0 missing then least_left problem region multipliers edge else 0)) [
+      | None ↦ λ none _. absurd (none-some missing none)
+      | Some at ↦ λ short next. sym (ap (λ o. unwrap_or o 0) next)
+          ∙ ap (λ missing. if nat_lt 0 missing then least_left problem region multipliers edge else 0) (ap (λ o. unwrap_or o 0) short)
+    ] short next
+
+some_left : (missing : Bool) (least amount : ℕ) → amount ≡ (if missing then least else 0) → amount ≢ 0 → amount ≡ least
+some_left true least amount is some = is
+some_left false least amount is some = absurd (some is)
+
+cheap_lines : (edges : ℕ) (lines : List CostedLine) → All (IsCostedLine edges) lines → AllByRecursion IsCheap lines
+cheap_lines edges [] all = tt
+cheap_lines edges (line ∷ lines) all =
+    let first = all 0 line (omega arith) in
+    (first.cheap, cheap_lines edges lines (λ k d h. all (suc k) d (omega (arith, h))))
+
+module _ (problem : ProblemParts) (region : List LineRange) (multipliers : List Multiplier) (edge missing amount : ℕ)
+    (sound : IsProblem problem)
+    (short : option_map (shortfall problem.lines region edge) (slice_get problem.edges edge) ≡ Some missing)
+    (next : option_map (λ at. next_multiplier problem region multipliers (edge, at)) (slice_get problem.edges edge) ≡ Some amount)
+    (some : amount ≢ 0) where
+  least_is : amount ≡ least_left problem region multipliers edge
+  least_is = some_left (nat_lt 0 missing) (least_left problem region multipliers edge) amount
+      (next_is problem region multipliers edge missing amount short next) some
+
+  few_amount : amount ≤ 1000000000000000000
+  few_amount =
+      let few = few_left problem region multipliers edge (cheap_lines (length problem.edges) problem.lines sound.lines) in
+      omega (arith, few, least_is)
+
+  pub is_amount : IsAmount amount
+  is_amount = record { some = omega (arith, some); few = few_amount }
+
+  pub adds : missing < 4294967296 → amount * missing ≤ 4294967296000000000000000000
+  adds few = let most = mul-le amount missing 1000000000000000000 4294967295 few_amount (omega (arith, few)) in omega (arith, most)
+
+  value_more : (value : ℕ) → value ≡ bound_by problem region multipliers
+      → value + amount * missing ≡ bound_by problem region (multipliers ++ record { edge = edge; amount = amount } ∷ [])
+  unfolding bound_by
+  value_more value is =
+      let more = sum_by-append (λ (multiplier : Multiplier). multiplier.amount * shortfall_at problem region multiplier.edge) multipliers (record { edge = edge; amount = amount } ∷ []) in
+      let own : amount * shortfall_at problem region edge ≡ amount * missing = ap (λ o. amount * unwrap_or o 0) short in
+      omega (arith, is, more, own)
+
+  unless_some : (amount : ℕ) → amount ≢ 0 → unless_zero edge amount ≡ record { edge = edge; amount = amount } ∷ []
+  unless_some amount some = ap (λ none. if none then [] else record { edge = edge; amount = amount } ∷ []) (ne_eqb amount 0 some)
+
+  -- one multiplier
+  pub pass_some : (left after : List ℕ) (value : ℕ) → missing < 4294967296 → IsPass problem region multipliers left value edge
+      → length after ≡ length left → AreLowered problem.lines edge amount left after
+      → IsPass problem region (multipliers ++ record { edge = edge; amount = amount } ∷ []) after (value + amount * missing) (edge + 1)
+  pass_some left after value few pass size lower = record {
+    left_is = lowered.left_more problem.lines multipliers edge amount left after pass.left_is size lower;
+    value_is = value_more value pass.value_is;
+    few = let little = pass.few in omega (arith, little, adds few);
+    within = within_more problem region multipliers edge amount least_is pass.within;
+    after = All-push (λ (multiplier : Multiplier). multiplier.edge < edge + 1) multipliers (record { edge = edge; amount = amount })
+        (later multipliers edge pass.after) (omega arith);
+    rest = pass.rest ∙ fold_more problem region multipliers edge amount next
+        ∙ ap (λ one. fold (with_next problem region) (multipliers ++ one) (left_from problem.edges (edge + 1))) (unless_some amount some);
+  }
+
+-- ---- after the last edge
+
+pub pass_last : (problem : ProblemParts) (region : List LineRange) (multipliers : List Multiplier) (left : List ℕ)
+    (value edge : ℕ) → IsPass problem region multipliers left value edge → length problem.edges ≤ edge
+    → (multipliers ≡ multipliers_of problem region) × (value ≡ dual_bound problem region)
+pass_last problem region multipliers left value edge pass past =
+    let all : multipliers ≡ multipliers_of problem region =
+    sym (pass.rest ∙ ap (fold (with_next problem region) multipliers) (left_none problem.edges edge past)) in
+    (all, pass.value_is ∙ ap (bound_by problem region) all)

@@ -1,0 +1,38 @@
+-- Lists that rise, with one item more.
+use Rattle.std.proofs.Common.{◌≡◌, ℕ, ◌+◌, ◌<◌, List, [], ◌∷◌, ◌++◌, length, get_or, arith, inl, inr}
+use Rattle.std.specs.List.{All, AllByRecursion}
+use Rattle.std.specs.List.Sorted.{IsStrictlySortedBy, IsStrictlyIncreasing}
+use Rattle.std.specs.declared.cmp.Ordering.{Ordering}
+use Rattle.std.specs.declared.cmp.Ordering.TheVariants.{Less}
+use Rattle.std.proofs.lemmas.Bool.{cases_lt}
+use Rattle.std.proofs.lemmas.List.{length_push, get_or_push}
+use Rattle.std.proofs.lemmas.List.Elements.{All-head, All-tail, All-get_or}
+use Rattle.std.proofs.Math.ListN.{get_or-append}
+
+-- numbers that rise, and one above them all
+pub increasing_push : (xs : List ℕ) (x : ℕ) → IsStrictlyIncreasing xs → All (λ y. y < x) xs → IsStrictlyIncreasing (xs ++ x ∷ [])
+increasing_push xs x rise below k within =
+    let size = length_push xs x in
+    elim (cases_lt (k + 1) (length xs)) [
+      | inl inner ↦
+          let low = get_or-append xs (x ∷ []) 0 k (omega arith) in
+          let high = get_or-append xs (x ∷ []) 0 (k + 1) inner in
+          let here : get_or xs k 0 < get_or xs (k + 1) 0 = rise k inner in
+          omega (arith, low, high)
+      | inr outer ↦
+          let low = get_or-append xs (x ∷ []) 0 k (omega arith) in
+          let high = get_or_push xs x 0 (k + 1) (omega arith) in
+          let here : get_or xs k 0 < x = All-get_or (λ y. y < x) xs k 0 (omega arith) below in
+          omega (arith, low, high)
+    ]
+
+each_push : {X : Type 0} (P : X → Type 0) (xs : List X) (x : X) → AllByRecursion P xs → P x → AllByRecursion P (xs ++ x ∷ [])
+each_push P [] x all own = (own, tt)
+each_push P (y ∷ xs) x all own = (all.0, each_push P xs x all.1 own)
+
+-- keys that rise, and one above them all
+pub sorted_push : {K : Type 0} (cmp : K → K → Ordering) (ks : List K) (k : K) → IsStrictlySortedBy cmp ks → All (λ other. cmp other k ≡ Less) ks → IsStrictlySortedBy cmp (ks ++ k ∷ [])
+unfolding IsStrictlySortedBy
+sorted_push cmp [] k rise below = (tt, tt)
+sorted_push cmp (first ∷ ks) k rise below =
+    (each_push (λ other. cmp first other ≡ Less) ks k rise.0 (All-head (λ other. cmp other k ≡ Less) first ks below), sorted_push cmp ks k rise.1 (All-tail (λ other. cmp other k ≡ Less) first ks below))

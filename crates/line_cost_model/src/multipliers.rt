@@ -1,0 +1,86 @@
+// Multipliers of edges.
+ghost use Rattle.std.specs.Prelude.{◌≡◌, ◌<◌, ◌++◌, ◌∷◌, [], ◌≤ℤ◌, pos, length, slice_get, Some};
+ghost use Rattle.std.specs.Prelude.{option_map, unsigned_abs, OnOk, OnErr};
+ghost use Rattle.line_cost_model.specs.Multipliers.{AreMultipliers, IsAfter, IsAmount};
+
+use plan_num::NoMemory;
+use std::alloc::Global;
+use std::marker::Model;
+
+/// The multiplier of the edge of an index, in millionths.
+#[derive(Clone, Copy, Debug, PartialEq, Eq)]
+pub(crate) struct Multiplier {
+    pub(crate) edge: usize,
+    pub(crate) amount: u64,
+}
+
+/// Multipliers of edges, in millionths, the edges rising. Contracts see it as their list.
+#[derive(Debug, Drop)]
+pub struct Multipliers {
+    list: Vec<Multiplier>,
+}
+
+impl Model for Multipliers {
+    ghost use Rattle.std.specs.Prelude.{List};
+    ghost use Rattle.line_cost_model.specs.declared.multipliers.Multiplier.{Multiplier};
+    ghost use Rattle.line_cost_model.specs.Multipliers.{AreMultipliers};
+
+    ghost Value = { List Multiplier };
+
+    ghost view = { λ multipliers. multipliers.list.items };
+
+    ghost invariant = { λ multipliers. AreMultipliers multipliers.list.items };
+}
+
+impl Multipliers {
+    /// No multiplier.
+    pub fn new(alloc: Global) -> Multipliers
+        ensures { result ≡ [] }
+    {
+        Multipliers {
+            list: Vec::new(alloc),
+        }
+    }
+
+    /// One multiplier more, of an edge behind those that are there.
+    pub fn push(&mut self, edge: usize, millionths: i64) -> Result<(), NoMemory>
+        requires some { pos 1 ≤ℤ millionths }
+        requires few { millionths ≤ℤ pos 1000000000000000000 }
+        requires after { IsAfter self.old edge }
+        ensures ok { OnOk result
+            (self.new ≡ self.old ++ record { edge = edge; amount = unsigned_abs millionths } ∷ []) }
+        ensures err { OnErr result (self.new ≡ self.old) }
+    {
+        self.push_amount(edge, millionths.unsigned_abs())
+    }
+
+    /// The same of an amount that is known to be one.
+    pub(crate) fn push_amount(&mut self, edge: usize, amount: u64) -> Result<(), NoMemory>
+        requires amount { IsAmount amount }
+        requires after { IsAfter self.old edge }
+        ensures ok { OnOk result
+            (self.new ≡ self.old ++ record { edge = edge; amount = amount } ∷ []) }
+        ensures err { OnErr result (self.new ≡ self.old) }
+    {
+        self.list.push(Multiplier { edge, amount })?;
+        Ok(())
+    }
+
+    /// How many there are.
+    pub fn len(&self) -> usize
+        ensures len { result ≡ length self.now }
+        ensures sound { AreMultipliers self.now }
+    {
+        self.list.len()
+    }
+
+    /// The edge and the millionths of the one at a place.
+    pub fn get(&self, index: usize) -> (usize, i64)
+        requires { index < length self.now }
+        ensures { option_map (λ at. (at.edge, pos at.amount)) (slice_get self.now index)
+            ≡ Some result }
+    {
+        let multiplier = self.list[index];
+        (multiplier.edge, multiplier.amount as i64)
+    }
+}
