@@ -11,8 +11,9 @@ use Rattle.ptn_network.specs.Loads.{load_input}
 use Rattle.demand_load.specs.LoadStage.{network_in, loads_in, load_faults}
 use Rattle.demand_load.specs.LoadTables.{load_rows}
 
--- The files that are made are right: the inputs have no fault, and there is one file. Read again, it has the load of each edge over
--- the inputs, with its bounds of frequency, and no fault by the rules of its kind.
+-- The files that are made are right: the inputs have no fault, and there is one file. Read again,
+-- it has the load of each edge over the inputs, with its bounds of frequency, and no fault by the
+-- rules of its kind.
 pub record LoadFilesAreRight (bundle : BundleParts) (files : List MadeFile) : Type 0 where
   pub inputs : load_faults bundle ≡ []
   pub each : length (loads_in bundle) ≡ length (network_in bundle).edges

@@ -1,8 +1,8 @@
 -- Sums over the lines of an edge.
 use Rattle.std.proofs.Common.{◌≡◌, ℕ, zero, suc, ◌+◌, ◌≤◌, ◌<◌, Bool, true, false, if◌then◌else◌, cond, List, [], ◌∷◌, length, get_or, map, filter, take, refl, arith, sum_by, All, sym, ap, ◌∙◌}
 use Rattle.std.specs.List.{AllByRecursion, enumerate_from}
-use Rattle.std.proofs.lemmas.List.{take_more, take_all, length-map, get_or-map}
-use Rattle.std.proofs.lemmas.List.Sums.{sum_by-cons, sum_by-append}
+use Rattle.std.proofs.lemmas.List.{take_all, length-map, get_or-map}
+use Rattle.std.proofs.lemmas.List.Sums.{sum_by-cons}
 use Rattle.line_cost_model.specs.Problems.{CostedLine}
 use Rattle.line_cost_model.specs.Concepts.{goes_over, frequency_on}
 use Rattle.line_cost_model.specs.Crossings.{lines_over}
@@ -73,12 +73,6 @@ over_within lines edge = all_from_each (λ line. line < length lines) (over_from
     all_from_each P [] all k d h = absurd (omega (arith, h))
     all_from_each P (x ∷ xs) all zero d h = all.0
     all_from_each P (x ∷ xs) all (suc k) d h = all_from_each P xs all.1 k d (omega (arith, h))
-
--- a sum with one item more
-pub sum_more : (number : ℕ → ℕ) (xs : List ℕ) (i : ℕ) → i < length xs
-    → sum_by number (take (i + 1) xs) ≡ sum_by number (take i xs) + number (get_or xs i 0)
-sum_more number xs i within =
-    ap (sum_by number) (take_more xs i 0 within) ∙ sum_by-append number (take i xs) (get_or xs i 0 ∷ []) ∙ omega arith
 
 -- the sum of the ends of ranges over the lines of an edge is how often these ends drive it
 pub end_sum : (end : LineRange → ℕ) (ranges region : List LineRange)

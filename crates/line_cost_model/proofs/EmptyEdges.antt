@@ -1,5 +1,5 @@
 -- The first edge that shows that a region has no feasible concept.
-use Rattle.std.proofs.Common.{◌≡◌, ℕ, ◌+◌, ◌≤◌, Bool, false, if◌then◌else◌, nat_lt, List, length, filter_map, slice_get, Some, None, Option, option_map, unwrap_or, refl, ap, ◌∙◌, inl, inr, sym, subst}
+use Rattle.std.proofs.Common.{◌≡◌, ℕ, ◌+◌, Bool, false, if◌then◌else◌, nat_lt, List, filter_map, slice_get, Some, None, Option, option_map, unwrap_or, refl, ap, ◌∙◌, inl, inr, sym, subst}
 use Rattle.std.specs.List.{cons_option}
 use Rattle.std.proofs.lemmas.Bool.{ltb-true, cases_Bool}
 use Rattle.std.proofs.lemmas.Option.{none-some}
@@ -11,7 +11,7 @@ use Rattle.line_cost_model.specs.Problems.{CostedLine, ProblemParts}
 use Rattle.line_cost_model.specs.Concepts.{frequency_on}
 use Rattle.line_cost_model.specs.Regions.{HasNoFeasible, IsEmptyAt, empty_edge, empty_side, least_in, greatest_in}
 use Rattle.line_cost_model.proofs.Duality.{empty_is_none}
-use Rattle.line_cost_model.proofs.Feasible.{left_from, left_more, left_none}
+use Rattle.line_cost_model.proofs.Feasible.{left_from, left_more}
 
 -- the sides of the edges that are left
 abbrev sides_from : ProblemParts → List LineRange → ℕ → List (ℕ × Side)
@@ -39,11 +39,6 @@ pub first_more : (problem : ProblemParts) (region : List LineRange) (edge : ℕ)
     → option_map (empty_side problem.lines region edge) (slice_get problem.edges edge) ≡ Some found
     → first_from problem region edge ≡ slice_get (cons_option (option_map (λ side. (edge, side)) found) (sides_from problem region (edge + 1))) 0
 first_more problem region edge found is = ap (λ sides. slice_get sides 0) (sides_more problem region edge found is)
-
-pub first_none : (problem : ProblemParts) (region : List LineRange) (edge : ℕ) → length problem.edges ≤ edge
-    → first_from problem region edge ≡ None
-first_none problem region edge past =
-    ap (λ left. slice_get (filter_map (λ at. option_map (λ side. (at.0, side)) (empty_side problem.lines region at.0 at.1)) left) 0) (left_none problem.edges edge past)
 
 pub first_is : (problem : ProblemParts) (region : List LineRange) → empty_edge problem region ≡ first_from problem region 0
 unfolding empty_edge

@@ -151,9 +151,6 @@ module _ (edges after : List CrossedEdge) (lines : List CostedLine) (line : Cost
 pub longer_more : (edges : List CrossedEdge) (line : ℕ) (longer : List Longer) (one : Longer) → AreLonger edges line longer → one.edge < length edges → one.lines.items ≡ (edge_at edges one.edge).lines ++ line ∷ [] → AreLonger edges line (longer ++ one ∷ [])
 longer_more edges line longer one are within is = All-push (λ (one : Longer). (one.edge < length edges) × (one.lines.items ≡ (edge_at edges one.edge).lines ++ line ∷ [])) longer one are (within, is)
 
-pub taken_none : (edges : List CrossedEdge) (line : ℕ) → AreTaken edges line [] edges
-taken_none edges line edge h = refl
-
 any_push : {X : Type 0} (p : X → Bool) (xs : List X) (x : X) → list_any p (xs ++ x ∷ []) ≡ (list_any p xs || p x)
 any_push p [] x = last (p x)
   where

@@ -44,7 +44,8 @@ module _ (settings : List Setting) (edges : List Edge) where
         ap (λ (missing : LineParts → Bool). list_any missing lines) (λ i line. not (has_cost line i))
         ∙ none_missing (λ (line : LineParts). line.id) (map (λ (line : LineParts). line.id) lines) lines (λ p h. h)
 
-    -- a text of the costs of lines, whose ids rise, has no fault as a file of costs over these lines
+    -- a text of the costs of lines, whose ids rise, has no fault as a file of costs over these
+    -- lines
     pub costs_accepted : (text : List ℕ) → IsStrictlySortedBy int_cmp (map (λ (line : LineParts). line.id) lines) → ReadsBack pool_cost_columns (map (cost_row settings edges) lines) text
         → input_faults (pool_cost_input lines) text ≡ []
     costs_accepted text rise back =

@@ -192,7 +192,8 @@ module _ (kind : LineFile) (network : NetworkParts) (sound : IsNetwork network) 
     line_sound : pos 1 ≤ℤ id → id ≤ℤ pos 1000000000 → IsModest network.edges (line_of network.edges input_rows id)
     line_sound least greatest = record { id_least = least; id_greatest = greatest; there = there; few = few; short = short }
 
-  -- each line has an id within its range, edges that are there and not too many, and is not too long
+  -- each line has an id within its range, edges that are there and not too many, and is not too
+  -- long
   lines_sound : All (IsModest network.edges) (lines_over network.edges input_rows)
   lines_sound =
       let rows = sound_rows (line_input kind network.edges) text none in

@@ -29,7 +29,8 @@ network = record {
   edges = edge 1 0 1 2000000 ∷ edge 2 1 2 3000000 ∷ edge 3 3 4 1000000 ∷ edge 7 2 1 1500000 ∷ [];
 }
 
--- a line over two edges, one over parallel edges, one of one edge, and one that starts at the right stop of its first edge
+-- a line over two edges, one over parallel edges, one of one edge, and one that starts at the right
+-- stop of its first edge
 lines : pool_of network (codes "# pool\n9; 1; 2\n3; 1; 1\n3; 2; 2\n9; 2; 7\n1; 1; 3\n4; 1; 2\n4; 2; 1\n") ≡ record { id = pos 1; edges = 2 ∷ []; stops = 3 ∷ 4 ∷ []; frequency = 0 }
     ∷ record { id = pos 3; edges = 0 ∷ 1 ∷ []; stops = 0 ∷ 1 ∷ 2 ∷ []; frequency = 0 }
     ∷ record { id = pos 4; edges = 1 ∷ 0 ∷ []; stops = 2 ∷ 1 ∷ 0 ∷ []; frequency = 0 }

@@ -36,11 +36,6 @@ pub walk_done : (edges : List Edge) (i : ℕ) (front : List ℕ) (stop : ℕ) (w
 unfolding walk_from
 walk_done edges i front stop whole h so_far = sym (at_drop_all (λ rest. option_map (λ more. front ++ more) (walk_from stop rest)) edges i h) ∙ so_far
 
--- before the first edge
-pub walk_begins : (walk : Option (List ℕ)) → option_map (λ more. [] ++ more) walk ≡ walk
-walk_begins None = refl
-walk_begins (Some stops) = refl
-
 -- ---- where a walk ends
 
 no_end : (edges : List Edge) → fold (λ end edge. option_and_then (across edge) end) None edges ≡ None

@@ -26,7 +26,8 @@ length_at edges index = unwrap_or (option_map edge_length (slice_get edges index
 abbrev pub line_length : List Edge → LineParts → ℕ
 line_length edges line = sum (map (length_at edges) line.edges)
 
--- the cost of a line in millionths: a fixed part, a part by its length, rounded down to a millionth, and a part for each edge
+-- the cost of a line in millionths: a fixed part, a part by its length, rounded down to a
+-- millionth, and a part for each edge
 abbrev pub line_cost : List Setting → List Edge → LineParts → ℕ
 line_cost settings edges line =
     amount settings key.LpoolCostsFixed + amount settings key.LpoolCostsLength * line_length edges line / 1000000 + amount settings key.LpoolCostsEdges * length line.edges

@@ -19,7 +19,8 @@ abbrev pub next_ends : List Edge → Ends → Edge → Ends
 next_ends [] ends edge = record { left = across edge edge.left; right = across edge edge.right }
 next_ends (first ∷ edges) ends edge = record { left = option_and_then (across edge) ends.left; right = option_and_then (across edge) ends.right }
 
--- a line so far: its id, the indexes of its edges, these edges, where its walks end, and its frequency
+-- a line so far: its id, the indexes of its edges, these edges, where its walks end, and its
+-- frequency
 pub record LineEdges : Type 0 where
   pub id : ℤ
   pub indexes : List ℕ

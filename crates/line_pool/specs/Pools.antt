@@ -1,4 +1,5 @@
--- Lines over a network, in a pool or in a line concept: their file, its rules, and each line as a walk.
+-- Lines over a network, in a pool or in a line concept: their file, its rules, and each line as a
+-- walk.
 use Rattle.std.specs.Prelude.{ℕ, ℤ, pos, ◌≡◌, ◌+◌, ◌≤◌, ◌<◌, ◌≤ℤ◌, nat_eq, Bool, false, not, is_some, List, [], ◌∷◌, ◌++◌, length, map, filter, filter_map, get_or, position, unsigned_abs, Option, Some, None, option_map, option_and_then, unwrap_or}
 use Rattle.std.specs.List.{All, IsDistinct, list_any}
 use Rattle.std.specs.List.Sorted.{IsStrictlySortedBy}
@@ -21,8 +22,8 @@ use Rattle.line_pool.specs.declared.line_file.LineFile.{LineFile}
 use Rattle.line_pool.specs.declared.line_file.LineFile.TheVariants as kind
 use Rattle.line_pool.specs.declared.line_row.LineRow.{LineRow}
 
--- a row: a line, a place in it, the edge there, and the frequency of the line; a pool has no column of
--- frequencies, and so each is 0
+-- a row: a line, a place in it, the edge there, and the frequency of the line; a pool has no column
+-- of frequencies, and so each is 0
 abbrev pub line_row : List ℤ → LineRow
 line_row cells = record {
   line = get_or cells 0 (pos 0);
@@ -49,7 +50,8 @@ abbrev pub or_walk : Option (List ℕ) → Option (List ℕ) → Option (List �
 or_walk None other = other
 or_walk (Some stops) other = Some stops
 
--- the walk of a line: from the left stop of its first edge where a whole walk goes from there, and otherwise from the right one
+-- the walk of a line: from the left stop of its first edge where a whole walk goes from there, and
+-- otherwise from the right one
 abbrev pub walk_of : List Edge → Option (List ℕ)
 walk_of [] = Some []
 walk_of (edge ∷ edges) = or_walk (walk_from edge.left (edge ∷ edges)) (walk_from edge.right (edge ∷ edges))
@@ -161,8 +163,8 @@ concept_of network text = lines_of kind.Concept network text
 abbrev pub concept_faults : NetworkParts → List ℕ → List Refusal
 concept_faults network text = line_faults kind.Concept network text
 
--- what holds of a line over the edges of a network: an id, edges of the network, each once, whose walk
--- its stops are, and a frequency
+-- what holds of a line over the edges of a network: an id, edges of the network, each once, whose
+-- walk its stops are, and a frequency
 pub record IsLine (edges : List Edge) (line : LineParts) : Type 0 where
   pub id_least : pos 1 ≤ℤ line.id
   pub id_greatest : line.id ≤ℤ pos 1000000000

@@ -21,8 +21,9 @@ lines_in bundle = pool_of (network_in bundle) (input_text bundle 2)
 abbrev pub cost_rows : BundleParts → List TableRow
 cost_rows bundle = map (cost_row bundle.settings (network_in bundle).edges) (lines_in bundle)
 
--- The files that are made are right: the inputs have no fault, and there is one file. Read again, it has the length and the cost of
--- each line over the inputs, and no fault by the rules of its kind.
+-- The files that are made are right: the inputs have no fault, and there is one file. Read again,
+-- it has the length and the cost of each line over the inputs, and no fault by the rules of its
+-- kind.
 pub record CostFilesAreRight (bundle : BundleParts) (files : List MadeFile) : Type 0 where
   pub inputs : cost_faults bundle ≡ []
   pub text : List ℕ

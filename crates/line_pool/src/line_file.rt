@@ -4,7 +4,8 @@ ghost use Rattle.line_pool.specs.Pools.{file_of};
 
 use giv_files::FileId;
 
-/// A file that has lines, row by row: the pool, or a line concept, which has the frequency of each line too.
+/// A file that has lines, row by row: the pool, or a line concept, which has the frequency of each
+/// line too.
 #[derive(Clone, Copy, Debug, PartialEq, Eq)]
 pub(crate) enum LineFile {
     Pool,

@@ -5,8 +5,8 @@ ghost use Rattle.line_pool.specs.Pools.{line_row};
 
 use giv_files::Table;
 
-/// A row of a file of lines: a line, a place in it from 1, the id of the edge there, and the frequency of the line,
-/// which is 0 in a pool.
+/// A row of a file of lines: a line, a place in it from 1, the id of the edge there, and the
+/// frequency of the line, which is 0 in a pool.
 #[derive(Clone, Copy, Debug, PartialEq, Eq)]
 pub(crate) struct LineRow {
     pub line: i64,

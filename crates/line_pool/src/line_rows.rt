@@ -107,8 +107,8 @@ fn place_of(ids: &IndexSet<i64>, id: i64) -> usize
     }
 }
 
-// The index of the edge of a row after the rows of its line so far, or why the row is refused. Whether the edge is
-// new in the line is told.
+// The index of the edge of a row after the rows of its line so far, or why the row is refused.
+// Whether the edge is new in the line is told.
 fn new_edge(
     network: &Network,
     line: &LineSoFar,

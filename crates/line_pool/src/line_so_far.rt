@@ -11,8 +11,8 @@ use ptn_network::Edge;
 use std::alloc::Global;
 use std::marker::Model;
 
-/// A line with its edges so far, by index and as they are, where its walks end, and the frequency of its first row.
-/// Contracts see it as these five.
+/// A line with its edges so far, by index and as they are, where its walks end, and the frequency
+/// of its first row. Contracts see it as these five.
 #[derive(Drop)]
 pub(crate) struct LineSoFar {
     id: i64,

@@ -13,7 +13,8 @@ use std::marker::Model;
 
 const MOST_LINES: usize = 200;
 
-/// A line. Contracts see it as its id, the indexes of its edges, the stops of its walk and its frequency.
+/// A line. Contracts see it as its id, the indexes of its edges, the stops of its walk and its
+/// frequency.
 #[derive(Drop)]
 pub(crate) struct Line {
     id: i64,
@@ -67,7 +68,8 @@ impl Line {
     }
 }
 
-/// Lines by id rising, each a walk over the edges of a network. Contracts see it as the list of its lines.
+/// Lines by id rising, each a walk over the edges of a network. Contracts see it as the list of its
+/// lines.
 #[derive(Drop)]
 pub struct Pool {
     lines: Vec<Line>,
@@ -86,7 +88,8 @@ impl Model for Pool {
 }
 
 impl Pool {
-    /// The lines of a text of the pool over a network, or the first fault of the text. Their frequencies are 0.
+    /// The lines of a text of the pool over a network, or the first fault of the text. Their
+    /// frequencies are 0.
     pub fn from_text(alloc: Global, network: &Network, pool: &[u8]) -> Result<Pool, StageFault>
         ensures made { UnlessFault (pool_faults network.now pool.now) (λ made. made ≡ pool_of network.now pool.now) result }
         ensures sound { IfOk result (AreLines network.now.edges) }

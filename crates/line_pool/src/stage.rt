@@ -13,7 +13,8 @@ use plan_num::{Ledger, Steps};
 use ptn_network::Network;
 use std::alloc::Global;
 
-/// The costs of the lines of a pool, from the settings and the texts of stops, edges and the pool. It takes one step.
+/// The costs of the lines of a pool, from the settings and the texts of stops, edges and the pool.
+/// It takes one step.
 pub fn make_cost<L: Ledger>(
     alloc: Global,
     bundle: &Bundle,

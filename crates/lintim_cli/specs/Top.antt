@@ -24,8 +24,7 @@ is_make (word ∷ []) = bytes_eq (string_bytes word) (codes "make")
 is_make _ = false
 
 -- the folder and the writes are those that a finished run leaves, each stage that was made is right
--- in that folder, and the count of
--- steps rose by the work
+-- in that folder, and the count of steps rose by the work
 pub record Finished (read : Folder) (left : Option Folder) (written noted : Option (List Write)) (before now : ℕ) : Type 0 where
   pub files : IsLeft read left written noted
   pub right : IsLeftRight read left
@@ -40,12 +39,10 @@ PartOut read old new =
     (kept : ℕ) × (new ≡ option_map (λ bytes. bytes ++ take kept (made (hand_of read)).report) old)
 
 -- What is told and left after a run over a folder, by its answer. Without a fault the answer, the
--- report, the folder, the writes and the
--- steps are those that the hand files determine. After a fault of the sink only a front part of the
--- report is out. After a fault of a
--- file not all writes were made. Where memory was refused, either not all writes were made, or all
--- of them: a write is in part only
--- where the count of file faults rose.
+-- report, the folder, the writes and the steps are those that the hand files determine. After a
+-- fault of the sink only a front part of the report is out. After a fault of a file not all writes
+-- were made. Where memory was refused, either not all writes were made, or all of them: a write is
+-- in part only where the count of file faults rose.
 abbrev pub Leaves : Folder → Option Folder → Option (List Write) → Option (List Write) → ℕ → ℕ
     → Option (List ℕ) → Option (List ℕ) → ℕ → ℕ → Status → Type 0
 Leaves read left written noted faults_before faults_now old new before now SinkFault =

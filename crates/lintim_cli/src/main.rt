@@ -14,8 +14,8 @@ use std::process::ExitCode;
 use std::rt::Env;
 pub use top::lintim;
 
-// The words of the command line after the program's name. Where they cannot be read there are none, and
-// the answer is the usage line.
+// The words of the command line after the program's name. Where they cannot be read there are none,
+// and the answer is the usage line.
 fn words<R: Env + AllocGlobal>(rt: &R) -> Result<Vec<String>, NoMemory> {
     let mut words = Vec::new(rt.alloc());
     match env::args(rt) {

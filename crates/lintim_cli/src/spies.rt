@@ -27,8 +27,7 @@ struct Call {
 }
 
 // Files in memory that note each call. One of them fails, by its number from 1 on, where there are
-// so many. Their
-// count of faults stands at its last value, so that each call may fail.
+// so many. Their count of faults stands at its last value, so that each call may fail.
 #[derive(Drop)]
 struct SpyFiles {
     alloc: Global,
@@ -127,8 +126,7 @@ impl Sink for SpySink {
 }
 
 // The calls of a run over the dataset: it reads the hand files that its settings and its stages
-// need, and then it puts
-// what they make.
+// need, and then it puts what they make.
 const CALLS: [(Kind, &str); 9] = [
     (Kind::Get, "basis/Config.cnf"),
     (Kind::Get, "basis/Stop.giv"),
@@ -162,8 +160,7 @@ fn run(
 }
 
 // No keep file, no file of a stage that is not built and no other file is read, written or removed,
-// and neither is the
-// demand where loads are given. The report is one write.
+// and neither is the demand where loads are given. The report is one write.
 #[test]
 fn a_run_names_its_files_alone(rt: HostRuntime) -> Result<(), Fail> {
     let mut files = SpyFiles::of_dataset(rt.alloc(), 0)?;

@@ -25,8 +25,8 @@ const COSTS: &[u8] = b"# line-id; length; cost\n1; 5; 15\n2; 2; 12\n";
 
 const NO_COSTS: &[u8] = b"# line-id; length; cost\n";
 
-// A run over the files of a dataset, where some of them are others or are not there, and what it has to answer, write,
-// report and count.
+// A run over the files of a dataset, where some of them are others or are not there, and what it
+// has to answer, write, report and count.
 #[derive(Clone, Copy)]
 struct Case {
     config: Option<&'static [u8]>,

@@ -30,8 +30,7 @@ fn asks_make(words: &[String]) -> bool
 /// Runs a command line over a dataset, and reports.
 ///
 /// The one command is `make`: it runs the planning stages over the files that people write, puts
-/// the files that the
-/// stages make and removes others of theirs, and writes its report by one call.
+/// the files that the stages make and removes others of theirs, and writes its report by one call.
 pub fn lintim<F: Files, K: Sink, L: Ledger>(
     alloc: Global,
     words: &[String],
@@ -55,8 +54,7 @@ pub fn lintim<F: Files, K: Sink, L: Ledger>(
         (K.written out.old) (K.written out.new) steps.old steps.new result) }
 
     // In the folder that a finished run leaves, the files of each stage, read again, satisfy its
-    // model over the files from which they
-    // were made, and these have no fault.
+    // model over the files from which they were made, and these have no fault.
     ensures made_files_are_right { is_make words.now ≡ true →
         IfSome (F.contents files.old) MadeFilesAreRight }
 
@@ -66,8 +64,7 @@ pub fn lintim<F: Files, K: Sink, L: Ledger>(
         RefusesHand (hand_of folder)) }
 
     // The files that people write, and all others that no stage makes or keeps, are as before,
-    // whatever the answer. No write names one,
-    // also where the contents are not told.
+    // whatever the answer. No write names one, also where the contents are not told.
     ensures hand { SameHand (F.contents files.old) (F.contents files.new) }
     ensures writes_no_hand_file { AddsNoHandFile (F.writes files.old) (F.writes files.new) }
     ensures outside { is_make words.now ≡ true → IfSome (F.contents files.old) (λ folder.

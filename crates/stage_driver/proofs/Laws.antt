@@ -47,8 +47,7 @@ abbrev pub earlier : Stage → List Stage
 earlier stage = filter (λ other. ltb (stage_place other) (stage_place stage)) built
 
 -- A stage makes the files that it is to make, and they are right. Where the stages before it are
--- right over one look of texts, it
--- refuses over it no row of a file but those that people write.
+-- right over one look of texts, it refuses over it no row of a file but those that people write.
 pub record StageLaws (stage : Stage) : Type 0 where
   pub makes : (bundle : BundleParts) (made : Made) → stage_function stage bundle ≡ Ok made
       → MakesAs stage (ids_of made.files)

@@ -27,8 +27,7 @@ use Rattle.stage_driver.specs.Hand.{is_hand, is_hand_file, hand_of}
 use Rattle.stage_driver.specs.Runs.{after}
 
 -- The files of a stage are right over what it was given: its inputs have no fault, and the files,
--- read again, have none and satisfy
--- its model. A stage that is not built makes nothing.
+-- read again, have none and satisfy its model. A stage that is not built makes nothing.
 abbrev pub IsRightAs : Stage → BundleParts → List MadeFile → Type 0
 IsRightAs stage.Load bundle files = LoadFilesAreRight bundle files
 IsRightAs stage.Cost bundle files = CostFilesAreRight bundle files
@@ -75,8 +74,7 @@ StandRightIn folder visits =
     IfOk (effective (look_in folder)) (λ values. AllStandRight (text_in folder) values visits)
 
 -- In the folder that a run over a folder leaves, each stage that was made has the files that it
--- made, and they are right over the files
--- there from which they were made.
+-- made, and they are right over the files there from which they were made.
 unfoldable pub MadeFilesAreRight : Folder → Type 0
 MadeFilesAreRight folder = StandRightIn (after folder) (trace_of (hand_of folder)).visits
 

@@ -29,8 +29,7 @@ abbrev pub without_made : Folder → Folder
 without_made folder = files.retain_keys folder (λ name. not (is_among name (names_made_by built)))
 
 -- The folder after a run: of the files that the built stages make it has those which its hand files
--- determine, and no
--- others. Every other file is as before.
+-- determine, and no others. Every other file is as before.
 unfoldable pub after : Folder → Folder
 after folder = with_files (made (hand_of folder)).files (without_made folder)
 
@@ -66,8 +65,7 @@ abbrev pub SameHand : Option Folder → Option Folder → Type 0
 SameHand old new = option_map hand_of new ≡ option_map hand_of old
 
 -- What is left where not all writes were made, by why they were not: nothing was written yet, or
--- some first ones were made. Only
--- after the fault of a file the next one may be made in part.
+-- some first ones were made. Only after the fault of a file the next one may be made in part.
 abbrev pub AreNotAll : ChainFault → List Write → Option Folder → Option Folder → Option (List Write)
     → Option (List Write) → Type 0
 AreNotAll fault writes old new before now =

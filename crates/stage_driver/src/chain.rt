@@ -21,8 +21,7 @@ use plan_num::{Ledger, Steps};
 use std::alloc::Global;
 
 /// Runs the stages that are built over the files of a dataset, up to the last one that its settings
-/// name or to
-/// where the chain ends early.
+/// name or to where the chain ends early.
 pub(crate) fn run_built<F: Files, L: Ledger>(
     alloc: Global,
     files: &mut F,

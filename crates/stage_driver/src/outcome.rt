@@ -9,8 +9,7 @@ use std::alloc::AllocFailed;
 use thiserror::Error;
 
 /// Whether a run may take what earlier runs kept, or has to make all of it afresh. As long as
-/// nothing is kept, both
-/// modes do the same.
+/// nothing is kept, both modes do the same.
 #[derive(Clone, Copy, Debug, PartialEq, Eq)]
 pub enum Mode {
     Make,

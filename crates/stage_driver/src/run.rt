@@ -25,8 +25,7 @@ use plan_num::{Ledger, Steps};
 use std::alloc::Global;
 
 /// Runs the stages that are built over the files of a dataset. The folder then has the made files
-/// that its hand files
-/// determine and no others of these stages, and every other file is as before.
+/// that its hand files determine and no others of these stages, and every other file is as before.
 pub fn run_chain<F: Files, L: Ledger>(
     alloc: Global,
     files: &mut F,
