@@ -1,0 +1,59 @@
+-- A tree that certifies a cost: no feasible concept costs less.
+use Rattle.std.proofs.Common.{◌≡◌, ℕ, ℤ, pos, negsuc, Bool, false, T, ◌≤◌, ◌≤ℤ◌, List, refl, arith, inl, inr, true}
+use Rattle.std.proofs.lemmas.Bool.{le-leb, leb-true}
+use Rattle.std.proofs.lemmas.Float.{T_from_true}
+use Rattle.std.specs.Int.Signed.{le_z_yes}
+use Rattle.std.proofs.lemmas.List.Sums.{list_all-from_AllPass}
+use Rattle.std.specs.Prelude.{nat_le}
+use Rattle.line_cost_model.specs.declared.multipliers.Multiplier.{Multiplier}
+use Rattle.line_cost_model.specs.declared.range.LineRange.{LineRange}
+use Rattle.line_cost_model.specs.Problems.{ProblemParts, IsProblem}
+use Rattle.line_cost_model.specs.Concepts.{IsFeasible, cost_of}
+use Rattle.line_cost_model.specs.DualBounds.{are_within, bound_by, open_lines, taken_off}
+use Rattle.line_cost_model.specs.Regions.{LiesIn, root_of}
+use Rattle.line_cost_model.proofs.Duality.{bound_is_least, empty_is_none, split_covers, one_concept}
+use Rattle.line_cost_model.proofs.Roots.{root_has_each, one_by_one}
+use Rattle.branch_certificate.specs.declared.node.Node.{Node}
+use Rattle.branch_certificate.specs.declared.node.Node.TheVariants as node
+use Rattle.branch_certificate.specs.Certified.{Certifies, CostsAtLeast, ShowsBound, TreeCertifies}
+use Rattle.branch_certificate.specs.Trees.{NodeTree, leaf, fork}
+
+within : (problem : ProblemParts) (cost : ℤ) (region : List LineRange) (ms : List Multiplier)
+    → ShowsBound problem cost region ms → are_within problem region ms ≡ true
+within problem cost region ms shown =
+    list_all-from_AllPass (λ line. nat_le (taken_off ms line) line.cost) (open_lines problem.lines region)
+    (λ k d h. le-leb _ _ (shown.within k d h))
+
+passed : (b : Bool) → T b → b ≡ true
+passed true h = refl
+passed false h = absurd h
+
+up_to : (c : ℤ) (b n : ℕ) → c ≤ℤ pos b → b ≤ n → c ≤ℤ pos n
+up_to (pos c) b n h k = le_z_yes (T_from_true _ (le-leb c n (omega (arith, leb-true c b (passed _ h.le), k))))
+up_to (negsuc c) b n h k = le_z_yes tt
+
+certified_over : (problem : ProblemParts) (cost : ℤ) (tree : NodeTree) (region : List LineRange)
+    → TreeCertifies problem cost region tree → (fs : List ℕ) → IsFeasible problem fs → LiesIn region fs
+    → cost ≤ℤ pos (cost_of problem fs)
+unfolding TreeCertifies
+certified_over problem cost (leaf (node.Split line at)) region shown fs feasible inside = absurd shown
+certified_over problem cost (leaf (node.Empty edge side)) region shown fs feasible inside =
+    absurd (empty_is_none problem region edge shown.0 side shown.1 shown.2 fs feasible inside)
+certified_over problem cost (leaf (node.Bound ms)) region shown fs feasible inside =
+    up_to cost (bound_by problem region ms) (cost_of problem fs) shown.enough
+    (bound_is_least problem region ms (within problem cost region ms shown) fs feasible inside)
+certified_over problem cost (leaf node.Point) region shown fs feasible inside =
+    rw (one_concept region fs (one_by_one (λ range. range.lo ≡ range.hi) region shown.one) inside)
+    shown.enough
+certified_over problem cost (fork line at lower upper) region shown fs feasible inside =
+    elim (split_covers region fs line at inside) [
+      | inl below ↦ certified_over problem cost lower _ shown.1 fs feasible below
+      | inr above ↦ certified_over problem cost upper _ shown.2 fs feasible above
+    ]
+
+-- what a tree certifies: each feasible concept costs so much
+pub certified_costs : (problem : ProblemParts) (cost : ℤ) (nodes : List Node) → IsProblem problem
+    → Certifies problem cost nodes → CostsAtLeast problem cost
+certified_costs problem cost nodes sound shown fs feasible =
+    certified_over problem cost shown.tree (root_of problem) shown.shows fs feasible
+    (root_has_each problem sound fs feasible)

@@ -1,0 +1,21 @@
+//! Trees that certify what a line concept costs at least: a branching over ranges of frequencies,
+//! as branch and bound leaves it, with a dual bound, an empty edge or a single concept at each leaf.
+//! After Land and Doig, An automatic method of solving discrete programming problems (1960).
+#![tactic(auto)]
+
+mod check;
+mod fault;
+mod node;
+mod read;
+mod read_fault;
+mod tree;
+mod tree_row;
+mod write;
+
+pub use check::check_tree;
+pub use fault::TreeFault;
+pub use node::Node;
+pub use read::read_tree;
+pub use read_fault::TreeReadFault;
+pub use tree::Tree;
+pub use write::write_tree;
