@@ -1,0 +1,56 @@
+-- The line problem of a bundle, whose inputs are the texts of stops, of edges, of the pool, of loads with
+-- bounds of frequency and of costs.
+use Rattle.std.specs.Prelude.{pos, List, [], ◌∷◌, ◌++◌, map, zip, find, unsigned_abs, unwrap_or}
+use Rattle.std.specs.Ordering.{int_eq}
+use Rattle.giv_files.specs.declared.file_id.FileId.TheVariants as file
+use Rattle.giv_files.specs.declared.refusal.Refusal.{Refusal}
+use Rattle.giv_files.specs.Inputs.{records_of, input_faults}
+use Rattle.giv_files.specs.Settings.{BundleParts}
+use Rattle.giv_files.specs.StageCalls.{input_text}
+use Rattle.ptn_network.specs.declared.edge.Edge.{Edge}
+use Rattle.ptn_network.specs.declared.edge_load.EdgeLoad.{EdgeLoad}
+use Rattle.ptn_network.specs.Loads.{load_input, loads_of}
+use Rattle.ptn_network.specs.Networks.{network_faults, network_in}
+use Rattle.line_pool.specs.Pools.{LineParts, pool_of, pool_faults}
+use Rattle.line_pool.specs.PoolCosts.{CostRow, pool_cost_input}
+use Rattle.line_cost_model.specs.declared.edge.BoundedEdge.{BoundedEdge}
+use Rattle.line_cost_model.specs.Problems.{CostedLine, ProblemParts}
+
+-- the lines of its pool
+abbrev pub lines_in : BundleParts → List LineParts
+lines_in bundle = pool_of (network_in bundle) (input_text bundle 2)
+
+-- every fault of its inputs, in their order
+unfoldable pub problem_faults : BundleParts → List Refusal
+problem_faults bundle =
+    network_faults (input_text bundle 0) (input_text bundle 1)
+    ++ pool_faults (network_in bundle) (input_text bundle 2)
+    ++ input_faults (load_input file.Load (network_in bundle).edges) (input_text bundle 3)
+    ++ input_faults (pool_cost_input (lines_in bundle)) (input_text bundle 4)
+
+-- an edge with the bounds of its load
+abbrev pub bounded_by : Edge → EdgeLoad → BoundedEdge
+bounded_by edge load =
+    record { id = edge.id; least = unsigned_abs load.least; most = unsigned_abs load.most }
+
+-- a line with the cost that a row gives it
+abbrev pub costed_by : List CostRow → LineParts → CostedLine
+costed_by rows line =
+    let row = unwrap_or (find (λ row. int_eq line.id row.line) rows)
+    (record { line = line.id; length = pos 0; cost = pos 0 }) in
+    record { id = line.id; cost = unsigned_abs row.cost; edges = line.edges }
+
+-- the edges with their bounds
+abbrev pub bounded_edges : BundleParts → List BoundedEdge
+bounded_edges bundle =
+    let edges = (network_in bundle).edges in
+    map (λ at. bounded_by at.0 at.1) (zip edges (loads_of file.Load edges (input_text bundle 3)))
+
+-- the lines with their costs
+abbrev pub costed_lines : BundleParts → List CostedLine
+costed_lines bundle =
+    map (costed_by (records_of (pool_cost_input (lines_in bundle)) (input_text bundle 4))) (lines_in bundle)
+
+-- the line problem
+unfoldable pub problem_of : BundleParts → ProblemParts
+problem_of bundle = record { edges = bounded_edges bundle; lines = costed_lines bundle }

@@ -1,0 +1,4 @@
+pub mod ConceptTables
+pub mod Firsts
+pub mod GivenProblems
+pub mod Judged
