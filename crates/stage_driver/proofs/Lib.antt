@@ -2,6 +2,7 @@ pub mod Differing
 pub mod Gathering
 pub mod Going
 pub mod HandAlone
+pub mod HandFiles
 pub mod HandKept
 pub mod Laws
 pub mod Left
@@ -9,6 +10,7 @@ pub mod LeftRight
 pub mod MadeLists
 pub mod MadeRight
 pub mod MadeTexts
+pub mod MadeThere
 pub mod Pieces
 pub mod Placed
 pub mod Refusing

@@ -1,6 +1,8 @@
 pub mod Built
 pub mod Chain
+pub mod Checks
 pub mod Ends
+pub mod Findings
 pub mod Hand
 pub mod Progress
 pub mod Reports

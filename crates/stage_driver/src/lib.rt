@@ -4,14 +4,20 @@
 mod cause;
 mod chain;
 mod chain_end;
+mod checked;
+mod finding;
 mod gather;
 mod origin;
 mod outcome;
 mod progress;
 mod report;
+mod rule;
 mod run;
 mod stages;
+mod standing;
 mod writes;
 
+pub use checked::{CheckEnd, CheckOutcome};
 pub use outcome::{ChainFault, Mode, Outcome, RunEnd};
+pub use rule::Rule;
 pub use run::run_chain;

@@ -1,0 +1,152 @@
+-- What a check of a folder finds: the files of each stage are judged over the files that stand there.
+use Rattle.std.specs.Prelude.{ℕ, ℤ, ◌≡◌, ◌&&◌, not, is_some, if◌then◌else◌, Bool, true, false}
+use Rattle.std.specs.Prelude.{List, [], ◌∷◌, ◌++◌, map, codes, Option, Some, None, Result, Ok, Err}
+use Rattle.std.specs.List.{list_any}
+use Rattle.std.specs.Option.{option_map, option_or}
+use Rattle.std.specs.Str.{bytes_eq}
+use Rattle.std.specs.FinMap as files
+use lib.Pointwise.{pointwise}
+use Rattle.plan_files.specs.Folder.{Folder}
+use Rattle.giv_files.specs.declared.file_id.FileId.{FileId}
+use Rattle.giv_files.specs.declared.file_id.FileId.TheVariants as file
+use Rattle.giv_files.specs.declared.made.Made.{Made}
+use Rattle.giv_files.specs.declared.made.MadeFile.{MadeFile}
+use Rattle.giv_files.specs.declared.refusal.Refusal.{Refusal}
+use Rattle.giv_files.specs.declared.stage.Stage.{Stage}
+use Rattle.giv_files.specs.declared.stage.Stage.TheVariants as stage
+use Rattle.giv_files.specs.FileNames.{file_name}
+use Rattle.giv_files.specs.Settings.{BundleParts}
+use Rattle.giv_files.specs.StageNames.{stage_name}
+use Rattle.giv_files.specs.Stages.{stage_makes}
+use Rattle.config_keys.specs.declared.config_fault.ConfigFault.{ConfigFault}
+use Rattle.config_keys.specs.Items.{look_in}
+use Rattle.config_keys.specs.Values.{effective}
+use Rattle.line_search.specs.declared.fault.ConceptFault.{ConceptFault}
+use Rattle.line_search.specs.GivenProblems.{problem_faults, problem_of}
+use Rattle.line_search.specs.Judged.{first_broken}
+use Rattle.stage_driver.specs.declared.cause.Cause.{Cause}
+use Rattle.stage_driver.specs.declared.cause.Cause.TheVariants as cause
+use Rattle.stage_driver.specs.declared.checked.CheckEnd.{CheckEnd}
+use Rattle.stage_driver.specs.declared.checked.CheckEnd.TheVariants as end
+use Rattle.stage_driver.specs.declared.checked.CheckOutcome.{CheckOutcome}
+use Rattle.stage_driver.specs.declared.finding.Finding.{Finding}
+use Rattle.stage_driver.specs.declared.finding.Finding.TheVariants.{BadInput, Broken}
+use Rattle.stage_driver.specs.declared.rule.Rule.{Rule}
+use Rattle.stage_driver.specs.declared.rule.Rule.TheVariants as rule
+use Rattle.stage_driver.specs.Built.{run_stage}
+use Rattle.stage_driver.specs.Chain.{bundle_by, to_run}
+use Rattle.stage_driver.specs.Findings.{concept_rule, finding_of, rule_name}
+use Rattle.stage_driver.specs.Reports.{cause_text, line_of}
+use Rattle.stage_driver.specs.Right.{files_by, made_in, text_in}
+
+-- the stages whose files are judged, in the order in which they run
+abbrev pub judged : List Stage
+judged = stage.Load ∷ stage.Cost ∷ stage.Concept ∷ []
+
+-- a file is a certificate, which may be left out
+abbrev pub is_certificate : FileId → Bool
+is_certificate file.Tree = true
+is_certificate file.Potential = true
+is_certificate file.Reasons = true
+is_certificate _ = false
+
+-- the files of a stage that stand in a folder
+abbrev pub standing : Folder → Stage → List MadeFile
+standing folder stage = files_by (made_in folder) (stage_makes stage)
+
+-- a file is lacking by what is found of it: it is no certificate, and nothing is
+abbrev pub is_lacking : FileId → Option (List ℕ) → Bool
+is_lacking file text = not (is_some text) && not (is_certificate file)
+
+-- one of the files of a stage is lacking in a folder
+abbrev pub lacks_file : Folder → Stage → Bool
+lacks_file folder stage =
+    list_any (λ file. is_lacking file (files.get folder (file_name file))) (stage_makes stage)
+
+-- a file, where it is found
+abbrev pub found_one : FileId → Option (List ℕ) → List MadeFile
+found_one file None = []
+found_one file (Some text) = record { file = file; text = text } ∷ []
+
+-- files have the same texts as others
+abbrev pub texts_in : List MadeFile → List (List ℕ)
+texts_in files = map (λ file. file.text) files
+
+unfoldable pub same_texts : List MadeFile → List MadeFile → Bool
+same_texts made others = pointwise bytes_eq (texts_in made) (texts_in others)
+
+-- what is found of a stage whose files are those that it makes of its inputs
+abbrev pub content_found : Stage → Result Made Refusal → List MadeFile → Option Finding
+content_found stage (Err reason) others = Some (finding_of stage (cause.Refused stage reason))
+content_found stage (Ok made) others =
+    if same_texts made.files others then None else Some (Broken stage rule.Content)
+
+-- what is found of a concept over its inputs, by their faults and by the first rule that it breaks
+abbrev pub concept_found : List Refusal → Option ConceptFault → Option Finding
+concept_found [] broken = option_map (λ fault. Broken stage.Concept (concept_rule fault)) broken
+concept_found (first ∷ more) broken =
+    Some (finding_of stage.Concept (cause.Refused stage.Concept first))
+
+-- the text of the first of some files
+abbrev pub first_text : List MadeFile → Option (List ℕ)
+first_text [] = None
+first_text (file ∷ files) = Some file.text
+
+-- what is found of a concept, with the tree that may stand behind it
+abbrev pub concept_verdict : BundleParts → List MadeFile → Option Finding
+concept_verdict bundle [] = None
+concept_verdict bundle (concept ∷ tree) =
+    concept_found (problem_faults bundle)
+    (first_broken (problem_of bundle) concept.text (first_text tree))
+
+-- what is found of the files of a stage over what it is given
+unfoldable pub verdict : Stage → BundleParts → List MadeFile → Option Finding
+verdict stage.Load bundle others = content_found stage.Load (run_stage bundle) others
+verdict stage.Cost bundle others = content_found stage.Cost (run_stage bundle) others
+verdict stage.Concept bundle others = concept_verdict bundle others
+verdict _ bundle others = None
+
+-- what is found of a stage: first of its inputs, then of the files that it makes
+abbrev pub found_over : Folder → Stage → Result BundleParts Cause → Option Finding
+found_over folder stage (Err why) = Some (finding_of stage why)
+found_over folder stage (Ok bundle) =
+    if lacks_file folder stage then Some (Broken stage rule.Missing)
+    else verdict stage bundle (standing folder stage)
+
+unfoldable pub judge : Folder → List ℤ → Stage → Option Finding
+judge folder values stage = found_over folder stage (bundle_by (text_in folder) values stage)
+
+-- the first that is found of some stages
+abbrev pub first_found : Folder → List ℤ → List Stage → Option Finding
+first_found folder values [] = None
+first_found folder values (stage ∷ stages) =
+    option_or (judge folder values stage) (first_found folder values stages)
+
+-- the same under settings, or a fault of them
+abbrev pub found_under : Result (List ℤ) ConfigFault → Folder → Option Finding
+found_under (Err reason) folder = Some (BadInput (cause.BadConfig reason))
+found_under (Ok values) folder = first_found folder values (to_run values judged)
+
+-- what a check of a folder finds, where it does not pass
+unfoldable pub check_of : Folder → Option Finding
+check_of folder = found_under (effective (look_in folder)) folder
+
+-- how a check ends, and its report
+abbrev pub check_end : Option Finding → CheckEnd
+check_end None = end.Passed
+check_end (Some (BadInput why)) = end.BadInput
+check_end (Some (Broken stage rule)) = end.Failed stage rule
+
+unfoldable pub finding_text : Finding → List ℕ
+finding_text (BadInput why) = cause_text why
+finding_text (Broken stage rule) =
+    codes "uncertified: " ++ stage_name stage ++ codes ": " ++ rule_name rule
+
+abbrev pub check_report : Option Finding → List ℕ
+check_report None = line_of (codes "checked")
+check_report (Some finding) = line_of (finding_text finding)
+
+-- the outcome is what a check of a folder finds
+pub record IsCheck (folder : Folder) (outcome : CheckOutcome) : Type 0 where
+  pub end : outcome.end ≡ check_end (check_of folder)
+  pub report : outcome.report ≡ check_report (check_of folder)
