@@ -4,6 +4,7 @@ pub mod Checks
 pub mod Ends
 pub mod Findings
 pub mod Hand
+pub mod Looks
 pub mod Progress
 pub mod Reports
 pub mod Right

@@ -83,7 +83,7 @@ fn visit<F: Files, L: Ledger>(
     ensures no_hand_file { HasNoHandFile progress.new result }
     ensures no_less { steps.old ≤ steps.new }
 {
-    let bundle = gather(alloc, files, config, stage, progress.files())?;
+    let bundle = gather(alloc, files, config, stage, Some(progress.files()))?;
     match make_stage(alloc, &bundle, steps) {
         Ok(made) => {
             progress.add(made)?;

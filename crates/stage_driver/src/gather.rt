@@ -1,33 +1,38 @@
 // What a stage is given.
-ghost use Rattle.std.specs.Prelude.{◌≡◌, false, IfSome, IfOk};
+ghost use Rattle.std.specs.Prelude.{◌≡◌, false, IfSome, IfOk, option_copied};
 ghost use Rattle.plan_files.specs.Reads.{OnlyReads};
 ghost use Rattle.config_keys.specs.Items.{look_in};
 ghost use Rattle.giv_files.specs.FileNames.{file_name};
 ghost use Rattle.giv_files.specs.Settings.{Fits};
 ghost use Rattle.giv_files.specs.Stages.{stage_inputs};
-ghost use Rattle.stage_driver.specs.Chain.{bundle_told, hand_text, input_text, made_text, texts_of};
+ghost use Rattle.stage_driver.specs.Chain.{bundle_told, hand_text, made_text, texts_by};
 ghost use Rattle.stage_driver.specs.Ends.{is_broken, Gives};
+ghost use Rattle.stage_driver.specs.Looks.{look_over};
+ghost use Rattle.stage_driver.specs.Right.{made_in};
 
 use crate::cause::Cause;
 use crate::chain_end::ChainEnd;
 use crate::origin::{Origin, chosen, origin_of};
+use crate::standing::text_at;
 use config_keys::{Config, FILE_LIMIT};
 use giv_files::{Bundle, FileId, MadeFile, Stage};
 use plan_files::{Files, Got};
 use plan_num::Text;
 use std::alloc::Global;
 
-/// A stage with its settings and its inputs, or why an input is not there.
+/// A stage with its settings and its inputs, or why an input is not there. Files that stages before
+/// it make are those that are given, or, where none are, those that stand in the folder.
 pub(crate) fn gather<F: Files>(
     alloc: Global,
     files: &mut F,
     config: &Config,
     stage: Stage,
-    made: &[MadeFile],
+    made: Option<&[MadeFile]>,
 ) -> Result<Bundle, ChainEnd>
     ensures bundle { IfSome (F.contents files.old) (λ folder.
         Gives (bundle_told config.now stage
-        (texts_of config.now folder made.now (stage_inputs stage))) result) }
+        (texts_by (look_over (option_copied made.entry) folder) config.now (stage_inputs stage)))
+        result) }
     ensures fits { IfOk result (λ bundle. Fits bundle) }
     ensures only_reads { OnlyReads F.contents F.writes F.faults files.old files.new
         (is_broken result) }
@@ -46,17 +51,37 @@ fn input<F: Files>(
     alloc: Global,
     files: &mut F,
     file: FileId,
-    made: &[MadeFile],
+    made: Option<&[MadeFile]>,
 ) -> Result<Text, ChainEnd>
     ensures text { IfSome (F.contents files.old) (λ folder.
-        Gives (input_text folder made.now file) result) }
+        Gives (look_over (option_copied made.entry) folder file) result) }
     ensures only_reads { OnlyReads F.contents F.writes F.faults files.old files.new
         (is_broken result) }
 {
     match origin_of(file) {
         Origin::Needed => hand_text(alloc, files, file, false),
         Origin::Optional => hand_text(alloc, files, file, true),
-        Origin::Earlier => made_text(alloc, made, file),
+        Origin::Earlier => match made {
+            Some(made) => made_text(alloc, made, file),
+            None => standing_text(alloc, files, file),
+        },
+    }
+}
+
+// The text of a made file that stands in the folder.
+fn standing_text<F: Files>(
+    alloc: Global,
+    files: &mut F,
+    file: FileId,
+) -> Result<Text, ChainEnd>
+    ensures text { IfSome (F.contents files.old) (λ folder.
+        Gives (made_in folder file) result) }
+    ensures only_reads { OnlyReads F.contents F.writes F.faults files.old files.new
+        (is_broken result) }
+{
+    match text_at(alloc, files, file)? {
+        Some(text) => Ok(text),
+        None => Err(ChainEnd::Stopped(Cause::Missing(file))),
     }
 }
 

@@ -1,7 +1,7 @@
-use Rattle.std.proofs.Common.{◌≡◌, false, IfSome, drop, length}
+use Rattle.std.proofs.Common.{◌≡◌, false, IfSome, drop, length, option_copied}
 use Rattle.plan_files.specs.Reads.{OnlyReads}
-use Rattle.stage_driver.specs.Chain.{texts_of}
-use Rattle.stage_driver.proofs.Gathering.{behind}
+use Rattle.stage_driver.specs.Looks.{look_over}
+use Rattle.stage_driver.proofs.Gathering.{so_far_in}
 use Rattle.stage_driver.proofs.gather.gather.Given as goal
 
 -- the texts so far and those that are left make all of them, and no file has changed
@@ -11,5 +11,5 @@ invariant-loop-file g l = record {
   stage : l.bundle.stage ≡ l.initial.bundle.stage;
   settings : l.bundle.settings ≡ l.initial.bundle.settings;
   count : length l.bundle.inputs ≡ l.file-index;
-  texts : IfSome (g.F.Files.contents l.initial.files) (λ folder. behind l.bundle.inputs (texts_of l.config folder l.made (drop l.file-index l.file-items)) ≡ texts_of l.config folder l.made l.file-items);
+  texts : IfSome (g.F.Files.contents l.initial.files) (so_far_in (look_over (option_copied l.made)) l.config l.file-items (drop l.file-index l.file-items) l.bundle.inputs);
 }
