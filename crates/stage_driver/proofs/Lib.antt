@@ -4,6 +4,7 @@ pub mod Going
 pub mod HandAlone
 pub mod HandFiles
 pub mod HandKept
+pub mod Judging
 pub mod Laws
 pub mod Left
 pub mod LeftRight
@@ -15,6 +16,7 @@ pub mod Pieces
 pub mod Placed
 pub mod Refusing
 pub mod Running
+pub mod SameTexts
 pub mod Starting
 pub mod Traces
 pub mod Visiting

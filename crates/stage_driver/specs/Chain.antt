@@ -188,7 +188,10 @@ stage_place stage.Vehicles = 6
 stage_place stage.Disposition = 7
 stage_place stage.Statistic = 8
 
--- those of some stages that are to run: none comes after the last stage that the settings name
+-- a stage is to run: it does not come after the last stage that the settings name
+abbrev pub is_to_run : List ℤ → Stage → Bool
+is_to_run values stage = nat_le (stage_place stage) (stage_place (last_stage_of values))
+
+-- those of some stages that are to run
 abbrev pub to_run : List ℤ → List Stage → List Stage
-to_run values stages =
-    filter (λ stage. nat_le (stage_place stage) (stage_place (last_stage_of values))) stages
+to_run values stages = filter (is_to_run values) stages

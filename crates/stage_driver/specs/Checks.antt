@@ -1,11 +1,10 @@
 -- What a check of a folder finds: the files of each stage are judged over the files that stand there.
 use Rattle.std.specs.Prelude.{ℕ, ℤ, ◌≡◌, ◌&&◌, not, is_some, if◌then◌else◌, Bool, true, false}
-use Rattle.std.specs.Prelude.{List, [], ◌∷◌, ◌++◌, map, codes, Option, Some, None, Result, Ok, Err}
-use Rattle.std.specs.List.{list_any}
+use Rattle.std.specs.Prelude.{List, [], ◌∷◌, ◌++◌, ◌==◌, length, zip, codes, Option, Some, None, Result, Ok, Err}
+use Rattle.std.specs.List.{list_all, list_any}
 use Rattle.std.specs.Option.{option_map, option_or}
 use Rattle.std.specs.Str.{bytes_eq}
 use Rattle.std.specs.FinMap as files
-use lib.Pointwise.{pointwise}
 use Rattle.plan_files.specs.Folder.{Folder}
 use Rattle.giv_files.specs.declared.file_id.FileId.{FileId}
 use Rattle.giv_files.specs.declared.file_id.FileId.TheVariants as file
@@ -18,6 +17,8 @@ use Rattle.giv_files.specs.FileNames.{file_name}
 use Rattle.giv_files.specs.Settings.{BundleParts}
 use Rattle.giv_files.specs.StageNames.{stage_name}
 use Rattle.giv_files.specs.Stages.{stage_makes}
+use Rattle.config_keys.specs.declared.config_end.ConfigEnd.{ConfigEnd}
+use Rattle.config_keys.specs.declared.config_end.ConfigEnd.TheVariants as config
 use Rattle.config_keys.specs.declared.config_fault.ConfigFault.{ConfigFault}
 use Rattle.config_keys.specs.Items.{look_in}
 use Rattle.config_keys.specs.Values.{effective}
@@ -26,15 +27,19 @@ use Rattle.line_search.specs.GivenProblems.{problem_faults, problem_of}
 use Rattle.line_search.specs.Judged.{first_broken}
 use Rattle.stage_driver.specs.declared.cause.Cause.{Cause}
 use Rattle.stage_driver.specs.declared.cause.Cause.TheVariants as cause
+use Rattle.stage_driver.specs.declared.chain_end.ChainEnd.{ChainEnd}
+use Rattle.stage_driver.specs.declared.chain_end.ChainEnd.TheVariants as ended
 use Rattle.stage_driver.specs.declared.checked.CheckEnd.{CheckEnd}
 use Rattle.stage_driver.specs.declared.checked.CheckEnd.TheVariants as end
 use Rattle.stage_driver.specs.declared.checked.CheckOutcome.{CheckOutcome}
 use Rattle.stage_driver.specs.declared.finding.Finding.{Finding}
 use Rattle.stage_driver.specs.declared.finding.Finding.TheVariants.{BadInput, Broken}
+use Rattle.stage_driver.specs.declared.outcome.ChainFault.{ChainFault}
+use Rattle.stage_driver.specs.declared.outcome.ChainFault.TheVariants as fault
 use Rattle.stage_driver.specs.declared.rule.Rule.{Rule}
 use Rattle.stage_driver.specs.declared.rule.Rule.TheVariants as rule
 use Rattle.stage_driver.specs.Built.{run_stage}
-use Rattle.stage_driver.specs.Chain.{bundle_by, to_run}
+use Rattle.stage_driver.specs.Chain.{bundle_by, is_to_run}
 use Rattle.stage_driver.specs.Findings.{concept_rule, finding_of, rule_name}
 use Rattle.stage_driver.specs.Reports.{cause_text, line_of}
 use Rattle.stage_driver.specs.Right.{files_by, made_in, text_in}
@@ -69,17 +74,19 @@ found_one file None = []
 found_one file (Some text) = record { file = file; text = text } ∷ []
 
 -- files have the same texts as others
-abbrev pub texts_in : List MadeFile → List (List ℕ)
-texts_in files = map (λ file. file.text) files
-
 unfoldable pub same_texts : List MadeFile → List MadeFile → Bool
-same_texts made others = pointwise bytes_eq (texts_in made) (texts_in others)
+same_texts made others =
+    (length made == length others) && list_all (λ at. bytes_eq at.0.text at.1.text) (zip made others)
 
--- what is found of a stage whose files are those that it makes of its inputs
+-- what is found of files that are to be those that their stage makes
+abbrev pub files_found : Stage → List MadeFile → List MadeFile → Option Finding
+files_found stage made others =
+    if same_texts made others then None else Some (Broken stage rule.Content)
+
+-- the same by what the stage makes of its inputs, or why it refuses them
 abbrev pub content_found : Stage → Result Made Refusal → List MadeFile → Option Finding
 content_found stage (Err reason) others = Some (finding_of stage (cause.Refused stage reason))
-content_found stage (Ok made) others =
-    if same_texts made.files others then None else Some (Broken stage rule.Content)
+content_found stage (Ok made) others = files_found stage made.files others
 
 -- what is found of a concept over its inputs, by their faults and by the first rule that it breaks
 abbrev pub concept_found : List Refusal → Option ConceptFault → Option Finding
@@ -113,19 +120,35 @@ found_over folder stage (Ok bundle) =
     if lacks_file folder stage then Some (Broken stage rule.Missing)
     else verdict stage bundle (standing folder stage)
 
+-- what is found of a stage that was not given its inputs; other ends are handed on
+abbrev pub EndedAs : Stage → ChainEnd → Result (Option Finding) ChainFault → Type 0
+EndedAs stage (ended.Stopped why) result = result ≡ Ok (Some (finding_of stage why))
+EndedAs stage ended.FileFault result = result ≡ Err fault.FileFault
+EndedAs stage ended.NoMemory result = result ≡ Err fault.NoMemory
+
 unfoldable pub judge : Folder → List ℤ → Stage → Option Finding
 judge folder values stage = found_over folder stage (bundle_by (text_in folder) values stage)
+
+-- the same of a stage that is to run; of one behind the last stage nothing is found
+abbrev pub found_at : Folder → List ℤ → Stage → Option Finding
+found_at folder values stage = if is_to_run values stage then judge folder values stage else None
 
 -- the first that is found of some stages
 abbrev pub first_found : Folder → List ℤ → List Stage → Option Finding
 first_found folder values [] = None
 first_found folder values (stage ∷ stages) =
-    option_or (judge folder values stage) (first_found folder values stages)
+    option_or (found_at folder values stage) (first_found folder values stages)
 
 -- the same under settings, or a fault of them
 abbrev pub found_under : Result (List ℤ) ConfigFault → Folder → Option Finding
 found_under (Err reason) folder = Some (BadInput (cause.BadConfig reason))
-found_under (Ok values) folder = first_found folder values (to_run values judged)
+found_under (Ok values) folder = first_found folder values judged
+
+-- what is found where settings could not be read; other ends are handed on
+abbrev pub UnsettledAs : ConfigEnd → Result (Option Finding) ChainFault → Type 0
+UnsettledAs (config.Refused reason) result = result ≡ Ok (Some (BadInput (cause.BadConfig reason)))
+UnsettledAs config.FileFault result = result ≡ Err fault.FileFault
+UnsettledAs config.NoMemory result = result ≡ Err fault.NoMemory
 
 -- what a check of a folder finds, where it does not pass
 unfoldable pub check_of : Folder → Option Finding
@@ -137,10 +160,13 @@ check_end None = end.Passed
 check_end (Some (BadInput why)) = end.BadInput
 check_end (Some (Broken stage rule)) = end.Failed stage rule
 
+abbrev pub broken_text : Stage → Rule → List ℕ
+broken_text stage rule =
+    codes "uncertified: " ++ stage_name stage ++ codes ": " ++ rule_name rule
+
 unfoldable pub finding_text : Finding → List ℕ
 finding_text (BadInput why) = cause_text why
-finding_text (Broken stage rule) =
-    codes "uncertified: " ++ stage_name stage ++ codes ": " ++ rule_name rule
+finding_text (Broken stage rule) = broken_text stage rule
 
 abbrev pub check_report : Option Finding → List ℕ
 check_report None = line_of (codes "checked")

@@ -34,6 +34,7 @@ pub(crate) fn gather<F: Files>(
         (texts_by (look_over (option_copied made.entry) folder) config.now (stage_inputs stage)))
         result) }
     ensures fits { IfOk result (λ bundle. Fits bundle) }
+    ensures stage { IfOk result (λ bundle. bundle.stage ≡ stage) }
     ensures only_reads { OnlyReads F.contents F.writes F.faults files.old files.new
         (is_broken result) }
 {

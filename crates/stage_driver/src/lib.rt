@@ -4,9 +4,11 @@
 mod cause;
 mod chain;
 mod chain_end;
+mod check;
 mod checked;
 mod finding;
 mod gather;
+mod judge;
 mod origin;
 mod outcome;
 mod progress;
@@ -17,6 +19,7 @@ mod stages;
 mod standing;
 mod writes;
 
+pub use check::check_chain;
 pub use checked::{CheckEnd, CheckOutcome};
 pub use outcome::{ChainFault, Mode, Outcome, RunEnd};
 pub use rule::Rule;

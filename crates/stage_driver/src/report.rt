@@ -4,9 +4,13 @@ ghost use Rattle.std.specs.Option.{option_copied};
 ghost use Rattle.stage_driver.specs.Reports.{row_text, missing_text, too_long_text, config_text};
 ghost use Rattle.stage_driver.specs.Reports.{refusal_text, cause_text, last_line, end_of};
 ghost use Rattle.stage_driver.specs.Reports.{end_of_refusal};
+ghost use Rattle.stage_driver.specs.Checks.{broken_text, check_end, check_report};
 
 use crate::cause::Cause;
+use crate::checked::{CheckEnd, CheckOutcome};
+use crate::finding::Finding;
 use crate::outcome::{Outcome, RunEnd};
+use crate::rule::Rule;
 use config_keys::ConfigFault;
 use giv_files::{Refusal, Stage};
 use plan_num::{NoMemory, Text};
@@ -32,6 +36,57 @@ pub(crate) fn outcome(
         end: end_of(cause.as_ref()),
         report: Text::from_vec(report),
     })
+}
+
+/// The outcome of a check, by what it found.
+#[tactic(auto, using(std::proofs::lemmas::List::append_assoc), unfolding(crate::specs::Checks::finding_text))]
+pub(crate) fn check_outcome(
+    alloc: Global,
+    finding: Option<Finding>,
+) -> Result<CheckOutcome, NoMemory>
+    ensures end { IfOk result (λ outcome. outcome.end ≡ check_end finding) }
+    ensures report { IfOk result (λ outcome. outcome.report ≡ check_report finding) }
+{
+    let mut report = Vec::new(alloc);
+    let end = match &finding {
+        None => {
+            report.extend_from_slice(b"checked")?;
+            CheckEnd::Passed
+        }
+        Some(Finding::BadInput(cause)) => {
+            push_cause(alloc, &mut report, cause)?;
+            CheckEnd::BadInput
+        }
+        Some(Finding::Broken(stage, rule)) => {
+            push_broken(alloc, &mut report, *stage, *rule)?;
+            CheckEnd::Failed {
+                stage: *stage,
+                rule: *rule,
+            }
+        }
+    };
+    report.push(b'\n')?;
+    Ok(CheckOutcome {
+        end,
+        report: Text::from_vec(report),
+    })
+}
+
+// The files of a stage break a rule.
+#[tactic(auto, using(std::proofs::lemmas::List::append_assoc))]
+fn push_broken(
+    alloc: Global,
+    report: &mut Vec<u8>,
+    stage: Stage,
+    rule: Rule,
+) -> Result<(), NoMemory>
+    ensures { OnOk result (report.new.items ≡ report.old.items ++ broken_text stage rule) }
+{
+    let stage = stage.name();
+    let rule = rule.name();
+    let text = format!(in alloc; "uncertified: {stage}: {rule}")?;
+    report.extend_from_slice(text.as_bytes())?;
+    Ok(())
 }
 
 // How a run ends.

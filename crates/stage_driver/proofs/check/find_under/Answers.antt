@@ -1,0 +1,15 @@
+use Rattle.std.proofs.Common.{sym, ◌∙◌}
+use Rattle.plan_files.proofs.Reading.{both_read}
+use Rattle.giv_files.specs.declared.stage.Stage.TheVariants.{Load}
+use Rattle.stage_driver.proofs.Judging.{told_some, told_none, told_end}
+use Rattle.stage_driver.proofs.check.find_under.Goals as goal
+
+pub returns-then-is_some-clause-found : goal.returns-then-is_some-clause-found
+returns-then-is_some-clause-found g c =
+    told_some c.args.config.now _ _ c.judged-stage-items.result.now _ c.loop-stage.stage-index Load _ c.loop-stage-test.true c.loop-stage.invariant.reads.contents c.judged-stage-items.ensures c.in_ok-found.ensures.found (sym c.is_some.ensures ∙ c.if-is_some.true) c.loop-stage.invariant.left
+
+pub loop-stage-preserved : goal.loop-stage-preserved
+loop-stage-preserved g c = record {
+  reads = both_read _ _ _ _ _ _ _ c.loop-stage.invariant.reads c.in_ok-found.ensures.only_reads;
+  left = told_none c.args.config.now _ _ c.judged-stage-items.result.now c.loop-stage.stage-index Load _ c.loop-stage-test.true c.loop-stage.invariant.reads.contents c.in_ok-found.ensures.found (sym c.is_some.ensures ∙ c.if-is_some.false) c.loop-stage.invariant.left;
+}

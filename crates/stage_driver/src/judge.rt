@@ -1,0 +1,191 @@
+// The judge of a stage whose files stand in a folder.
+ghost use Rattle.std.specs.Prelude.{◌≡◌, IfSome, IfOk, Ok, option_copied, zip};
+ghost use Rattle.std.specs.List.{list_all};
+ghost use Rattle.std.specs.Str.{bytes_eq};
+ghost use Rattle.plan_files.specs.Reads.{OnlyReads};
+ghost use Rattle.giv_files.specs.declared.stage.Stage.TheVariants as stages;
+ghost use Rattle.giv_files.specs.Settings.{Fits};
+ghost use Rattle.stage_driver.specs.Checks.{concept_verdict, content_found, first_text, found_over};
+ghost use Rattle.stage_driver.specs.Checks.{EndedAs, files_found, judge, same_texts, verdict};
+ghost use Rattle.stage_driver.specs.Built.{run_stage};
+ghost use Rattle.stage_driver.specs.Ends.{has_failed};
+
+use crate::cause::Cause;
+use crate::chain_end::ChainEnd;
+use crate::finding::Finding;
+use crate::gather::gather;
+use crate::outcome::ChainFault;
+use crate::rule::Rule;
+use crate::stages::make_stage;
+use crate::standing::standing;
+use config_keys::Config;
+use giv_files::{Bundle, MadeFile, Stage, StageFault};
+use line_search::check_concept;
+use plan_files::Files;
+use plan_num::{NoMemory, Silent, Steps};
+use std::alloc::Global;
+
+/// What is found of a stage, where it does not pass: first of its inputs, then of the files that it
+/// makes.
+pub(crate) fn judge<F: Files>(
+    alloc: Global,
+    files: &mut F,
+    config: &Config,
+    stage: Stage,
+) -> Result<Option<Finding>, ChainFault>
+    ensures found { IfSome (F.contents files.old) (λ folder.
+        IfOk result (λ found. found ≡ judge folder config.now stage)) }
+    ensures only_reads { OnlyReads F.contents F.writes F.faults files.old files.new
+        (has_failed result) }
+{
+    match gather(alloc, files, config, stage, None) {
+        Ok(bundle) => judge_files(alloc, files, &bundle, stage),
+        Err(end) => ended(stage, end),
+    }
+}
+
+// What is found of a stage that was not given its inputs.
+fn ended(stage: Stage, end: ChainEnd) -> Result<Option<Finding>, ChainFault>
+    ensures found { EndedAs stage end result }
+{
+    match end {
+        ChainEnd::Stopped(cause) => Ok(Some(Finding::of(stage, cause))),
+        ChainEnd::FileFault => Err(ChainFault::FileFault),
+        ChainEnd::NoMemory => Err(ChainFault::NoMemory),
+    }
+}
+
+// What is found of the files that a stage makes, over what it is given.
+fn judge_files<F: Files>(
+    alloc: Global,
+    files: &mut F,
+    bundle: &Bundle,
+    stage: Stage,
+) -> Result<Option<Finding>, ChainFault>
+    requires fits { Fits bundle.now }
+    requires stage { bundle.now.stage ≡ stage }
+    ensures found { IfSome (F.contents files.old) (λ folder.
+        IfOk result (λ found. found ≡ found_over folder stage (Ok bundle.now))) }
+    ensures only_reads { OnlyReads F.contents F.writes F.faults files.old files.new
+        (has_failed result) }
+{
+    let there = standing(alloc, files, stage)?;
+    match there {
+        Some(there) => Ok(verdict(alloc, bundle, stage, &there)?),
+        None => Ok(Some(Finding::Broken(stage, Rule::Missing))),
+    }
+}
+
+// What is found of files over what their stage is given.
+#[tactic(auto, unfolding(crate::specs::Checks::verdict))]
+fn verdict(
+    alloc: Global,
+    bundle: &Bundle,
+    stage: Stage,
+    there: &[MadeFile],
+) -> Result<Option<Finding>, NoMemory>
+    requires fits { Fits bundle.now }
+    requires stage { bundle.now.stage ≡ stage }
+    ensures { IfOk result (λ found. found ≡ verdict stage bundle.now there.now) }
+{
+    match stage {
+        Stage::Load | Stage::Cost => content_found(alloc, bundle, stage, there),
+        Stage::Concept => concept_verdict(alloc, bundle, there),
+        Stage::Ean
+        | Stage::Timetable
+        | Stage::Rollout
+        | Stage::Vehicles
+        | Stage::Disposition
+        | Stage::Statistic => Ok(None),
+    }
+}
+
+// What is found of files that are to be those that their stage makes of what it is given.
+fn content_found(
+    alloc: Global,
+    bundle: &Bundle,
+    stage: Stage,
+    there: &[MadeFile],
+) -> Result<Option<Finding>, NoMemory>
+    requires fits { Fits bundle.now }
+    ensures { IfOk result (λ found. found
+        ≡ content_found stage (run_stage bundle.now) there.now) }
+{
+    let mut steps = Steps::new(Silent);
+    match make_stage(alloc, bundle, &mut steps) {
+        Ok(made) => Ok(files_found(stage, &made.files.into_vec(), there)),
+        Err(StageFault::Refused(refusal)) => {
+            Ok(Some(Finding::of(stage, Cause::Refused(stage, refusal))))
+        }
+        Err(StageFault::NoMemory) => Err(NoMemory),
+    }
+}
+
+// What is found of files that are to be those that their stage makes.
+fn files_found(stage: Stage, made: &[MadeFile], there: &[MadeFile]) -> Option<Finding>
+    ensures { result ≡ files_found stage made.now there.now }
+{
+    if same_texts(made, there) {
+        None
+    } else {
+        Some(Finding::Broken(stage, Rule::Content))
+    }
+}
+
+// Whether files have the same texts as others.
+#[tactic(auto, unfolding(crate::specs::Checks::same_texts))]
+fn same_texts(made: &[MadeFile], others: &[MadeFile]) -> bool
+    ensures { result ≡ same_texts made.now others.now }
+{
+    made.len() == others.len() && same_each(made, others)
+}
+
+// Whether each file has the same text as the other one at its place.
+fn same_each(made: &[MadeFile], others: &[MadeFile]) -> bool
+    ensures { result ≡ list_all (λ at. bytes_eq at.0.text at.1.text) (zip made.now others.now) }
+{
+    made.iter()
+        .zip(others)
+        .all(|(file, other)| same_text(file, other))
+}
+
+// Whether a file has the same text as another one.
+fn same_text(file: &MadeFile, other: &MadeFile) -> bool
+    ensures { result ≡ bytes_eq file.now.text other.now.text }
+{
+    file.text.as_bytes() == other.text.as_bytes()
+}
+
+// What is found of a concept, with the tree that may stand behind it.
+fn concept_verdict(
+    alloc: Global,
+    bundle: &Bundle,
+    there: &[MadeFile],
+) -> Result<Option<Finding>, NoMemory>
+    requires fits { Fits bundle.now }
+    requires stage { bundle.now.stage ≡ stages.Concept }
+    ensures { IfOk result (λ found. found ≡ concept_verdict bundle.now there.now) }
+{
+    let [concept, more @ ..] = there else {
+        return Ok(None);
+    };
+    match check_concept(alloc, bundle, concept.text.as_bytes(), first_text(more)) {
+        Ok(None) => Ok(None),
+        Ok(Some(fault)) => Ok(Some(Finding::Broken(Stage::Concept, Rule::from(fault)))),
+        Err(StageFault::Refused(refusal)) => Ok(Some(Finding::of(
+            Stage::Concept,
+            Cause::Refused(Stage::Concept, refusal),
+        ))),
+        Err(StageFault::NoMemory) => Err(NoMemory),
+    }
+}
+
+// The text of the first of some files.
+fn first_text(files: &[MadeFile]) -> Option<&[u8]>
+    ensures { option_copied result ≡ first_text files.now }
+{
+    match files {
+        [first, ..] => Some(first.text.as_bytes()),
+        [] => None,
+    }
+}
