@@ -12,6 +12,7 @@ pub mod MadeLists
 pub mod MadeRight
 pub mod MadeTexts
 pub mod MadeThere
+pub mod Passed
 pub mod Pieces
 pub mod Placed
 pub mod Refusing

@@ -27,7 +27,7 @@ pub record IsMadeList (stage : Stage) (files : List FileId) : Type 0 where
   pub differ : differing (map file_name files) ≡ true
   pub kept : filter (λ file. is_among (file_name file) (map file_name files)) (stage_makes stage) ≡ files
 
-only_one : (list files : List FileId) → Contains (list ∷ []) files → list ≡ files
+pub only_one : (list files : List FileId) → Contains (list ∷ []) files → list ≡ files
 only_one list files at = by at.0 at.1 at.2
   where
     by : (k : ℕ) → k < length (list ∷ []) → slice_index_or (list ∷ []) k files ≡ files
@@ -35,7 +35,7 @@ only_one list files at = by at.0 at.1 at.2
     by zero inside is = is
     by (suc k) inside is = absurd (omega (arith, inside))
 
-one_of_two : (list other files : List FileId) → Contains (list ∷ other ∷ []) files
+pub one_of_two : (list other files : List FileId) → Contains (list ∷ other ∷ []) files
     → (list ≡ files) ⊎ (other ≡ files)
 one_of_two list other files at = by at.0 at.1 at.2
   where

@@ -106,12 +106,12 @@ concept_verdict bundle (concept ∷ tree) =
     concept_found (problem_faults bundle)
     (first_broken (problem_of bundle) concept.text (first_text tree))
 
--- what is found of the files of a stage over what it is given
+-- what is found of the files of a stage over what it is given; a stage that is not judged never passes
 unfoldable pub verdict : Stage → BundleParts → List MadeFile → Option Finding
 verdict stage.Load bundle others = content_found stage.Load (run_stage bundle) others
 verdict stage.Cost bundle others = content_found stage.Cost (run_stage bundle) others
 verdict stage.Concept bundle others = concept_verdict bundle others
-verdict _ bundle others = None
+verdict stage bundle others = Some (Broken stage rule.Content)
 
 -- what is found of a stage: first of its inputs, then of the files that it makes
 abbrev pub found_over : Folder → Stage → Result BundleParts Cause → Option Finding

@@ -5,6 +5,7 @@ pub mod Ends
 pub mod Findings
 pub mod Hand
 pub mod Looks
+pub mod Passing
 pub mod Progress
 pub mod Reports
 pub mod Right

@@ -1,5 +1,7 @@
 // A check of the files of a dataset.
-ghost use Rattle.std.specs.Prelude.{◌≡◌, IfSome, IfOk};
+ghost use Rattle.std.specs.Prelude.{◌≡◌, IfSome, IfOk, IfNone};
+ghost use Rattle.stage_driver.specs.declared.checked.CheckEnd.TheVariants as ends;
+ghost use Rattle.stage_driver.specs.Passing.{AllStand, PassesIn, RunsStand};
 ghost use Rattle.plan_files.specs.Reads.{OnlyReads};
 ghost use Rattle.config_keys.specs.Items.{look_in};
 ghost use Rattle.config_keys.specs.Values.{effective};
@@ -25,6 +27,8 @@ use std::alloc::Global;
 /// file.
 pub fn check_chain<F: Files>(alloc: Global, files: &mut F) -> Result<CheckOutcome, ChainFault>
     ensures outcome { IfSome (F.contents files.old) (λ folder. IfOk result (IsCheck folder)) }
+    ensures passes { IfSome (F.contents files.old) (λ folder.
+        IfOk result (λ outcome. outcome.end ≡ ends.Passed → PassesIn folder)) }
     ensures only_reads { OnlyReads F.contents F.writes F.faults files.old files.new
         (has_failed result) }
 {
@@ -36,6 +40,8 @@ pub fn check_chain<F: Files>(alloc: Global, files: &mut F) -> Result<CheckOutcom
 fn find<F: Files>(alloc: Global, files: &mut F) -> Result<Option<Finding>, ChainFault>
     ensures found { IfSome (F.contents files.old) (λ folder.
         IfOk result (λ found. found ≡ check_of folder)) }
+    ensures passes { IfSome (F.contents files.old) (λ folder.
+        IfOk result (λ found. IfNone found (PassesIn folder))) }
     ensures only_reads { OnlyReads F.contents F.writes F.faults files.old files.new
         (has_failed result) }
 {
@@ -64,6 +70,8 @@ fn find_under<F: Files>(
 ) -> Result<Option<Finding>, ChainFault>
     ensures found { IfSome (F.contents files.old) (λ folder. IfOk result (λ found.
         found ≡ first_found folder config.now judged)) }
+    ensures passes { IfSome (F.contents files.old) (λ folder.
+        IfOk result (λ found. IfNone found (AllStand folder config.now judged))) }
     ensures only_reads { OnlyReads F.contents F.writes F.faults files.old files.new
         (has_failed result) }
 {
@@ -85,6 +93,8 @@ fn find_at<F: Files>(
 ) -> Result<Option<Finding>, ChainFault>
     ensures found { IfSome (F.contents files.old) (λ folder. IfOk result (λ found.
         found ≡ found_at folder config.now stage)) }
+    ensures passes { IfSome (F.contents files.old) (λ folder.
+        IfOk result (λ found. IfNone found (RunsStand folder config.now stage))) }
     ensures only_reads { OnlyReads F.contents F.writes F.faults files.old files.new
         (has_failed result) }
 {

@@ -1,12 +1,15 @@
 // The judge of a stage whose files stand in a folder.
-ghost use Rattle.std.specs.Prelude.{◌≡◌, IfSome, IfOk, Ok, option_copied, zip};
+ghost use Rattle.std.specs.Prelude.{◌≡◌, IfSome, IfOk, IfNone, Ok, option_copied, zip};
 ghost use Rattle.std.specs.List.{list_all};
 ghost use Rattle.std.specs.Str.{bytes_eq};
 ghost use Rattle.plan_files.specs.Reads.{OnlyReads};
 ghost use Rattle.giv_files.specs.declared.stage.Stage.TheVariants as stages;
+ghost use Rattle.giv_files.specs.MadeLists.{MakesAs, ids_of};
 ghost use Rattle.giv_files.specs.Settings.{Fits};
 ghost use Rattle.stage_driver.specs.Checks.{concept_verdict, content_found, first_text, found_over};
 ghost use Rattle.stage_driver.specs.Checks.{EndedAs, files_found, judge, same_texts, verdict};
+ghost use Rattle.stage_driver.specs.Checks.{standing};
+ghost use Rattle.stage_driver.specs.Passing.{ConceptPasses, SatisfyModel, StageStands};
 ghost use Rattle.stage_driver.specs.Built.{run_stage};
 ghost use Rattle.stage_driver.specs.Ends.{has_failed};
 
@@ -35,6 +38,8 @@ pub(crate) fn judge<F: Files>(
 ) -> Result<Option<Finding>, ChainFault>
     ensures found { IfSome (F.contents files.old) (λ folder.
         IfOk result (λ found. found ≡ judge folder config.now stage)) }
+    ensures passes { IfSome (F.contents files.old) (λ folder.
+        IfOk result (λ found. IfNone found (StageStands folder config.now stage))) }
     ensures only_reads { OnlyReads F.contents F.writes F.faults files.old files.new
         (has_failed result) }
 {
@@ -66,6 +71,8 @@ fn judge_files<F: Files>(
     requires stage { bundle.now.stage ≡ stage }
     ensures found { IfSome (F.contents files.old) (λ folder.
         IfOk result (λ found. found ≡ found_over folder stage (Ok bundle.now))) }
+    ensures passes { IfSome (F.contents files.old) (λ folder. IfOk result (λ found.
+        IfNone found (SatisfyModel stage bundle.now (standing folder stage)))) }
     ensures only_reads { OnlyReads F.contents F.writes F.faults files.old files.new
         (has_failed result) }
 {
@@ -86,17 +93,20 @@ fn verdict(
 ) -> Result<Option<Finding>, NoMemory>
     requires fits { Fits bundle.now }
     requires stage { bundle.now.stage ≡ stage }
-    ensures { IfOk result (λ found. found ≡ verdict stage bundle.now there.now) }
+    ensures found { IfOk result (λ found. found ≡ verdict stage bundle.now there.now) }
+    ensures passes { MakesAs stage (ids_of there.now) → IfOk result (λ found.
+        IfNone found (SatisfyModel stage bundle.now there.now)) }
 {
     match stage {
-        Stage::Load | Stage::Cost => content_found(alloc, bundle, stage, there),
+        Stage::Load => content_found(alloc, bundle, stage, there),
+        Stage::Cost => content_found(alloc, bundle, stage, there),
         Stage::Concept => concept_verdict(alloc, bundle, there),
         Stage::Ean
         | Stage::Timetable
         | Stage::Rollout
         | Stage::Vehicles
         | Stage::Disposition
-        | Stage::Statistic => Ok(None),
+        | Stage::Statistic => Ok(Some(Finding::Broken(stage, Rule::Content))),
     }
 }
 
@@ -164,7 +174,9 @@ fn concept_verdict(
 ) -> Result<Option<Finding>, NoMemory>
     requires fits { Fits bundle.now }
     requires stage { bundle.now.stage ≡ stages.Concept }
-    ensures { IfOk result (λ found. found ≡ concept_verdict bundle.now there.now) }
+    ensures found { IfOk result (λ found. found ≡ concept_verdict bundle.now there.now) }
+    ensures passes { MakesAs stages.Concept (ids_of there.now) → IfOk result (λ found.
+        IfNone found (ConceptPasses bundle.now there.now)) }
 {
     let [concept, more @ ..] = there else {
         return Ok(None);

@@ -1,5 +1,6 @@
 use Rattle.std.proofs.Common.{subst}
 use Rattle.plan_files.specs.Reads.{OnlyReads}
+use Rattle.stage_driver.proofs.Passed.{told_passes, unsettled_passes}
 use Rattle.stage_driver.proofs.Judging.{told_settled, told_unsettled, unsettled_failed}
 use Rattle.stage_driver.proofs.check.find.Goals as goal
 
@@ -13,3 +14,10 @@ returns-in-Err-clause-found g c = told_unsettled _ c.in-Err.end _ c.in-Err.ensur
 pub returns-in-Err-clause-only_reads : goal.returns-in-Err-clause-only_reads
 returns-in-Err-clause-only_reads g c =
     subst (OnlyReads g.F.Files.contents g.F.Files.writes g.F.Files.faults c.args.files.now c.read_config.new.files) (unsettled_failed c.in-Err.end _ c.unsettled.ensures) c.in-Err.ensures.only_reads
+
+pub returns-in-Ok-clause-passes : goal.returns-in-Ok-clause-passes
+returns-in-Ok-clause-passes g c =
+    told_passes _ _ c.in-Ok.config _ c.in-Ok.ensures.only_reads.contents c.in-Ok.ensures.config c.find_under.ensures.passes
+
+pub returns-in-Err-clause-passes : goal.returns-in-Err-clause-passes
+returns-in-Err-clause-passes g c = unsettled_passes _ c.in-Err.end _ c.unsettled.ensures

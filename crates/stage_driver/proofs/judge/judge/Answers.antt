@@ -1,5 +1,6 @@
 use Rattle.std.proofs.Common.{subst}
 use Rattle.plan_files.specs.Reads.{OnlyReads}
+use Rattle.stage_driver.proofs.Passed.{ended_stands, told_stands}
 use Rattle.stage_driver.proofs.Judging.{ended_failed, judged_given, judged_ended}
 use Rattle.stage_driver.proofs.judge.judge.Goals as goal
 
@@ -17,3 +18,11 @@ returns-in-Err-clause-found g c =
 pub returns-in-Err-clause-only_reads : goal.returns-in-Err-clause-only_reads
 returns-in-Err-clause-only_reads g c =
     subst (OnlyReads g.F.Files.contents g.F.Files.writes g.F.Files.faults c.args.files.now c.gather.new.files) (ended_failed c.args.stage c.in-Err.end _ c.ended.ensures.found) c.in-Err.ensures.only_reads
+
+pub returns-in-Ok-clause-passes : goal.returns-in-Ok-clause-passes
+returns-in-Ok-clause-passes g c =
+    told_stands _ _ c.args.config.now c.args.stage c.in-Ok.bundle _ c.in-Ok.ensures.only_reads.contents c.in-Ok.ensures.bundle c.judge_files.ensures.passes
+
+pub returns-in-Err-clause-passes : goal.returns-in-Err-clause-passes
+returns-in-Err-clause-passes g c =
+    ended_stands _ c.args.config.now c.args.stage c.in-Err.end _ c.ended.ensures.found

@@ -1,0 +1,229 @@
+-- Files of which a check finds nothing satisfy the models of their stages.
+use Rattle.std.proofs.Common.{◌≡◌, ℕ, ℤ, Bool, true, false, cond, is_some, not, ◌||◌, ◌+◌, ◌<◌, ◌≤◌, List, [], ◌∷◌, length, get_or, drop, Option, Some, None, IfSome, IfOk, IfNone, Result, Ok, Err, refl, ap, subst, sym, ◌∙◌, arith, ◌⊎◌, ⊎_elim}
+use Rattle.std.proofs.lemmas.Bool.{true≢false}
+use Rattle.std.proofs.lemmas.List.{at_drop_more, at_drop_all}
+use Rattle.std.specs.Option.{ok_or}
+use Rattle.std.specs.FinMap as map
+use Rattle.plan_files.specs.Folder.{Folder}
+use Rattle.giv_files.specs.declared.file_id.FileId.{FileId}
+use Rattle.giv_files.specs.declared.file_id.FileId.TheVariants as file
+use Rattle.giv_files.specs.declared.made.Made.{Made}
+use Rattle.giv_files.specs.declared.made.MadeFile.{MadeFile}
+use Rattle.giv_files.specs.declared.refusal.Refusal.{Refusal}
+use Rattle.giv_files.specs.declared.stage.Stage.{Stage}
+use Rattle.giv_files.specs.declared.stage.Stage.TheVariants as stage
+use Rattle.giv_files.specs.FileNames.{file_name}
+use Rattle.giv_files.specs.MadeLists.{MakesAs, ids_of}
+use Rattle.giv_files.specs.Settings.{BundleParts, Fits}
+use Rattle.config_keys.specs.declared.config_end.ConfigEnd.{ConfigEnd}
+use Rattle.config_keys.specs.declared.config_end.ConfigEnd.TheVariants as config
+use Rattle.config_keys.specs.Effective.{ConfigGives}
+use Rattle.config_keys.specs.Items.{look_in}
+use Rattle.config_keys.specs.Values.{effective}
+use Rattle.stage_driver.specs.declared.cause.Cause.TheVariants as cause
+use Rattle.stage_driver.specs.declared.chain_end.ChainEnd.{ChainEnd}
+use Rattle.stage_driver.specs.declared.chain_end.ChainEnd.TheVariants as end
+use Rattle.stage_driver.specs.declared.checked.CheckEnd.{CheckEnd}
+use Rattle.stage_driver.specs.declared.checked.CheckEnd.TheVariants as checks
+use Rattle.stage_driver.specs.declared.finding.Finding.{Finding}
+use Rattle.stage_driver.specs.declared.finding.Finding.TheVariants.{BadInput, Broken}
+use Rattle.stage_driver.specs.declared.outcome.ChainFault.{ChainFault}
+use Rattle.stage_driver.specs.Built.{run_stage}
+use Rattle.stage_driver.specs.Chain.{bundle_by}
+use Rattle.stage_driver.specs.Checks.{EndedAs, UnsettledAs, check_end, content_found, is_certificate}
+use Rattle.stage_driver.specs.Checks.{is_lacking, judged, lacks_file, same_texts, standing, verdict}
+use Rattle.stage_driver.specs.Passing.{AllStand, PassesIn, RunsStand, SatisfyModel, StageStands}
+use Rattle.stage_driver.specs.Right.{IsRightAs, found_file, text_in}
+use Rattle.stage_driver.proofs.Laws.{run_makes, stage_laws}
+use Rattle.stage_driver.proofs.MadeLists.{only_one}
+use Rattle.stage_driver.proofs.SameTexts.{same_files}
+
+none_of : (same : Bool) (found : Finding) → cond same None (Some found) ≡ None → same ≡ true
+none_of true found is = refl
+none_of false found is = absurd (cc)
+
+-- files that are what their stage makes are right
+module _ (bundle : BundleParts) (there : List MadeFile) (fits : Fits bundle) where
+  content_right : (told : Result Made Refusal) (list : List FileId) (stage : Stage)
+      → bundle.stage ≡ stage → run_stage bundle ≡ told
+      → ((made : Made) → run_stage bundle ≡ Ok made → list ≡ ids_of made.files)
+      → list ≡ ids_of there → content_found stage told there ≡ None
+      → IsRightAs bundle.stage bundle there
+  content_right (Err reason) list stage own is ids here none = absurd (cc)
+  content_right (Ok made) list stage own is ids here none =
+      let same : made.files ≡ there = same_files made.files there (none_of (same_texts made.files there) _ none) (sym (ids made is) ∙ here) in
+      subst (IsRightAs bundle.stage bundle) same ((stage_laws bundle.stage).right bundle made refl fits is)
+
+  pub verdict_right : (at : Stage) → bundle.stage ≡ at → MakesAs at (ids_of there)
+      → (at ≡ stage.Concept → SatisfyModel at bundle there)
+      → verdict at bundle there ≡ None → SatisfyModel at bundle there
+  unfolding verdict
+  verdict_right stage.Load own makes concept none =
+      subst (λ stage. IsRightAs stage bundle there) own (content_right (run_stage bundle) (file.Load ∷ []) stage.Load own refl (λ made is. only_one (file.Load ∷ []) (ids_of made.files) (subst (λ stage. MakesAs stage (ids_of made.files)) own (run_makes bundle made is))) (only_one (file.Load ∷ []) (ids_of there) makes) none)
+  verdict_right stage.Cost own makes concept none =
+      subst (λ stage. IsRightAs stage bundle there) own (content_right (run_stage bundle) (file.PoolCost ∷ []) stage.Cost own refl (λ made is. only_one (file.PoolCost ∷ []) (ids_of made.files) (subst (λ stage. MakesAs stage (ids_of made.files)) own (run_makes bundle made is))) (only_one (file.PoolCost ∷ []) (ids_of there) makes) none)
+  verdict_right stage.Concept own makes concept none = concept refl
+  verdict_right _ own makes concept none = absurd (cc)
+
+-- the same as a clause
+pub content_clause : {E : Type 0} (bundle : BundleParts) (there : List MadeFile) (at : Stage)
+    (result : Result (Option Finding) E) → Fits bundle → bundle.stage ≡ at
+    → (at ≡ stage.Load) ⊎ (at ≡ stage.Cost)
+    → IfOk result (λ found. found ≡ content_found at (run_stage bundle) there)
+    → MakesAs at (ids_of there) → IfOk result (λ found. IfNone found (SatisfyModel at bundle there))
+unfolding verdict
+content_clause bundle there at (Err fault) fits own which is makes = tt
+content_clause bundle there at (Ok (Some found)) fits own which is makes = tt
+content_clause bundle there stage.Load (Ok None) fits own which is makes =
+    verdict_right bundle there fits stage.Load own makes (λ other. absurd (cc)) (sym is)
+content_clause bundle there stage.Cost (Ok None) fits own which is makes =
+    verdict_right bundle there fits stage.Cost own makes (λ other. absurd (cc)) (sym is)
+content_clause bundle there _ (Ok None) fits own which is makes =
+    absurd (⊎_elim (λ load. (cc)) (λ cost. (cc)) which)
+
+-- ---- the files that stand in a folder are some that their stage may make, where none lacks
+
+abbrev ids_from : FileId → Option (List ℕ) → List MadeFile → List FileId
+ids_from file found more = ids_of (found_file file (ok_or found (cause.Missing file)) more)
+
+one_stands : (stage : Stage) (file : FileId) (found : Option (List ℕ))
+    → is_certificate file ≡ false → (is_lacking file found || false) ≡ false
+    → MakesAs stage (file ∷ []) → MakesAs stage (ids_from file found [])
+one_stands stage file (Some text) needed lacks makes = makes
+one_stands stage file None needed lacks makes =
+    absurd (true≢false (sym (ap (λ b. not b || false) needed) ∙ lacks))
+
+concept_stands : (concept tree : Option (List ℕ))
+    → (is_lacking file.Concept concept || (is_lacking file.Tree tree || false)) ≡ false
+    → MakesAs stage.Concept (ids_from file.Concept concept (found_file file.Tree (ok_or tree (cause.Missing file.Tree)) []))
+concept_stands None tree lacks = absurd (cc)
+concept_stands (Some text) None lacks = (1, omega arith, refl)
+concept_stands (Some text) (Some tree) lacks = (0, omega arith, refl)
+
+-- what a stage found of files that stand there says of them
+module _ (folder : Folder) (bundle : BundleParts) (found : Option Finding) where
+  abbrev text : FileId → Option (List ℕ)
+  text file = map.get folder (file_name file)
+
+  pub stands_right : (stage : Stage) → lacks_file folder stage ≡ false
+      → found ≡ verdict stage bundle (standing folder stage)
+      → (MakesAs stage (ids_of (standing folder stage)) → IfNone found (SatisfyModel stage bundle (standing folder stage)))
+      → IfNone found (SatisfyModel stage bundle (standing folder stage))
+  unfolding verdict
+  stands_right stage.Load lacks is right =
+      right (one_stands stage.Load file.Load (text file.Load) refl lacks (0, omega arith, refl))
+  stands_right stage.Cost lacks is right =
+      right (one_stands stage.Cost file.PoolCost (text file.PoolCost) refl lacks (0, omega arith, refl))
+  stands_right stage.Concept lacks is right =
+      right (concept_stands (text file.Concept) (text file.Tree) lacks)
+  stands_right _ lacks is right = rw is tt
+
+-- ---- clauses
+
+there_right : (folder : Folder) (stage : Stage) (bundle : BundleParts) (some : List MadeFile)
+    (found : Option Finding) (lacks : Bool) → lacks_file folder stage ≡ lacks
+    → Some some ≡ cond lacks None (Some (standing folder stage))
+    → found ≡ verdict stage bundle some
+    → (MakesAs stage (ids_of some) → IfNone found (SatisfyModel stage bundle some))
+    → IfNone found (SatisfyModel stage bundle (standing folder stage))
+there_right folder stage bundle some found true lacks there is right = absurd (cc)
+there_right folder stage bundle some found false lacks there is right =
+    let same : some ≡ standing folder stage = cc in
+    stands_right folder bundle found stage lacks (is ∙ ap (verdict stage bundle) same) (subst (λ files. MakesAs stage (ids_of files) → IfNone found (SatisfyModel stage bundle files)) same right)
+
+-- the files that were found satisfy the model where nothing is found of them
+pub told_there : (contents : Option Folder) (stage : Stage) (bundle : BundleParts)
+    (told : Option (List MadeFile)) (some : List MadeFile) (found : Option Finding)
+    (result : Result (Option Finding) ChainFault) → told ≡ Some some
+    → IfSome contents (λ folder. told ≡ cond (lacks_file folder stage) None (Some (standing folder stage)))
+    → found ≡ verdict stage bundle some
+    → (MakesAs stage (ids_of some) → IfNone found (SatisfyModel stage bundle some))
+    → result ≡ Ok found
+    → IfSome contents (λ folder. IfOk result (λ found. IfNone found (SatisfyModel stage bundle (standing folder stage))))
+told_there None stage bundle told some found result same h is right e = tt
+told_there (Some folder) stage bundle told some found result same h is right e =
+    subst (λ result. IfOk result (λ found. IfNone found (SatisfyModel stage bundle (standing folder stage)))) (sym e)
+    (there_right folder stage bundle some found (lacks_file folder stage) refl (sym same ∙ h) is right)
+
+-- and so the stage stands
+pub told_stands : (contents now : Option Folder) (values : List ℤ) (stage : Stage)
+    (bundle : BundleParts) (result : Result (Option Finding) ChainFault) → now ≡ contents
+    → IfSome contents (λ folder. bundle_by (text_in folder) values stage ≡ Ok bundle)
+    → IfSome now (λ folder. IfOk result (λ found. IfNone found (SatisfyModel stage bundle (standing folder stage))))
+    → IfSome contents (λ folder. IfOk result (λ found. IfNone found (StageStands folder values stage)))
+told_stands None now values stage bundle result same given right = tt
+told_stands (Some folder) now values stage bundle (Err fault) same given right = tt
+told_stands (Some folder) now values stage bundle (Ok (Some found)) same given right = tt
+told_stands (Some folder) now values stage bundle (Ok None) same given right =
+    record {
+      bundle = bundle;
+      given = given;
+      model = subst (λ now. IfSome now (λ folder. SatisfyModel stage bundle (standing folder stage))) same right;
+    }
+
+module _ (values : List ℤ) where
+  -- where the rest of some stages stand, all of them do
+  abbrev pub RestStands : List Stage → List Stage → Folder → Type 0
+  RestStands stages rest folder = AllStand folder values rest → AllStand folder values stages
+
+  pub rest_start : (contents : Option Folder) (stages : List Stage)
+      → IfSome contents (RestStands stages stages)
+  rest_start None stages = tt
+  rest_start (Some folder) stages = λ stand. stand
+
+  pub rest_next : (contents now : Option Folder) (stages : List Stage) (i : ℕ) (d : Stage)
+      (found : Option Finding) → i < length stages → now ≡ contents
+      → IfSome now (λ folder. IfNone found (RunsStand folder values (get_or stages i d)))
+      → is_some found ≡ false → IfSome contents (RestStands stages (drop i stages))
+      → IfSome contents (RestStands stages (drop (i + 1) stages))
+  rest_next contents now stages i d (Some found) inside same stands none rest = absurd (cc)
+  rest_next None now stages i d None inside same stands none rest = tt
+  rest_next (Some folder) now stages i d None inside same stands none rest =
+      let here : RunsStand folder values (get_or stages i d) = subst (λ now. IfSome now (λ folder. RunsStand folder values (get_or stages i d))) same stands in
+      λ more. rest (subst (AllStand folder values) (sym (at_drop_more (λ rest. rest) stages i d inside)) (here, more))
+
+  pub rest_end : (contents : Option Folder) (stages all : List Stage) (i : ℕ) → length stages ≤ i
+      → stages ≡ all → IfSome contents (RestStands stages (drop i stages))
+      → IfSome contents (λ folder. AllStand folder values all)
+  rest_end None stages all i past own rest = tt
+  rest_end (Some folder) stages all i past own rest =
+      subst (AllStand folder values) own (rest (subst (AllStand folder values) (sym (at_drop_all (λ rest. rest) stages i past)) tt))
+
+pub told_passes : (contents now : Option Folder) (values : List ℤ)
+    (result : Result (Option Finding) ChainFault) → now ≡ contents
+    → IfSome contents (λ folder. ConfigGives (effective (look_in folder)) (Ok values))
+    → IfSome now (λ folder. IfOk result (λ found. IfNone found (AllStand folder values judged)))
+    → IfSome contents (λ folder. IfOk result (λ found. IfNone found (PassesIn folder)))
+told_passes None now values result same told h = tt
+told_passes (Some folder) now values (Err fault) same told h = tt
+told_passes (Some folder) now values (Ok (Some found)) same told h = tt
+told_passes (Some folder) now values (Ok None) same told h = record {
+  values = values;
+  settled = told;
+  stand = subst (λ now. IfSome now (λ folder. AllStand folder values judged)) same h;
+}
+
+pub unsettled_passes : (contents : Option Folder) (end : ConfigEnd)
+    (result : Result (Option Finding) ChainFault) → UnsettledAs end result
+    → IfSome contents (λ folder. IfOk result (λ found. IfNone found (PassesIn folder)))
+unsettled_passes None end result is = tt
+unsettled_passes (Some folder) (config.Refused reason) result is = rw is tt
+unsettled_passes (Some folder) config.FileFault result is = rw is tt
+unsettled_passes (Some folder) config.NoMemory result is = rw is tt
+
+pub ended_stands : (contents : Option Folder) (values : List ℤ) (stage : Stage) (ended : ChainEnd)
+    (result : Result (Option Finding) ChainFault) → EndedAs stage ended result
+    → IfSome contents (λ folder. IfOk result (λ found. IfNone found (StageStands folder values stage)))
+ended_stands None values stage ended result is = tt
+ended_stands (Some folder) values stage (end.Stopped why) result is = rw is tt
+ended_stands (Some folder) values stage end.FileFault result is = rw is tt
+ended_stands (Some folder) values stage end.NoMemory result is = rw is tt
+
+-- a check that ends as passed found nothing
+pub passed_none : (contents : Option Folder) (found : Option Finding) (end : CheckEnd)
+    → end ≡ check_end found → IfSome contents (λ folder. IfNone found (PassesIn folder))
+    → IfSome contents (λ folder. end ≡ checks.Passed → PassesIn folder)
+passed_none None found end is passes = tt
+passed_none (Some folder) None end is passes = λ passed. passes
+passed_none (Some folder) (Some (BadInput why)) end is passes = λ passed. absurd (cc)
+passed_none (Some folder) (Some (Broken stage rule)) end is passes = λ passed. absurd (cc)

@@ -1,0 +1,61 @@
+-- What it means that a check passes.
+use Rattle.std.specs.Prelude.{ℕ, ℤ, ◌≡◌, true, List, [], ◌∷◌, Option, Some, None, Ok, ⊤}
+use Rattle.plan_files.specs.Folder.{Folder}
+use Rattle.giv_files.specs.declared.file_id.FileId.TheVariants as file
+use Rattle.giv_files.specs.declared.made.MadeFile.{MadeFile}
+use Rattle.giv_files.specs.declared.stage.Stage.{Stage}
+use Rattle.giv_files.specs.declared.stage.Stage.TheVariants as stage
+use Rattle.giv_files.specs.Settings.{BundleParts}
+use Rattle.config_keys.specs.Items.{look_in}
+use Rattle.config_keys.specs.Values.{effective}
+use Rattle.demand_load.specs.RightLoads.{LoadFilesAreRight}
+use Rattle.line_pool.specs.RightCosts.{CostFilesAreRight}
+use Rattle.line_search.specs.GivenProblems.{problem_faults, problem_of}
+use Rattle.line_search.specs.Judged.{Passes}
+use Rattle.stage_driver.specs.Chain.{bundle_by, is_to_run}
+use Rattle.stage_driver.specs.Checks.{judged, standing}
+use Rattle.stage_driver.specs.Right.{text_in}
+
+-- the file of a tree, where there is one
+abbrev pub tree_files : Option (List ℕ) → List MadeFile
+tree_files None = []
+tree_files (Some text) = record { file = file.Tree; text = text } ∷ []
+
+-- A concept from any hand passes over its inputs: these have no fault, and its text is the table of
+-- frequencies which keep the bounds of each edge. Where a tree stands beside it, that marks it: no
+-- feasible concept costs less.
+pub record ConceptPasses (bundle : BundleParts) (files : List MadeFile) : Type 0 where
+  pub inputs : problem_faults bundle ≡ []
+  pub text : List ℕ
+  pub tree : Option (List ℕ)
+  pub each : files ≡ record { file = file.Concept; text = text } ∷ tree_files tree
+  pub passes : Passes (problem_of bundle) text tree
+
+-- The files of a stage satisfy its model over what it is given.
+abbrev pub SatisfyModel : Stage → BundleParts → List MadeFile → Type 0
+SatisfyModel stage.Load bundle files = LoadFilesAreRight bundle files
+SatisfyModel stage.Cost bundle files = CostFilesAreRight bundle files
+SatisfyModel stage.Concept bundle files = ConceptPasses bundle files
+SatisfyModel _ bundle files = ⊥
+
+-- The files of a stage that stand in a folder satisfy its model over the files that stand there.
+pub record StageStands (folder : Folder) (values : List ℤ) (stage : Stage) : Type 0 where
+  pub bundle : BundleParts
+  pub given : bundle_by (text_in folder) values stage ≡ Ok bundle
+  pub model : SatisfyModel stage bundle (standing folder stage)
+
+-- each of some stages does that is to run
+abbrev pub RunsStand : Folder → List ℤ → Stage → Type 0
+RunsStand folder values stage = is_to_run values stage ≡ true → StageStands folder values stage
+
+abbrev pub AllStand : Folder → List ℤ → List Stage → Type 0
+AllStand folder values [] = ⊤
+AllStand folder values (stage ∷ stages) =
+    RunsStand folder values stage × AllStand folder values stages
+
+-- The settings of a folder are not refused, and each stage that is judged and is to run has files
+-- there which satisfy its model.
+pub record PassesIn (folder : Folder) : Type 0 where
+  pub values : List ℤ
+  pub settled : effective (look_in folder) ≡ Ok values
+  pub stand : AllStand folder values judged
