@@ -203,12 +203,12 @@ module _ (folder : Folder) where
 built_own : (folder : Folder) → list_all (is_own folder) built ≡ true
 built_own folder = refl
 
-settings_after : (folder : Folder)
+pub settings_after : (folder : Folder)
     → effective (look_in (after folder)) ≡ effective (look_in (hand_of folder))
 settings_after folder =
     sym (settings_same (after folder)) ∙ ap (λ hand. effective (look_in hand)) (hand_after folder)
 
-left_by : (folder : Folder) (values : List ℤ) → effective (look_in (hand_of folder)) ≡ Ok values
+pub left_by : (folder : Folder) (values : List ℤ) → effective (look_in (hand_of folder)) ≡ Ok values
     → (made (hand_of folder)).files ≡ files_of (chain values (hand_of folder)).visits
     → AllStandRight (text_in (after folder)) values (chain values (hand_of folder)).visits
 left_by folder values is same =
@@ -223,7 +223,7 @@ under : (folder : Folder) (visits : List Visit) (values : List ℤ)
     → AllStandRight (text_in (after folder)) values visits → StandRightIn (after folder) visits
 under folder visits values is h = subst (λ settings. IfOk settings (λ values. AllStandRight (text_in (after folder)) values visits)) (sym is) h
 
-files_are : (hand : Folder) (trace : Trace) → trace_of hand ≡ trace
+pub files_are : (hand : Folder) (trace : Trace) → trace_of hand ≡ trace
     → (made hand).files ≡ files_of trace.visits
 unfolding made
 files_are hand trace same = ap (λ (trace : Trace). files_of trace.visits) same

@@ -1,3 +1,4 @@
+pub mod CheckedRuns
 pub mod Differing
 pub mod Gathering
 pub mod Going

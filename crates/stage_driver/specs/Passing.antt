@@ -1,5 +1,5 @@
 -- What it means that a check passes.
-use Rattle.std.specs.Prelude.{ℕ, ℤ, ◌≡◌, true, List, [], ◌∷◌, Option, Some, None, Ok, ⊤}
+use Rattle.std.specs.Prelude.{ℕ, ℤ, ◌≡◌, true, List, [], ◌∷◌, Option, Some, None, Ok, ⊤, IfOk}
 use Rattle.plan_files.specs.Folder.{Folder}
 use Rattle.giv_files.specs.declared.file_id.FileId.TheVariants as file
 use Rattle.giv_files.specs.declared.made.MadeFile.{MadeFile}
@@ -12,9 +12,13 @@ use Rattle.demand_load.specs.RightLoads.{LoadFilesAreRight}
 use Rattle.line_pool.specs.RightCosts.{CostFilesAreRight}
 use Rattle.line_search.specs.GivenProblems.{problem_faults, problem_of}
 use Rattle.line_search.specs.Judged.{Passes}
-use Rattle.stage_driver.specs.Chain.{bundle_by, is_to_run}
-use Rattle.stage_driver.specs.Checks.{judged, standing}
+use Rattle.stage_driver.specs.declared.outcome.RunEnd.TheVariants as end
+use Rattle.stage_driver.specs.Built.{built, made}
+use Rattle.stage_driver.specs.Chain.{bundle_by, is_to_run, to_run}
+use Rattle.stage_driver.specs.Checks.{check_of, judged, standing}
+use Rattle.stage_driver.specs.Hand.{hand_of}
 use Rattle.stage_driver.specs.Right.{text_in}
+use Rattle.stage_driver.specs.Runs.{after}
 
 -- the file of a tree, where there is one
 abbrev pub tree_files : Option (List ℕ) → List MadeFile
@@ -59,3 +63,15 @@ pub record PassesIn (folder : Folder) : Type 0 where
   pub values : List ℤ
   pub settled : effective (look_in folder) ≡ Ok values
   pub stand : AllStand folder values judged
+
+-- the stages that are judged and are to run are all built
+abbrev pub JudgesBuilt : Folder → Type 0
+JudgesBuilt folder =
+    IfOk (effective (look_in folder)) (λ values. to_run values judged ≡ to_run values built)
+
+-- The folder that a run leaves which made all of its stages passes, where all that is judged is
+-- built.
+unfoldable pub RunsPass : Folder → Type 0
+RunsPass folder =
+    (made (hand_of folder)).end ≡ end.Done → JudgesBuilt (hand_of folder)
+    → check_of (after folder) ≡ None

@@ -1,7 +1,8 @@
 // A check of the files of a dataset.
 ghost use Rattle.std.specs.Prelude.{◌≡◌, IfSome, IfOk, IfNone};
 ghost use Rattle.stage_driver.specs.declared.checked.CheckEnd.TheVariants as ends;
-ghost use Rattle.stage_driver.specs.Passing.{AllStand, PassesIn, RunsStand};
+ghost use Rattle.stage_driver.specs.Passing.{AllStand, PassesIn, RunsPass, RunsStand};
+ghost use Rattle.plan_files.specs.Folder.{Folder};
 ghost use Rattle.plan_files.specs.Reads.{OnlyReads};
 ghost use Rattle.config_keys.specs.Items.{look_in};
 ghost use Rattle.config_keys.specs.Values.{effective};
@@ -29,6 +30,7 @@ pub fn check_chain<F: Files>(alloc: Global, files: &mut F) -> Result<CheckOutcom
     ensures outcome { IfSome (F.contents files.old) (λ folder. IfOk result (IsCheck folder)) }
     ensures passes { IfSome (F.contents files.old) (λ folder.
         IfOk result (λ outcome. outcome.end ≡ ends.Passed → PassesIn folder)) }
+    ensures runs_pass { (folder : Folder) → RunsPass folder }
     ensures only_reads { OnlyReads F.contents F.writes F.faults files.old files.new
         (has_failed result) }
 {

@@ -1,5 +1,15 @@
+use Rattle.stage_driver.proofs.CheckedRuns.{runs_pass}
 use Rattle.stage_driver.proofs.Passed.{passed_none}
 use Rattle.stage_driver.proofs.check.check_chain.Goals as goal
 
 pub returns-clause-passes : goal.returns-clause-passes
 returns-clause-passes g c = passed_none _ c.in_ok-finding.finding _ c.in_ok-check_outcome.ensures.end c.in_ok-finding.ensures.passes
+
+pub returns-clause-runs_pass : goal.returns-clause-runs_pass
+returns-clause-runs_pass g c = runs_pass
+
+pub returns-in_err-finding-clause-runs_pass : goal.returns-in_err-finding-clause-runs_pass
+returns-in_err-finding-clause-runs_pass g c = runs_pass
+
+pub returns-in_err-check_outcome-clause-runs_pass : goal.returns-in_err-check_outcome-clause-runs_pass
+returns-in_err-check_outcome-clause-runs_pass g c = runs_pass

@@ -1,0 +1,182 @@
+-- The folder that a finished run leaves passes a check.
+use Rattle.std.proofs.Common.{◌≡◌, ℕ, ℤ, suc, Bool, true, false, cond, ◌||◌, List, [], ◌∷◌, ◌++◌, length, Option, Some, None, IfOk, Result, Ok, Err, refl, ap, subst, sym, ◌∙◌, arith}
+use Rattle.std.specs.List.{list_all}
+use Rattle.std.specs.Option.{ok_or, option_or}
+use Rattle.std.specs.FinMap as map
+use Rattle.std.proofs.lemmas.Bool.{and_parts}
+use Rattle.plan_files.specs.Folder.{Folder}
+use Rattle.giv_files.specs.declared.file_id.FileId.{FileId}
+use Rattle.giv_files.specs.declared.file_id.FileId.TheVariants as file
+use Rattle.giv_files.specs.declared.made.Made.{Made}
+use Rattle.giv_files.specs.declared.made.MadeFile.{MadeFile}
+use Rattle.giv_files.specs.declared.refusal.Refusal.{Refusal}
+use Rattle.giv_files.specs.declared.refusal.Refusal.TheVariants as refusal
+use Rattle.giv_files.specs.declared.stage.Stage.{Stage}
+use Rattle.giv_files.specs.declared.stage.Stage.TheVariants as stage
+use Rattle.giv_files.specs.FileNames.{file_name}
+use Rattle.giv_files.specs.MadeLists.{MakesAs, ids_of}
+use Rattle.giv_files.specs.Settings.{BundleParts}
+use Rattle.giv_files.specs.Stages.{stage_makes}
+use Rattle.config_keys.specs.declared.config_fault.ConfigFault.{ConfigFault}
+use Rattle.config_keys.specs.Items.{look_in}
+use Rattle.config_keys.specs.Values.{effective}
+use Rattle.stage_driver.specs.declared.cause.Cause.{Cause}
+use Rattle.stage_driver.specs.declared.cause.Cause.TheVariants as cause
+use Rattle.stage_driver.specs.declared.finding.Finding.{Finding}
+use Rattle.stage_driver.specs.declared.outcome.RunEnd.TheVariants as end
+use Rattle.stage_driver.specs.Built.{built, cause_of, files_of, made, run_stage, trace_of, trace_under}
+use Rattle.stage_driver.specs.Chain.{Halt, Trace, Visit, bundle_by, chain_from, go_on, is_to_run, to_run, visit_of}
+use Rattle.stage_driver.specs.Checks.{check_of, content_found, first_found, found_at, found_over, found_under, is_lacking, judge, judged, lacks_file, same_texts, standing, verdict}
+use Rattle.stage_driver.specs.Hand.{hand_of}
+use Rattle.stage_driver.specs.Passing.{JudgesBuilt, RunsPass}
+use Rattle.stage_driver.specs.Reports.{end_of, end_of_refusal}
+use Rattle.stage_driver.specs.Right.{AllStandRight, StandsRight, files_by, found_file, text_in}
+use Rattle.stage_driver.specs.Runs.{after}
+use Rattle.stage_driver.proofs.Differing.{all_filter}
+use Rattle.stage_driver.proofs.Laws.{run_makes}
+use Rattle.stage_driver.proofs.LeftRight.{files_are, left_by, settings_after}
+use Rattle.stage_driver.proofs.MadeLists.{only_one}
+use Rattle.stage_driver.proofs.Placed.{ArePlaced}
+use Rattle.stage_driver.proofs.SameTexts.{own_texts}
+use Rattle.stage_driver.proofs.Traces.{are_placed, chain, stages_run, traced}
+
+-- ---- a chain that does not end early makes all its stages
+
+module _ (solve : BundleParts → Result Made Refusal) (values : List ℤ) (hand : Folder) where
+  all_visited : (made : List MadeFile) (stages : List Stage)
+      → (chain_from solve values hand made stages).halt ≡ None
+      → length (chain_from solve values hand made stages).visits ≡ length stages
+  all_visited made [] none = refl
+  all_visited made (stage ∷ stages) none =
+      by (visit_of solve values hand made stage) (λ visit. all_visited (made ++ visit.made.files) stages) none
+    where
+      by : (told : Result Visit Halt)
+          → ((visit : Visit) → (chain_from solve values hand (made ++ visit.made.files) stages).halt ≡ None → length (chain_from solve values hand (made ++ visit.made.files) stages).visits ≡ length stages)
+          → (go_on told (λ visit. chain_from solve values hand (made ++ visit.made.files) stages)).halt ≡ None
+          → length (go_on told (λ visit. chain_from solve values hand (made ++ visit.made.files) stages)).visits ≡ suc (length stages)
+      by (Err halt) rest none = absurd (cc)
+      by (Ok visit) rest none = ap suc (rest visit none)
+
+-- ---- a stage whose files are those that it made
+
+-- the files of a stage are judged by their contents alone
+abbrev is_content : Stage → Bool
+is_content stage.Load = true
+is_content stage.Cost = true
+is_content _ = false
+
+is_there : (id : FileId) (found : Option (List ℕ)) (made : List MadeFile)
+    → found_file id (ok_or found (cause.Missing id)) [] ≡ made → id ∷ [] ≡ ids_of made
+    → (is_lacking id found || false) ≡ false
+is_there id (Some text) made is ids = refl
+is_there id None made is ids = let none : id ∷ [] ≡ [] = ids ∙ ap ids_of (sym is) in absurd (cc)
+
+content_none : (at : Stage) (told : Result Made Refusal) (made : Made) (there : List MadeFile)
+    → told ≡ Ok made → there ≡ made.files → content_found at told there ≡ None
+content_none at told made there is same = rw (is, same, own_texts made.files) refl
+
+module _ (folder : Folder) (values : List ℤ) where
+  -- nothing is found of a stage over what it is given, where its files stand there
+  abbrev NoneFound : Stage → Type 0
+  NoneFound at = judge folder values at ≡ None
+
+  none_by : (at : Stage) (bundle : BundleParts)
+      → bundle_by (text_in folder) values at ≡ Ok bundle → lacks_file folder at ≡ false
+      → verdict at bundle (standing folder at) ≡ None → NoneFound at
+  unfolding judge
+  none_by at bundle given lacks none = rw (given, lacks) none
+
+  one_passes : (at : Stage) (visit : Visit) → is_content at ≡ true → visit.bundle.stage ≡ at
+      → bundle_by (text_in folder) values at ≡ Ok visit.bundle
+      → files_by (text_in folder) (stage_makes at) ≡ visit.made.files
+      → run_stage visit.bundle ≡ Ok visit.made → MakesAs at (ids_of visit.made.files) → NoneFound at
+  unfolding verdict
+  one_passes stage.Load visit content own given found solved makes =
+      none_by stage.Load visit.bundle given (is_there file.Load (map.get folder (file_name file.Load)) visit.made.files found (only_one (file.Load ∷ []) (ids_of visit.made.files) makes))
+      (content_none stage.Load (run_stage visit.bundle) visit.made (standing folder stage.Load) solved found)
+  one_passes stage.Cost visit content own given found solved makes =
+      none_by stage.Cost visit.bundle given (is_there file.PoolCost (map.get folder (file_name file.PoolCost)) visit.made.files found (only_one (file.PoolCost ∷ []) (ids_of visit.made.files) makes))
+      (content_none stage.Cost (run_stage visit.bundle) visit.made (standing folder stage.Cost) solved found)
+  one_passes _ visit content own given found solved makes = absurd (cc)
+
+  -- the first that is found of stages, all of which are to run
+  abbrev first_judged : List Stage → Option Finding
+  first_judged [] = None
+  first_judged (at ∷ stages) = option_or (judge folder values at) (first_judged stages)
+
+  by_run : (stages : List Stage)
+      → first_found folder values stages ≡ first_judged (to_run values stages)
+  by_run [] = refl
+  by_run (at ∷ stages) = by (is_to_run values at) (by_run stages)
+    where
+      by : (runs : Bool) → first_found folder values stages ≡ first_judged (to_run values stages)
+          → option_or (cond runs (judge folder values at) None) (first_found folder values stages)
+          ≡ first_judged (cond runs (at ∷ to_run values stages) (to_run values stages))
+      by true rest = ap (option_or (judge folder values at)) rest
+      by false rest = rest
+
+  all_pass : (hand : Folder) (all : List MadeFile) (stages : List Stage) (visits : List Visit)
+      → list_all is_content stages ≡ true → length visits ≡ length stages
+      → ArePlaced run_stage run_makes values hand all stages visits
+      → AllStandRight (text_in folder) values visits → first_judged stages ≡ None
+  all_pass hand all [] visits content full placed right = refl
+  all_pass hand all (at ∷ stages) [] content full placed right = absurd (omega (arith, full))
+  all_pass hand all (at ∷ stages) (visit ∷ visits) content full placed right =
+      let parts = and_parts _ _ content in
+      let own = placed.0.own in
+      let here = one_passes at visit parts.0 own (subst (λ at. bundle_by (text_in folder) values at ≡ Ok visit.bundle) own right.0.given) (subst (λ at. files_by (text_in folder) (stage_makes at) ≡ visit.made.files) own right.0.found) placed.0.solved (subst (λ at. MakesAs at (ids_of visit.made.files)) own (run_makes visit.bundle visit.made placed.0.solved)) in
+      ap (λ found. option_or found (first_judged stages)) here
+      ∙ all_pass hand all stages visits parts.1 (omega (arith, full)) placed.1 right.1
+
+-- ---- the folder that a run leaves
+
+built_content : list_all is_content built ≡ true
+built_content = refl
+
+no_cause : (halt : Option Halt) → end_of (cause_of halt) ≡ end.Done → halt ≡ None
+no_cause None done = refl
+no_cause (Some halt) done = absurd (ends halt.cause done)
+  where
+    refused : (reason : Refusal) → end_of_refusal reason ≡ end.Done → ⊥
+    refused (refusal.BadRow file row why) done = absurd (cc)
+    refused (refusal.TooMany what count) done = absurd (cc)
+    refused refusal.NoSolution done = absurd (cc)
+    refused (refusal.Spent entries) done = absurd (cc)
+
+    ends : (why : Cause) → end_of (Some why) ≡ end.Done → ⊥
+    ends (cause.BadConfig reason) done = absurd (cc)
+    ends (cause.Missing file) done = absurd (cc)
+    ends (cause.TooLong file) done = absurd (cc)
+    ends (cause.Refused at reason) done = refused reason done
+
+module _ (folder : Folder) (values : List ℤ) where
+  abbrev hand : Folder
+  hand = hand_of folder
+
+  passes_under : effective (look_in hand) ≡ Ok values
+      → (made hand).files ≡ files_of (chain values hand).visits
+      → (chain values hand).halt ≡ None → to_run values judged ≡ to_run values built
+      → check_of (after folder) ≡ None
+  unfolding check_of
+  passes_under is same none only =
+      let placed = subst (λ all. ArePlaced run_stage run_makes values hand all (stages_run values) (chain values hand).visits) (sym same) (are_placed values hand) in
+      ap (λ settings. found_under settings (after folder)) (settings_after folder ∙ is)
+      ∙ by_run (after folder) values judged ∙ ap (first_judged (after folder) values) only
+      ∙ all_pass (after folder) values hand (made hand).files (stages_run values) (chain values hand).visits (all_filter is_content (is_to_run values) built built_content) (all_visited run_stage values hand [] (stages_run values) none) placed
+      (left_by folder values is same)
+
+end_by : (folder : Folder) (trace : Trace) → trace_of folder ≡ trace
+    → (made folder).end ≡ end_of (cause_of trace.halt)
+unfolding made
+end_by folder trace same = ap (λ (trace : Trace). end_of (cause_of trace.halt)) same
+
+never : (reason : ConfigFault) → end.BadInput ≡ end.Done → ⊥
+never reason done = absurd (cc)
+
+pub runs_pass : (folder : Folder) → RunsPass folder
+unfolding RunsPass
+runs_pass folder =
+    traced (hand_of folder) (λ trace. trace_of (hand_of folder) ≡ trace → (made (hand_of folder)).end ≡ end.Done → JudgesBuilt (hand_of folder) → check_of (after folder) ≡ None)
+    (λ reason is same done only. absurd (never reason (sym (end_by (hand_of folder) (trace_under (Err reason) (hand_of folder)) same) ∙ done)))
+    (λ values is same done only. passes_under folder values is (files_are (hand_of folder) (chain values (hand_of folder)) same) (no_cause (chain values (hand_of folder)).halt (sym (end_by (hand_of folder) (chain values (hand_of folder)) same) ∙ done)) (subst (λ settings. IfOk settings (λ values. to_run values judged ≡ to_run values built)) is only))
+    refl
