@@ -1,8 +1,12 @@
 -- How a run ends.
-use Rattle.std.specs.Prelude.{ℕ, Bool, true, false}
+use Rattle.std.specs.Prelude.{ℕ, Option, Some, None}
+use Rattle.stage_driver.specs.declared.checked.CheckEnd.{CheckEnd}
+use Rattle.stage_driver.specs.declared.checked.CheckEnd.TheVariants as check
 use Rattle.stage_driver.specs.declared.outcome.RunEnd.{RunEnd}
 use Rattle.stage_driver.specs.declared.outcome.RunEnd.TheVariants as end
 use Rattle.lintim_cli.specs.declared.answers.Status.{Status}
+use Rattle.lintim_cli.specs.declared.command.Command.{Command}
+use Rattle.lintim_cli.specs.declared.command.Command.TheVariants as command
 use Rattle.lintim_cli.specs.declared.answers.Status.TheVariants.{Done, Usage, BadInput, NoSolution}
 use Rattle.lintim_cli.specs.declared.answers.Status.TheVariants.{Spent, FileFault, SinkFault}
 use Rattle.lintim_cli.specs.declared.answers.Status.TheVariants.{NoMemory, Uncertified}
@@ -26,20 +30,33 @@ status_of end.BadInput = BadInput
 status_of end.NoSolution = NoSolution
 status_of end.Spent = Spent
 
--- the answers that a command has, by whether the words are one
-abbrev pub AnswersTo : Bool → Status → Type 0
-AnswersTo true Done = Unit {0}
-AnswersTo true BadInput = Unit {0}
-AnswersTo true NoSolution = Unit {0}
-AnswersTo true Spent = Unit {0}
-AnswersTo true FileFault = Unit {0}
-AnswersTo true SinkFault = Unit {0}
-AnswersTo true NoMemory = Unit {0}
-AnswersTo true _ = ⊥
-AnswersTo false Usage = Unit {0}
-AnswersTo false SinkFault = Unit {0}
-AnswersTo false NoMemory = Unit {0}
-AnswersTo false _ = ⊥
+-- the answer to a check
+abbrev pub status_of_check : CheckEnd → Status
+status_of_check check.Passed = Done
+status_of_check check.BadInput = BadInput
+status_of_check (check.Failed stage rule) = Uncertified
+
+-- the answers that a command has, by which one the words ask for, if they ask for one
+abbrev pub AnswersTo : Option Command → Status → Type 0
+AnswersTo (Some command.Make) Done = Unit {0}
+AnswersTo (Some command.Make) BadInput = Unit {0}
+AnswersTo (Some command.Make) NoSolution = Unit {0}
+AnswersTo (Some command.Make) Spent = Unit {0}
+AnswersTo (Some command.Make) FileFault = Unit {0}
+AnswersTo (Some command.Make) SinkFault = Unit {0}
+AnswersTo (Some command.Make) NoMemory = Unit {0}
+AnswersTo (Some command.Make) _ = ⊥
+AnswersTo (Some command.Check) Done = Unit {0}
+AnswersTo (Some command.Check) BadInput = Unit {0}
+AnswersTo (Some command.Check) Uncertified = Unit {0}
+AnswersTo (Some command.Check) FileFault = Unit {0}
+AnswersTo (Some command.Check) SinkFault = Unit {0}
+AnswersTo (Some command.Check) NoMemory = Unit {0}
+AnswersTo (Some command.Check) _ = ⊥
+AnswersTo None Usage = Unit {0}
+AnswersTo None SinkFault = Unit {0}
+AnswersTo None NoMemory = Unit {0}
+AnswersTo None _ = ⊥
 
 -- a status that a report which was written whole can end with
 abbrev pub IsReport : Status → Type 0

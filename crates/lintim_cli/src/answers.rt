@@ -1,8 +1,8 @@
 // What a run ends with.
 ghost use Rattle.std.specs.Prelude.{◌≡◌};
-ghost use Rattle.lintim_cli.specs.Answers.{number_of, status_of};
+ghost use Rattle.lintim_cli.specs.Answers.{number_of, status_of, status_of_check};
 
-use stage_driver::RunEnd;
+use stage_driver::{CheckEnd, RunEnd};
 
 /// How a run of the program ended.
 #[derive(Clone, Copy, Debug, PartialEq, Eq)]
@@ -55,6 +55,18 @@ impl From<RunEnd> for Status {
             RunEnd::BadInput => Status::BadInput,
             RunEnd::NoSolution => Status::NoSolution,
             RunEnd::Spent => Status::Spent,
+        }
+    }
+}
+
+impl From<CheckEnd> for Status {
+    ghost from_gives = { λ end status. status ≡ status_of_check end };
+
+    fn from(end: CheckEnd) -> Status {
+        match end {
+            CheckEnd::Passed => Status::Done,
+            CheckEnd::BadInput => Status::BadInput,
+            CheckEnd::Failed { .. } => Status::Uncertified,
         }
     }
 }

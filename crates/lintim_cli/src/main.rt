@@ -2,6 +2,9 @@
 #![tactic(auto)]
 
 mod answers;
+mod check;
+mod command;
+mod make;
 mod report;
 mod top;
 
