@@ -46,6 +46,8 @@ fn main(rt: HostRuntime) -> ExitCode {
 }
 
 #[cfg(test)]
+mod check_tests;
+#[cfg(test)]
 mod spies;
 #[cfg(test)]
 mod tests;

@@ -286,14 +286,14 @@ fn other_words_are_usage(rt: HostRuntime) -> Result<(), Fail> {
     let alloc = rt.alloc();
     let mut two = words(alloc, "make")?;
     two.push(String::from_str(alloc, "x")?)?;
-    for words in [Vec::new(alloc), words(alloc, "Make")?, two] {
+    for words in [Vec::new(alloc), words(alloc, "Make")?, words(alloc, "checks")?, two] {
         let mut files = SteadyFiles::new(alloc);
         let mut out = MemorySink::new(alloc);
         let mut steps = Steps::new(Tally::new());
         let status = lintim(alloc, &words, &mut files, &mut out, &mut steps);
         assert_eq!(rt; status, Status::Usage);
         assert_eq!(rt; status.number(), 2);
-        assert_eq!(rt; out.bytes(), b"usage: lintim make\n".as_slice());
+        assert_eq!(rt; out.bytes(), b"usage: lintim make | check\n".as_slice());
         assert_eq!(rt; steps.ledger().seen(), 0);
     }
     Ok(())

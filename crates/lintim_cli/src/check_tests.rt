@@ -1,0 +1,174 @@
+// Checks of concepts and trees that were put beside what `make` made.
+use crate::answers::Status;
+use crate::tests::{CONFIG, EDGES, GIVEN, POOL, STOPS, words};
+use crate::top::lintim;
+use plan_files::{Files, MemorySink, SteadyFiles};
+use plan_num::{Steps, Tally};
+use std::alloc::Global;
+use std::process::Abort;
+use std::test::Fail;
+
+const CONCEPT: &[u8] = b"# concept\n1; 1; 1; 1\n1; 2; 2; 1\n2; 1; 1; 1\n";
+
+const TREE: &[u8] = b"split; 1; 1; 0\nsplit; 1; 0; 0\nempty; 2; 1; 0\nsplit; 2; 1; 0\n\
+    split; 2; 0; 0\nempty; 1; 1; 0\npoint; 0; 0; 0\nbound; 0; 0; 0\nbound; 0; 0; 0\n";
+
+// Files that were made by a run.
+fn made(alloc: Global) -> Result<SteadyFiles, Fail> {
+    let mut files = SteadyFiles::new(alloc);
+    files.put("basis/Config.cnf", CONFIG)?;
+    files.put("basis/Stop.giv", STOPS)?;
+    files.put("basis/Edge.giv", EDGES)?;
+    files.put("basis/Pool.giv", POOL)?;
+    files.put("basis/Load.giv", GIVEN)?;
+    let mut out = MemorySink::new(alloc);
+    let mut steps = Steps::new(Tally::new());
+    let make = words(alloc, "make")?;
+    let _status = lintim(alloc, &make, &mut files, &mut out, &mut steps);
+    Ok(files)
+}
+
+// A check tells this, writes nothing and takes no step.
+fn tells(
+    rt: &(impl AllocGlobal + Abort),
+    files: &mut SteadyFiles,
+    status: Status,
+    report: &[u8],
+) -> Result<(), Fail> {
+    let alloc = rt.alloc();
+    let before = files.write_count();
+    let mut out = MemorySink::new(alloc);
+    let mut steps = Steps::new(Tally::new());
+    let check = words(alloc, "check")?;
+    let found = lintim(alloc, &check, files, &mut out, &mut steps);
+    assert_eq!(rt; out.bytes(), report);
+    assert_eq!(rt; found, status);
+    assert_eq!(rt; steps.ledger().seen(), 0);
+    assert_eq!(rt; files.write_count(), before);
+    Ok(())
+}
+
+// The same of a concept and a tree.
+fn judged(
+    rt: &(impl AllocGlobal + Abort),
+    concept: &[u8],
+    tree: Option<&[u8]>,
+    status: Status,
+    report: &[u8],
+) -> Result<(), Fail> {
+    let mut files = made(rt.alloc())?;
+    files.put("line-planning/Line-Concept.lin", concept)?;
+    if let Some(tree) = tree {
+        files.put("line-planning/Line-Concept.cert", tree)?;
+    }
+    tells(rt, &mut files, status, report)
+}
+
+#[test]
+fn a_marked_concept_passes(rt: HostRuntime) -> Result<(), Fail> {
+    judged(&rt, CONCEPT, Some(TREE), Status::Done, b"checked\n")?;
+    judged(&rt, CONCEPT, None, Status::Done, b"checked\n")?;
+    Ok(())
+}
+
+#[test]
+fn a_tree_that_proves_nothing_is_told(rt: HostRuntime) -> Result<(), Fail> {
+    let cut = b"split; 1; 1; 0\nsplit; 1; 0; 0\nempty; 2; 1; 0\nsplit; 2; 1; 0\n\
+        split; 2; 0; 0\nempty; 1; 1; 0\npoint; 0; 0; 0\nbound; 0; 0; 0\n";
+    let outside = b"split; 1; 3; 0\nsplit; 1; 0; 0\nempty; 2; 1; 0\nsplit; 2; 1; 0\n\
+        split; 2; 0; 0\nempty; 1; 1; 0\npoint; 0; 0; 0\nbound; 0; 0; 0\nbound; 0; 0; 0\n";
+    let broken = Status::Uncertified;
+    judged(&rt, CONCEPT, Some(cut), broken, b"uncertified: concept: tree\n")?;
+    judged(&rt, CONCEPT, Some(b""), broken, b"uncertified: concept: tree\n")?;
+    judged(&rt, CONCEPT, Some(b"leaf\n"), broken, b"uncertified: concept: tree\n")?;
+    judged(&rt, CONCEPT, Some(outside), broken, b"uncertified: concept: split\n")?;
+    Ok(())
+}
+
+#[test]
+fn a_concept_that_is_none_is_told(rt: HostRuntime) -> Result<(), Fail> {
+    let broken = Status::Uncertified;
+    let rare = b"1; 1; 1; 1\n1; 2; 2; 1\n2; 1; 1; 0\n";
+    let dear = b"1; 1; 1; 2\n1; 2; 2; 2\n2; 1; 1; 0\n";
+    let other = b"1; 1; 1; 1\n1; 2; 2; 1\n";
+    let two = b"1; 1; 1; 1\n1; 2; 2; 2\n2; 1; 1; 1\n";
+    judged(&rt, rare, Some(TREE), broken, b"uncertified: concept: bounds\n")?;
+    judged(&rt, dear, Some(TREE), broken, b"uncertified: concept: point\n")?;
+    judged(&rt, dear, None, Status::Done, b"checked\n")?;
+    judged(&rt, other, None, broken, b"uncertified: concept: lines\n")?;
+    judged(&rt, two, None, broken, b"uncertified: concept: lines\n")?;
+    judged(&rt, b"1; 1; 1\n", None, broken, b"uncertified: concept: row\n")?;
+    Ok(())
+}
+
+// A second edge that need not be driven: a concept of two drives of the second line, with a tree
+// whose last bound needs a multiplier.
+fn loose(
+    rt: &(impl AllocGlobal + Abort),
+    tree: &[u8],
+    status: Status,
+    report: &[u8],
+) -> Result<(), Fail> {
+    let alloc = rt.alloc();
+    let mut files = made(alloc)?;
+    let loads = b"1; 100; 2; 3\n2; 40; 0; 3\n";
+    files.put("basis/Load.giv", loads)?;
+    let mut out = MemorySink::new(alloc);
+    let mut steps = Steps::new(Tally::new());
+    let make = words(alloc, "make")?;
+    let _status = lintim(alloc, &make, &mut files, &mut out, &mut steps);
+    let concept = b"1; 1; 1; 0\n1; 2; 2; 0\n2; 1; 1; 2\n";
+    files.put("line-planning/Line-Concept.lin", concept)?;
+    files.put("line-planning/Line-Concept.cert", tree)?;
+    tells(rt, &mut files, status, report)
+}
+
+#[test]
+fn multipliers_are_judged(rt: HostRuntime) -> Result<(), Fail> {
+    let fits = b"split; 1; 1; 0\nsplit; 1; 0; 0\nsplit; 2; 1; 0\nempty; 1; 1; 0\n\
+        split; 2; 2; 0\npoint; 0; 0; 0\nbound; 0; 0; 0\nbound; 1; 0; 0\nmult; 1; 0; 12\n\
+        bound; 0; 0; 0\n";
+    let raised = b"split; 1; 1; 0\nsplit; 1; 0; 0\nsplit; 2; 1; 0\nempty; 1; 1; 0\n\
+        split; 2; 2; 0\npoint; 0; 0; 0\nbound; 0; 0; 0\nbound; 1; 0; 0\n\
+        mult; 1; 0; 12.000001\nbound; 0; 0; 0\n";
+    loose(&rt, fits, Status::Done, b"checked\n")?;
+    let broken = Status::Uncertified;
+    loose(&rt, raised, broken, b"uncertified: concept: multiplier\n")?;
+    loose(&rt, b"bound; 1000000000; 0; 0\n", broken, b"uncertified: concept: tree\n")?;
+    Ok(())
+}
+
+#[test]
+fn made_files_are_judged(rt: HostRuntime) -> Result<(), Fail> {
+    let mut files = made(rt.alloc())?;
+    let broken = Status::Uncertified;
+    tells(&rt, &mut files, broken, b"uncertified: concept: missing\n")?;
+    files.put("basis/Pool-Cost.giv", b"1; 5; 15\n2; 2; 12\n")?;
+    tells(&rt, &mut files, broken, b"uncertified: cost: content\n")?;
+    files.remove("basis/Pool-Cost.giv")?;
+    tells(&rt, &mut files, broken, b"uncertified: cost: missing\n")?;
+    files.put("basis/Pool.giv", b"1; 1; 9\n")?;
+    files.put("basis/Pool-Cost.giv", b"")?;
+    let refused = b"refused: basis/Pool.giv row 1: unknown edge\n";
+    tells(&rt, &mut files, Status::BadInput, refused)?;
+    files.remove("basis/Edge.giv")?;
+    let missing = b"refused: basis/Edge.giv is missing\n";
+    tells(&rt, &mut files, Status::BadInput, missing)?;
+    Ok(())
+}
+
+// What a run leaves passes where no stage behind the built ones is to run.
+#[test]
+fn a_run_passes(rt: HostRuntime) -> Result<(), Fail> {
+    let alloc = rt.alloc();
+    let mut files = made(alloc)?;
+    files.put("basis/Config.cnf", b"load_source; file\nlast_stage; cost\n")?;
+    tells(&rt, &mut files, Status::Done, b"checked\n")?;
+    files.put("basis/Config.cnf", b"load_source; od\nlast_stage; load\n")?;
+    let missing = b"refused: basis/OD.giv is missing\n";
+    tells(&rt, &mut files, Status::BadInput, missing)?;
+    files.put("basis/Config.cnf", b"last_stage; loads\n")?;
+    let value = b"refused: value of last_stage\n";
+    tells(&rt, &mut files, Status::BadInput, value)?;
+    Ok(())
+}
