@@ -1,2 +1,4 @@
 pub mod Sound
 mod Tried
+mod Shapes
+mod Walking
