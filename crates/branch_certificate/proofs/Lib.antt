@@ -2,3 +2,5 @@ pub mod Sound
 mod Tried
 mod Shapes
 mod Walking
+mod FirstPlaces
+mod Judging

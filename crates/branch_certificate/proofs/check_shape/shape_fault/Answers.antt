@@ -30,12 +30,12 @@ loop-place-preserved c =
     elim c.if-is_split.branch [
       | then-is_split w ↦ record {
         behind = split_turn nodes place waiting c.node.result.now c.node.ensures so_far
-            c.if-is_split.waiting (sym c.is_split.ensures ∙ w.if-is_split) w.waiting-is;
+            c.if-is_split.waiting (sym c.is_split.ensures ∙ w.if-is_split.true) w.waiting-is;
         few = omega (arith, few, w.waiting-is);
       }
       | else-is_split+else-waiting-eq0 w ↦ record {
         behind = leaf_turn nodes place waiting c.node.result.now c.node.ensures so_far
-            c.if-is_split.waiting (sym c.is_split.ensures ∙ w.if-is_split) w.if-waiting-eq0
+            c.if-is_split.waiting (sym c.is_split.ensures ∙ w.if-is_split.false) w.if-waiting-eq0.false
             w.waiting-is;
         few = omega (arith, few, w.waiting-is);
       }
