@@ -1,5 +1,5 @@
 -- The first faults of nodes with their regions, by kind.
-use Rattle.std.proofs.Common.{◌≡◌, ℕ, ℤ, zero, suc, ◌+◌, ◌∙◌, Bool, true, false, cond, if◌then◌else◌}
+use Rattle.std.proofs.Common.{◌≡◌, ℕ, ℤ, ◌+◌, ◌∙◌, Bool, true, false, if◌then◌else◌}
 use Rattle.std.proofs.Common.{List, [], ◌∷◌, ◌++◌, slice_get, Option, Some, None, option_map, refl, ap, sym}
 use Rattle.std.specs.List.{enumerate_from, flat_map}
 use Rattle.std.specs.Option.{option_or}
@@ -24,7 +24,7 @@ place_of test place (at ∷ rest) = if test at then Some place else place_of tes
 abbrev pub at_node : (List LineRange → Node → Bool) → PlacedNode → Bool
 at_node test at = test at.region at.node
 
-first_of : {X : Type 0} (xs ys : List X)
+pub first_of : {X : Type 0} (xs ys : List X)
     → slice_get (xs ++ ys) 0 ≡ option_or (slice_get xs 0) (slice_get ys 0)
 first_of [] ys = refl
 first_of (x ∷ xs) ys = refl

@@ -1,11 +1,10 @@
 -- The loop over the nodes of a tree: what is known before a node, after it, and at the end.
-use Rattle.std.proofs.Common.{◌≡◌, ℕ, ℤ, suc, ◌+◌, ◌≤◌, ◌∙◌, Bool, true, false, if◌then◌else◌}
-use Rattle.std.proofs.Common.{List, [], ◌∷◌, length, drop, slice_get, Option, Some, None, All, refl, ap, sym, arith}
+use Rattle.std.proofs.Common.{◌≡◌, ℕ, ℤ, ◌+◌, ◌≤◌, ◌∙◌, Bool, true, false, if◌then◌else◌}
+use Rattle.std.proofs.Common.{List, [], ◌∷◌, length, drop, slice_get, Some, All, refl, ap, sym, arith}
 use Rattle.std.proofs.lemmas.List.{drop_all, length-map}
 use Rattle.line_cost_model.specs.declared.range.LineRange.{LineRange}
 use Rattle.line_cost_model.specs.Problems.{ProblemParts}
 use Rattle.line_cost_model.specs.Regions.{most_of, root_of}
-use Rattle.branch_certificate.specs.declared.fault.TreeFault.{TreeFault}
 use Rattle.branch_certificate.specs.declared.fault.TreeFault.TheVariants as fault
 use Rattle.branch_certificate.specs.declared.first_faults.FirstFaults.{FirstFaults}
 use Rattle.branch_certificate.specs.declared.node.Node.{Node}

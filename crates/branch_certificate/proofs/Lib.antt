@@ -4,3 +4,6 @@ mod Shapes
 mod Walking
 mod FirstPlaces
 mod Judging
+mod Leaves
+pub mod Certifying
+mod FirstOfAll

@@ -1,6 +1,6 @@
 -- The shape of nodes: whether they are one whole tree, node by node.
 use Rattle.std.proofs.Common.{◌≡◌, ◌≢◌, ℕ, zero, suc, ◌+◌, ◌-◌, ◌≤◌, ◌<◌, ◌∙◌, ◌==◌, Bool, true, false}
-use Rattle.std.proofs.Common.{cond, nat_lt, if◌then◌else◌, List, [], ◌∷◌, ◌++◌, length, drop, slice_get}
+use Rattle.std.proofs.Common.{nat_lt, if◌then◌else◌, List, [], ◌∷◌, ◌++◌, length, drop, slice_get}
 use Rattle.std.proofs.Common.{Option, Some, None, option_map, option_and_then, refl, ap, sym, arith}
 use Rattle.std.proofs.Common.{inl, inr, subst}
 use Rattle.std.proofs.lemmas.Bool.{eq-eqb, ne_eqb, lt-ltb, le-ltb, cases_lt}

@@ -1,6 +1,6 @@
 // Whether the nodes of a tree show what they are to show, each over its region.
 ghost use Rattle.std.specs.Prelude.{◌≡◌, ◌∷◌, [], slice_get, length, IfOk, All, if◌then◌else◌, false};
-ghost use Rattle.line_cost_model.specs.Regions.{root_of};
+ghost use Rattle.line_cost_model.specs.Regions.{HasEachFeasible, root_of};
 ghost use Rattle.branch_certificate.specs.TreeFaults.{placed_faults, splits_outside};
 ghost use Rattle.branch_certificate.specs.TreeTexts.{NamesWhatIs};
 ghost use Rattle.branch_certificate.specs.Walks.{SplitsOne, behind_node, walked};
@@ -22,8 +22,9 @@ pub(crate) fn node_fault(
     tree: &Tree,
 ) -> Result<Option<TreeFault>, NoMemory>
     requires { All (NamesWhatIs problem.now) tree.now }
-    ensures { IfOk result (λ fault. fault ≡ slice_get
+    ensures first { IfOk result (λ fault. fault ≡ slice_get
         (placed_faults problem.now best (walked (root_of problem.now ∷ []) tree.now)) 0) }
+    ensures each { IfOk result (λ _. HasEachFeasible problem.now (root_of problem.now)) }
 {
     let mut walk = RegionWalk::new(alloc, problem)?;
     let mut firsts = FirstFaults::new();

@@ -1,6 +1,6 @@
 // The regions of the nodes of a tree, one after the other.
 ghost use Rattle.std.specs.Prelude.{◌≡◌, ◌<◌, ◌+◌, ◌∷◌, [], length, reverse, All, IfOk, OnOk, MatchBool};
-ghost use Rattle.line_cost_model.specs.Regions.{root_of, part_from, part_up_to};
+ghost use Rattle.line_cost_model.specs.Regions.{HasEachFeasible, root_of, part_from, part_up_to};
 ghost use Rattle.branch_certificate.specs.Certified.{SplitsInside};
 ghost use Rattle.branch_certificate.specs.Walks.{IsOpenSplit, behind_node, waiting_of};
 
@@ -45,8 +45,9 @@ impl Model for RegionWalk {
 impl RegionWalk {
     /// At the root of a tree.
     pub(crate) fn new(alloc: Global, problem: &LineProblem) -> Result<RegionWalk, NoMemory>
-        ensures { IfOk result
+        ensures root { IfOk result
             (λ walk. walk ≡ record { region = root_of problem.now; waiting = [] }) }
+        ensures each { IfOk result (λ _. HasEachFeasible problem.now (root_of problem.now)) }
     {
         let region = Region::root(alloc, problem)?;
         Ok(RegionWalk {

@@ -1,6 +1,5 @@
-use Rattle.std.proofs.Common.{◌≡◌, ◌∙◌, ◌∷◌, [], ◌+◌, List, ℤ, to_z, of_z, slice_get, if◌then◌else◌, length, ap, sym, subst, arith}
+use Rattle.std.proofs.Common.{◌∙◌, ◌∷◌, [], ◌+◌, List, to_z, of_z, slice_get, if◌then◌else◌, length, ap, sym, subst, arith}
 use Rattle.std.proofs.lemmas.Int.{to_z-of_z}
-use Rattle.std.proofs.lemmas.List.{length-map}
 use Rattle.std.specs.Int.{w128}
 use Rattle.line_cost_model.specs.declared.range.LineRange.{LineRange}
 use Rattle.branch_certificate.specs.TreeFaults.{placed_faults, splits_outside}
@@ -15,8 +14,8 @@ loop-place-init c = record {
       (c.in_ok-walk.walk.region ∷ c.in_ok-walk.walk.waiting))
       (sym (to_z-of_z w128 c.args.best c.ranges.best))
       (judged_none c.args.problem.now c.args.best c.args.tree.now c.new-firsts.result
-      c.in_ok-walk.walk c.new-firsts.ensures c.in_ok-walk.ensures);
-  size = each_has c.args.problem.now c.in_ok-walk.walk c.in_ok-walk.ensures;
+      c.in_ok-walk.walk c.new-firsts.ensures c.in_ok-walk.ensures.root);
+  size = each_has c.args.problem.now c.in_ok-walk.walk c.in_ok-walk.ensures.root;
 }
 
 pub splits_outside-requires : goal.splits_outside-requires
@@ -26,8 +25,8 @@ splits_outside-requires c =
     c.loop-place.invariant.size (names_at c.args.problem.now c.args.tree.now c.loop-place.place
     c.node-node.result.now c.requires c.node-node.ensures))
 
-pub returns-then-splits_outside : goal.returns-then-splits_outside
-returns-then-splits_outside c =
+pub returns-then-splits_outside-clause-first : goal.returns-then-splits_outside-clause-first
+returns-then-splits_outside-clause-first c =
     let regions = c.loop-place.walk.region ∷ c.loop-place.walk.waiting in
     split_is_first c.args.problem.now c.args.best c.args.tree.now c.loop-place.firsts c.loop-place.place
     c.loop-place.walk.region c.loop-place.walk.waiting c.node-node.result.now c.node-node.ensures
@@ -50,8 +49,8 @@ go_on-requires-clause-there c =
     c.loop-place.invariant.size (names_at c.args.problem.now c.args.tree.now c.loop-place.place
     c.node-node.result.now c.requires c.node-node.ensures)
 
-pub returns-then-not-branch : goal.returns-then-not-branch
-returns-then-not-branch c =
+pub returns-then-not-branch-clause-first : goal.returns-then-not-branch-clause-first
+returns-then-not-branch-clause-first c =
     let kept = to_z w128 (of_z w128 c.args.best) in
     let node = c.node-node.result.now in
     let after = c.go_on.new.walk.region ∷ c.go_on.new.walk.waiting in
@@ -88,8 +87,8 @@ loop-place-preserved c =
       size = c.in_ok-go_on.ensures.size ∙ c.loop-place.invariant.size;
     }
 
-pub returns : goal.returns
-returns c =
+pub returns-clause-first : goal.returns-clause-first
+returns-clause-first c =
     let regions = c.loop-place.walk.region ∷ c.loop-place.walk.waiting in
     c.first-2.ensures
     ∙ judged_all c.args.problem.now c.args.best c.args.tree.now c.loop-place.firsts c.loop-place.place

@@ -1,4 +1,4 @@
-use Rattle.std.proofs.Common.{◌≡◌, ◌∙◌, length, ap, sym, refl, arith}
+use Rattle.std.proofs.Common.{◌∙◌, length, ap, sym, refl, arith}
 use Rattle.std.proofs.lemmas.List.{length-append}
 use Rattle.branch_certificate.proofs.Walking.{none_waits, open_split, others_are_open, part_closed}
 use Rattle.branch_certificate.proofs.Walking.{size_stays, upper_entered, upper_is_open}

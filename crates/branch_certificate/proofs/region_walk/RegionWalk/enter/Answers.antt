@@ -1,6 +1,4 @@
-use Rattle.std.proofs.Common.{◌≡◌, ◌∙◌, ◌∷◌, ◌++◌, List, reverse, ap, sym}
-use Rattle.line_cost_model.specs.declared.range.LineRange.{LineRange}
-use Rattle.branch_certificate.specs.Walks.{WalkedRegions, waiting_of}
+use Rattle.std.proofs.Common.{ap}
 use Rattle.branch_certificate.proofs.Walking.{entered}
 use Rattle.branch_certificate.proofs.region_walk.RegionWalk.enter.Goals as goal
 
