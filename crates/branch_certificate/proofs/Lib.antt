@@ -7,3 +7,4 @@ mod Judging
 mod Leaves
 pub mod Certifying
 mod FirstOfAll
+mod Named
