@@ -37,11 +37,13 @@ module _ (test : List LineRange → Node → Bool) (fault : ℕ → TreeFault) w
   none_first true place rest h = absurd (cc)
   none_first false place rest h = (refl, h)
 
-  none_from : (place : ℕ) (placed : List PlacedNode) → flat_map own (enumerate_from place placed) ≡ []
+  none_from : (place : ℕ) (placed : List PlacedNode) → flat_map own (enumerate_from place placed)
+      ≡ []
       → NoneFails test placed
   none_from place [] h = tt
   none_from place (at ∷ rest) h =
-      let parts = none_first (test at.region at.node) place (flat_map own (enumerate_from (place + 1) rest)) h in
+      let parts = none_first (test at.region at.node) place
+      (flat_map own (enumerate_from (place + 1) rest)) h in
       (parts.0, none_from (place + 1) rest parts.1)
 
   all_from : (place : ℕ) (placed : List PlacedNode) → NoneFails test placed
@@ -75,7 +77,8 @@ module _ (problem : ProblemParts) (cost : ℤ) where
   each_by test f [] all = tt
   each_by test f (at ∷ rest) all = (f at all.0, each_by test f rest all.1)
 
-  none_all_pass : (placed : List PlacedNode) → placed_faults problem cost placed ≡ [] → AllPass placed
+  none_all_pass : (placed : List PlacedNode) → placed_faults problem cost placed ≡ []
+      → AllPass placed
   none_all_pass placed h =
       let e = front_none _ _ h in
       let d = front_none _ _ e.0 in
@@ -88,13 +91,19 @@ module _ (problem : ProblemParts) (cost : ℤ) where
       (none_from (is_below problem cost) (λ place. fault.Bound place) 0 placed d.1)
       (none_from (is_no_point problem cost) (λ place. fault.Point place) 0 placed e.1)
 
-  all_pass_none : (placed : List PlacedNode) → AllPass placed → placed_faults problem cost placed ≡ []
+  all_pass_none : (placed : List PlacedNode) → AllPass placed → placed_faults problem cost placed
+      ≡ []
   all_pass_none placed all = rw (
-    all_from splits_outside (λ place. fault.Split place) 0 placed (each_by splits_outside (λ at passes. passes.split) placed all),
-    all_from (is_not_empty problem) (λ place. fault.Empty place) 0 placed (each_by (is_not_empty problem) (λ at passes. passes.empty) placed all),
-    all_from (exceeds_costs problem) (λ place. fault.Multiplier place) 0 placed (each_by (exceeds_costs problem) (λ at passes. passes.multiplier) placed all),
-    all_from (is_below problem cost) (λ place. fault.Bound place) 0 placed (each_by (is_below problem cost) (λ at passes. passes.bound) placed all),
-    all_from (is_no_point problem cost) (λ place. fault.Point place) 0 placed (each_by (is_no_point problem cost) (λ at passes. passes.point) placed all),
+    all_from splits_outside (λ place. fault.Split place) 0 placed
+        (each_by splits_outside (λ at passes. passes.split) placed all),
+    all_from (is_not_empty problem) (λ place. fault.Empty place) 0 placed
+        (each_by (is_not_empty problem) (λ at passes. passes.empty) placed all),
+    all_from (exceeds_costs problem) (λ place. fault.Multiplier place) 0 placed
+        (each_by (exceeds_costs problem) (λ at passes. passes.multiplier) placed all),
+    all_from (is_below problem cost) (λ place. fault.Bound place) 0 placed
+        (each_by (is_below problem cost) (λ at passes. passes.bound) placed all),
+    all_from (is_no_point problem cost) (λ place. fault.Point place) 0 placed
+        (each_by (is_no_point problem cost) (λ at passes. passes.point) placed all),
   ) refl
 
   -- ---- trees
@@ -110,27 +119,38 @@ module _ (problem : ProblemParts) (cost : ℤ) where
   tree_shows : (region : List LineRange) (tree : NodeTree) → All InOrder region → IsProper tree
       → AllPass (placed_over region tree) → TreeCertifies problem cost region tree
   unfolding placed_over TreeCertifies IsProper
-  tree_shows region (leaf node) order proper all = leaf_shows problem cost region node order proper all.0
+  tree_shows region (leaf node) order proper all = leaf_shows problem cost region node order proper
+      all.0
   tree_shows region (fork line at lower upper) order proper all =
       let inside = splits_inside region line at all.0.split in
       let parts = both_pass (placed_over (part_up_to region line at) lower)
       (placed_over (part_from region line (at + 1)) upper) all.1 in (
         inside,
-        tree_shows (part_up_to region line at) lower (All-set InOrder region line _ inside.0 order) proper.0 parts.0,
-        tree_shows (part_from region line (at + 1)) upper (All-set InOrder region line _ (omega (arith, inside.1)) order) proper.1 parts.1,
+        tree_shows (part_up_to region line at) lower
+            (All-set InOrder region line _ inside.0 order) proper.0 parts.0,
+        tree_shows (part_from region line (at + 1)) upper
+            (All-set InOrder region line _ (omega (arith, inside.1)) order) proper.1 parts.1,
       )
 
   tree_passes : (region : List LineRange) (tree : NodeTree) → TreeCertifies problem cost region tree
       → IsProper tree × AllPass (placed_over region tree)
   unfolding placed_over TreeCertifies IsProper
-  tree_passes region (leaf node) shown = let passes = leaf_passes problem cost region node shown in (passes.0, (passes.1, tt))
+  tree_passes region (leaf node) shown = let passes = leaf_passes problem cost region node shown in
+      (passes.0, (passes.1, tt))
   tree_passes region (fork line at lower upper) shown =
       let first = tree_passes (part_up_to region line at) lower shown.1 in
       let second = tree_passes (part_from region line (at + 1)) upper shown.2 in (
         (first.0, second.0),
         (
-          record { split = not_outside region line at shown.0; empty = refl; multiplier = refl; bound = refl; point = refl },
-          pass_both (placed_over (part_up_to region line at) lower) (placed_over (part_from region line (at + 1)) upper) first.1 second.1,
+          record {
+            split = not_outside region line at shown.0;
+            empty = refl;
+            multiplier = refl;
+            bound = refl;
+            point = refl;
+          },
+          pass_both (placed_over (part_up_to region line at) lower)
+              (placed_over (part_from region line (at + 1)) upper) first.1 second.1,
         ),
       )
 
@@ -138,10 +158,12 @@ module _ (problem : ProblemParts) (cost : ℤ) where
 
 -- the preorder of a tree is read as that tree
 read_back : (tree : NodeTree) → IsProper tree → (levels : ℕ) (rest : List Node)
-    → length (preorder tree) ≤ levels → first_tree levels (preorder tree ++ rest) ≡ Some (tree, rest)
+    → length (preorder tree) ≤ levels → first_tree levels (preorder tree ++ rest)
+    ≡ Some (tree, rest)
 unfolding preorder first_tree IsProper
 read_back (leaf node) proper zero rest few = absurd (omega (arith, few))
-read_back (leaf (node.Split line at)) proper (suc levels) rest few = absurd (false≢true (sym proper))
+read_back (leaf (node.Split line at)) proper (suc levels) rest few = absurd
+    (false≢true (sym proper))
 read_back (leaf (node.Empty edge side)) proper (suc levels) rest few = refl
 read_back (leaf (node.Bound multipliers)) proper (suc levels) rest few = refl
 read_back (leaf node.Point) proper (suc levels) rest few = refl
@@ -168,11 +190,13 @@ root_in_order most (line ∷ lines) zero d h = omega arith
 root_in_order most (line ∷ lines) (suc k) d h = root_in_order most lines k d (omega (arith, h))
 
 -- nothing is left of nodes of a right shape
-pub no_rest : (rest : List Node) (faults : TreeFault) → (if length rest == 0 then [] else faults ∷ []) ≡ []
+pub no_rest : (rest : List Node) (faults : TreeFault)
+    → (if length rest == 0 then [] else faults ∷ []) ≡ []
     → rest ≡ []
 no_rest [] faults h = refl
 no_rest (node ∷ rest) faults h =
-    let some = ap (λ none. if none then [] else faults ∷ []) (ne_eqb (length (node ∷ rest)) 0 (λ e. omega (arith, e))) in
+    let some = ap (λ none. if none then [] else faults ∷ [])
+    (ne_eqb (length (node ∷ rest)) 0 (λ e. omega (arith, e))) in
     absurd (is_some (sym some ∙ h))
   where
     is_some : faults ∷ [] ≡ [] → ⊥
@@ -200,7 +224,8 @@ module _ (problem : ProblemParts) (cost : ℤ) (nodes : List Node) where
   unfolding tree_faults
   none_by shown =
       let passes = tree_passes problem cost (root_of problem) shown.tree shown.shows in
-      ap (λ read. shape_of (length nodes) read ++ placed_faults problem cost (placed_in problem read))
+      ap (λ read. shape_of (length nodes) read ++ placed_faults problem cost
+      (placed_in problem read))
       (whole_is shown.tree nodes passes.0 shown.whole)
       ∙ all_pass_none problem cost (placed_over (root_of problem) shown.tree) passes.1
 
@@ -215,7 +240,8 @@ module _ (problem : ProblemParts) (cost : ℤ) (nodes : List Node) where
   first_none (x ∷ xs) first is = (λ none. absurd (cc), λ none. absurd (cc))
 
   -- the same of the first fault
-  pub none_certifies : (first : Option TreeFault) → first ≡ slice_get (tree_faults problem cost nodes) 0
+  pub none_certifies : (first : Option TreeFault) → first
+      ≡ slice_get (tree_faults problem cost nodes) 0
       → (first ≡ None) ↔ Certifies problem cost nodes
   none_certifies first is =
       let none = first_none (tree_faults problem cost nodes) first is in

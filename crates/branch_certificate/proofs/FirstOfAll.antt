@@ -21,11 +21,13 @@ use Rattle.branch_certificate.proofs.Shapes.{IsProper, tree_begins}
 use Rattle.branch_certificate.proofs.Sound.{certified_where_each}
 
 -- the nodes of a tree one by one are those that are placed over its region
-tree_walked : (tree : NodeTree) → IsProper tree → (region : List LineRange) (waiting : List (List LineRange))
+tree_walked : (tree : NodeTree) → IsProper tree
+    → (region : List LineRange) (waiting : List (List LineRange))
     (rest : List Node) → walked (region ∷ waiting) (preorder tree ++ rest)
     ≡ placed_over region tree ++ walked waiting rest
 unfolding walked preorder placed_over IsProper
-tree_walked (leaf (node.Split line at)) proper region waiting rest = absurd (false≢true (sym proper))
+tree_walked (leaf (node.Split line at)) proper region waiting rest = absurd
+    (false≢true (sym proper))
 tree_walked (leaf (node.Empty edge side)) proper region waiting rest = refl
 tree_walked (leaf (node.Bound multipliers)) proper region waiting rest = refl
 tree_walked (leaf node.Point) proper region waiting rest = refl
@@ -62,7 +64,8 @@ module _ (problem : ProblemParts) (cost : ℤ) (nodes : List Node) where
       → Some fault ≡ slice_get (tree_faults problem cost nodes) 0
   unfolding tree_faults
   shape_first fault is = sym (first_of (shape_of (length nodes) (tree_in nodes)) _
-      ∙ ap (λ first. option_or first (slice_get (placed_faults problem cost (placed_in problem (tree_in nodes))) 0)) (sym is))
+      ∙ ap (λ first. option_or first (slice_get
+      (placed_faults problem cost (placed_in problem (tree_in nodes))) 0)) (sym is))
 
   -- without one it is the first one of the nodes
   pub nodes_first : (first : Option TreeFault)
@@ -74,13 +77,16 @@ module _ (problem : ProblemParts) (cost : ℤ) (nodes : List Node) where
       ∙ ap (λ placed. slice_get (placed_faults problem cost placed) 0)
       (sym (placed_are problem nodes (tree_in nodes) refl (sym none)))
       ∙ sym (first_of (shape_of (length nodes) (tree_in nodes)) _
-      ∙ ap (λ first. option_or first (slice_get (placed_faults problem cost (placed_in problem (tree_in nodes))) 0)) (sym none))
+      ∙ ap (λ first. option_or first (slice_get
+      (placed_faults problem cost (placed_in problem (tree_in nodes))) 0)) (sym none))
 
   -- no fault means that no feasible concept costs less
   pub none_is_least : HasEachFeasible problem (root_of problem) → (first : Option TreeFault)
-      → first ≡ slice_get (tree_faults problem cost nodes) 0 → IfNone first (CostsAtLeast problem cost)
+      → first ≡ slice_get (tree_faults problem cost nodes) 0
+      → IfNone first (CostsAtLeast problem cost)
   none_is_least each None is =
-      certified_where_each problem cost nodes each ((none_certifies problem cost nodes None is).0 refl)
+      certified_where_each problem cost nodes each
+      ((none_certifies problem cost nodes None is).0 refl)
   none_is_least each (Some fault) is = tt
 
   -- what follows for an answer that is no want of memory

@@ -29,14 +29,16 @@ pub first_of : {X : Type 0} (xs ys : List X)
 first_of [] ys = refl
 first_of (x ∷ xs) ys = refl
 
-first_from : (test : List LineRange → Node → Bool) (fault : ℕ → TreeFault) (place : ℕ) (placed : List PlacedNode)
+first_from : (test : List LineRange → Node → Bool) (fault : ℕ → TreeFault) (place : ℕ)
+    (placed : List PlacedNode)
     → slice_get (flat_map (λ at. if test at.1.region at.1.node then fault at.0 ∷ [] else [])
     (enumerate_from place placed)) 0 ≡ option_map fault (place_of (at_node test) place placed)
 unfolding place_of
 first_from test fault place [] = refl
 first_from test fault place (at ∷ rest) =
     gated (test at.region at.node)
-    (flat_map (λ at. if test at.1.region at.1.node then fault at.0 ∷ [] else []) (enumerate_from (place + 1) rest))
+    (flat_map (λ at. if test at.1.region at.1.node then fault at.0 ∷ [] else [])
+    (enumerate_from (place + 1) rest))
     (place_of (at_node test) (place + 1) rest) (first_from test fault (place + 1) rest)
   where
     gated : (fails : Bool) (faults : List TreeFault) (later : Option ℕ)
@@ -48,7 +50,8 @@ first_from test fault place (at ∷ rest) =
 
 -- the first fault of a kind is at the first place that fails
 first_by : (test : List LineRange → Node → Bool) (fault : ℕ → TreeFault) (placed : List PlacedNode)
-    → slice_get (faults_by test fault placed) 0 ≡ option_map fault (place_of (at_node test) 0 placed)
+    → slice_get (faults_by test fault placed) 0
+    ≡ option_map fault (place_of (at_node test) 0 placed)
 first_by test fault placed = first_from test fault 0 placed
 
 -- ---- node by node
@@ -83,7 +86,8 @@ module _ (problem : ProblemParts) (cost : ℤ) where
   abbrev with_later : FirstFaults → ℕ → List PlacedNode → FirstFaults
   with_later firsts place placed = record {
     empty = option_or firsts.empty (place_of (at_node (is_not_empty problem)) place placed);
-    multiplier = option_or firsts.multiplier (place_of (at_node (exceeds_costs problem)) place placed);
+    multiplier = option_or firsts.multiplier (place_of
+        (at_node (exceeds_costs problem)) place placed);
     bound = option_or firsts.bound (place_of (at_node (is_below problem cost)) place placed);
     point = option_or firsts.point (place_of (at_node (is_no_point problem cost)) place placed);
   }
@@ -110,19 +114,21 @@ module _ (problem : ProblemParts) (cost : ℤ) where
             (place_of (at_node (is_no_point problem cost)) (place + 1) rest) i;
       })
 
-
   or_or : (a b c : Option TreeFault) → option_or (option_or a b) c ≡ option_or a (option_or b c)
   or_or None b c = refl
   or_or (Some a) b c = refl
 
   leaning : (a b c d e : Option TreeFault) → option_or (option_or (option_or (option_or a b) c) d) e
       ≡ option_or a (option_or b (option_or c (option_or d e)))
-  leaning a b c d e = or_or (option_or (option_or a b) c) d e ∙ or_or (option_or a b) c (option_or d e)
+  leaning a b c d e = or_or (option_or (option_or a b) c) d e
+      ∙ or_or (option_or a b) c (option_or d e)
       ∙ or_or a b (option_or c (option_or d e))
 
-  five : (a b c d e : List TreeFault) (p q r s t : Option TreeFault) → slice_get a 0 ≡ p → slice_get b 0 ≡ q
+  five : (a b c d e : List TreeFault) (p q r s t : Option TreeFault) → slice_get a 0 ≡ p
+      → slice_get b 0 ≡ q
       → slice_get c 0 ≡ r → slice_get d 0 ≡ s → slice_get e 0 ≡ t
-      → slice_get (a ++ b ++ c ++ d ++ e) 0 ≡ option_or p (option_or q (option_or r (option_or s t)))
+      → slice_get (a ++ b ++ c ++ d ++ e) 0 ≡ option_or p
+      (option_or q (option_or r (option_or s t)))
   five a b c d e p q r s t first second third fourth fifth =
       first_of (a ++ b ++ c ++ d) e
       ∙ ap (λ o. option_or o (slice_get e 0)) (first_of (a ++ b ++ c) d
@@ -133,7 +139,8 @@ module _ (problem : ProblemParts) (cost : ℤ) where
       (option_or (fourth i) (fifth i)))))
 
   pub first_is : (placed : List PlacedNode) → slice_get (placed_faults problem cost placed) 0
-      ≡ first_of_all (place_of (at_node splits_outside) 0 placed) (judged problem cost no_place 0 placed)
+      ≡ first_of_all (place_of (at_node splits_outside) 0 placed)
+      (judged problem cost no_place 0 placed)
   first_is placed =
       five _ _ _ _ _ _ _ _ _ _
       (first_by splits_outside (λ place. fault.Split place) placed)
@@ -141,4 +148,5 @@ module _ (problem : ProblemParts) (cost : ℤ) where
       (first_by (exceeds_costs problem) (λ place. fault.Multiplier place) placed)
       (first_by (is_below problem cost) (λ place. fault.Bound place) placed)
       (first_by (is_no_point problem cost) (λ place. fault.Point place) placed)
-      ∙ ap (first_of_all (place_of (at_node splits_outside) 0 placed)) (sym (judged_is placed no_place 0))
+      ∙ ap (first_of_all (place_of (at_node splits_outside) 0 placed))
+      (sym (judged_is placed no_place 0))

@@ -21,9 +21,10 @@ use Rattle.branch_certificate.proofs.Shapes.{drop_node}
 abbrev pub all_placed : ProblemParts → List Node → List PlacedNode
 all_placed problem nodes = walked (root_of problem ∷ []) nodes
 
--- the first split outside a range, and the first places of the other kinds, are those of the nodes that
--- are left, over the regions that wait, behind the first places so far
-pub record IsJudged (problem : ProblemParts) (cost : ℤ) (nodes : List Node) (firsts : FirstFaults) (place : ℕ)
+-- the first split outside a range, and the first places of the other kinds, are those of the nodes
+-- that are left, over the regions that wait, behind the first places so far
+pub record IsJudged (problem : ProblemParts) (cost : ℤ) (nodes : List Node) (firsts : FirstFaults)
+    (place : ℕ)
     (regions : List (List LineRange)) : Type 0 where
   pub splits : place_of (at_node splits_outside) 0 (all_placed problem nodes)
       ≡ place_of (at_node splits_outside) place (walked regions (drop place nodes))
@@ -62,7 +63,8 @@ module _ (problem : ProblemParts) (cost : ℤ) (nodes : List Node) (firsts : Fir
   unfolding place_of
   next_splits outside is = so_far.splits
       ∙ ap (place_of (at_node splits_outside) place) walked_node
-      ∙ ap (λ outside. if outside then Some place else place_of (at_node splits_outside) (place + 1) rest) is
+      ∙ ap (λ outside. if outside then Some place else place_of (at_node splits_outside)
+      (place + 1) rest) is
 
   next_others : judged problem cost no_place 0 (all_placed problem nodes)
       ≡ judged problem cost (noted problem cost firsts place here) (place + 1) rest
@@ -71,7 +73,8 @@ module _ (problem : ProblemParts) (cost : ℤ) (nodes : List Node) (firsts : Fir
 
   -- a split outside a range is the first fault
   pub split_is_first : splits_outside region node ≡ true
-      → Some (fault.Split place) ≡ slice_get (placed_faults problem cost (all_placed problem nodes)) 0
+      → Some (fault.Split place) ≡ slice_get (placed_faults problem cost (all_placed problem nodes))
+      0
   split_is_first outside = sym (first_is problem cost (all_placed problem nodes)
       ∙ ap (λ split. first_of_all split (judged problem cost no_place 0 (all_placed problem nodes)))
       (next_splits true outside))
@@ -82,10 +85,12 @@ module _ (problem : ProblemParts) (cost : ℤ) (nodes : List Node) (firsts : Fir
       → regions ≡ behind_node region waiting node
       → IsJudged problem cost nodes after (place + 1) regions
   judged_more after regions inside after_is regions_are =
-      rw (after_is, regions_are) (record { splits = next_splits false inside; others = next_others })
+      rw (after_is, regions_are)
+      (record { splits = next_splits false inside; others = next_others })
 
 -- no node is left that has a region
-finished : (problem : ProblemParts) (cost : ℤ) (nodes : List Node) (firsts : FirstFaults) (place : ℕ)
+finished : (problem : ProblemParts) (cost : ℤ) (nodes : List Node) (firsts : FirstFaults)
+    (place : ℕ)
     (regions : List (List LineRange)) → walked regions (drop place nodes) ≡ []
     → IsJudged problem cost nodes firsts place regions
     → first_by_kind firsts ≡ slice_get (placed_faults problem cost (all_placed problem nodes)) 0
@@ -96,7 +101,8 @@ finished problem cost nodes firsts place regions none is_judged =
     (is_judged.splits ∙ ap (place_of (at_node splits_outside) place) none)
     ∙ ap first_by_kind (is_judged.others ∙ ap (judged problem cost firsts place) none))
 
-pub judged_last : (problem : ProblemParts) (cost : ℤ) (nodes : List Node) (firsts : FirstFaults) (place : ℕ)
+pub judged_last : (problem : ProblemParts) (cost : ℤ) (nodes : List Node) (firsts : FirstFaults)
+    (place : ℕ)
     → IsJudged problem cost nodes firsts place []
     → first_by_kind firsts ≡ slice_get (placed_faults problem cost (all_placed problem nodes)) 0
 judged_last problem cost nodes firsts place is_judged =
@@ -107,11 +113,14 @@ unfolding walked
 no_node [] = refl
 no_node (region ∷ regions) = refl
 
-pub judged_all : (problem : ProblemParts) (cost : ℤ) (nodes : List Node) (firsts : FirstFaults) (place : ℕ)
-    (regions : List (List LineRange)) → length nodes ≤ place → IsJudged problem cost nodes firsts place regions
+pub judged_all : (problem : ProblemParts) (cost : ℤ) (nodes : List Node) (firsts : FirstFaults)
+    (place : ℕ)
+    (regions : List (List LineRange)) → length nodes ≤ place
+    → IsJudged problem cost nodes firsts place regions
     → first_by_kind firsts ≡ slice_get (placed_faults problem cost (all_placed problem nodes)) 0
 judged_all problem cost nodes firsts place regions past is_judged =
-    finished problem cost nodes firsts place regions (ap (walked regions) (drop_all place nodes past) ∙ no_node regions)
+    finished problem cost nodes firsts place regions
+    (ap (walked regions) (drop_all place nodes past) ∙ no_node regions)
     is_judged
 
 -- ---- what a node names
@@ -126,7 +135,8 @@ splits_one problem region node.Point same names = tt
 
 pub names_at : (problem : ProblemParts) (nodes : List Node) (place : ℕ) (node : Node)
     → All (NamesWhatIs problem) nodes → slice_get nodes place ≡ Some node → NamesWhatIs problem node
-names_at problem nodes place node all there = holds_at (NamesWhatIs problem) nodes place node all there
+names_at problem nodes place node all there = holds_at
+    (NamesWhatIs problem) nodes place node all there
 
 pub each_has : (problem : ProblemParts) (walk : WalkedRegions)
     → walk ≡ record { region = root_of problem; waiting = [] }

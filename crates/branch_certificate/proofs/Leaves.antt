@@ -25,7 +25,8 @@ use Rattle.branch_certificate.specs.TreeFaults.{splits_outside, is_not_empty, ex
 use Rattle.branch_certificate.specs.Trees.{is_split}
 
 -- a node over a region passes each test
-pub record Passes (problem : ProblemParts) (cost : ℤ) (region : List LineRange) (node : Node) : Type 0 where
+pub record Passes (problem : ProblemParts) (cost : ℤ) (region : List LineRange)
+    (node : Node) : Type 0 where
   pub split : splits_outside region node ≡ false
   pub empty : is_not_empty problem region node ≡ false
   pub multiplier : exceeds_costs problem region node ≡ false
@@ -68,16 +69,19 @@ splits_inside region line at h =
 pub not_outside : (region : List LineRange) (line at : ℕ) → SplitsInside region line at
     → splits_outside region (node.Split line at) ≡ false
 not_outside region line at inside =
-    rw (le-leb (range_of region line).lo at inside.0, lt-ltb at (range_of region line).hi inside.1) refl
+    rw (le-leb (range_of region line).lo at inside.0, lt-ltb at (range_of region line).hi inside.1)
+    refl
 
 -- ---- empty edges
 
-empty_at : (problem : ProblemParts) (region : List LineRange) (edge : ℕ) (bounds : BoundedEdge) (s : Side)
+empty_at : (problem : ProblemParts) (region : List LineRange) (edge : ℕ) (bounds : BoundedEdge)
+    (s : Side)
     → is_empty_on problem region edge s bounds ≡ true → IsEmptyAt problem.lines region edge bounds s
 empty_at problem region edge bounds side.Over h = ltb-true _ _ h
 empty_at problem region edge bounds side.Under h = ltb-true _ _ h
 
-empty_test : (problem : ProblemParts) (region : List LineRange) (edge : ℕ) (bounds : BoundedEdge) (s : Side)
+empty_test : (problem : ProblemParts) (region : List LineRange) (edge : ℕ) (bounds : BoundedEdge)
+    (s : Side)
     → IsEmptyAt problem.lines region edge bounds s → is_empty_on problem region edge s bounds ≡ true
 empty_test problem region edge bounds side.Over h = lt-ltb _ _ h
 empty_test problem region edge bounds side.Under h = lt-ltb _ _ h
@@ -89,7 +93,11 @@ shows_empty problem region edge s h =
     → not (unwrap_or (option_map (is_empty_on problem region edge s) at) false) ≡ false
     → ShowsEmpty problem region edge s) [
       | None ↦ λ _ none. absurd (false≢true (sym none))
-      | Some bounds ↦ λ there fails. (bounds, there, empty_at problem region edge bounds s (not_false _ fails))
+      | Some bounds ↦ λ there fails. (
+        bounds,
+        there,
+        empty_at problem region edge bounds s (not_false _ fails),
+      )
     ] refl h
 
 not_not_empty : (problem : ProblemParts) (region : List LineRange) (edge : ℕ) (s : Side)
@@ -100,7 +108,8 @@ not_not_empty problem region edge s shown =
 
 -- ---- bounds
 
-shows_bound : (problem : ProblemParts) (cost : ℤ) (region : List LineRange) (multipliers : List Multiplier)
+shows_bound : (problem : ProblemParts) (cost : ℤ) (region : List LineRange)
+    (multipliers : List Multiplier)
     → exceeds_costs problem region (node.Bound multipliers) ≡ false
     → is_below problem cost region (node.Bound multipliers) ≡ false
     → ShowsBound problem cost region multipliers
@@ -111,7 +120,8 @@ shows_bound problem cost region multipliers within enough = record {
   enough = at_most cost (bound_by problem region multipliers) enough;
 }
 
-not_exceeding : (problem : ProblemParts) (cost : ℤ) (region : List LineRange) (multipliers : List Multiplier)
+not_exceeding : (problem : ProblemParts) (cost : ℤ) (region : List LineRange)
+    (multipliers : List Multiplier)
     → ShowsBound problem cost region multipliers
     → exceeds_costs problem region (node.Bound multipliers) ≡ false
 not_exceeding problem cost region multipliers shown =
@@ -125,7 +135,12 @@ single : (region : List LineRange) → All InOrder region → list_any has_sever
 single [] order none k d h = absurd (omega (arith, h))
 single (range ∷ region) order none zero d h =
     let first : range.lo ≤ range.hi = order zero range (omega arith) in
-    omega (arith, first, ltb-false range.lo range.hi (neither (has_several range) (list_any has_several region) none).0)
+    omega (
+      arith,
+      first,
+      ltb-false range.lo range.hi
+          (neither (has_several range) (list_any has_several region) none).0,
+    )
 single (range ∷ region) order none (suc k) d h =
     single region (λ k d h. order (suc k) d (omega (arith, h)))
     (neither (has_several range) (list_any has_several region) none).1 k d (omega (arith, h))
@@ -141,16 +156,19 @@ none_several (range ∷ region) one =
 shows_point : (problem : ProblemParts) (cost : ℤ) (region : List LineRange) → All InOrder region
     → is_no_point problem cost region node.Point ≡ false → ShowsPoint problem cost region
 shows_point problem cost region order h =
-    let parts = neither (list_any has_several region) (not (int_le cost (pos (cost_of problem (least_in region))))) h in
+    let parts = neither (list_any has_several region)
+    (not (int_le cost (pos (cost_of problem (least_in region))))) h in
     record {
       one = single region order parts.0;
       enough = at_most cost (cost_of problem (least_in region)) parts.1;
     }
 
-is_a_point : (problem : ProblemParts) (cost : ℤ) (region : List LineRange) → ShowsPoint problem cost region
+is_a_point : (problem : ProblemParts) (cost : ℤ) (region : List LineRange)
+    → ShowsPoint problem cost region
     → is_no_point problem cost region node.Point ≡ false
 is_a_point problem cost region shown =
-    rw (none_several region shown.one) (not_above cost (cost_of problem (least_in region)) shown.enough)
+    rw (none_several region shown.one) (not_above cost
+    (cost_of problem (least_in region)) shown.enough)
 
 -- ---- leaves
 
@@ -166,11 +184,36 @@ leaf_shows problem cost region node.Point order is passes =
     shows_point problem cost region order passes.point
 
 pub leaf_passes : (problem : ProblemParts) (cost : ℤ) (region : List LineRange) (node : Node)
-    → LeafCertifies problem cost region node → (is_split node ≡ false) × Passes problem cost region node
+    → LeafCertifies problem cost region node → (is_split node ≡ false)
+    × Passes problem cost region node
 leaf_passes problem cost region (node.Split line at) shown = absurd shown
-leaf_passes problem cost region (node.Empty edge s) shown =
-    (refl, record { split = refl; empty = not_not_empty problem region edge s shown; multiplier = refl; bound = refl; point = refl })
-leaf_passes problem cost region (node.Bound multipliers) shown =
-    (refl, record { split = refl; empty = refl; multiplier = not_exceeding problem cost region multipliers shown; bound = not_above cost _ shown.enough; point = refl })
-leaf_passes problem cost region node.Point shown =
-    (refl, record { split = refl; empty = refl; multiplier = refl; bound = refl; point = is_a_point problem cost region shown })
+leaf_passes problem cost region (node.Empty edge s) shown = (
+  refl,
+  record {
+    split = refl;
+    empty = not_not_empty problem region edge s shown;
+    multiplier = refl;
+    bound = refl;
+    point = refl;
+  },
+)
+leaf_passes problem cost region (node.Bound multipliers) shown = (
+  refl,
+  record {
+    split = refl;
+    empty = refl;
+    multiplier = not_exceeding problem cost region multipliers shown;
+    bound = not_above cost _ shown.enough;
+    point = refl;
+  },
+)
+leaf_passes problem cost region node.Point shown = (
+  refl,
+  record {
+    split = refl;
+    empty = refl;
+    multiplier = refl;
+    bound = refl;
+    point = is_a_point problem cost region shown;
+  },
+)

@@ -49,7 +49,8 @@ there_more edges multipliers place told all is own =
     → option_map (λ at. (at.edge, pos at.amount)) at ≡ Some told
     → All (λ multiplier. multiplier.edge < edges) (take (place + 1) multipliers)) [
       | None ↦ λ _ none. absurd (none-some told none)
-      | Some at ↦ λ there same. all_more (λ multiplier. multiplier.edge < edges) multipliers place at all there
+      | Some at ↦ λ there same. all_more (λ multiplier. multiplier.edge < edges) multipliers place
+          at all there
           (subst (λ told. told.0 < edges) (sym (some_same at told same)) own)
     ] refl is
   where
@@ -76,8 +77,10 @@ pub ids_rise : (id : ℕ) (told : ℤ) (before after : ProblemParts)
     }
     → All (λ line. line.id <ℤ pos (id + 1 + 1)) after.lines
 ids_rise id told before after all is after_is =
-    subst (λ (problem : ProblemParts). All (λ line. line.id <ℤ pos (id + 1 + 1)) problem.lines) (sym after_is)
+    subst (λ (problem : ProblemParts). All (λ line. line.id <ℤ pos (id + 1 + 1)) problem.lines)
+    (sym after_is)
     (All-push (λ (line : CostedLine). line.id <ℤ pos (id + 1 + 1)) before.lines
     (record { id = told; cost = 1000000; edges = 0 ∷ [] })
-    (λ k d within. let own : (get_or before.lines k d).id <ℤ pos (id + 1) = all k d within in omega (arith, ints, own))
+    (λ k d within. let own : (get_or before.lines k d).id <ℤ pos (id + 1) = all k d within in
+    omega (arith, ints, own))
     (omega (arith, ints, is)))

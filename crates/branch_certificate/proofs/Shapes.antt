@@ -92,7 +92,8 @@ tree_begins (suc levels) (node.Split line at ∷ nodes) =
 tree_begins (suc levels) (node.Empty edge side ∷ nodes) =
     begins_by _ (leaf (node.Empty edge side), nodes) (leaf_begins (node.Empty edge side) nodes refl)
 tree_begins (suc levels) (node.Bound multipliers ∷ nodes) =
-    begins_by _ (leaf (node.Bound multipliers), nodes) (leaf_begins (node.Bound multipliers) nodes refl)
+    begins_by _ (leaf (node.Bound multipliers), nodes)
+    (leaf_begins (node.Bound multipliers) nodes refl)
 tree_begins (suc levels) (node.Point ∷ nodes) =
     begins_by _ (leaf node.Point, nodes) (leaf_begins node.Point nodes refl)
 
@@ -145,7 +146,8 @@ shape_behind nodes None = fault.Shape nodes ∷ []
 shape_behind nodes (Some rest) =
     if length rest == 0 then [] else fault.Shape (nodes - length rest - 1) ∷ []
 
-by_rest : (count : ℕ) (read : ReadTree) → shape_of count read ≡ shape_behind count (and_behind 0 read)
+by_rest : (count : ℕ) (read : ReadTree) → shape_of count read
+    ≡ shape_behind count (and_behind 0 read)
 unfolding behind
 by_rest count None = refl
 by_rest count (Some read) = refl
@@ -157,10 +159,12 @@ shape_is nodes = by_rest (length nodes) (tree_in nodes)
 
 -- ---- node by node
 
-module _ (nodes : List Node) (place : ℕ) (node : Node) (there : slice_get nodes place ≡ Some node) where
+module _ (nodes : List Node) (place : ℕ) (node : Node)
+    (there : slice_get nodes place ≡ Some node) where
   pub drop_node : drop place nodes ≡ node ∷ drop (place + 1) nodes
   drop_node = drop_more nodes place node (slice_get_within nodes place node there)
-      ∙ ap (λ node. node ∷ drop (place + 1) nodes) (get_or_from_slice_get nodes place node node there)
+      ∙ ap (λ node. node ∷ drop (place + 1) nodes)
+      (get_or_from_slice_get nodes place node node there)
 
   pub behind_node : (count : ℕ) → behind (suc count) (drop place nodes)
       ≡ behind (trees_behind count node) (drop (place + 1) nodes)
@@ -174,14 +178,20 @@ pub ends_at : (nodes : List Node) (place : ℕ) → place < length nodes
 unfolding behind
 ends_at nodes place within = elim (cases_lt (place + 1) (length nodes)) [
   | inl more ↦
-      ap (λ none. slice_get (if none then [] else fault.Shape (length nodes - length (drop (place + 1) nodes) - 1) ∷ []) 0)
-      (ne_eqb (length (drop (place + 1) nodes)) 0 (λ none. omega (arith, more, none, length-drop (place + 1) nodes)))
+      ap (λ none. slice_get (if none then [] else fault.Shape
+      (length nodes - length (drop (place + 1) nodes) - 1) ∷ []) 0)
+      (ne_eqb (length (drop (place + 1) nodes)) 0
+      (λ none. omega (arith, more, none, length-drop (place + 1) nodes)))
       ∙ ap (λ place. Some (fault.Shape place)) (omega (arith, more, length-drop (place + 1) nodes))
-      ∙ sym (ap (λ more. if more then Some (fault.Shape place) else None) (lt-ltb (place + 1) (length nodes) more))
+      ∙ sym (ap (λ more. if more then Some (fault.Shape place) else None)
+      (lt-ltb (place + 1) (length nodes) more))
   | inr past ↦
-      ap (λ none. slice_get (if none then [] else fault.Shape (length nodes - length (drop (place + 1) nodes) - 1) ∷ []) 0)
-      (eq-eqb (length (drop (place + 1) nodes)) 0 (omega (arith, past, length-drop (place + 1) nodes)))
-      ∙ sym (ap (λ more. if more then Some (fault.Shape place) else None) (le-ltb (place + 1) (length nodes) past))
+      ap (λ none. slice_get (if none then [] else fault.Shape
+      (length nodes - length (drop (place + 1) nodes) - 1) ∷ []) 0)
+      (eq-eqb (length (drop (place + 1) nodes)) 0
+      (omega (arith, past, length-drop (place + 1) nodes)))
+      ∙ sym (ap (λ more. if more then Some (fault.Shape place) else None)
+      (le-ltb (place + 1) (length nodes) past))
 ]
 
 -- no node is left, and a tree is to come
@@ -192,12 +202,15 @@ ends_early nodes place count past = ap (behind (suc count)) (drop_all place node
 
 -- ---- turns of the loop
 
-module _ (nodes : List Node) (place waiting : ℕ) (node : Node) (there : slice_get nodes place ≡ Some node)
+module _ (nodes : List Node) (place waiting : ℕ) (node : Node)
+    (there : slice_get nodes place ≡ Some node)
     (so_far : behind 1 nodes ≡ behind (suc waiting) (drop place nodes)) where
   turn : (split : Bool) → is_split node ≡ split
-      → behind 1 nodes ≡ behind (if split then suc (suc waiting) else waiting) (drop (place + 1) nodes)
+      → behind 1 nodes ≡ behind (if split then suc (suc waiting) else waiting)
+      (drop (place + 1) nodes)
   turn split is = so_far ∙ behind_node nodes place node there waiting
-      ∙ ap (λ split. behind (if split then suc (suc waiting) else waiting) (drop (place + 1) nodes)) is
+      ∙ ap (λ split. behind (if split then suc (suc waiting) else waiting) (drop (place + 1) nodes))
+      is
 
   -- a split
   pub split_turn : (after : ℕ) → is_split node ≡ true → after ≡ waiting + 1

@@ -51,12 +51,13 @@ certified_over problem cost (fork line at lower upper) region shown fs feasible 
       | inr above ↦ certified_over problem cost upper _ shown.2 fs feasible above
     ]
 
--- what a tree certifies: each feasible concept costs so much, where the root region has each of them
+-- what a tree certifies: each feasible concept costs so much, where the root region has them all
 pub certified_where_each : (problem : ProblemParts) (cost : ℤ) (nodes : List Node)
     → HasEachFeasible problem (root_of problem) → Certifies problem cost nodes
     → CostsAtLeast problem cost
 certified_where_each problem cost nodes each shown fs feasible =
-    certified_over problem cost shown.tree (root_of problem) shown.shows fs feasible (each fs feasible)
+    certified_over problem cost shown.tree (root_of problem) shown.shows fs feasible
+    (each fs feasible)
 
 -- the same of a line problem
 pub certified_costs : (problem : ProblemParts) (cost : ℤ) (nodes : List Node) → IsProblem problem

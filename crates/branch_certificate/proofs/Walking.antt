@@ -109,7 +109,8 @@ module _ (items splits : List OpenSplit) (split : OpenSplit) (region now : List 
       → now ∷ waiting_of (reverse after) now ≡ waiting_of (reverse items) region
   upper_entered after is now_is after_is =
       (λ i. now_is i ∷ waiting_of (reverse after) (now_is i))
-      ∙ ap (λ rest. upper_of split region ∷ rest) (upper_is_walked after splits split region after_is)
+      ∙ ap (λ rest. upper_of split region ∷ rest)
+      (upper_is_walked after splits split region after_is)
       ∙ sym (last_waits items splits split region are is)
 
   pub part_closed : split.in_lower ≡ false → now ≡ closed split region

@@ -6,7 +6,7 @@ ghost use Rattle.branch_certificate.specs.TreeTexts.{NamesWhatIs};
 ghost use Rattle.branch_certificate.specs.Walks.{SplitsOne, behind_node, walked};
 
 use crate::fault::TreeFault;
-use crate::first_faults::{splits_outside, FirstFaults};
+use crate::first_faults::{FirstFaults, splits_outside};
 use crate::node::Node;
 use crate::region_walk::RegionWalk;
 use crate::tree::Tree;

@@ -3,7 +3,7 @@ ghost use Rattle.std.specs.Prelude.{◌≡◌, ◌<◌, ◌≤◌, All, true};
 ghost use Rattle.line_cost_model.specs.declared.multipliers.Multiplier.{Multiplier};
 ghost use Rattle.branch_certificate.specs.TreeTexts.{NamesWhatIs};
 
-use crate::{check_tree, Node, Tree, TreeFault};
+use crate::{Node, Tree, TreeFault, check_tree};
 use line_cost_model::{LineProblem, Multipliers, Side};
 use plan_num::NoMemory;
 use std::alloc::Global;
@@ -103,7 +103,15 @@ fn shapes_are_judged(rt: HostRuntime) -> Result<(), Fail> {
         (&[], 0),
         (&[Shown::Split(0, 1), Shown::Bound(0)], 2),
         (&[Shown::Bound(0), Shown::Bound(0)], 0),
-        (&[Shown::Split(0, 9), Shown::Point, Shown::Point, Shown::Split(0, 1)], 2),
+        (
+            &[
+                Shown::Split(0, 9),
+                Shown::Point,
+                Shown::Point,
+                Shown::Split(0, 1),
+            ],
+            2,
+        ),
     ];
     for (nodes, node) in &cases {
         let tree = tree_of(rt.alloc(), nodes)?;
@@ -116,17 +124,20 @@ fn shapes_are_judged(rt: HostRuntime) -> Result<(), Fail> {
 #[test]
 fn a_tree_certifies_27(rt: HostRuntime) -> Result<(), Fail> {
     let problem = two_edges(rt.alloc(), 1)?;
-    let tree = tree_of(rt.alloc(), &[
-        Shown::Split(0, 1),
-        Shown::Split(0, 0),
-        Shown::Empty(1, Side::Under),
-        Shown::Split(1, 1),
-        Shown::Split(1, 0),
-        Shown::Empty(0, Side::Under),
-        Shown::Point,
-        Shown::Bound(0),
-        Shown::Bound(0),
-    ])?;
+    let tree = tree_of(
+        rt.alloc(),
+        &[
+            Shown::Split(0, 1),
+            Shown::Split(0, 0),
+            Shown::Empty(1, Side::Under),
+            Shown::Split(1, 1),
+            Shown::Split(1, 0),
+            Shown::Empty(0, Side::Under),
+            Shown::Point,
+            Shown::Bound(0),
+            Shown::Bound(0),
+        ],
+    )?;
     let cases: [(i128, Option<TreeFault>); 4] = [
         (-1, None),
         (27_000_000, None),
@@ -143,8 +154,14 @@ fn a_tree_certifies_27(rt: HostRuntime) -> Result<(), Fail> {
 fn faults_are_told_by_kind(rt: HostRuntime) -> Result<(), Fail> {
     let problem = two_edges(rt.alloc(), 1)?;
     let cases: [(&[Shown], TreeFault); 5] = [
-        (&[Shown::Split(0, 3), Shown::Point, Shown::Point], TreeFault::Split { node: 0 }),
-        (&[Shown::Empty(0, Side::Under)], TreeFault::Empty { node: 0 }),
+        (
+            &[Shown::Split(0, 3), Shown::Point, Shown::Point],
+            TreeFault::Split { node: 0 },
+        ),
+        (
+            &[Shown::Empty(0, Side::Under)],
+            TreeFault::Empty { node: 0 },
+        ),
         (&[Shown::Empty(0, Side::Over)], TreeFault::Empty { node: 0 }),
         (&[Shown::Point], TreeFault::Point { node: 0 }),
         // The region of a part that is not reached any more does not count.
@@ -176,17 +193,20 @@ fn multipliers_are_judged(rt: HostRuntime) -> Result<(), Fail> {
         (8_000_000, Some(TreeFault::Bound { node: 7 })),
     ];
     for (millionths, fault) in &cases {
-        let tree = tree_of(rt.alloc(), &[
-            Shown::Split(0, 1),
-            Shown::Split(0, 0),
-            Shown::Split(1, 1),
-            Shown::Empty(0, Side::Under),
-            Shown::Split(1, 2),
-            Shown::Point,
-            Shown::Bound(0),
-            Shown::Bound(*millionths),
-            Shown::Bound(0),
-        ])?;
+        let tree = tree_of(
+            rt.alloc(),
+            &[
+                Shown::Split(0, 1),
+                Shown::Split(0, 0),
+                Shown::Split(1, 1),
+                Shown::Empty(0, Side::Under),
+                Shown::Split(1, 2),
+                Shown::Point,
+                Shown::Bound(0),
+                Shown::Bound(*millionths),
+                Shown::Bound(0),
+            ],
+        )?;
         assert_eq!(rt; judged(rt.alloc(), &problem, 24_000_000, &tree)?, *fault);
     }
     Ok(())
@@ -211,7 +231,10 @@ fn long_trees_are_judged(rt: HostRuntime) -> Result<(), Fail> {
     let mut tree = Tree::new(rt.alloc());
     for split in 0..200_000usize {
         let at = 999 - (split % 1000) as u32;
-        tree.push(Node::Split { line: split / 1000, at })?;
+        tree.push(Node::Split {
+            line: split / 1000,
+            at,
+        })?;
     }
     for _ in 0..200_001 {
         tree.push(bound(rt.alloc(), 0)?)?;

@@ -31,7 +31,8 @@ returns-in-None-clause-exact c =
 
 pub returns-in-None-clause-least : goal.returns-in-None-clause-least
 returns-in-None-clause-least c =
-    answer_least c.args.problem.now c.args.best c.args.tree.now c.node_fault.result c.node_fault.ensures.each
+    answer_least c.args.problem.now c.args.best c.args.tree.now c.node_fault.result
+    c.node_fault.ensures.each
     (answer_first c.args.problem.now c.args.best c.args.tree.now c.node_fault.result
     (sym c.in-None.is ∙ c.shape_fault.ensures) (to_z w128 (of_z w128 c.args.best))
     (to_z-of_z w128 c.args.best c.ranges.best) c.node_fault.ensures.first)

@@ -20,7 +20,8 @@ loop-place-init c = record {
 
 pub splits_outside-requires : goal.splits_outside-requires
 splits_outside-requires c =
-    subst (λ (region : List LineRange). SplitsOne region c.node-node.result.now) (sym c.region.ensures)
+    subst (λ (region : List LineRange). SplitsOne region c.node-node.result.now)
+    (sym c.region.ensures)
     (splits_one c.args.problem.now c.loop-place.walk.region c.node-node.result.now
     c.loop-place.invariant.size (names_at c.args.problem.now c.args.tree.now c.loop-place.place
     c.node-node.result.now c.requires c.node-node.ensures))
@@ -28,11 +29,14 @@ splits_outside-requires c =
 pub returns-then-splits_outside-clause-first : goal.returns-then-splits_outside-clause-first
 returns-then-splits_outside-clause-first c =
     let regions = c.loop-place.walk.region ∷ c.loop-place.walk.waiting in
-    split_is_first c.args.problem.now c.args.best c.args.tree.now c.loop-place.firsts c.loop-place.place
+    split_is_first c.args.problem.now c.args.best c.args.tree.now c.loop-place.firsts
+    c.loop-place.place
     c.loop-place.walk.region c.loop-place.walk.waiting c.node-node.result.now c.node-node.ensures
     (subst (λ best. IsJudged c.args.problem.now best c.args.tree.now c.loop-place.firsts
-    c.loop-place.place regions) (to_z-of_z w128 c.args.best c.ranges.best) c.loop-place.invariant.judged)
-    (ap (λ (region : List LineRange). splits_outside region c.node-node.result.now) (sym c.region.ensures)
+    c.loop-place.place regions) (to_z-of_z w128 c.args.best c.ranges.best)
+    c.loop-place.invariant.judged)
+    (ap (λ (region : List LineRange). splits_outside region c.node-node.result.now)
+    (sym c.region.ensures)
     ∙ sym c.splits_outside.ensures ∙ c.if-splits_outside.true)
 
 pub note-requires-clause-each : goal.note-requires-clause-each
@@ -57,14 +61,16 @@ returns-then-not-branch-clause-first c =
     c.first.ensures
     ∙ judged_last c.args.problem.now kept c.args.tree.now c.note.new.self (c.loop-place.place + 1)
     (judged_more c.args.problem.now kept c.args.tree.now c.loop-place.firsts c.loop-place.place
-    c.loop-place.walk.region c.loop-place.walk.waiting node c.node-node.ensures c.loop-place.invariant.judged
+    c.loop-place.walk.region c.loop-place.walk.waiting node c.node-node.ensures
+    c.loop-place.invariant.judged
     c.note.new.self []
     (ap (λ (region : List LineRange). splits_outside region node) (sym c.region.ensures)
     ∙ sym c.splits_outside.ensures ∙ c.if-splits_outside.false)
     (c.in_ok-note.ensures ∙ ap (λ (region : List LineRange). noted c.args.problem.now kept
     c.loop-place.firsts c.loop-place.place (record { node = node; region = region }))
     c.region-in-loop-place.ensures)
-    (ap (λ more. if more then after else []) (sym c.if-not-branch.true) ∙ c.in_ok-go_on.ensures.waiting))
+    (ap (λ more. if more then after else []) (sym c.if-not-branch.true)
+    ∙ c.in_ok-go_on.ensures.waiting))
     ∙ ap (λ best. slice_get (placed_faults c.args.problem.now best
     (all_placed c.args.problem.now c.args.tree.now)) 0) (to_z-of_z w128 c.args.best c.ranges.best)
 
@@ -74,7 +80,8 @@ loop-place-preserved c =
     let node = c.node-node.result.now in
     let after = c.go_on.new.walk.region ∷ c.go_on.new.walk.waiting in
     record {
-      judged = judged_more c.args.problem.now kept c.args.tree.now c.loop-place.firsts c.loop-place.place
+      judged = judged_more c.args.problem.now kept c.args.tree.now c.loop-place.firsts
+          c.loop-place.place
           c.loop-place.walk.region c.loop-place.walk.waiting node c.node-node.ensures
           c.loop-place.invariant.judged c.note.new.self after
           (ap (λ (region : List LineRange). splits_outside region node) (sym c.region.ensures)
@@ -91,7 +98,9 @@ pub returns-clause-first : goal.returns-clause-first
 returns-clause-first c =
     let regions = c.loop-place.walk.region ∷ c.loop-place.walk.waiting in
     c.first-2.ensures
-    ∙ judged_all c.args.problem.now c.args.best c.args.tree.now c.loop-place.firsts c.loop-place.place
+    ∙ judged_all c.args.problem.now c.args.best c.args.tree.now c.loop-place.firsts
+    c.loop-place.place
     regions (omega (arith, c.loop-place-test.false, c.len-place-end.ensures))
     (subst (λ best. IsJudged c.args.problem.now best c.args.tree.now c.loop-place.firsts
-    c.loop-place.place regions) (to_z-of_z w128 c.args.best c.ranges.best) c.loop-place.invariant.judged)
+    c.loop-place.place regions) (to_z-of_z w128 c.args.best c.ranges.best)
+    c.loop-place.invariant.judged)

@@ -16,9 +16,11 @@ pub returns-then-waiting-eq0 : goal.returns-then-waiting-eq0
 returns-then-waiting-eq0 c =
     let place = c.loop-place.place in
     c.left_over.ensures
-    ∙ ap (λ count. if nat_lt (place + 1) count then Some (fault.Shape place) else None) c.len.ensures
+    ∙ ap (λ count. if nat_lt (place + 1) count then Some (fault.Shape place) else None)
+    c.len.ensures
     ∙ sym (last_turn c.args.tree.now place c.loop-place.waiting c.node.result.now c.node.ensures
-    c.loop-place.invariant.behind (sym c.is_split.ensures ∙ c.if-is_split.false) c.if-waiting-eq0.true)
+    c.loop-place.invariant.behind (sym c.is_split.ensures ∙ c.if-is_split.false)
+    c.if-waiting-eq0.true)
 
 pub loop-place-preserved : goal.loop-place-preserved
 loop-place-preserved c =
@@ -35,7 +37,8 @@ loop-place-preserved c =
       }
       | else-is_split+else-waiting-eq0 w ↦ record {
         behind = leaf_turn nodes place waiting c.node.result.now c.node.ensures so_far
-            c.if-is_split.waiting (sym c.is_split.ensures ∙ w.if-is_split.false) w.if-waiting-eq0.false
+            c.if-is_split.waiting (sym c.is_split.ensures ∙ w.if-is_split.false)
+            w.if-waiting-eq0.false
             w.waiting-is;
         few = omega (arith, few, w.waiting-is);
       }

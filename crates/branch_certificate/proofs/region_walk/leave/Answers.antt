@@ -86,7 +86,8 @@ loop-split-preserved c =
 pub returns-clause-waiting : goal.returns-clause-waiting
 returns-clause-waiting c =
     sym c.loop-split.invariant.waiting
-    ∙ none_waits c.loop-split.splits.items c.loop-split.region (λ some. c.in_default.ensures.variant.1 (omega (arith, some, c.loop-split.splits.ok)))
+    ∙ none_waits c.loop-split.splits.items c.loop-split.region
+    (λ some. c.in_default.ensures.variant.1 (omega (arith, some, c.loop-split.splits.ok)))
 
 pub returns-clause-size : goal.returns-clause-size
 returns-clause-size c = c.loop-split.invariant.size

@@ -13,11 +13,15 @@ returns-then-not-pays c multipliers left_is =
     let rest = have_left ranges.result.now c.args.left.now c.args.amount
     (drop (c.loop-line.line-index + 1) over.result.now) in
     sym (c.loop-line.invariant
-    ∙ paying_more ranges.result.now c.args.left.now over.result.now c.args.amount c.loop-line.line-index
-    (get_or over.result.now c.loop-line.line-index 0) c.pays.result c.loop-line-test.true refl c.pays.ensures
+    ∙ paying_more ranges.result.now c.args.left.now over.result.now c.args.amount
+    c.loop-line.line-index
+    (get_or over.result.now c.loop-line.line-index 0) c.pays.result c.loop-line-test.true refl
+    c.pays.ensures
     ∙ ap (λ pays. pays && rest) c.if-not-pays.true)
-    ∙ paying_whole c.args.problem.now c.args.region.now ranges.result.now multipliers c.args.left.now
-    over.result.now c.args.edge c.args.amount ranges.ensures.ranges left_is over.ensures.lines c.requires.each
+    ∙ paying_whole c.args.problem.now c.args.region.now ranges.result.now multipliers
+    c.args.left.now
+    over.result.now c.args.edge c.args.amount ranges.ensures.ranges left_is over.ensures.lines
+    c.requires.each
 
 pub loop-line-preserved : goal.loop-line-preserved
 loop-line-preserved c =
@@ -25,7 +29,8 @@ loop-line-preserved c =
     let rest = have_left c.ranges-ranges.result.now c.args.left.now c.args.amount
     (drop (c.loop-line.line-index + 1) over) in
     c.loop-line.invariant
-    ∙ paying_more c.ranges-ranges.result.now c.args.left.now over c.args.amount c.loop-line.line-index
+    ∙ paying_more c.ranges-ranges.result.now c.args.left.now over c.args.amount
+    c.loop-line.line-index
     (get_or over c.loop-line.line-index 0) c.pays.result c.loop-line-test.true refl c.pays.ensures
     ∙ ap (λ pays. pays && rest) c.if-not-pays.false
 
@@ -35,5 +40,7 @@ returns c multipliers left_is =
     let over = c.lines_over-line-items in
     sym (c.loop-line.invariant ∙ ap (have_left ranges.result.now c.args.left.now c.args.amount)
     (drop_all c.loop-line.line-index over.result.now c.loop-line-test.false))
-    ∙ paying_whole c.args.problem.now c.args.region.now ranges.result.now multipliers c.args.left.now
-    over.result.now c.args.edge c.args.amount ranges.ensures.ranges left_is over.ensures.lines c.requires.each
+    ∙ paying_whole c.args.problem.now c.args.region.now ranges.result.now multipliers
+    c.args.left.now
+    over.result.now c.args.edge c.args.amount ranges.ensures.ranges left_is over.ensures.lines
+    c.requires.each

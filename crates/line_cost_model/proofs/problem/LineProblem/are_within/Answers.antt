@@ -18,30 +18,37 @@ loop-place-init c = (
 pub returns-then-not-can_pay : goal.returns-then-not-can_pay
 returns-then-not-can_pay c =
     let so_far = take c.loop-place.place c.args.multipliers.now in
-    sym (not_within c.args.self.now c.args.region.now c.args.multipliers.now c.loop-place.place c.at-multiplier.result
+    sym (not_within c.args.self.now c.args.region.now c.args.multipliers.now c.loop-place.place
+    c.at-multiplier.result
     c.at-multiplier.ensures c.can_pay.result c.loop-place.invariant.1
-    (c.can_pay.ensures so_far (c.deref.ensures.value ∙ c.loop-place.invariant.0)) c.if-not-can_pay.true)
+    (c.can_pay.ensures so_far (c.deref.ensures.value ∙ c.loop-place.invariant.0))
+    c.if-not-can_pay.true)
 
 pub take_off-requires-clause-there : goal.take_off-requires-clause-there
 take_off-requires-clause-there c =
-    holds_at (λ (multiplier : Multiplier). multiplier.edge < length c.args.self.now.edges) c.args.multipliers.now
+    holds_at (λ (multiplier : Multiplier). multiplier.edge < length c.args.self.now.edges)
+    c.args.multipliers.now
     c.loop-place.place c.at-multiplier.result c.requires.there c.at-multiplier.ensures
 
 pub loop-place-preserved : goal.loop-place-preserved
 loop-place-preserved c =
     let one = c.at-multiplier.result in
     let so_far = take c.loop-place.place c.args.multipliers.now in (
-      left_more c.args.self.now.lines so_far one.edge one.amount c.loop-place.left.items c.take_off.new.left.items
+      left_more c.args.self.now.lines so_far one.edge one.amount c.loop-place.left.items
+          c.take_off.new.left.items
           c.loop-place.invariant.0 c.take_off.ensures.size c.take_off.ensures.lowered
           ∙ ap (λ (multipliers : List Multiplier). map (left_of multipliers) c.args.self.now.lines)
-          (sym (first_more c.args.self.now c.args.region.now c.args.multipliers.now c.loop-place.place one c.at-multiplier.ensures)),
+          (sym (first_more c.args.self.now c.args.region.now c.args.multipliers.now
+          c.loop-place.place one c.at-multiplier.ensures)),
       within_more c.args.self.now c.args.region.now c.args.multipliers.now c.loop-place.place one
           c.at-multiplier.ensures c.can_pay.result c.loop-place.invariant.1
-          (c.can_pay.ensures so_far (c.deref.ensures.value ∙ c.loop-place.invariant.0)) ∙ c.if-not-can_pay.false,
+          (c.can_pay.ensures so_far (c.deref.ensures.value ∙ c.loop-place.invariant.0))
+          ∙ c.if-not-can_pay.false,
     )
 
 pub returns : goal.returns
 returns c =
     sym c.loop-place.invariant.1
-    ∙ ap (are_within c.args.self.now c.args.region.now) (take_all c.loop-place.place c.args.multipliers.now
+    ∙ ap (are_within c.args.self.now c.args.region.now)
+    (take_all c.loop-place.place c.args.multipliers.now
     (omega (arith, c.loop-place-test.false, c.len-place-end.ensures.len)))
