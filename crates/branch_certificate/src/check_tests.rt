@@ -18,8 +18,8 @@ enum Shown {
     Point,
 }
 
-// Two edges in a row, from 2 and from `least` to 3 drives. Line 1 goes over both and costs 15, line 2
-// goes over the first and costs 12.
+// Two edges in a row, from 2 and from `least` to 3 drives. Line 1 goes over both and costs 15,
+// line 2 goes over the first and costs 12.
 fn two_edges(alloc: Global, least: u32) -> Result<LineProblem, NoMemory>
     requires { least ≤ 3 }
 {

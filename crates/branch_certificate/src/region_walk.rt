@@ -94,8 +94,8 @@ impl RegionWalk {
     }
 }
 
-// The innermost split whose upper part waits is told, and its upper part is walked; the regions of
-// those inside it are as they were.
+// From the end of a part on to the innermost upper part that waits, where there is one. The range
+// of a split whose parts are both walked is as it was before.
 fn leave(region: &mut Region, splits: &mut Vec<OpenSplit>) -> Result<bool, NoMemory>
     requires { All (IsOpenSplit (length region.old)) splits.old.items }
     ensures waiting { IfOk result (λ more. MatchBool more

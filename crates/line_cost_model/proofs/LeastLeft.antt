@@ -55,16 +55,19 @@ picked_from number first (line ∷ lines) (range ∷ region) edge cost same are 
     (at_behind number first range region (cost line) (map cost lines) are))
 
 -- what is left of the costs of the open lines over an edge
-pub picked_whole : (problem : ProblemParts) (region ranges : List LineRange) (multipliers : List Multiplier)
-    (left over : List ℕ) (edge : ℕ) → ranges ≡ region → left ≡ map (left_of multipliers) problem.lines
+pub picked_whole : (problem : ProblemParts) (region ranges : List LineRange)
+    (multipliers : List Multiplier) (left over : List ℕ) (edge : ℕ) → ranges ≡ region
+    → left ≡ map (left_of multipliers) problem.lines
     → over ≡ lines_over problem.lines edge → length region ≡ length problem.lines
-    → filter_map (left_at ranges left) over ≡ map (left_of multipliers) (open_over problem region edge)
+    → filter_map (left_at ranges left) over
+    ≡ map (left_of multipliers) (open_over problem region edge)
 unfolding lines_over
 picked_whole problem region ranges multipliers left over edge ranges_are left_is over_is same =
     let lines = problem.lines in
     let cost = left_of multipliers in
     ap (filter_map (left_at ranges left)) over_is
-    ∙ ap (λ (ranges : List LineRange). filter_map (left_at ranges left) (over_from 0 lines edge)) ranges_are
+    ∙ ap (λ (ranges : List LineRange). filter_map (left_at ranges left) (over_from 0 lines edge))
+    ranges_are
     ∙ ap (λ (left : List ℕ). filter_map (left_at region left) (over_from 0 lines edge)) left_is
     ∙ picked_from (left_at region (map cost lines)) 0 lines region edge cost same
     (λ i within. ap (left_at region (map cost lines)) (omega arith))
@@ -78,7 +81,8 @@ pub least_whole : (problem : ProblemParts) (region ranges : List LineRange) (mul
 least_whole problem region ranges multipliers left over edge index least ranges_are left_is over_is past same is =
     ap (λ least. unwrap_or least 0)
     (is ∙ ap (λ some. reduce min (filter_map (left_at ranges left) some)) (take_all index over past)
-    ∙ ap (reduce min) (picked_whole problem region ranges multipliers left over edge ranges_are left_is over_is same))
+    ∙ ap (reduce min)
+    (picked_whole problem region ranges multipliers left over edge ranges_are left_is over_is same))
 
 -- one line more
 least_taken : (some : List ℕ) (range : LineRange) (left : ℕ) → reduce min (some ++ cons_option (if_open range left) [])

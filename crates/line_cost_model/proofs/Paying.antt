@@ -127,10 +127,10 @@ pub none_within : (problem : ProblemParts) (region : List LineRange) (before res
     → are_within problem region before ≡ false → are_within problem region (before ++ rest) ≡ false
 none_within problem region before rest over = elim
     (cases_Bool (are_within problem region (before ++ rest))) [
-  | inl within ↦ absurd
-      (false≢true (sym over ∙ fewer_paid before rest (open_lines problem.lines region) within))
-  | inr is ↦ is
-]
+      | inl within ↦ absurd
+          (false≢true (sym over ∙ fewer_paid before rest (open_lines problem.lines region) within))
+      | inr is ↦ is
+    ]
 
 module _ (problem : ProblemParts) (region : List LineRange) (multipliers : List Multiplier)
     (place : ℕ) (one : Multiplier)

@@ -53,7 +53,8 @@ impl LineProblem {
         multipliers: &Multipliers,
     ) -> Result<bool, NoMemory>
         requires each { length region.now ≡ length self.now.lines }
-        requires there { All (λ multiplier. multiplier.edge < length self.now.edges) multipliers.now }
+        requires there { All
+            (λ multiplier. multiplier.edge < length self.now.edges) multipliers.now }
         ensures { IfOk result
             (λ within. within ≡ are_within self.now region.now multipliers.now) }
     {
@@ -69,11 +70,12 @@ impl LineProblem {
     }
 
     /// What multipliers prove of a region, in millionths: the cost of its least frequencies, and
-    /// for each drive that these leave missing on an edge its multiplier. The region has a range for
-    /// each line.
+    /// for each drive that these leave missing on an edge its multiplier. The region has a range
+    /// for each line.
     pub fn bound_by(&self, region: &Region, multipliers: &Multipliers) -> i128
         requires each { length region.now ≡ length self.now.lines }
-        requires there { All (λ multiplier. multiplier.edge < length self.now.edges) multipliers.now }
+        requires there { All
+            (λ multiplier. multiplier.edge < length self.now.edges) multipliers.now }
         ensures { result ≡ pos (bound_by self.now region.now multipliers.now) }
     {
         let mut value = least_cost(self, region);
@@ -86,7 +88,7 @@ impl LineProblem {
     }
 }
 
-// Whether what is left of the costs of the open lines over the edge at an index is so much at least.
+// Whether so much at least is left of the cost of each open line over the edge at an index.
 fn can_pay(problem: &LineProblem, region: &Region, edge: usize, amount: u64, left: &[u64]) -> bool
     requires there { edge < length problem.now.edges }
     requires each { length region.now ≡ length problem.now.lines }
