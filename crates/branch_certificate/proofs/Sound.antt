@@ -10,7 +10,7 @@ use Rattle.line_cost_model.specs.declared.range.LineRange.{LineRange}
 use Rattle.line_cost_model.specs.Problems.{ProblemParts, IsProblem}
 use Rattle.line_cost_model.specs.Concepts.{IsFeasible, cost_of}
 use Rattle.line_cost_model.specs.DualBounds.{are_within, bound_by, open_lines, taken_off}
-use Rattle.line_cost_model.specs.Regions.{LiesIn, root_of}
+use Rattle.line_cost_model.specs.Regions.{HasEachFeasible, LiesIn, root_of}
 use Rattle.line_cost_model.proofs.Duality.{bound_is_least, empty_is_none, split_covers, one_concept}
 use Rattle.line_cost_model.proofs.Roots.{root_has_each, one_by_one}
 use Rattle.branch_certificate.specs.declared.node.Node.{Node}
@@ -51,9 +51,16 @@ certified_over problem cost (fork line at lower upper) region shown fs feasible 
       | inr above ↦ certified_over problem cost upper _ shown.2 fs feasible above
     ]
 
--- what a tree certifies: each feasible concept costs so much
+-- what a tree certifies: each feasible concept costs so much, where the root region has them all
+pub certified_where_each : (problem : ProblemParts) (cost : ℤ) (nodes : List Node)
+    → HasEachFeasible problem (root_of problem) → Certifies problem cost nodes
+    → CostsAtLeast problem cost
+certified_where_each problem cost nodes each shown fs feasible =
+    certified_over problem cost shown.tree (root_of problem) shown.shows fs feasible
+    (each fs feasible)
+
+-- the same of a line problem
 pub certified_costs : (problem : ProblemParts) (cost : ℤ) (nodes : List Node) → IsProblem problem
     → Certifies problem cost nodes → CostsAtLeast problem cost
-certified_costs problem cost nodes sound shown fs feasible =
-    certified_over problem cost shown.tree (root_of problem) shown.shows fs feasible
-    (root_has_each problem sound fs feasible)
+certified_costs problem cost nodes sound shown =
+    certified_where_each problem cost nodes (root_has_each problem sound) shown

@@ -1,14 +1,12 @@
 -- The faults for which nodes do not certify a cost, in the order in which they are looked for.
 use Rattle.std.specs.Prelude.{ℕ, ℤ, pos, ◌-◌, ◌&&◌, ◌||◌, ◌==◌, not, nat_lt, nat_le, int_le, if◌then◌else◌, Bool, false, List, [], ◌∷◌, ◌++◌, length, slice_get, Some, None, option_map, unwrap_or}
 use Rattle.std.specs.List.{list_any, enumerate_from, flat_map}
-use Rattle.line_cost_model.specs.declared.edge.BoundedEdge.{BoundedEdge}
 use Rattle.line_cost_model.specs.declared.range.LineRange.{LineRange}
-use Rattle.line_cost_model.specs.declared.side.Side.{Side}
-use Rattle.line_cost_model.specs.declared.side.Side.TheVariants as side
 use Rattle.line_cost_model.specs.Problems.{ProblemParts}
-use Rattle.line_cost_model.specs.Concepts.{frequency_on, cost_of}
+use Rattle.line_cost_model.specs.Concepts.{cost_of}
 use Rattle.line_cost_model.specs.DualBounds.{are_within, bound_by}
-use Rattle.line_cost_model.specs.Regions.{root_of, range_of, has_several, least_in, greatest_in}
+use Rattle.line_cost_model.specs.EmptySides.{is_empty_on}
+use Rattle.line_cost_model.specs.Regions.{root_of, range_of, has_several, least_in}
 use Rattle.branch_certificate.specs.declared.fault.TreeFault.{TreeFault}
 use Rattle.branch_certificate.specs.declared.fault.TreeFault.TheVariants as fault
 use Rattle.branch_certificate.specs.declared.node.Node.{Node}
@@ -34,13 +32,6 @@ abbrev pub splits_outside : List LineRange → Node → Bool
 splits_outside region (node.Split line at) =
     not (nat_le (range_of region line).lo at && nat_lt at (range_of region line).hi)
 splits_outside region _ = false
-
--- an edge is empty in a region on a side
-abbrev pub is_empty_on : ProblemParts → List LineRange → ℕ → Side → BoundedEdge → Bool
-is_empty_on problem region edge side.Over bounds =
-    nat_lt bounds.most (frequency_on problem.lines (least_in region) edge)
-is_empty_on problem region edge side.Under bounds =
-    nat_lt (frequency_on problem.lines (greatest_in region) edge) bounds.least
 
 -- a node names an edge as empty that is not
 abbrev pub is_not_empty : ProblemParts → List LineRange → Node → Bool
@@ -70,14 +61,17 @@ abbrev pub faults_by : (List LineRange → Node → Bool) → (ℕ → TreeFault
 faults_by test fault placed =
     flat_map (λ at. if test at.1.region at.1.node then fault at.0 ∷ [] else []) (enumerate_from 0 placed)
 
--- every fault of nodes, kind by kind
-unfoldable pub tree_faults : ProblemParts → ℤ → List Node → List TreeFault
-tree_faults problem cost nodes =
-    let read = tree_in nodes in
-    let placed = placed_in problem read in
-    shape_of (length nodes) read
-    ++ faults_by splits_outside (λ place. fault.Split place) placed
+-- every fault of nodes with their regions, kind by kind
+abbrev pub placed_faults : ProblemParts → ℤ → List PlacedNode → List TreeFault
+placed_faults problem cost placed =
+    faults_by splits_outside (λ place. fault.Split place) placed
     ++ faults_by (is_not_empty problem) (λ place. fault.Empty place) placed
     ++ faults_by (exceeds_costs problem) (λ place. fault.Multiplier place) placed
     ++ faults_by (is_below problem cost) (λ place. fault.Bound place) placed
     ++ faults_by (is_no_point problem cost) (λ place. fault.Point place) placed
+
+-- every fault of nodes: that of their shape first
+unfoldable pub tree_faults : ProblemParts → ℤ → List Node → List TreeFault
+tree_faults problem cost nodes =
+    let read = tree_in nodes in
+    shape_of (length nodes) read ++ placed_faults problem cost (placed_in problem read)

@@ -1,5 +1,5 @@
 -- Trees of nodes: each is a leaf, or a split with a tree on either side.
-use Rattle.std.specs.Prelude.{ℕ, zero, suc, ◌+◌, List, [], ◌∷◌, ◌++◌, Option, Some, None, option_map, option_and_then}
+use Rattle.std.specs.Prelude.{ℕ, zero, suc, ◌+◌, List, [], ◌∷◌, ◌++◌, Option, Some, None, option_map, option_and_then, Bool, true, false}
 use Rattle.line_cost_model.specs.declared.range.LineRange.{LineRange}
 use Rattle.line_cost_model.specs.Regions.{part_up_to, part_from}
 use Rattle.branch_certificate.specs.declared.node.Node.{Node}
@@ -43,3 +43,8 @@ placed_over region (fork line at lower upper) =
     record { node = node.Split line at; region = region }
     ∷ placed_over (part_up_to region line at) lower
     ++ placed_over (part_from region line (at + 1)) upper
+
+-- a node is a split
+abbrev pub is_split : Node → Bool
+is_split (node.Split line at) = true
+is_split _ = false

@@ -4,6 +4,8 @@ ghost use Rattle.branch_certificate.specs.Certified.{Certifies, CostsAtLeast};
 ghost use Rattle.branch_certificate.specs.TreeFaults.{tree_faults};
 ghost use Rattle.branch_certificate.specs.TreeTexts.{NamesWhatIs};
 
+use crate::check_nodes::node_fault;
+use crate::check_shape::shape_fault;
 use crate::fault::TreeFault;
 use crate::tree::Tree;
 use line_cost_model::LineProblem;
@@ -24,5 +26,8 @@ pub fn check_tree(
     ensures exact { IfOk result (λ fault. (fault ≡ None) ↔ Certifies problem.now best tree.now) }
     ensures least { IfOk result (λ fault. IfNone fault (CostsAtLeast problem.now best)) }
 {
-    Err(NoMemory)
+    match shape_fault(tree) {
+        Some(fault) => Ok(Some(fault)),
+        None => node_fault(alloc, problem, best, tree),
+    }
 }

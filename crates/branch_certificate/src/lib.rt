@@ -4,10 +4,14 @@
 #![tactic(auto)]
 
 mod check;
+mod check_nodes;
+mod check_shape;
 mod fault;
+mod first_faults;
 mod node;
 mod read;
 mod read_fault;
+mod region_walk;
 mod tree;
 mod tree_row;
 mod write;
@@ -19,3 +23,6 @@ pub use read::read_tree;
 pub use read_fault::TreeReadFault;
 pub use tree::Tree;
 pub use write::write_tree;
+
+#[cfg(test)]
+mod check_tests;

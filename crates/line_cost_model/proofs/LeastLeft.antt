@@ -9,7 +9,7 @@ use Rattle.line_cost_model.specs.declared.range.LineRange.{LineRange}
 use Rattle.line_cost_model.specs.Problems.{CostedLine, ProblemParts}
 use Rattle.line_cost_model.specs.Concepts.{goes_over}
 use Rattle.line_cost_model.specs.Crossings.{lines_over}
-use Rattle.line_cost_model.specs.DualBounds.{least_left, left_of, open_lines}
+use Rattle.line_cost_model.specs.DualBounds.{least_left, left_of, open_lines, open_over}
 use Rattle.line_cost_model.specs.Passes.{if_open}
 use Rattle.line_cost_model.specs.Regions.{has_several, range_of}
 use Rattle.line_cost_model.proofs.Driven.{over_from}
@@ -54,22 +54,35 @@ picked_from number first (line ∷ lines) (range ∷ region) edge cost same are 
     (picked_from number (first + 1) lines region edge cost (omega (arith, same))
     (at_behind number first range region (cost line) (map cost lines) are))
 
+-- what is left of the costs of the open lines over an edge
+pub picked_whole : (problem : ProblemParts) (region ranges : List LineRange)
+    (multipliers : List Multiplier) (left over : List ℕ) (edge : ℕ) → ranges ≡ region
+    → left ≡ map (left_of multipliers) problem.lines
+    → over ≡ lines_over problem.lines edge → length region ≡ length problem.lines
+    → filter_map (left_at ranges left) over
+    ≡ map (left_of multipliers) (open_over problem region edge)
+unfolding lines_over
+picked_whole problem region ranges multipliers left over edge ranges_are left_is over_is same =
+    let lines = problem.lines in
+    let cost = left_of multipliers in
+    ap (filter_map (left_at ranges left)) over_is
+    ∙ ap (λ (ranges : List LineRange). filter_map (left_at ranges left) (over_from 0 lines edge))
+    ranges_are
+    ∙ ap (λ (left : List ℕ). filter_map (left_at region left) (over_from 0 lines edge)) left_is
+    ∙ picked_from (left_at region (map cost lines)) 0 lines region edge cost same
+    (λ i within. ap (left_at region (map cost lines)) (omega arith))
+
 -- the least over all lines of the edge
 pub least_whole : (problem : ProblemParts) (region ranges : List LineRange) (multipliers : List Multiplier) (left over : List ℕ)
     (edge index : ℕ) (least : Option ℕ) → ranges ≡ region → left ≡ map (left_of multipliers) problem.lines
     → over ≡ lines_over problem.lines edge → length over ≤ index → length region ≡ length problem.lines
     → least ≡ reduce min (filter_map (left_at ranges left) (take index over))
     → unwrap_or least 0 ≡ least_left problem region multipliers edge
-unfolding lines_over
 least_whole problem region ranges multipliers left over edge index least ranges_are left_is over_is past same is =
-    let lines = problem.lines in
-    let cost = left_of multipliers in
     ap (λ least. unwrap_or least 0)
-    (is ∙ ap (λ some. reduce min (filter_map (left_at ranges left) some)) (take_all index over past ∙ over_is)
-    ∙ ap (λ (ranges : List LineRange). reduce min (filter_map (left_at ranges left) (over_from 0 lines edge))) ranges_are
-    ∙ ap (λ (left : List ℕ). reduce min (filter_map (left_at region left) (over_from 0 lines edge))) left_is
-    ∙ ap (reduce min) (picked_from (left_at region (map cost lines)) 0 lines region edge cost same
-    (λ i within. ap (left_at region (map cost lines)) (omega arith))))
+    (is ∙ ap (λ some. reduce min (filter_map (left_at ranges left) some)) (take_all index over past)
+    ∙ ap (reduce min)
+    (picked_whole problem region ranges multipliers left over edge ranges_are left_is over_is same))
 
 -- one line more
 least_taken : (some : List ℕ) (range : LineRange) (left : ℕ) → reduce min (some ++ cons_option (if_open range left) [])

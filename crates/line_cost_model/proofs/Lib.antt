@@ -8,6 +8,8 @@ pub mod Lowered
 pub mod Mapped
 pub mod Minima
 pub mod PassSteps
+pub mod Paying
+pub mod Proving
 pub mod Pushed
 pub mod Rising
 pub mod Roots

@@ -21,7 +21,7 @@ use Rattle.line_cost_model.proofs.Within.{IsCheap, few_left, within_more, within
 
 -- ---- before the first edge
 
-costs_left : (lines : List CostedLine) → map (λ line. line.cost) lines ≡ map (left_of []) lines
+pub costs_left : (lines : List CostedLine) → map (λ line. line.cost) lines ≡ map (left_of []) lines
 costs_left [] = refl
 costs_left (line ∷ lines) = λ i. own i ∷ costs_left lines i
   where

@@ -29,7 +29,7 @@ of_each f least (x ∷ xs) all = (all.0, of_each f least xs all.1)
 
 -- ---- one multiplier more
 
-taken_more : (multipliers : List Multiplier) (edge amount : ℕ) (line : CostedLine)
+pub taken_more : (multipliers : List Multiplier) (edge amount : ℕ) (line : CostedLine)
     → taken_off (multipliers ++ record { edge = edge; amount = amount } ∷ []) line
     ≡ taken_off multipliers line + cond (goes_over edge line) amount 0
 taken_more multipliers edge amount line =

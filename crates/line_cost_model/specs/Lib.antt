@@ -2,6 +2,7 @@ pub mod Chosen
 pub mod Concepts
 pub mod Crossings
 pub mod DualBounds
+pub mod EmptySides
 pub mod Multipliers
 pub mod Passes
 pub mod Problems

@@ -7,6 +7,7 @@ mod bound;
 mod concept;
 mod edge;
 mod empty;
+mod evidence;
 mod line;
 mod multipliers;
 mod pass;

@@ -83,4 +83,12 @@ impl Multipliers {
         let multiplier = self.list[index];
         (multiplier.edge, multiplier.amount as i64)
     }
+
+    /// The one at a place.
+    pub(crate) fn at(&self, index: usize) -> Multiplier
+        requires { index < length self.now }
+        ensures { slice_get self.now index ≡ Some result }
+    {
+        self.list[index]
+    }
 }

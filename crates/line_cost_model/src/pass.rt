@@ -25,8 +25,8 @@ pub(crate) fn costs_of(alloc: Global, problem: &LineProblem) -> Result<Vec<u64>,
     Ok(costs)
 }
 
-// How many drives the least frequencies of a region leave missing on the edge at an index.
-fn shortfall(problem: &LineProblem, region: &Region, edge: usize) -> u128
+/// How many drives the least frequencies of a region leave missing on the edge at an index.
+pub(crate) fn shortfall(problem: &LineProblem, region: &Region, edge: usize) -> u128
     requires there { edge < length problem.now.edges }
     requires each { length region.now ≡ length problem.now.lines }
     ensures shortfall { option_map (shortfall problem.now.lines region.now edge)

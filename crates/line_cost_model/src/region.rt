@@ -1,7 +1,8 @@
 // Regions of concepts.
 ghost use Rattle.std.specs.Prelude.{◌≡◌, ◌<◌, ◌≤◌, length, IfOk, All, slice_index_or, take, map};
 ghost use Rattle.line_cost_model.specs.Regions.{IsRange, IsInside, HasEachFeasible, root_of};
-ghost use Rattle.line_cost_model.specs.Regions.{range_of, with_range};
+ghost use Rattle.line_cost_model.specs.Regions.{has_several, range_of, with_range};
+ghost use Rattle.std.specs.List.{list_any};
 
 use crate::problem::LineProblem;
 use crate::range::LineRange;
@@ -71,6 +72,23 @@ impl Region {
     {
         let range = LineRange { lo, hi };
         self.ranges[line] = range;
+    }
+
+    /// The range of the line at an index becomes another one.
+    pub fn set_range(&mut self, line: usize, lo: u32, hi: u32)
+        requires there { line < length self.old }
+        requires in_order { lo ≤ hi }
+        requires few { hi ≤ 1000 }
+        ensures { self.new ≡ with_range self.old line lo hi }
+    {
+        self.ranges[line] = LineRange { lo, hi };
+    }
+
+    /// Whether some line may have several frequencies.
+    pub fn has_several(&self) -> bool
+        ensures { result ≡ list_any has_several self.now }
+    {
+        self.ranges.iter().any(|range| range.has_several())
     }
 
     /// A region with the same ranges.

@@ -1,6 +1,7 @@
 // How often edges are driven, and what concepts cost.
 ghost use Rattle.std.specs.Prelude.{◌≡◌, ◌<◌, ◌≤◌, pos, length, map};
 ghost use Rattle.line_cost_model.specs.Concepts.{frequency_on, cost_of};
+ghost use Rattle.line_cost_model.specs.Problems.{IsProblem};
 ghost use Rattle.line_cost_model.specs.Regions.{least_in, greatest_in};
 
 use crate::problem::LineProblem;
@@ -56,6 +57,7 @@ pub(crate) fn least_cost(problem: &LineProblem, region: &Region) -> u128
     requires each { length region.now ≡ length problem.now.lines }
     ensures cost { result ≡ cost_of problem.now (least_in region.now) }
     ensures few { result ≤ 5000000000000000000000000000000000000 }
+    ensures sound { IsProblem problem.now }
 {
     let ranges = region.ranges();
     let mut sum = 0u128;

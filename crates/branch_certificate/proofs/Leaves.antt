@@ -1,0 +1,219 @@
+-- A leaf that passes each test shows what it is to show, and the other way.
+use Rattle.std.proofs.Common.{◌≡◌, ℕ, ℤ, pos, ◌≤◌, ◌≤ℤ◌, ◌||◌, ◌∙◌, not, Bool, true, false}
+use Rattle.std.proofs.Common.{T, nat_le, nat_lt, int_le, List, [], ◌∷◌, slice_get, Some, None}
+use Rattle.std.proofs.Common.{option_map, unwrap_or, All, zero, suc, refl, ap, sym, arith}
+use Rattle.std.specs.Int.Signed.{le_z_yes}
+use Rattle.std.specs.List.{list_any}
+use Rattle.std.proofs.lemmas.Bool.{and_parts, false≢true, leb-true, le-leb, lt-ltb, ltb-true}
+use Rattle.std.proofs.lemmas.Bool.{ltb-false, le-ltb}
+use Rattle.std.proofs.lemmas.Float.{T_from_true}
+use Rattle.std.proofs.lemmas.List.Sums.{AllPass-from_list_all, list_all-from_AllPass}
+use Rattle.line_cost_model.specs.declared.edge.BoundedEdge.{BoundedEdge}
+use Rattle.line_cost_model.specs.declared.multipliers.Multiplier.{Multiplier}
+use Rattle.line_cost_model.specs.declared.range.LineRange.{LineRange}
+use Rattle.line_cost_model.specs.declared.side.Side.{Side}
+use Rattle.line_cost_model.specs.declared.side.Side.TheVariants as side
+use Rattle.line_cost_model.specs.Concepts.{cost_of}
+use Rattle.line_cost_model.specs.DualBounds.{bound_by, open_lines, taken_off}
+use Rattle.line_cost_model.specs.EmptySides.{is_empty_on}
+use Rattle.line_cost_model.specs.Problems.{ProblemParts}
+use Rattle.line_cost_model.specs.Regions.{IsEmptyAt, has_several, least_in, range_of}
+use Rattle.branch_certificate.specs.declared.node.Node.{Node}
+use Rattle.branch_certificate.specs.declared.node.Node.TheVariants as node
+use Rattle.branch_certificate.specs.Certified.{LeafCertifies, ShowsBound, ShowsEmpty, ShowsPoint, SplitsInside}
+use Rattle.branch_certificate.specs.TreeFaults.{splits_outside, is_not_empty, exceeds_costs, is_below, is_no_point}
+use Rattle.branch_certificate.specs.Trees.{is_split}
+
+-- a node over a region passes each test
+pub record Passes (problem : ProblemParts) (cost : ℤ) (region : List LineRange)
+    (node : Node) : Type 0 where
+  pub split : splits_outside region node ≡ false
+  pub empty : is_not_empty problem region node ≡ false
+  pub multiplier : exceeds_costs problem region node ≡ false
+  pub bound : is_below problem cost region node ≡ false
+  pub point : is_no_point problem cost region node ≡ false
+
+-- the ends of a range are in order
+abbrev pub InOrder : LineRange → Type 0
+InOrder range = range.lo ≤ range.hi
+
+-- ---- tests
+
+not_false : (b : Bool) → not b ≡ false → b ≡ true
+not_false true h = refl
+not_false false h = absurd (false≢true (sym h))
+
+passed : (b : Bool) → T b → b ≡ true
+passed true h = refl
+passed false h = absurd h
+
+neither : (a b : Bool) → (a || b) ≡ false → (a ≡ false) × (b ≡ false)
+neither true b h = absurd (false≢true (sym h))
+neither false b h = (refl, h)
+
+at_most : (cost : ℤ) (n : ℕ) → not (int_le cost (pos n)) ≡ false → cost ≤ℤ pos n
+at_most cost n h = le_z_yes (T_from_true _ (not_false (int_le cost (pos n)) h))
+
+not_above : (cost : ℤ) (n : ℕ) → cost ≤ℤ pos n → not (int_le cost (pos n)) ≡ false
+not_above cost n h = ap not (passed (int_le cost (pos n)) h.le)
+
+-- ---- splits
+
+pub splits_inside : (region : List LineRange) (line at : ℕ)
+    → splits_outside region (node.Split line at) ≡ false → SplitsInside region line at
+splits_inside region line at h =
+    let both = and_parts (nat_le (range_of region line).lo at) (nat_lt at (range_of region line).hi)
+    (not_false _ h) in
+    (leb-true (range_of region line).lo at both.0, ltb-true at (range_of region line).hi both.1)
+
+pub not_outside : (region : List LineRange) (line at : ℕ) → SplitsInside region line at
+    → splits_outside region (node.Split line at) ≡ false
+not_outside region line at inside =
+    rw (le-leb (range_of region line).lo at inside.0, lt-ltb at (range_of region line).hi inside.1)
+    refl
+
+-- ---- empty edges
+
+empty_at : (problem : ProblemParts) (region : List LineRange) (edge : ℕ) (bounds : BoundedEdge)
+    (s : Side)
+    → is_empty_on problem region edge s bounds ≡ true → IsEmptyAt problem.lines region edge bounds s
+empty_at problem region edge bounds side.Over h = ltb-true _ _ h
+empty_at problem region edge bounds side.Under h = ltb-true _ _ h
+
+empty_test : (problem : ProblemParts) (region : List LineRange) (edge : ℕ) (bounds : BoundedEdge)
+    (s : Side)
+    → IsEmptyAt problem.lines region edge bounds s → is_empty_on problem region edge s bounds ≡ true
+empty_test problem region edge bounds side.Over h = lt-ltb _ _ h
+empty_test problem region edge bounds side.Under h = lt-ltb _ _ h
+
+shows_empty : (problem : ProblemParts) (region : List LineRange) (edge : ℕ) (s : Side)
+    → is_not_empty problem region (node.Empty edge s) ≡ false → ShowsEmpty problem region edge s
+shows_empty problem region edge s h =
+    elim (slice_get problem.edges edge) as (λ at. slice_get problem.edges edge ≡ at
+    → not (unwrap_or (option_map (is_empty_on problem region edge s) at) false) ≡ false
+    → ShowsEmpty problem region edge s) [
+      | None ↦ λ _ none. absurd (false≢true (sym none))
+      | Some bounds ↦ λ there fails. (
+        bounds,
+        there,
+        empty_at problem region edge bounds s (not_false _ fails),
+      )
+    ] refl h
+
+not_not_empty : (problem : ProblemParts) (region : List LineRange) (edge : ℕ) (s : Side)
+    → ShowsEmpty problem region edge s → is_not_empty problem region (node.Empty edge s) ≡ false
+not_not_empty problem region edge s shown =
+    ap (λ at. not (unwrap_or (option_map (is_empty_on problem region edge s) at) false)) shown.1
+    ∙ ap not (empty_test problem region edge shown.0 s shown.2)
+
+-- ---- bounds
+
+shows_bound : (problem : ProblemParts) (cost : ℤ) (region : List LineRange)
+    (multipliers : List Multiplier)
+    → exceeds_costs problem region (node.Bound multipliers) ≡ false
+    → is_below problem cost region (node.Bound multipliers) ≡ false
+    → ShowsBound problem cost region multipliers
+shows_bound problem cost region multipliers within enough = record {
+  within = λ k d h. leb-true _ _ (AllPass-from_list_all
+      (λ line. nat_le (taken_off multipliers line) line.cost) (open_lines problem.lines region)
+      (not_false _ within) k d h);
+  enough = at_most cost (bound_by problem region multipliers) enough;
+}
+
+not_exceeding : (problem : ProblemParts) (cost : ℤ) (region : List LineRange)
+    (multipliers : List Multiplier)
+    → ShowsBound problem cost region multipliers
+    → exceeds_costs problem region (node.Bound multipliers) ≡ false
+not_exceeding problem cost region multipliers shown =
+    ap not (list_all-from_AllPass (λ line. nat_le (taken_off multipliers line) line.cost)
+    (open_lines problem.lines region) (λ k d h. le-leb _ _ (shown.within k d h)))
+
+-- ---- points
+
+single : (region : List LineRange) → All InOrder region → list_any has_several region ≡ false
+    → All (λ range. range.lo ≡ range.hi) region
+single [] order none k d h = absurd (omega (arith, h))
+single (range ∷ region) order none zero d h =
+    let first : range.lo ≤ range.hi = order zero range (omega arith) in
+    omega (
+      arith,
+      first,
+      ltb-false range.lo range.hi
+          (neither (has_several range) (list_any has_several region) none).0,
+    )
+single (range ∷ region) order none (suc k) d h =
+    single region (λ k d h. order (suc k) d (omega (arith, h)))
+    (neither (has_several range) (list_any has_several region) none).1 k d (omega (arith, h))
+
+none_several : (region : List LineRange) → All (λ range. range.lo ≡ range.hi) region
+    → list_any has_several region ≡ false
+none_several [] one = refl
+none_several (range ∷ region) one =
+    let first : range.lo ≡ range.hi = one zero range (omega arith) in
+    rw (le-ltb range.lo range.hi (omega (arith, first)))
+    (none_several region (λ k d h. one (suc k) d (omega (arith, h))))
+
+shows_point : (problem : ProblemParts) (cost : ℤ) (region : List LineRange) → All InOrder region
+    → is_no_point problem cost region node.Point ≡ false → ShowsPoint problem cost region
+shows_point problem cost region order h =
+    let parts = neither (list_any has_several region)
+    (not (int_le cost (pos (cost_of problem (least_in region))))) h in
+    record {
+      one = single region order parts.0;
+      enough = at_most cost (cost_of problem (least_in region)) parts.1;
+    }
+
+is_a_point : (problem : ProblemParts) (cost : ℤ) (region : List LineRange)
+    → ShowsPoint problem cost region
+    → is_no_point problem cost region node.Point ≡ false
+is_a_point problem cost region shown =
+    rw (none_several region shown.one) (not_above cost
+    (cost_of problem (least_in region)) shown.enough)
+
+-- ---- leaves
+
+pub leaf_shows : (problem : ProblemParts) (cost : ℤ) (region : List LineRange) (node : Node)
+    → All InOrder region → is_split node ≡ false → Passes problem cost region node
+    → LeafCertifies problem cost region node
+leaf_shows problem cost region (node.Split line at) order is passes = absurd (false≢true (sym is))
+leaf_shows problem cost region (node.Empty edge s) order is passes =
+    shows_empty problem region edge s passes.empty
+leaf_shows problem cost region (node.Bound multipliers) order is passes =
+    shows_bound problem cost region multipliers passes.multiplier passes.bound
+leaf_shows problem cost region node.Point order is passes =
+    shows_point problem cost region order passes.point
+
+pub leaf_passes : (problem : ProblemParts) (cost : ℤ) (region : List LineRange) (node : Node)
+    → LeafCertifies problem cost region node → (is_split node ≡ false)
+    × Passes problem cost region node
+leaf_passes problem cost region (node.Split line at) shown = absurd shown
+leaf_passes problem cost region (node.Empty edge s) shown = (
+  refl,
+  record {
+    split = refl;
+    empty = not_not_empty problem region edge s shown;
+    multiplier = refl;
+    bound = refl;
+    point = refl;
+  },
+)
+leaf_passes problem cost region (node.Bound multipliers) shown = (
+  refl,
+  record {
+    split = refl;
+    empty = refl;
+    multiplier = not_exceeding problem cost region multipliers shown;
+    bound = not_above cost _ shown.enough;
+    point = refl;
+  },
+)
+leaf_passes problem cost region node.Point shown = (
+  refl,
+  record {
+    split = refl;
+    empty = refl;
+    multiplier = refl;
+    bound = refl;
+    point = is_a_point problem cost region shown;
+  },
+)

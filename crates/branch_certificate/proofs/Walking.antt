@@ -1,0 +1,177 @@
+-- From one node of a tree to the next: which regions wait.
+use Rattle.std.proofs.Common.{◌≡◌, ℕ, ◌+◌, ◌<◌, ◌∙◌, Bool, true, false, if◌then◌else◌}
+use Rattle.std.proofs.Common.{List, [], ◌∷◌, ◌++◌, length, reverse, set, get_or, All, refl, ap, sym}
+use Rattle.std.proofs.Common.{subst, arith}
+use Rattle.std.proofs.lemmas.Bool.{false≢true}
+use Rattle.std.proofs.lemmas.List.{set-set, set-get_or, length-set, reverse-append}
+use Rattle.std.proofs.lemmas.List.{length-append, get_or_push, get_or_default}
+use Rattle.std.proofs.lemmas.List.Elements.{All-push}
+use Rattle.std.proofs.Math.ListN.{get_or-append}
+use Rattle.line_cost_model.specs.declared.range.LineRange.{LineRange}
+use Rattle.line_cost_model.specs.Problems.{ProblemParts}
+use Rattle.line_cost_model.specs.Regions.{range_of, root_of, part_from, part_up_to}
+use Rattle.branch_certificate.specs.declared.region_walk.OpenSplit.{OpenSplit}
+use Rattle.branch_certificate.specs.Walks.{IsOpenSplit, WalkedRegions, closed, upper_of, waiting_of}
+
+-- ---- the last of some splits
+
+waits : (splits : List OpenSplit) (split : OpenSplit) (region : List LineRange) (in_lower : Bool)
+    → split.in_lower ≡ in_lower
+    → waiting_of (split ∷ splits) region
+    ≡ (if in_lower then upper_of split region ∷ waiting_of splits (closed split region)
+    else waiting_of splits (closed split region))
+unfolding waiting_of
+waits splits split region in_lower is =
+    ap (λ in_lower. if in_lower then upper_of split region ∷ waiting_of splits (closed split region)
+    else waiting_of splits (closed split region)) is
+
+turned : (splits : List OpenSplit) (split : OpenSplit)
+    → reverse (splits ++ split ∷ []) ≡ split ∷ reverse splits
+turned splits split = reverse-append splits (split ∷ [])
+
+module _ (items splits : List OpenSplit) (split : OpenSplit) (region : List LineRange)
+    (are : items ≡ splits ++ split ∷ []) where
+  pub last_waits : split.in_lower ≡ true
+      → waiting_of (reverse items) region
+      ≡ upper_of split region ∷ waiting_of (reverse splits) (closed split region)
+  last_waits is = ap (λ splits. waiting_of (reverse splits) region) are
+      ∙ ap (λ splits. waiting_of splits region) (turned splits split)
+      ∙ waits (reverse splits) split region true is
+
+  pub last_is_done : split.in_lower ≡ false
+      → waiting_of (reverse items) region ≡ waiting_of (reverse splits) (closed split region)
+  last_is_done is = ap (λ splits. waiting_of (reverse splits) region) are
+      ∙ ap (λ splits. waiting_of splits region) (turned splits split)
+      ∙ waits (reverse splits) split region false is
+
+  -- what holds of all splits
+  module _ (P : OpenSplit → Type 0) (all : All P items) where
+    each : (k : ℕ) → k < length splits + 1 → P (get_or (splits ++ split ∷ []) k split)
+    each k within = subst (λ splits. P (get_or splits k split)) are
+        (all k split (omega (arith, within, ap length are, length-append splits (split ∷ []))))
+
+    pub last_holds : P split
+    last_holds = subst P (get_or_push splits split split (length splits) refl)
+        (each (length splits) (omega arith))
+
+    pub others_hold : All P splits
+    others_hold k d within = subst P (get_or-append splits (split ∷ []) split k within
+        ∙ other_default splits k within) (each k (omega (arith, within)))
+      where
+        other_default : (splits : List OpenSplit) (k : ℕ) → k < length splits
+            → get_or splits k split ≡ get_or splits k d
+        other_default splits k within = get_or_default splits k split d within
+
+-- ---- into the upper part, and back out of it
+
+pub upper_is_walked : (items splits : List OpenSplit) (split : OpenSplit) (region : List LineRange)
+    → items ≡ splits ++ record split { in_lower = false } ∷ []
+    → waiting_of (reverse items) (upper_of split region)
+    ≡ waiting_of (reverse splits) (closed split region)
+upper_is_walked items splits split region are =
+    last_is_done items splits (record split { in_lower = false }) (upper_of split region) are refl
+    ∙ ap (waiting_of (reverse splits)) (set-set region split.line _ _)
+
+pub size_stays : (region after : List LineRange) (line lo hi : ℕ)
+    → after ≡ set region line (record { lo = lo; hi = hi }) → length after ≡ length region
+size_stays region after line lo hi is = ap length is ∙ length-set region line _
+
+pub still_open : (size now : ℕ) (splits : List OpenSplit) → now ≡ size
+    → All (IsOpenSplit size) splits → All (IsOpenSplit now) splits
+still_open size now splits same open_ones =
+    subst (λ size. All (IsOpenSplit size) splits) (sym same) open_ones
+
+-- ---- into the lower part
+
+pub lower_is_walked : (items splits : List OpenSplit) (region : List LineRange) (line at lo hi : ℕ)
+    → lo ≡ (range_of region line).lo → hi ≡ (range_of region line).hi
+    → items ≡ splits ++ record { line = line; lo = lo; at = at; hi = hi; in_lower = true } ∷ []
+    → waiting_of (reverse items) (part_up_to region line at)
+    ≡ part_from region line (at + 1) ∷ waiting_of (reverse splits) region
+lower_is_walked items splits region line at lo hi lo_is hi_is are =
+    let split : OpenSplit = record { line = line; lo = lo; at = at; hi = hi; in_lower = true } in
+    let range : LineRange = range_of region line in
+    let upper : upper_of split (part_up_to region line at) ≡ part_from region line (at + 1) =
+    set-set region line _ _ ∙ ap (λ hi. set region line (record { lo = at + 1; hi = hi })) hi_is in
+    let whole : closed split (part_up_to region line at) ≡ region =
+    set-set region line _ _ ∙ ap (λ lo. set region line (record { lo = lo; hi = hi })) lo_is
+    ∙ ap (λ hi. set region line (record { lo = range.lo; hi = hi })) hi_is
+    ∙ set-get_or region line (record { lo = 0; hi = 0 }) in
+    last_waits items splits split (part_up_to region line at) are refl
+    ∙ (λ i. upper i ∷ waiting_of (reverse splits) (whole i))
+
+-- ---- on from a leaf
+
+module _ (items splits : List OpenSplit) (split : OpenSplit) (region now : List LineRange)
+    (are : items ≡ splits ++ split ∷ []) where
+  pub upper_entered : (after : List OpenSplit) → split.in_lower ≡ true → now ≡ upper_of split region
+      → after ≡ splits ++ record split { in_lower = false } ∷ []
+      → now ∷ waiting_of (reverse after) now ≡ waiting_of (reverse items) region
+  upper_entered after is now_is after_is =
+      (λ i. now_is i ∷ waiting_of (reverse after) (now_is i))
+      ∙ ap (λ rest. upper_of split region ∷ rest)
+      (upper_is_walked after splits split region after_is)
+      ∙ sym (last_waits items splits split region are is)
+
+  pub part_closed : split.in_lower ≡ false → now ≡ closed split region
+      → waiting_of (reverse splits) now ≡ waiting_of (reverse items) region
+  part_closed is now_is = ap (waiting_of (reverse splits)) now_is
+      ∙ sym (last_is_done items splits split region are is)
+
+  pub open_split : All (IsOpenSplit (length region)) items → IsOpenSplit (length region) split
+  open_split all = last_holds items splits split region are (IsOpenSplit (length region)) all
+
+  pub upper_is_open : (after : List OpenSplit) → All (IsOpenSplit (length region)) items
+      → length now ≡ length region → after ≡ splits ++ record split { in_lower = false } ∷ []
+      → All (IsOpenSplit (length now)) after
+  upper_is_open after all same is =
+      let own = open_split all in
+      still_open (length region) (length now) after same
+      (subst (λ after. All (IsOpenSplit (length region)) after) (sym is)
+      (All-push (IsOpenSplit (length region)) splits (record split { in_lower = false })
+      (others_hold items splits split region are (IsOpenSplit (length region)) all)
+      (record { there = own.there; low = own.low; high = own.high; few = own.few })))
+
+  pub others_are_open : All (IsOpenSplit (length region)) items → length now ≡ length region
+      → All (IsOpenSplit (length now)) splits
+  others_are_open all same = still_open (length region) (length now) splits same
+      (others_hold items splits split region are (IsOpenSplit (length region)) all)
+
+-- no split is left
+pub none_waits : (items : List OpenSplit) (region : List LineRange)
+    → (0 < length items → false ≡ true) → waiting_of (reverse items) region ≡ []
+unfolding waiting_of
+none_waits [] region none = refl
+none_waits (split ∷ items) region none = absurd (false≢true (none (omega arith)))
+
+-- ---- the regions that are walked
+
+-- a region and some splits, as contracts see them
+abbrev pub walk_of : List OpenSplit → List LineRange → WalkedRegions
+walk_of splits region = record { region = region; waiting = waiting_of (reverse splits) region }
+
+pub at_root : (problem : ProblemParts) (region : List LineRange) (splits : List OpenSplit)
+    → region ≡ root_of problem → splits ≡ []
+    → walk_of splits region ≡ record { region = root_of problem; waiting = [] }
+unfolding waiting_of
+at_root problem region splits region_is none = λ i. walk_of (none i) (region_is i)
+
+pub entered : (splits items : List OpenSplit) (region now : List LineRange) (before : WalkedRegions)
+    (line at lo hi : ℕ) → walk_of splits region ≡ before
+    → lo ≡ (range_of region line).lo → hi ≡ (range_of region line).hi
+    → items ≡ splits ++ record { line = line; lo = lo; at = at; hi = hi; in_lower = true } ∷ []
+    → now ≡ set region line (record { lo = lo; hi = at })
+    → walk_of items now ≡ record {
+      region = part_up_to before.region line at;
+      waiting = part_from before.region line (at + 1) ∷ before.waiting;
+    }
+entered splits items region now before line at lo hi is lo_is hi_is items_are now_is =
+    let lower : now ≡ part_up_to region line at =
+    now_is ∙ ap (λ lo. set region line (record { lo = lo; hi = at })) lo_is in
+    let waiting = lower_is_walked items splits region line at lo hi lo_is hi_is items_are in
+    (λ i. walk_of items (lower i))
+    ∙ (λ i. record { region = part_up_to region line at; waiting = waiting i })
+    ∙ (λ i. record {
+      region = part_up_to (is i).region line at;
+      waiting = part_from (is i).region line (at + 1) ∷ (is i).waiting;
+    })

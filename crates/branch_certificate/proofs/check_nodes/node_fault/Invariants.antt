@@ -1,0 +1,10 @@
+use Rattle.std.proofs.Common.{◌≡◌, ◌∷◌, length}
+use Rattle.branch_certificate.proofs.Judging.{IsJudged}
+use Rattle.branch_certificate.proofs.check_nodes.node_fault.Given as goal
+
+-- what is known of the nodes so far, and a range for each line
+abbrev pub invariant-loop-place : goal.invariant-loop-place
+invariant-loop-place l = record {
+  judged : IsJudged l.problem l.fn.best l.tree l.firsts l.place (l.walk.region ∷ l.walk.waiting);
+  size : length l.walk.region ≡ length l.problem.lines;
+}

@@ -1,0 +1,15 @@
+use Rattle.std.proofs.Common.{◌≡◌, length, reverse, All}
+use Rattle.branch_certificate.specs.Walks.{IsOpenSplit, waiting_of}
+use Rattle.branch_certificate.proofs.region_walk.leave.Given as goal
+
+-- the same regions wait as before
+abbrev pub invariant-loop-split : goal.invariant-loop-split
+invariant-loop-split l = record {
+  waiting : waiting_of (reverse l.splits.items) l.region
+      ≡ waiting_of (reverse l.fn.splits.items) l.fn.region;
+  size : length l.region ≡ length l.fn.region;
+  still : All (IsOpenSplit (length l.region)) l.splits.items;
+}
+
+abbrev pub decreases-loop-split : goal.decreases-loop-split
+decreases-loop-split l = length l.splits.items

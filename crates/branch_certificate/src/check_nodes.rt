@@ -1,0 +1,61 @@
+// Whether the nodes of a tree show what they are to show, each over its region.
+ghost use Rattle.std.specs.Prelude.{◌≡◌, ◌∷◌, [], slice_get, length, IfOk, All, if◌then◌else◌, false};
+ghost use Rattle.line_cost_model.specs.Regions.{HasEachFeasible, root_of};
+ghost use Rattle.branch_certificate.specs.TreeFaults.{placed_faults, splits_outside};
+ghost use Rattle.branch_certificate.specs.TreeTexts.{NamesWhatIs};
+ghost use Rattle.branch_certificate.specs.Walks.{SplitsOne, behind_node, walked};
+
+use crate::fault::TreeFault;
+use crate::first_faults::{FirstFaults, splits_outside};
+use crate::node::Node;
+use crate::region_walk::RegionWalk;
+use crate::tree::Tree;
+use line_cost_model::LineProblem;
+use plan_num::NoMemory;
+use std::alloc::Global;
+
+/// The first fault of the nodes of a tree, by kind, where the tree is whole.
+pub(crate) fn node_fault(
+    alloc: Global,
+    problem: &LineProblem,
+    best: i128,
+    tree: &Tree,
+) -> Result<Option<TreeFault>, NoMemory>
+    requires { All (NamesWhatIs problem.now) tree.now }
+    ensures first { IfOk result (λ fault. fault ≡ slice_get
+        (placed_faults problem.now best (walked (root_of problem.now ∷ []) tree.now)) 0) }
+    ensures each { IfOk result (λ _. HasEachFeasible problem.now (root_of problem.now)) }
+{
+    let mut walk = RegionWalk::new(alloc, problem)?;
+    let mut firsts = FirstFaults::new();
+    for place in 0..tree.len() {
+        let node = tree.node(place);
+        // No region is cut outside a range, so the places behind such a split have none.
+        if splits_outside(walk.region(), node) {
+            return Ok(Some(TreeFault::Split { node: place }));
+        }
+        firsts.note(alloc, problem, best, walk.region(), place, node)?;
+        if !go_on(&mut walk, node)? {
+            return Ok(firsts.first());
+        }
+    }
+    Ok(firsts.first())
+}
+
+// From a node on to the next one, where one is to come.
+fn go_on(walk: &mut RegionWalk, node: &Node) -> Result<bool, NoMemory>
+    requires there { SplitsOne walk.old.region node.now }
+    requires inside { splits_outside walk.old.region node.now ≡ false }
+    ensures waiting { IfOk result (λ more.
+        (if more then walk.new.region ∷ walk.new.waiting else [])
+        ≡ behind_node walk.old.region walk.old.waiting node.now) }
+    ensures size { IfOk result (λ _. length walk.new.region ≡ length walk.old.region) }
+{
+    match node {
+        Node::Split { line, at } => {
+            walk.enter(*line, *at)?;
+            Ok(true)
+        }
+        _ => walk.leave(),
+    }
+}

@@ -1,0 +1,154 @@
+// The first faults of nodes, by kind.
+ghost use Rattle.std.specs.Prelude.{◌≡◌, length, None, IfOk, OnOk};
+ghost use Rattle.branch_certificate.specs.TreeFaults.{exceeds_costs, is_below, is_no_point};
+ghost use Rattle.branch_certificate.specs.TreeFaults.{is_not_empty, splits_outside};
+ghost use Rattle.branch_certificate.specs.TreeTexts.{NamesWhatIs};
+ghost use Rattle.branch_certificate.specs.Walks.{SplitsOne, first_by_kind, first_place, noted};
+
+use crate::fault::TreeFault;
+use crate::node::Node;
+use line_cost_model::{LineProblem, Region};
+use plan_num::NoMemory;
+use std::alloc::Global;
+
+/// The first places, so far, of each kind of fault of a leaf.
+#[derive(Clone, Copy, Debug)]
+pub(crate) struct FirstFaults {
+    empty: Option<usize>,
+    multiplier: Option<usize>,
+    bound: Option<usize>,
+    point: Option<usize>,
+}
+
+impl FirstFaults {
+    /// Before the first node.
+    pub(crate) fn new() -> FirstFaults
+        ensures { result ≡ record { empty = None; multiplier = None; bound = None; point = None } }
+    {
+        FirstFaults {
+            empty: None,
+            multiplier: None,
+            bound: None,
+            point: None,
+        }
+    }
+
+    /// One node more, which stands over a region.
+    pub(crate) fn note(
+        &mut self,
+        alloc: Global,
+        problem: &LineProblem,
+        best: i128,
+        region: &Region,
+        place: usize,
+        node: &Node,
+    ) -> Result<(), NoMemory>
+        requires each { length region.now ≡ length problem.now.lines }
+        requires names { NamesWhatIs problem.now node.now }
+        ensures { OnOk result (self.new ≡ noted problem.now best self.old place
+            (record { node = node.now; region = region.now })) }
+    {
+        let exceeds = exceeds_costs(alloc, problem, region, node)?;
+        self.empty = first_place(self.empty, is_not_empty(problem, region, node), place);
+        self.multiplier = first_place(self.multiplier, exceeds, place);
+        self.bound = first_place(self.bound, is_below(problem, best, region, node), place);
+        self.point = first_place(self.point, is_no_point(problem, best, region, node), place);
+        Ok(())
+    }
+
+    /// The first fault by kind.
+    pub(crate) fn first(&self) -> Option<TreeFault>
+        ensures { result ≡ first_by_kind self.now }
+    {
+        if let Some(node) = self.empty {
+            return Some(TreeFault::Empty { node });
+        }
+        if let Some(node) = self.multiplier {
+            return Some(TreeFault::Multiplier { node });
+        }
+        if let Some(node) = self.bound {
+            return Some(TreeFault::Bound { node });
+        }
+        match self.point {
+            Some(node) => Some(TreeFault::Point { node }),
+            None => None,
+        }
+    }
+}
+
+// A place, where there was none before it and it fails.
+fn first_place(first: Option<usize>, fails: bool, place: usize) -> Option<usize>
+    ensures { result ≡ first_place first fails place }
+{
+    if first.is_none() && fails {
+        return Some(place);
+    }
+    first
+}
+
+/// Whether a node splits the range of a line outside of it.
+pub(crate) fn splits_outside(region: &Region, node: &Node) -> bool
+    requires { SplitsOne region.now node.now }
+    ensures { result ≡ splits_outside region.now node.now }
+{
+    match node {
+        Node::Split { line, at } => {
+            let (lo, hi) = region.ends(*line);
+            !(lo <= *at && *at < hi)
+        }
+        _ => false,
+    }
+}
+
+// Whether a node names an edge as empty that is not.
+fn is_not_empty(problem: &LineProblem, region: &Region, node: &Node) -> bool
+    requires each { length region.now ≡ length problem.now.lines }
+    requires names { NamesWhatIs problem.now node.now }
+    ensures { result ≡ is_not_empty problem.now region.now node.now }
+{
+    match node {
+        Node::Empty { edge, side } => !problem.is_empty_on(region, *edge, *side),
+        _ => false,
+    }
+}
+
+// Whether a node has multipliers that take more off an open line than it costs.
+fn exceeds_costs(
+    alloc: Global,
+    problem: &LineProblem,
+    region: &Region,
+    node: &Node,
+) -> Result<bool, NoMemory>
+    requires each { length region.now ≡ length problem.now.lines }
+    requires names { NamesWhatIs problem.now node.now }
+    ensures { IfOk result
+        (λ exceeds. exceeds ≡ exceeds_costs problem.now region.now node.now) }
+{
+    match node {
+        Node::Bound { multipliers } => Ok(!problem.are_within(alloc, region, multipliers)?),
+        _ => Ok(false),
+    }
+}
+
+// Whether a node has a bound that is below a cost.
+fn is_below(problem: &LineProblem, best: i128, region: &Region, node: &Node) -> bool
+    requires each { length region.now ≡ length problem.now.lines }
+    requires names { NamesWhatIs problem.now node.now }
+    ensures { result ≡ is_below problem.now best region.now node.now }
+{
+    match node {
+        Node::Bound { multipliers } => !(best <= problem.bound_by(region, multipliers)),
+        _ => false,
+    }
+}
+
+// Whether a node is a point over a region that is no one concept, or that costs less.
+fn is_no_point(problem: &LineProblem, best: i128, region: &Region, node: &Node) -> bool
+    requires each { length region.now ≡ length problem.now.lines }
+    ensures { result ≡ is_no_point problem.now best region.now node.now }
+{
+    match node {
+        Node::Point => region.has_several() || !(best <= problem.least_cost(region)),
+        _ => false,
+    }
+}

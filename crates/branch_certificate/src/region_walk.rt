@@ -1,0 +1,120 @@
+// The regions of the nodes of a tree, one after the other.
+ghost use Rattle.std.specs.Prelude.{◌≡◌, ◌<◌, ◌+◌, ◌∷◌, [], length, reverse, All, IfOk, OnOk, MatchBool};
+ghost use Rattle.line_cost_model.specs.Regions.{HasEachFeasible, root_of, part_from, part_up_to};
+ghost use Rattle.branch_certificate.specs.Certified.{SplitsInside};
+ghost use Rattle.branch_certificate.specs.Walks.{IsOpenSplit, behind_node, waiting_of};
+
+use crate::node::Node;
+use line_cost_model::{LineProblem, Region};
+use plan_num::NoMemory;
+use std::alloc::Global;
+use std::marker::Model;
+
+/// A split of the range of a line, one of whose parts is walked.
+#[derive(Clone, Copy, Debug)]
+pub(crate) struct OpenSplit {
+    line: usize,
+    lo: u32,
+    at: u32,
+    hi: u32,
+    in_lower: bool,
+}
+
+/// The region at which a node of a tree stands, and the splits above it. Contracts see it as that
+/// region and those of the upper parts that wait.
+#[derive(Debug, Drop)]
+pub(crate) struct RegionWalk {
+    region: Region,
+    splits: Vec<OpenSplit>,
+}
+
+impl Model for RegionWalk {
+    ghost use Rattle.std.specs.Prelude.{All, length, reverse};
+    ghost use Rattle.branch_certificate.specs.Walks.{IsOpenSplit, WalkedRegions, waiting_of};
+
+    ghost Value = { WalkedRegions };
+
+    ghost view = { λ walk. record {
+      region = walk.region;
+      waiting = waiting_of (reverse walk.splits.items) walk.region;
+    } };
+
+    ghost invariant = { λ walk. All (IsOpenSplit (length walk.region)) walk.splits.items };
+}
+
+impl RegionWalk {
+    /// At the root of a tree.
+    pub(crate) fn new(alloc: Global, problem: &LineProblem) -> Result<RegionWalk, NoMemory>
+        ensures root { IfOk result
+            (λ walk. walk ≡ record { region = root_of problem.now; waiting = [] }) }
+        ensures each { IfOk result (λ _. HasEachFeasible problem.now (root_of problem.now)) }
+    {
+        let region = Region::root(alloc, problem)?;
+        Ok(RegionWalk {
+            region,
+            splits: Vec::new(alloc),
+        })
+    }
+
+    /// The region of the node.
+    pub(crate) fn region(&self) -> &Region
+        ensures { result.now ≡ self.now.region }
+    {
+        &self.region
+    }
+
+    /// From a split on to the root of its lower part.
+    pub(crate) fn enter(&mut self, line: usize, at: u32) -> Result<(), NoMemory>
+        requires there { line < length self.old.region }
+        requires inside { SplitsInside self.old.region line at }
+        ensures { OnOk result (self.new ≡ record {
+          region = part_up_to self.old.region line at;
+          waiting = part_from self.old.region line (at + 1) ∷ self.old.waiting;
+        }) }
+    {
+        let (lo, hi) = self.region.ends(line);
+        self.splits.push(OpenSplit {
+            line,
+            lo,
+            at,
+            hi,
+            in_lower: true,
+        })?;
+        self.region.narrow(line, lo, at);
+        Ok(())
+    }
+
+    /// From a leaf on to the root of the innermost upper part that waits, where there is one.
+    pub(crate) fn leave(&mut self) -> Result<bool, NoMemory>
+        ensures waiting { IfOk result (λ more. MatchBool more
+            (self.new.region ∷ self.new.waiting ≡ self.old.waiting) (self.old.waiting ≡ [])) }
+        ensures size { length self.new.region ≡ length self.old.region }
+    {
+        leave(&mut self.region, &mut self.splits)
+    }
+}
+
+// From the end of a part on to the innermost upper part that waits, where there is one. The range
+// of a split whose parts are both walked is as it was before.
+fn leave(region: &mut Region, splits: &mut Vec<OpenSplit>) -> Result<bool, NoMemory>
+    requires { All (IsOpenSplit (length region.old)) splits.old.items }
+    ensures waiting { IfOk result (λ more. MatchBool more
+        (region.new ∷ waiting_of (reverse splits.new.items) region.new
+        ≡ waiting_of (reverse splits.old.items) region.old)
+        (waiting_of (reverse splits.old.items) region.old ≡ [])) }
+    ensures size { length region.new ≡ length region.old }
+    ensures open { All (IsOpenSplit (length region.new)) splits.new.items }
+{
+    while let Some(split) = splits.pop() {
+        if split.in_lower {
+            region.set_range(split.line, split.at + 1, split.hi);
+            splits.push(OpenSplit {
+                in_lower: false,
+                ..split
+            })?;
+            return Ok(true);
+        }
+        region.set_range(split.line, split.lo, split.hi);
+    }
+    Ok(false)
+}

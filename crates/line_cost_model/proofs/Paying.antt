@@ -1,0 +1,155 @@
+-- Whether the open lines over an edge can pay a multiplier, and whether the multipliers so far are
+-- within their costs.
+use Rattle.std.proofs.Common.{◌≡◌, ℕ, ◌+◌, ◌-◌, ◌≤◌, ◌<◌, Bool, true, false, ◌&&◌, cond, if◌then◌else◌, nat_le, List, [], ◌∷◌, ◌++◌, length, get_or, map, filter, filter_map, take, drop, slice_get, Some, None, inl, inr, refl, arith, ap, sym, ◌∙◌}
+use Rattle.std.specs.List.{list_all, cons_option}
+use Rattle.std.proofs.lemmas.Bool.{and_parts, leb-true, le-leb, cases_Bool, false≢true}
+use Rattle.std.proofs.lemmas.List.{take_more, take-append-drop, drop_more}
+use Rattle.std.proofs.lemmas.List.Sums.{sum_by-append}
+use Rattle.std.proofs.lemmas.Option.{slice_get_within, get_or_from_slice_get}
+use Rattle.line_cost_model.specs.declared.multipliers.Multiplier.{Multiplier}
+use Rattle.line_cost_model.specs.declared.range.LineRange.{LineRange}
+use Rattle.line_cost_model.specs.Problems.{CostedLine, ProblemParts}
+use Rattle.line_cost_model.specs.Concepts.{goes_over}
+use Rattle.line_cost_model.specs.Crossings.{lines_over}
+use Rattle.line_cost_model.specs.DualBounds.{are_within, left_of, open_lines, open_over, taken_off}
+use Rattle.line_cost_model.specs.Regions.{has_several, range_of}
+use Rattle.line_cost_model.proofs.LeastLeft.{left_at, picked_whole}
+use Rattle.line_cost_model.proofs.Within.{taken_more}
+
+-- ---- the lines over an edge, one by one
+
+-- the open ones of some lines have so much left
+abbrev pub have_left : List LineRange → List ℕ → ℕ → List ℕ → Bool
+have_left ranges left amount lines = list_all (nat_le amount)
+    (filter_map (left_at ranges left) lines)
+
+pub paying_more : (ranges : List LineRange) (left over : List ℕ) (amount index line : ℕ)
+    (pays : Bool)
+    → index < length over → line ≡ get_or over index 0
+    → pays ≡ (if has_several (range_of ranges line) then nat_le amount
+    (get_or left line 0) else true)
+    → have_left ranges left amount (drop index over)
+    ≡ (pays && have_left ranges left amount (drop (index + 1) over))
+paying_more ranges left over amount index line pays within line_is is =
+    ap (have_left ranges left amount) (drop_more over index 0 within
+    ∙ ap (λ line. line ∷ drop (index + 1) over) (sym line_is))
+    ∙ either (has_several (range_of ranges line)) (get_or left line 0)
+    (filter_map (left_at ranges left) (drop (index + 1) over))
+    ∙ ap (λ pays. pays && have_left ranges left amount (drop (index + 1) over)) (sym is)
+  where
+    either : (several : Bool) (own : ℕ) (rest : List ℕ)
+        → list_all (nat_le amount) (cons_option (if several then Some own else None) rest)
+        ≡ (cond several (nat_le amount own) true && list_all (nat_le amount) rest)
+    either true own rest = refl
+    either false own rest = refl
+
+all_mapped : {X : Type 0} (test : ℕ → Bool) (f : X → ℕ) (xs : List X)
+    → list_all test (map f xs) ≡ list_all (λ x. test (f x)) xs
+all_mapped test f [] = refl
+all_mapped test f (x ∷ xs) = ap (λ b. test (f x) && b) (all_mapped test f xs)
+
+pub paying_whole : (problem : ProblemParts) (region ranges : List LineRange)
+    (multipliers : List Multiplier)
+    (left over : List ℕ) (edge amount : ℕ) → ranges ≡ region
+    → left ≡ map (left_of multipliers) problem.lines
+    → over ≡ lines_over problem.lines edge → length region ≡ length problem.lines
+    → have_left ranges left amount over
+    ≡ list_all (λ line. nat_le amount (left_of multipliers line)) (open_over problem region edge)
+paying_whole problem region ranges multipliers left over edge amount rs_are left_is over_is same =
+    ap (list_all (nat_le amount))
+    (picked_whole problem region ranges multipliers left over edge rs_are left_is over_is same)
+    ∙ all_mapped (nat_le amount) (left_of multipliers) (open_over problem region edge)
+
+-- ---- one multiplier more
+
+abbrev is_paid : List Multiplier → CostedLine → Bool
+is_paid multipliers line = nat_le (taken_off multipliers line) line.cost
+
+-- a line pays an amount more where so much is left of its cost
+pays_more : (goes : Bool) (taken cost amount : ℕ) → taken ≤ cost
+    → nat_le (taken + cond goes amount 0) cost ≡ cond goes (nat_le amount (cost - taken)) true
+pays_more true taken cost amount paid = elim (cases_Bool (nat_le amount (cost - taken))) [
+  | inl can ↦ le-leb (taken + amount) cost (omega (arith, paid, leb-true amount (cost - taken) can))
+      ∙ sym can
+  | inr cannot ↦ not_le (taken + amount) cost
+      (λ less. false≢true (sym cannot ∙ le-leb amount (cost - taken) (omega (arith, less))))
+      ∙ sym cannot
+]
+  where
+    not_le : (a b : ℕ) → ¬ (a ≤ b) → nat_le a b ≡ false
+    not_le a b over = elim (cases_Bool (nat_le a b)) [
+      | inl at_most ↦ absurd (over (leb-true a b at_most))
+      | inr is ↦ is
+    ]
+pays_more false taken cost amount paid = le-leb (taken + 0) cost (omega (arith, paid))
+
+paid_more : (multipliers : List Multiplier) (edge amount : ℕ) (lines : List CostedLine)
+    → list_all (is_paid multipliers) lines ≡ true
+    → list_all (is_paid (multipliers ++ record { edge = edge; amount = amount } ∷ [])) lines
+    ≡ list_all (λ line. nat_le amount (left_of multipliers line)) (filter (goes_over edge) lines)
+paid_more multipliers edge amount [] paid = refl
+paid_more multipliers edge amount (line ∷ lines) paid =
+    let parts = and_parts (is_paid multipliers line) (list_all (is_paid multipliers) lines) paid in
+    let can : CostedLine → Bool = λ line. nat_le amount (left_of multipliers line) in
+    let own = pays_more (goes_over edge line) (taken_off multipliers line) line.cost amount
+    (leb-true (taken_off multipliers line) line.cost parts.0) in
+    ap (λ taken. nat_le taken line.cost && list_all
+    (is_paid (multipliers ++ record { edge = edge; amount = amount } ∷ [])) lines)
+    (taken_more multipliers edge amount line)
+    ∙ ap (λ b. b && list_all (is_paid (multipliers ++ record { edge = edge; amount = amount } ∷ []))
+    lines) own
+    ∙ ap (λ b. cond (goes_over edge line) (can line) true && b)
+    (paid_more multipliers edge amount lines parts.1)
+    ∙ gated (goes_over edge line) can line (filter (goes_over edge) lines)
+  where
+    gated : (goes : Bool) (can : CostedLine → Bool) (line : CostedLine) (rest : List CostedLine)
+        → (cond goes (can line) true && list_all can rest)
+        ≡ list_all can (cond goes (line ∷ rest) rest)
+    gated true can line rest = refl
+    gated false can line rest = refl
+
+-- ---- some first multipliers
+
+fewer_paid : (before rest : List Multiplier) (lines : List CostedLine)
+    → list_all (is_paid (before ++ rest)) lines ≡ true
+    → list_all (is_paid before) lines ≡ true
+fewer_paid before rest [] paid = refl
+fewer_paid before rest (line ∷ lines) paid =
+    let parts = and_parts (is_paid (before ++ rest) line)
+    (list_all (is_paid (before ++ rest)) lines) paid in
+    let more = sum_by-append (λ (multiplier : Multiplier). if goes_over multiplier.edge line then
+    multiplier.amount else 0) before rest in
+    rw (le-leb (taken_off before line) line.cost
+    (omega (arith, more, leb-true (taken_off (before ++ rest) line) line.cost parts.0)))
+    (fewer_paid before rest lines parts.1)
+
+pub none_within : (problem : ProblemParts) (region : List LineRange) (before rest : List Multiplier)
+    → are_within problem region before ≡ false → are_within problem region (before ++ rest) ≡ false
+none_within problem region before rest over = elim
+    (cases_Bool (are_within problem region (before ++ rest))) [
+      | inl within ↦ absurd
+          (false≢true (sym over ∙ fewer_paid before rest (open_lines problem.lines region) within))
+      | inr is ↦ is
+    ]
+
+module _ (problem : ProblemParts) (region : List LineRange) (multipliers : List Multiplier)
+    (place : ℕ) (one : Multiplier)
+    (there : slice_get multipliers place ≡ Some one) where
+  pub first_more : take (place + 1) multipliers ≡ take place multipliers ++ one ∷ []
+  first_more = take_more multipliers place one (slice_get_within multipliers place one there)
+      ∙ ap (λ one. take place multipliers ++ one ∷ [])
+      (get_or_from_slice_get multipliers place one one there)
+
+  module _ (pays : Bool) (so_far : are_within problem region (take place multipliers) ≡ true)
+      (is : pays ≡ list_all (λ line. nat_le one.amount (left_of (take place multipliers) line))
+      (open_over problem region one.edge)) where
+    pub within_more : are_within problem region (take (place + 1) multipliers) ≡ pays
+    within_more = ap (are_within problem region) first_more
+        ∙ paid_more (take place multipliers) one.edge one.amount
+        (open_lines problem.lines region) so_far ∙ sym is
+
+    pub not_within : pays ≡ false → are_within problem region multipliers ≡ false
+    not_within cannot = ap (are_within problem region)
+        (sym (take-append-drop (place + 1) multipliers))
+        ∙ none_within problem region (take (place + 1) multipliers) (drop (place + 1) multipliers)
+        (within_more ∙ cannot)
