@@ -1,2 +1,3 @@
+pub mod ReadIds
 pub mod Sound
 mod Tried

@@ -6,8 +6,12 @@
 mod check;
 mod fault;
 mod node;
+mod open_bound;
+mod problem_ids;
 mod read;
 mod read_fault;
+mod read_so_far;
+mod row_says;
 mod tree;
 mod tree_row;
 mod write;
