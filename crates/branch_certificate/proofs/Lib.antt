@@ -1,3 +1,4 @@
 pub mod ReadIds
+pub mod ReadRules
 pub mod Sound
 mod Tried

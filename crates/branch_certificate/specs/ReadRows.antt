@@ -1,5 +1,5 @@
 -- Inner words of reading a tree: what a row says, and what is known after some rows.
-use Rattle.std.specs.Prelude.{◌≡◌, ◌≢◌, ℕ, ℤ, pos, ◌+◌, ◌-◌, ◌^◌, ◌<◌, ◌≤◌, ◌≤ℤ◌, ◌&&◌, ◌||◌, not, nat_lt, if◌then◌else◌, Bool, false, true, List, [], ◌∷◌, ◌++◌, length, map, take, position, slice_get, unsigned_abs, Option, Some, None, All, ⊤}
+use Rattle.std.specs.Prelude.{◌≡◌, ◌≢◌, ℕ, ℤ, pos, ◌+◌, ◌-◌, ◌^◌, ◌<◌, ◌≤◌, ◌≤ℤ◌, ◌&&◌, ◌||◌, not, nat_lt, if◌then◌else◌, Bool, false, true, List, [], ◌∷◌, ◌++◌, length, map, take, position, slice_get, unsigned_abs, Option, option_map, unwrap_or, Some, None, All, ⊤}
 use Rattle.std.specs.List.{list_any}
 use Rattle.std.specs.List.Sorted.{IsStrictlySortedBy}
 use Rattle.std.specs.Ordering.{int_cmp, int_eq}
@@ -96,7 +96,7 @@ pub record IsClosed (ids : NamedIds) (before : List TreeRow) (nodes : List Node)
       → nodes_of ids (before ++ rest) ≡ nodes ++ nodes_of ids rest
   pub none_due : due_after before ≡ 0
 
--- the edge of a multiplier in an open bound does not come after those that are there, or none is due
+-- an open bound takes a multiplier of an edge: one is due, and the edge comes after those that are there
 abbrev pub takes : OpenBound → ℕ → Bool
 takes bound edge = nat_lt 0 bound.due && not (nat_lt edge bound.next)
 
@@ -130,11 +130,45 @@ StandsBehind ids before nodes (Some bound) = IsOpen ids before nodes bound
 
 -- what is known after rows
 pub record IsReadSoFar (ids : NamedIds) (before : List TreeRow) (so_far : ReadSoFar) : Type 0 where
-  pub rising : AreRising ids
   pub sound : All (IsSoundNode ids) so_far.nodes
   pub behind : StandsBehind ids before so_far.nodes so_far.bound
 
--- a row that says something comes behind others that are read
-pub record IsNext (ids : NamedIds) (before : List TreeRow) (row : TreeRow) (so_far : ReadSoFar) (said : RowSays) : Type 0 where
-  pub says : Says ids row said
-  pub read : IsReadSoFar ids before so_far
+-- a multiplier is due in a bound
+abbrev pub is_due_in : Option OpenBound → Bool
+is_due_in None = false
+is_due_in (Some bound) = nat_lt 0 bound.due
+
+-- a row is taken
+abbrev pub takes_row : ReadSoFar → RowSays → Bool
+takes_row so_far (says.Multiplier edge millionths) =
+    unwrap_or (option_map (λ bound. takes bound edge) so_far.bound) false
+takes_row so_far said = not (is_due_in so_far.bound)
+
+-- nodes with a bound behind them
+abbrev pub closed : List Node → Option OpenBound → List Node
+closed nodes None = nodes
+closed nodes (Some bound) = nodes ++ node.Bound bound.multipliers ∷ []
+
+-- what is read with one row more
+abbrev pub with_row : ReadSoFar → RowSays → ReadSoFar
+with_row so_far (says.Whole node) =
+    record { nodes = closed so_far.nodes so_far.bound ++ node ∷ []; bound = None }
+with_row so_far (says.Bound count) = record {
+  nodes = closed so_far.nodes so_far.bound;
+  bound = Some (record { multipliers = []; next = 0; due = count });
+}
+with_row so_far (says.Multiplier edge millionths) = record {
+  nodes = so_far.nodes;
+  bound = option_map (λ bound. taken_by bound edge millionths) so_far.bound;
+}
+
+-- what a multiplier may say
+abbrev pub MayBeTaken : RowSays → Type 0
+MayBeTaken (says.Multiplier edge millionths) =
+    (edge < 2 ^ 63) × (pos 1 ≤ℤ millionths) × (millionths ≤ℤ pos 1000000000000000000)
+MayBeTaken said = ⊤
+
+-- the multipliers of an open bound come before its next edge
+abbrev pub IsInOrder : Option OpenBound → Type 0
+IsInOrder None = ⊤
+IsInOrder (Some bound) = IsAfter bound.multipliers bound.next
