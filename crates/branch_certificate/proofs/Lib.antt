@@ -1,4 +1,5 @@
 pub mod ReadIds
 pub mod ReadRules
+pub mod ReadSteps
 pub mod Sound
 mod Tried

@@ -1,14 +1,16 @@
 -- Ids that rise, and the index of one of them.
-use Rattle.std.proofs.Common.{◌≡◌, ℕ, ℤ, zero, suc, ◌+◌, ◌<◌, ◌≤◌, arith, Bool, true, false, cond, not, List, [], ◌∷◌, ◌++◌, length, map, take, get_or, slice_get, option_map, position, refl, ap, subst, sym, ◌∙◌, Some, None, nat_lt, inl, inr, pos}
+use Rattle.std.proofs.Common.{◌≡◌, ℕ, ℤ, zero, suc, ◌+◌, ◌<◌, ◌≤◌, arith, Bool, true, false, cond, not, List, [], ◌∷◌, ◌++◌, length, map, take, get_or, slice_get, option_map, position, refl, ap, subst, sym, ◌∙◌, Some, None, nat_lt, int_lt, inl, inr, pos}
 use Rattle.std.specs.List.{AllByRecursion, HoldsAt}
 use Rattle.std.specs.List.Sorted.{IsStrictlySortedBy, IsNonDecreasingBy, IsPartitionPoint}
 use Rattle.std.specs.Ordering.{int_cmp, int_eq, ordering_index}
 use Rattle.std.specs.declared.cmp.Ordering.{Ordering}
 use Rattle.std.specs.declared.cmp.Ordering.TheVariants.{Less, Equal, Greater}
 use Rattle.std.proofs.lemmas.Bool.{lt-ltb, le-ltb, cases_lt}
+use Rattle.std.proofs.lemmas.Bool.Decides.{Decides-int_eq}
+use Rattle.std.proofs.lemmas.List.Quantifiers.{position-Some}
 use Rattle.std.proofs.lemmas.List.Sums.{position_or_len_is}
 use Rattle.std.proofs.lemmas.Map.Lookups.{exact_signed}
-use Rattle.std.proofs.lemmas.Cmp.{int_cmp_total}
+use Rattle.std.proofs.lemmas.Cmp.{int_cmp_total, tied_itself}
 
 each_at : {X : Type 0} (P : X → Type 0) (xs : List X) → AllByRecursion P xs → (k : ℕ) (d : X)
     → k < length xs → P (get_or xs k d)
@@ -139,3 +141,48 @@ pub kept_pushed : {X R : Type 0} (told : X → R) (keep : R → ℤ) (xs : List 
 kept_pushed told keep xs i r new old given put own are e =
     put ∙ ap (λ id. old ++ id ∷ []) own ∙ ap (λ ids. ids ++ keep r ∷ []) are
     ∙ sym (kept_more told keep xs i r e)
+
+-- of two ids with an index the one of the lesser index is less
+pub found_twice : (ids : List ℤ) (x y : ℤ) (i j : ℕ) → IsStrictlySortedBy int_cmp ids
+    → position (int_eq x) ids ≡ Some i → position (int_eq y) ids ≡ Some j
+    → int_lt x y ≡ nat_lt i j
+found_twice ids x y i j up first second =
+    let a = position-Some (int_eq x) ids i (pos 0) first in
+    let b = position-Some (int_eq y) ids j (pos 0) second in
+    let own : x ≡ get_or ids i (pos 0) = (Decides-int_eq x _).0 a.1 in
+    let other : y ≡ get_or ids j (pos 0) = (Decides-int_eq y _).0 b.1 in
+    let u = get_or ids i (pos 0) in
+    let v = get_or ids j (pos 0) in
+    rw (own, other) (elim (cases_lt i j) [
+      | inl less ↦
+          less_tells u v (rises ids up i j (pos 0) less b.0) ∙ sym (lt-ltb i j less)
+      | inr more ↦ elim (cases_lt j i) [
+        | inl greater ↦
+            greater_tells u v (rises ids up j i (pos 0) greater a.0) ∙ sym (le-ltb i j more)
+        | inr same ↦
+            let e : i ≡ j = omega arith in
+            rw e (equal_tells (get_or ids j (pos 0)) ∙ sym (le-ltb j j (omega arith)))
+      ]
+    ])
+  where
+    less_tells : (x y : ℤ) → int_cmp x y ≡ Less → int_lt x y ≡ true
+    less_tells x y e = shown (int_lt x y) (int_lt y x) e
+      where
+        shown : (a b : Bool) → cond a Less (cond b Greater Equal) ≡ Less → a ≡ true
+        shown true b h = refl
+        shown false true h = cc
+        shown false false h = cc
+
+    greater_tells : (x y : ℤ) → int_cmp y x ≡ Less → int_lt x y ≡ false
+    greater_tells x y e = shown (int_lt x y) (int_lt y x) (turned_less y x e)
+      where
+        shown : (a b : Bool) → cond a Less (cond b Greater Equal) ≡ Greater → a ≡ false
+        shown true b h = cc
+        shown false b h = refl
+
+    equal_tells : (x : ℤ) → int_lt x x ≡ false
+    equal_tells x = shown (int_lt x x) (int_lt x x) (tied_itself int_cmp_total x)
+      where
+        shown : (a b : Bool) → cond a Less (cond b Greater Equal) ≡ Equal → a ≡ false
+        shown true b h = cc
+        shown false b h = refl
