@@ -1,5 +1,7 @@
 pub mod ReadIds
 pub mod ReadRules
 pub mod ReadSteps
+pub mod ReadTexts
+pub mod ReadWhole
 pub mod Sound
 mod Tried

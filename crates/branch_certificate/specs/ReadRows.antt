@@ -3,6 +3,9 @@ use Rattle.std.specs.Prelude.{◌≡◌, ◌≢◌, ℕ, ℤ, pos, ◌+◌, ◌-
 use Rattle.std.specs.List.{list_any}
 use Rattle.std.specs.List.Sorted.{IsStrictlySortedBy}
 use Rattle.std.specs.Ordering.{int_cmp, int_eq}
+use Rattle.giv_files.specs.declared.file_id.FileId.TheVariants as file
+use Rattle.giv_files.specs.declared.refusal.Refusal.{Refusal}
+use Rattle.giv_files.specs.declared.refusal.Refusal.TheVariants as refusal
 use Rattle.giv_files.specs.declared.row_why.RowWhy.{RowWhy}
 use Rattle.giv_files.specs.declared.row_why.RowWhy.TheVariants as why
 use Rattle.giv_files.specs.Inputs.{broken_whys}
@@ -11,6 +14,8 @@ use Rattle.line_cost_model.specs.Multipliers.{AreMultipliers, IsAfter}
 use Rattle.branch_certificate.specs.declared.node.Node.{Node}
 use Rattle.branch_certificate.specs.declared.node.Node.TheVariants as node
 use Rattle.branch_certificate.specs.declared.open_bound.OpenBound.{OpenBound}
+use Rattle.branch_certificate.specs.declared.read_fault.TreeReadFault.{TreeReadFault}
+use Rattle.branch_certificate.specs.declared.read_fault.TreeReadFault.TheVariants as read
 use Rattle.branch_certificate.specs.declared.read_so_far.ReadSoFar.{ReadSoFar}
 use Rattle.branch_certificate.specs.declared.row_says.RowSays.{RowSays}
 use Rattle.branch_certificate.specs.declared.row_says.RowSays.TheVariants as says
@@ -172,3 +177,8 @@ MayBeTaken said = ⊤
 abbrev pub IsInOrder : Option OpenBound → Type 0
 IsInOrder None = ⊤
 IsInOrder (Some bound) = IsAfter bound.multipliers bound.next
+
+-- a fault of reading that is the first of some; want of memory is free
+abbrev pub IsFirst : List Refusal → TreeReadFault → Type 0
+IsFirst all (read.Row first) = slice_get all 0 ≡ Some (refusal.BadRow file.Tree first.row first.why)
+IsFirst all read.NoMemory = ⊤
