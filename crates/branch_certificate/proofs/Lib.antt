@@ -4,4 +4,6 @@ pub mod ReadSteps
 pub mod ReadTexts
 pub mod ReadWhole
 pub mod Sound
+pub mod WriteFew
+pub mod WriteRows
 mod Tried

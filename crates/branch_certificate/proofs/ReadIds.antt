@@ -1,5 +1,5 @@
 -- Ids that rise, and the index of one of them.
-use Rattle.std.proofs.Common.{◌≡◌, ℕ, ℤ, zero, suc, ◌+◌, ◌<◌, ◌≤◌, arith, Bool, true, false, cond, not, List, [], ◌∷◌, ◌++◌, length, map, take, get_or, slice_get, option_map, position, refl, ap, subst, sym, ◌∙◌, Some, None, nat_lt, int_lt, inl, inr, pos}
+use Rattle.std.proofs.Common.{◌≡◌, ℕ, ℤ, zero, suc, ◌+◌, ◌<◌, ◌≤◌, arith, Bool, true, false, cond, not, List, [], ◌∷◌, ◌++◌, length, map, take, get_or, slice_get, option_map, append_assoc, position, refl, ap, subst, sym, ◌∙◌, Some, None, nat_lt, int_lt, inl, inr, pos}
 use Rattle.std.specs.List.{AllByRecursion, HoldsAt}
 use Rattle.std.specs.List.Sorted.{IsStrictlySortedBy, IsNonDecreasingBy, IsPartitionPoint}
 use Rattle.std.specs.Ordering.{int_cmp, int_eq, ordering_index}
@@ -123,7 +123,7 @@ module _ (ids : List ℤ) (id : ℤ) (up : IsStrictlySortedBy int_cmp ids) where
 -- ---- ids that are listed one after the other
 
 -- what is kept of the first items, with one more
-kept_more : {X R Y : Type 0} (told : X → R) (keep : R → Y) (xs : List X) (i : ℕ) (r : R)
+pub kept_more : {X R Y : Type 0} (told : X → R) (keep : R → Y) (xs : List X) (i : ℕ) (r : R)
     → option_map told (slice_get xs i) ≡ Some r
     → map (λ x. keep (told x)) (take (i + 1) xs) ≡ map (λ x. keep (told x)) (take i xs) ++ keep r ∷ []
 kept_more told keep [] i r e = cc
@@ -133,14 +133,15 @@ kept_more told keep (x ∷ xs) (suc i) r e =
     let next : suc i + 1 ≡ suc (i + 1) = omega arith in
     rw next (ap (λ rest. keep (told x) ∷ rest) (kept_more told keep xs i r e))
 
--- the same where the one more was passed on
-pub kept_pushed : {X R : Type 0} (told : X → R) (keep : R → ℤ) (xs : List X) (i : ℕ) (r : R)
-    (new old : List ℤ) (given : ℤ) → new ≡ old ++ given ∷ [] → given ≡ keep r
-    → old ≡ map (λ x. keep (told x)) (take i xs) → option_map told (slice_get xs i) ≡ Some r
-    → new ≡ map (λ x. keep (told x)) (take (i + 1) xs)
-kept_pushed told keep xs i r new old given put own are e =
-    put ∙ ap (λ id. old ++ id ∷ []) own ∙ ap (λ ids. ids ++ keep r ∷ []) are
-    ∙ sym (kept_more told keep xs i r e)
+-- the same behind some others, where the one more was passed on
+pub kept_behind : {X R Y : Type 0} (told : X → R) (keep : R → Y) (xs : List X) (i : ℕ) (r : R)
+    (start new old : List Y) (put : Y) → new ≡ old ++ put ∷ [] → put ≡ keep r
+    → old ≡ start ++ map (λ x. keep (told x)) (take i xs) → option_map told (slice_get xs i) ≡ Some r
+    → new ≡ start ++ map (λ x. keep (told x)) (take (i + 1) xs)
+kept_behind told keep xs i r start new old put pushed is are e =
+    pushed ∙ ap (λ one. old ++ one ∷ []) is ∙ ap (λ all. all ++ keep r ∷ []) are
+    ∙ append_assoc start (map (λ x. keep (told x)) (take i xs)) (keep r ∷ [])
+    ∙ ap (λ all. start ++ all) (sym (kept_more told keep xs i r e))
 
 -- of two ids with an index the one of the lesser index is less
 pub found_twice : (ids : List ℤ) (x y : ℤ) (i j : ℕ) → IsStrictlySortedBy int_cmp ids
