@@ -5,5 +5,7 @@ pub mod ReadTexts
 pub mod ReadWhole
 pub mod Sound
 pub mod WriteFew
+pub mod WriteInside
 pub mod WriteRows
+pub mod WriteTrees
 mod Tried

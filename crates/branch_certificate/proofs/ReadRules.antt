@@ -54,7 +54,7 @@ first_of a b c d e f =
     ++ (cond c (why.OrderGap ∷ []) [] ++ (cond d (why.OrderGap ∷ []) [] ++ (cond e (why.OrderGap ∷ []) []
     ++ (cond f (why.OrderGap ∷ []) [] ++ [])))))) 0
 
-out_of_order : (c d e f g : Bool) → (c || (d || (e || f))) ≡ g
+pub out_of_order : (c d e f g : Bool) → (c || (d || (e || f))) ≡ g
     → first_of false false c d e f ≡ cond g (Some why.OrderGap) None
 out_of_order true d e f g h = ap (λ b. cond b (Some why.OrderGap) None) h
 out_of_order false true e f g h = ap (λ b. cond b (Some why.OrderGap) None) h
@@ -66,7 +66,7 @@ or_true : (b : Bool) → (b || true) ≡ true
 or_true true = refl
 or_true false = refl
 
-or_false : (b : Bool) → (b || false) ≡ b
+pub or_false : (b : Bool) → (b || false) ≡ b
 or_false true = refl
 or_false false = refl
 

@@ -39,6 +39,10 @@ nodes_first : (ids : NamedIds) (row : TreeRow) (rest : List TreeRow)
 unfolding nodes_of
 nodes_first ids row rest = refl
 
+pub nodes_none : (ids : NamedIds) → nodes_of ids [] ≡ []
+unfolding nodes_of
+nodes_none ids = refl
+
 -- how many are due
 pub due_more : (before : List TreeRow) (row : TreeRow) (b : Bool) → is_multiplier row ≡ b
     → due_after (before ++ row ∷ []) ≡ cond b (due_after before - 1) (announced row)

@@ -88,7 +88,7 @@ ids_between (edge ∷ edges) all =
     let first = all 0 edge (omega arith) in
     ((first.id.low, first.id.high), ids_between edges (λ k d h. all (suc k) d (omega (arith, h))))
 
-few_edges : (problem : ProblemParts) → IsProblem problem → length problem.edges ≤ 1000000000
+pub few_edges : (problem : ProblemParts) → IsProblem problem → length problem.edges ≤ 1000000000
 few_edges problem sound =
     omega (
       arith,
