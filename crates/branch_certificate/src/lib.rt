@@ -23,3 +23,6 @@ pub use read::read_tree;
 pub use read_fault::TreeReadFault;
 pub use tree::Tree;
 pub use write::write_tree;
+
+#[cfg(test)]
+mod text_tests;
