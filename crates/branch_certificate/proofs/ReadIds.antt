@@ -1,5 +1,5 @@
 -- Ids that rise, and the index of one of them.
-use Rattle.std.proofs.Common.{◌≡◌, ℕ, ℤ, zero, suc, ◌+◌, ◌<◌, ◌≤◌, arith, Bool, true, false, cond, not, List, [], ◌∷◌, ◌++◌, length, map, take, get_or, slice_get, option_map, append_assoc, position, refl, ap, subst, sym, ◌∙◌, Some, None, nat_lt, int_lt, inl, inr, pos}
+use Rattle.std.proofs.Common.{◌≡◌, ℕ, ℤ, zero, suc, ◌+◌, ◌<◌, ◌≤◌, arith, Bool, true, false, cond, List, [], ◌∷◌, ◌++◌, length, map, take, get_or, slice_get, option_map, append_assoc, position, refl, ap, subst, sym, ◌∙◌, Some, None, nat_lt, int_lt, inl, inr, pos}
 use Rattle.std.specs.List.{AllByRecursion, HoldsAt}
 use Rattle.std.specs.List.Sorted.{IsStrictlySortedBy, IsNonDecreasingBy, IsPartitionPoint}
 use Rattle.std.specs.Ordering.{int_cmp, int_eq, ordering_index}
@@ -74,8 +74,8 @@ module _ (ids : List ℤ) (id : ℤ) (up : IsStrictlySortedBy int_cmp ids) where
       → int_eq id (get_or ids k (pos 0)) ≡ false
   less_before i k h here l =
       let low : int_cmp (get_or ids k (pos 0)) id ≡ Less =
-          subst (λ x. int_cmp (get_or ids k (pos 0)) x ≡ Less) (same_id _ _ here)
-          (rises ids up k i (pos 0) l h) in
+      subst (λ x. int_cmp (get_or ids k (pos 0)) x ≡ Less) (same_id _ _ here)
+      (rises ids up k i (pos 0) l h) in
       greater_is_not id _ (turned_less _ id low)
 
   -- a search that ends at an id tells its first place
@@ -91,11 +91,11 @@ module _ (ids : List ℤ) (id : ℤ) (up : IsStrictlySortedBy int_cmp ids) where
   in_order x y low Less u a b = omega arith
   in_order x y low Equal u a b =
       let above : int_cmp y id ≡ Greater =
-          turned_less id y (subst (λ z. int_cmp z y ≡ Less) (same_id x id a) low) in
+      turned_less id y (subst (λ z. int_cmp z y ≡ Less) (same_id x id a) low) in
       rw (sym b ∙ above) (omega arith)
   in_order x y low Greater u a b =
       let above : int_cmp y id ≡ Greater =
-          turned_less id y (int_cmp_total.trans id x y (turned_greater x id a) low) in
+      turned_less id y (int_cmp_total.trans id x y (turned_greater x id a) low) in
       rw (sym b ∙ above) (omega arith)
 
   non_decreasing : IsNonDecreasingBy (λ y. ordering_index (int_cmp y id)) ids

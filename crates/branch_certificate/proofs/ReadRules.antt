@@ -1,10 +1,9 @@
 -- What a row of each kind says, and for which of the six rules it is refused.
-use Rattle.std.proofs.Common.{◌≡◌, ℕ, ℤ, zero, suc, pos, negsuc, ◌^◌, ◌+◌, ◌<◌, ◌≤◌, ◌≤ℤ◌, arith, Bool, true, false, cond, not, ◌||◌, ◌&&◌, List, [], ◌∷◌, ◌++◌, length, get_or, map, position, slice_get, unsigned_abs, nat_lt, int_lt, refl, ap, subst, sym, unwrap_or, ◌∙◌, Option, Some, None, All}
+use Rattle.std.proofs.Common.{◌≡◌, ℕ, ℤ, zero, suc, pos, negsuc, ◌^◌, ◌+◌, ◌<◌, ◌≤◌, ◌≤ℤ◌, arith, Bool, true, false, cond, not, ◌||◌, ◌&&◌, List, [], ◌∷◌, ◌++◌, length, position, slice_get, unsigned_abs, int_lt, refl, ap, subst, unwrap_or, ◌∙◌, Option, Some, None}
 use Rattle.std.specs.List.{list_any, position_or_len}
 use Rattle.std.specs.Ordering.{int_eq}
 use Rattle.std.proofs.lemmas.Bool.{ltb-false, not-true, not-false}
 use Rattle.std.proofs.lemmas.Option.{same_Some}
-use Rattle.std.proofs.lemmas.Bool.Decides.{Decides-int_eq}
 use Rattle.std.proofs.lemmas.Int.{ints}
 use Rattle.std.proofs.lemmas.List.Folds.{list_any_at}
 use Rattle.std.proofs.lemmas.List.Quantifiers.{position-Some}
@@ -13,8 +12,8 @@ use Rattle.giv_files.specs.declared.row_why.RowWhy.TheVariants as why
 use Rattle.line_cost_model.specs.declared.side.Side.{Side}
 use Rattle.branch_certificate.specs.declared.node.Node.TheVariants as node
 use Rattle.branch_certificate.specs.declared.tree_row.TreeRow.{TreeRow}
-use Rattle.branch_certificate.specs.ReadRows.{IsTreeRow, first_why, IsRefused, IsRefusedIf, SaysNode, SaysBound, SaysMultiplier}
-use Rattle.branch_certificate.specs.TreeFiles.{NamedIds, is_split, is_empty, is_bound, is_multiplier, is_point, has_stray_cell, is_due, falls_back, has_line, has_edge, announced, node_of, side_of}
+use Rattle.branch_certificate.specs.ReadRows.{IsTreeRow, first_why, IsRefused, IsRefusedIf, SaysNode, SaysMultiplier}
+use Rattle.branch_certificate.specs.TreeFiles.{NamedIds, is_split, is_empty, is_multiplier, has_stray_cell, is_due, falls_back, has_line, has_edge, announced, node_of, side_of}
 
 -- ---- an id that is there
 

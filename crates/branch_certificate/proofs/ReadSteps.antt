@@ -1,14 +1,10 @@
 -- What is known after some rows of a tree, with one row more.
-use Rattle.std.proofs.Common.{◌≡◌, ℕ, ℤ, pos, negsuc, suc, ◌≤ℤ◌, ◌+◌, ◌-◌, ◌<◌, ◌≤◌, arith, Bool, true, false, cond, not, ◌||◌, ◌&&◌, nat_lt, int_lt, List, [], ◌∷◌, ◌++◌, length, get_or, map, take, position, reverse, unsigned_abs, refl, ap, subst, sym, ◌∙◌, append_assoc, append-nil, inl, inr, Option, Some, None, option_map, unwrap_or, All}
+use Rattle.std.proofs.Common.{◌≡◌, ℕ, ℤ, pos, negsuc, suc, ◌≤ℤ◌, ◌+◌, ◌-◌, ◌<◌, ◌≤◌, arith, Bool, true, false, cond, not, ◌||◌, ◌&&◌, nat_lt, int_lt, List, [], ◌∷◌, ◌++◌, length, get_or, map, take, unsigned_abs, refl, ap, sym, ◌∙◌, append_assoc, append-nil, inl, inr, Option, Some, None, option_map, unwrap_or, All}
 use Rattle.std.specs.List.{list_any, prefix_len}
-use Rattle.std.specs.Ordering.{int_cmp, int_eq}
-use Rattle.std.specs.declared.cmp.Ordering.TheVariants.{Less, Equal, Greater}
-use Rattle.std.proofs.lemmas.Bool.{lt-ltb, le-ltb, ltb-false, cases_lt, cases_eq}
-use Rattle.std.proofs.lemmas.Bool.Decides.{Decides-int_eq}
+use Rattle.std.proofs.lemmas.Bool.{lt-ltb, le-ltb, ltb-false, cases_lt}
 use Rattle.std.proofs.lemmas.Int.{ints}
 use Rattle.std.proofs.lemmas.List.{reverse-append}
 use Rattle.std.proofs.lemmas.List.Elements.{All-nil, All-push}
-use Rattle.std.proofs.lemmas.List.Quantifiers.{position-Some}
 use Rattle.std.proofs.lemmas.List.Sums.{fold_push}
 use Rattle.giv_files.specs.declared.row_why.RowWhy.{RowWhy}
 use Rattle.giv_files.specs.declared.row_why.RowWhy.TheVariants as why
@@ -24,7 +20,7 @@ use Rattle.branch_certificate.specs.declared.row_says.RowSays.TheVariants as say
 use Rattle.branch_certificate.specs.declared.tree_row.TreeRow.{TreeRow}
 use Rattle.branch_certificate.specs.ReadRows.{AreRising, SaysNode, SaysBound, SaysMultiplier, Says, begins_inside, IsClosed, IsOpen, IsSoundBound, IsSoundNode, StandsBehind, IsReadSoFar, is_due_in, takes, taken_by, takes_row, closed, with_row, first_why, MayBeTaken, IsInOrder}
 use Rattle.branch_certificate.specs.TreeFiles.{NamedIds, is_multiplier, is_due, due_after, due_behind, announced, falls_back, multiplier_in, multiplier_rows, node_of, nodes_of}
-use Rattle.branch_certificate.proofs.ReadIds.{rises, found_twice}
+use Rattle.branch_certificate.proofs.ReadIds.{found_twice}
 use Rattle.branch_certificate.proofs.ReadRules.{within}
 
 -- ---- rows with one more

@@ -82,9 +82,9 @@ module _ (ids : NamedIds) (table : List TableRow) (i : ℕ) (so_far : ReadSoFar)
     next_row went new is_new =
         let step = taken ids rows_before row so_far up known said says in
         let none : broken_whys (tree_rules ids) rows_before row ≡ [] =
-            none_first _ (step.0 ∙ ap (λ b. cond b None (Some why.OrderGap)) (sym told ∙ went)) in
+        none_first _ (step.0 ∙ ap (λ b. cond b None (Some why.OrderGap)) (sym told ∙ went)) in
         let more : rows_before ++ row ∷ [] ≡ records (tree_input ids) (take (i + 1) table) =
-            ap (λ row. rows_before ++ row ∷ []) is ∙ sym (records_more (tree_input ids) table i within) in
+        ap (λ row. rows_before ++ row ∷ []) is ∙ sym (records_more (tree_input ids) table i within) in
         record {
           sound = row_met (tree_input ids) table i within
               (ap (λ row. broken_whys (tree_rules ids) rows_before row) (sym is) ∙ none) sound;

@@ -1,5 +1,5 @@
 -- How many multipliers a bound can have: no more than there are edges, and these have ids.
-use Rattle.std.proofs.Common.{◌≡◌, ℕ, ℤ, zero, suc, pos, ◌+◌, ◌<◌, ◌≤◌, ◌≤ℤ◌, ◌<ℤ◌, int_lt, arith, T, Bool, true, false, cond, List, [], ◌∷◌, length, get_or, map, refl, All}
+use Rattle.std.proofs.Common.{◌≡◌, ℕ, ℤ, suc, pos, ◌+◌, ◌<◌, ◌≤◌, ◌≤ℤ◌, ◌<ℤ◌, int_lt, arith, T, Bool, true, false, cond, List, [], ◌∷◌, length, get_or, map, All}
 use Rattle.std.specs.List.{AllByRecursion}
 use Rattle.std.specs.List.Sorted.{IsStrictlySortedBy, IsStrictlyIncreasing}
 use Rattle.std.specs.Ordering.{int_cmp}
@@ -32,13 +32,13 @@ climbs next (one ∷ rest) up low = (low (omega arith), climbs (one.edge + 1) re
     later k h =
         let next : suc k + 1 ≡ suc (k + 1) = omega arith in
         let above : get_or (one.edge ∷ edges) (suc k) 0 < get_or (one.edge ∷ edges) (suc k + 1) 0 =
-            up (suc k) (omega arith) in
+        up (suc k) (omega arith) in
         rw next at above
 
     first : 0 < length rest → one.edge + 1 ≤ get_or edges 0 0
     first h =
         let above : get_or (one.edge ∷ edges) 0 0 < get_or (one.edge ∷ edges) (0 + 1) 0 =
-            up 0 (omega (arith, length-map rest (λ (one : Multiplier). one.edge))) in
+        up 0 (omega (arith, length-map rest (λ (one : Multiplier). one.edge))) in
         omega (arith, above)
 
 few_climb : (most next : ℕ) (multipliers : List Multiplier) → next ≤ most → ClimbFrom next multipliers
@@ -48,7 +48,7 @@ few_climb most next (one ∷ rest) h climb below =
     let own : one.edge < most = below 0 one (omega arith) in
     let low : next ≤ one.edge = climb.0 in
     let rest_few : one.edge + 1 + length rest ≤ most =
-        few_climb most (one.edge + 1) rest (omega arith) climb.1 (λ k d l. below (suc k) d (omega arith)) in
+    few_climb most (one.edge + 1) rest (omega arith) climb.1 (λ k d l. below (suc k) d (omega arith)) in
     omega arith
 
 -- ---- ids that rise
@@ -78,8 +78,11 @@ unfolding IsStrictlySortedBy
 few_between low high [] h rise all = omega (arith, h)
 few_between low high (id ∷ ids) h rise all =
     let room : low ≤ high = omega (arith, ints, all.0.0, all.0.1) in
-    omega (arith, few_between (low + 1) high ids (omega (arith, room)) rise.1
-    (behind low high id ids all.0 rise.0 all.1))
+    omega (
+      arith,
+      few_between (low + 1) high ids (omega (arith, room)) rise.1
+          (behind low high id ids all.0 rise.0 all.1),
+    )
 
 ids_between : (edges : List BoundedEdge) → All IsBoundedEdge edges
     → AllByRecursion (LiesBetween 1 1000000000) (map (λ edge. edge.id) edges)

@@ -1,7 +1,6 @@
 -- The rows of a tree that is written are in the ranges of their columns.
-use Rattle.std.proofs.Common.{◌≡◌, ◌≤◌, ◌<◌, ℕ, ℤ, pos, zero, suc, ◌≤ℤ◌, neg_ℤ, arith, List, [], ◌∷◌, ◌++◌, length, get_or, map, slice_get, refl, sym, ap, subst, option_map, unwrap_or, All}
+use Rattle.std.proofs.Common.{◌≤◌, ◌<◌, ℕ, ℤ, pos, zero, suc, ◌≤ℤ◌, arith, List, [], ◌∷◌, length, map, slice_get, refl, option_map, unwrap_or, All}
 use Rattle.std.specs.List.{flat_map}
-use Rattle.std.specs.Int.Signed.{le_z_yes}
 use Rattle.std.proofs.lemmas.Int.{ints}
 use Rattle.std.proofs.lemmas.List.Elements.{All-nil, All-cons, All-head, All-tail, All-append}
 use Rattle.giv_files.specs.Columns.{tree_columns}
@@ -11,8 +10,8 @@ use Rattle.line_cost_model.specs.declared.edge.BoundedEdge.{BoundedEdge}
 use Rattle.line_cost_model.specs.declared.multipliers.Multiplier.{Multiplier}
 use Rattle.line_cost_model.specs.declared.side.Side.{Side}
 use Rattle.line_cost_model.specs.declared.side.Side.TheVariants as side
-use Rattle.line_cost_model.specs.Multipliers.{AreMultipliers, IsAmount}
-use Rattle.line_cost_model.specs.Problems.{CostedLine, IsBoundedEdge, IsCostedLine, IsId, IsProblem, ProblemParts}
+use Rattle.line_cost_model.specs.Multipliers.{IsAmount}
+use Rattle.line_cost_model.specs.Problems.{CostedLine, IsId, IsProblem, ProblemParts}
 use Rattle.branch_certificate.specs.declared.node.Node.{Node}
 use Rattle.branch_certificate.specs.declared.node.Node.TheVariants as node
 use Rattle.branch_certificate.specs.TreeTexts.{CanBeWritten, NamesWhatIs, edge_id, line_id, node_rows, side_place}

@@ -1,5 +1,5 @@
 -- A tree that is written is read back.
-use Rattle.std.proofs.Common.{◌≡◌, ℕ, ℤ, pos, zero, suc, ◌+◌, ◌-◌, ◌<◌, ◌≤◌, ◌≤ℤ◌, ◌^◌, arith, Bool, true, false, cond, not, ◌||◌, nat_lt, int_eq, List, [], ◌∷◌, ◌++◌, length, get_or, map, position, slice_get, refl, sym, ap, subst, ◌∙◌, append_assoc, append-nil, Some, None, Option, option_map, unwrap_or, unsigned_abs, Result, Ok, Err, IfOk, All}
+use Rattle.std.proofs.Common.{◌≡◌, ℕ, ℤ, pos, zero, suc, ◌-◌, ◌<◌, ◌≤◌, ◌≤ℤ◌, ◌^◌, arith, Bool, true, false, cond, not, ◌||◌, nat_lt, int_eq, List, [], ◌∷◌, ◌++◌, length, get_or, map, position, slice_get, refl, sym, ap, subst, ◌∙◌, append_assoc, append-nil, Some, None, option_map, unwrap_or, Result, Ok, Err, IfOk, All}
 use Rattle.std.specs.List.{flat_map}
 use Rattle.std.specs.List.Sorted.{IsStrictlySortedBy}
 use Rattle.std.specs.Ordering.{int_cmp}
@@ -8,7 +8,7 @@ use Rattle.std.proofs.lemmas.Bool.Decides.{Decides-int_eq}
 use Rattle.std.proofs.lemmas.Cmp.{int_cmp_total, tied_itself}
 use Rattle.std.proofs.lemmas.Int.{ints}
 use Rattle.std.proofs.lemmas.List.{get_or_default, length-map, map-append}
-use Rattle.std.proofs.lemmas.List.Elements.{All-head, All-tail, All-nil}
+use Rattle.std.proofs.lemmas.List.Elements.{All-head, All-tail}
 use Rattle.std.proofs.lemmas.Simd.{map-map}
 use Rattle.giv_files.specs.declared.row_why.RowWhy.{RowWhy}
 use Rattle.giv_files.specs.declared.row_why.RowWhy.TheVariants as why
@@ -69,9 +69,11 @@ keep_both : (rules : List _) (before some more : List TreeRow) → KeepRules rul
     → KeepRules rules (before ++ some) more → KeepRules rules before (some ++ more)
 keep_both rules before [] more first second =
     subst (λ all. KeepRules rules all more) (append-nil before) second
-keep_both rules before (row ∷ some) more first second =
-    (first.0, keep_both rules (before ++ row ∷ []) some more first.1
-    (subst (λ all. KeepRules rules all more) (sym (append_assoc before (row ∷ []) some)) second))
+keep_both rules before (row ∷ some) more first second = (
+  first.0,
+  keep_both rules (before ++ row ∷ []) some more first.1
+      (subst (λ all. KeepRules rules all more) (sym (append_assoc before (row ∷ []) some)) second),
+)
 
 module _ (ids : NamedIds) (before : List TreeRow) (row : TreeRow) where
   -- a row in its place breaks no rule where none is due
@@ -107,13 +109,13 @@ module _ (ids : NamedIds) (nodes : List Node) (row_of : Multiplier → TreeRow)
       let rising : nat_lt one.edge bound.next ≡ false = le-ltb one.edge bound.next climb.0 in
       let is_late : is_due before ≡ true = ap (nat_lt 0) (h.due ∙ due) ∙ lt-ltb 0 (suc (length rest)) (omega arith) in
       let none : broken_whys (tree_rules ids) before row ≡ [] = no_why _ (
-          said.place before
-          ∙ ap (λ b. cond (not b || falls_back before row) (Some why.OrderGap) None) is_late
-          ∙ ap (λ b. cond b (Some why.OrderGap) None) (h.last row one.edge said.stands ∙ rising)) in
+      said.place before
+      ∙ ap (λ b. cond (not b || falls_back before row) (Some why.OrderGap) None) is_late
+      ∙ ap (λ b. cond b (Some why.OrderGap) None) (h.last row one.edge said.stands ∙ rising)) in
       let next = multiplier_more ids before row nodes bound one.edge (pos one.amount) h said up rising in
       let left : bound.due - 1 ≡ length rest = omega (arith, due) in
       let others = multipliers_kept up rest (before ++ row ∷ []) (taken_by bound one.edge (pos one.amount))
-          next left climb.1 (λ k d l. amounts (suc k) d (omega arith)) (λ k d l. named (suc k) d (omega arith)) in (
+      next left climb.1 (λ k d l. amounts (suc k) d (omega arith)) (λ k d l. named (suc k) d (omega arith)) in (
         (none, others.0),
         subst (λ all. IsClosed ids all (with_multipliers bound (one ∷ rest)))
             (append_assoc before (row ∷ []) (map row_of rest))
@@ -196,7 +198,7 @@ module _ (problem : ProblemParts) (sound : IsProblem problem) where
       → SaysMultiplier ids (multiplier_row one) one.edge (pos one.amount)
   multiplier_says_row one amount h =
       let here : one.edge < length problem.edges =
-          omega (arith, length-map problem.edges (λ (edge : BoundedEdge). edge.id)) in
+      omega (arith, length-map problem.edges (λ (edge : BoundedEdge). edge.id)) in
       multiplier_says ids (multiplier_row one) refl one.edge (pos one.amount)
       (own_index (λ (edge : BoundedEdge). edge.id) problem.edges one.edge sound.edges_rise here)
       (few_edges_small one.edge here) refl (some_amount one.amount amount.some)
@@ -229,15 +231,15 @@ module _ (problem : ProblemParts) (sound : IsProblem problem) where
       let said = bound_row (length multipliers) in
       let size = length-map problem.edges (λ (edge : BoundedEdge). edge.id) in
       let others = multipliers_kept ids nodes multiplier_row multiplier_says_row
-          (sound.lines_rise, sound.edges_rise) multipliers (before ++ first ∷ [])
-          (record { multipliers = []; next = 0; due = length multipliers })
-          (bound_more ids before first nodes (length multipliers) h said) refl (climb_of multipliers can)
-          can.amounts (λ k d l. let own : (get_or multipliers k d).edge < length problem.edges = named k d l in
-          omega (arith, size)) in
+      (sound.lines_rise, sound.edges_rise) multipliers (before ++ first ∷ [])
+      (record { multipliers = []; next = 0; due = length multipliers })
+      (bound_more ids before first nodes (length multipliers) h said) refl (climb_of multipliers can)
+      can.amounts (λ k d l. let own : (get_or multipliers k d).edge < length problem.edges = named k d l in
+      omega (arith, size)) in
       let same : map (λ row. tree_row row.cells) (map (λ one. cells_row (pos 3) (edge_id problem one.edge)
-          (pos 0) (pos one.amount)) multipliers) ≡ map multiplier_row multipliers =
-          map-map (λ (row : TableRow). tree_row row.cells) (λ (one : Multiplier).
-          cells_row (pos 3) (edge_id problem one.edge) (pos 0) (pos one.amount)) multipliers in
+      (pos 0) (pos one.amount)) multipliers) ≡ map multiplier_row multipliers =
+      map-map (λ (row : TableRow). tree_row row.cells) (λ (one : Multiplier).
+      cells_row (pos 3) (edge_id problem one.edge) (pos 0) (pos one.amount)) multipliers in
       subst (λ rows. Kept before nodes (first ∷ rows) (node.Bound multipliers ∷ [])) (sym same) (
         (kept_here ids before first h.none_due (said.place before), others.0),
         subst (λ all. IsClosed ids all (nodes ++ node.Bound multipliers ∷ []))
@@ -255,9 +257,9 @@ module _ (problem : ProblemParts) (sound : IsProblem problem) where
   )
   nodes_kept (this ∷ these) named can before nodes h =
       let first = node_kept this (All-head (NamesWhatIs problem) this these named)
-          (All-head CanBeWritten this these can) before nodes h in
+      (All-head CanBeWritten this these can) before nodes h in
       let others = nodes_kept these (All-tail (NamesWhatIs problem) this these named)
-          (All-tail CanBeWritten this these can) (before ++ written this) (nodes ++ this ∷ []) first.1 in
+      (All-tail CanBeWritten this these can) (before ++ written this) (nodes ++ this ∷ []) first.1 in
       let rest = map (λ row. tree_row row.cells) (flat_map (node_rows problem) these) in
       subst (λ rows. Kept before nodes rows (this ∷ these))
       (sym (map-append (λ row. tree_row row.cells) (node_rows problem this) (flat_map (node_rows problem) these))) (
@@ -278,8 +280,8 @@ module _ (problem : ProblemParts) (sound : IsProblem problem) where
       let none : IsClosed ids [] [] = record { whole = λ rest inside. refl; none_due = refl } in
       let all = nodes_kept nodes named can [] [] none in
       let same : records input table ≡ records input rows =
-          sym (map-map tree_row (λ (row : TableRow). row.cells) table) ∙ ap (map tree_row) back.1
-          ∙ map-map tree_row (λ (row : TableRow). row.cells) rows in
+      sym (map-map tree_row (λ (row : TableRow). row.cells) table) ∙ ap (map tree_row) back.1
+      ∙ map-map tree_row (λ (row : TableRow). row.cells) rows in
       record {
         fine = accepted input rows text back refl all.0
             (whole_accepted file.Tree is_due why.OrderGap (records input rows) (ap (nat_lt 0) all.1.none_due));

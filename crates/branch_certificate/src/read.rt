@@ -41,7 +41,7 @@ pub fn read_tree(alloc: Global, bytes: &[u8], problem: &LineProblem) -> Result<T
 fn read_cells(alloc: Global, bytes: &[u8]) -> Result<Table<4>, TreeReadFault>
     ensures table { MatchResult result
         (λ table. (cell_faults file.Tree tree_columns bytes.now ≡ [])
-            × (table ≡ table_of tree_columns bytes.now))
+        × (table ≡ table_of tree_columns bytes.now))
         (IsFirst (cell_faults file.Tree tree_columns bytes.now)) }
     ensures cells { IfOk result (All (λ row. InColumns tree_columns row.cells)) }
 {
@@ -53,16 +53,12 @@ fn read_cells(alloc: Global, bytes: &[u8]) -> Result<Table<4>, TreeReadFault>
 }
 
 // What is read of the rows of a table.
-fn read_rows(
-    alloc: Global,
-    ids: &ProblemIds,
-    table: &Table<4>,
-) -> Result<ReadSoFar, TreeReadFault>
+fn read_rows(alloc: Global, ids: &ProblemIds, table: &Table<4>) -> Result<ReadSoFar, TreeReadFault>
     requires rising { AreRising ids.now }
     requires cells { All (λ row. InColumns tree_columns row.cells) table.now }
     ensures { MatchResult result
         (λ so_far. (table_row_faults (tree_input ids.now) table.now ≡ [])
-            × IsReadSoFar ids.now (records (tree_input ids.now) table.now) so_far)
+        × IsReadSoFar ids.now (records (tree_input ids.now) table.now) so_far)
         (IsFirst (table_row_faults (tree_input ids.now) table.now)) }
 {
     let mut so_far = ReadSoFar::new(alloc);

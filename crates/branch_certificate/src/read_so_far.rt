@@ -93,8 +93,8 @@ impl ReadSoFar {
     fn begin_bound(&mut self, alloc: Global, count: u64) -> Result<bool, NoMemory>
         ensures taken { IfOk result (λ taken. taken ≡ not (is_due_in self.old.bound)) }
         ensures new { IfOk result (λ taken. self.new ≡ (if taken then record {
-            nodes = closed self.old.nodes self.old.bound;
-            bound = Some (record { multipliers = []; next = 0; due = count });
+          nodes = closed self.old.nodes self.old.bound;
+          bound = Some (record { multipliers = []; next = 0; due = count });
         } else self.old)) }
     {
         if self.is_due() {
@@ -114,8 +114,8 @@ impl ReadSoFar {
         ensures taken { IfOk result (λ taken. taken
             ≡ unwrap_or (option_map (λ bound. takes bound edge) self.old.bound) false) }
         ensures new { IfOk result (λ taken. self.new ≡ (if taken then record {
-            nodes = self.old.nodes;
-            bound = option_map (λ bound. taken_by bound edge millionths) self.old.bound;
+          nodes = self.old.nodes;
+          bound = option_map (λ bound. taken_by bound edge millionths) self.old.bound;
         } else self.old)) }
     {
         match &mut self.bound {

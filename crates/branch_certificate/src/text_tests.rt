@@ -22,7 +22,8 @@ fn two_edges(alloc: Global) -> Result<LineProblem, NoMemory>
 }
 
 // Each kind of node, as it is written.
-const EACH_KIND: &[u8] = b"# kind; id; value; multiplier\nsplit; 9; 1; 0\nempty; 7; 0; 0\nempty; 4; 1; 0\nbound; 2; 0; 0\nmult; 4; 0; 12.5\nmult; 7; 0; 0.000001\nbound; 0; 0; 0\npoint; 0; 0; 0\nsplit; 3; 1000000000; 0\n";
+const EACH_KIND: &[u8] =
+    b"# kind; id; value; multiplier\nsplit; 9; 1; 0\nempty; 7; 0; 0\nempty; 4; 1; 0\nbound; 2; 0; 0\nmult; 4; 0; 12.5\nmult; 7; 0; 0.000001\nbound; 0; 0; 0\npoint; 0; 0; 0\nsplit; 3; 1000000000; 0\n";
 
 // The fault at a row.
 fn fault(row: u64, why: RowWhy) -> TreeReadFault {
@@ -39,10 +40,34 @@ fn nodes_are_read(rt: HostRuntime) -> Result<(), Fail> {
     assert_eq!(rt; tree.len(), 7);
     if tree.len() == 7 {
         assert!(rt; matches!(tree.node(0), Node::Split { line: 1, at: 1 }));
-        assert!(rt; matches!(tree.node(1), Node::Empty { edge: 1, side: Side::Over }));
-        assert!(rt; matches!(tree.node(2), Node::Empty { edge: 0, side: Side::Under }));
+        assert!(rt;
+            matches!(
+                tree.node(1),
+                Node::Empty {
+                    edge: 1,
+                    side: Side::Over
+                }
+            )
+        );
+        assert!(rt;
+            matches!(
+                tree.node(2),
+                Node::Empty {
+                    edge: 0,
+                    side: Side::Under
+                }
+            )
+        );
         assert!(rt; matches!(tree.node(5), Node::Point));
-        assert!(rt; matches!(tree.node(6), Node::Split { line: 0, at: 1_000_000_000 }));
+        assert!(rt;
+            matches!(
+                tree.node(6),
+                Node::Split {
+                    line: 0,
+                    at: 1_000_000_000
+                }
+            )
+        );
     }
     Ok(())
 }
@@ -72,7 +97,10 @@ fn multipliers_are_read(rt: HostRuntime) -> Result<(), Fail> {
 fn what_is_read_is_written(rt: HostRuntime) -> Result<(), Fail> {
     let problem = two_edges(rt.alloc())?;
     match read_tree(rt.alloc(), EACH_KIND, &problem) {
-        Ok(tree) => assert_eq!(rt; write_tree(rt.alloc(), &problem, &tree)?.as_bytes(), EACH_KIND),
+        Ok(tree) => assert_eq!(rt;
+            write_tree(rt.alloc(), &problem, &tree)?.as_bytes(),
+            EACH_KIND
+        ),
         Err(_) => assert!(rt; false),
     }
     Ok(())
@@ -101,7 +129,11 @@ fn unknown_ids_are_refused(rt: HostRuntime) -> Result<(), Fail> {
         (b"point; 0; 0; 0\nempty; 3; 2; 7\n", 2, RowWhy::UnknownEdge),
         // The edge is looked at before the place of the row, and a cell before any row.
         (b"mult; 9; 1; 0\n", 1, RowWhy::UnknownEdge),
-        (b"split; 4; 0; 0\nsplit; 3; 0; x\n", 2, RowWhy::NotNumber { column: 4 }),
+        (
+            b"split; 4; 0; 0\nsplit; 3; 0; x\n",
+            2,
+            RowWhy::NotNumber { column: 4 },
+        ),
         (b"\xff\x00; ;\xfe\n", 1, RowWhy::FieldCount { found: 3 }),
     ];
     for (text, row, why) in &cases {

@@ -1,4 +1,4 @@
-use Rattle.std.proofs.Common.{◌∙◌, subst, sym, arith}
+use Rattle.std.proofs.Common.{subst, arith}
 use Rattle.giv_files.proofs.Inputs.{rows_met, records_all}
 use Rattle.branch_certificate.specs.ReadRows.{IsReadSoFar}
 use Rattle.branch_certificate.specs.TreeFiles.{tree_input}
