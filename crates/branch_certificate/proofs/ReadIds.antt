@@ -1,5 +1,8 @@
 -- Ids that rise, and the index of one of them.
-use Rattle.std.proofs.Common.{◌≡◌, ℕ, ℤ, zero, suc, ◌+◌, ◌<◌, ◌≤◌, arith, Bool, true, false, cond, List, [], ◌∷◌, ◌++◌, length, map, take, get_or, slice_get, option_map, append_assoc, position, refl, ap, subst, sym, ◌∙◌, Some, None, nat_lt, int_lt, inl, inr, pos}
+use Rattle.std.proofs.Common.{◌≡◌, ℕ, ℤ, zero, suc, ◌+◌, ◌<◌, ◌≤◌, arith, Bool, true, false, cond}
+use Rattle.std.proofs.Common.{List, [], ◌∷◌, ◌++◌, length, map, take, get_or, slice_get, option_map}
+use Rattle.std.proofs.Common.{append_assoc, position, refl, ap, subst, sym, ◌∙◌, Some, None, nat_lt}
+use Rattle.std.proofs.Common.{int_lt, inl, inr, pos}
 use Rattle.std.specs.List.{AllByRecursion, HoldsAt}
 use Rattle.std.specs.List.Sorted.{IsStrictlySortedBy, IsNonDecreasingBy, IsPartitionPoint}
 use Rattle.std.specs.Ordering.{int_cmp, int_eq, ordering_index}
@@ -125,7 +128,8 @@ module _ (ids : List ℤ) (id : ℤ) (up : IsStrictlySortedBy int_cmp ids) where
 -- what is kept of the first items, with one more
 pub kept_more : {X R Y : Type 0} (told : X → R) (keep : R → Y) (xs : List X) (i : ℕ) (r : R)
     → option_map told (slice_get xs i) ≡ Some r
-    → map (λ x. keep (told x)) (take (i + 1) xs) ≡ map (λ x. keep (told x)) (take i xs) ++ keep r ∷ []
+    → map (λ x. keep (told x)) (take (i + 1) xs) ≡ map (λ x. keep (told x)) (take i xs) ++ keep r
+    ∷ []
 kept_more told keep [] i r e = cc
 kept_more told keep (x ∷ xs) zero r e =
     let same : told x ≡ r = cc in ap (λ s. keep s ∷ []) same
@@ -136,7 +140,8 @@ kept_more told keep (x ∷ xs) (suc i) r e =
 -- the same behind some others, where the one more was passed on
 pub kept_behind : {X R Y : Type 0} (told : X → R) (keep : R → Y) (xs : List X) (i : ℕ) (r : R)
     (start new old : List Y) (put : Y) → new ≡ old ++ put ∷ [] → put ≡ keep r
-    → old ≡ start ++ map (λ x. keep (told x)) (take i xs) → option_map told (slice_get xs i) ≡ Some r
+    → old ≡ start ++ map (λ x. keep (told x)) (take i xs) → option_map told (slice_get xs i)
+    ≡ Some r
     → new ≡ start ++ map (λ x. keep (told x)) (take (i + 1) xs)
 kept_behind told keep xs i r start new old put pushed is are e =
     pushed ∙ ap (λ one. old ++ one ∷ []) is ∙ ap (λ all. all ++ keep r ∷ []) are

@@ -1,5 +1,8 @@
 -- What a row of each kind says, and for which of the six rules it is refused.
-use Rattle.std.proofs.Common.{◌≡◌, ℕ, ℤ, zero, suc, pos, negsuc, ◌^◌, ◌+◌, ◌<◌, ◌≤◌, ◌≤ℤ◌, arith, Bool, true, false, cond, not, ◌||◌, ◌&&◌, List, [], ◌∷◌, ◌++◌, length, position, slice_get, unsigned_abs, int_lt, refl, ap, subst, unwrap_or, ◌∙◌, Option, Some, None}
+use Rattle.std.proofs.Common.{◌≡◌, ℕ, ℤ, zero, suc, pos, negsuc, ◌^◌, ◌+◌, ◌<◌, ◌≤◌, ◌≤ℤ◌, arith}
+use Rattle.std.proofs.Common.{Bool, true, false, cond, not, ◌||◌, ◌&&◌, List, [], ◌∷◌, ◌++◌, length}
+use Rattle.std.proofs.Common.{position, slice_get, unsigned_abs, int_lt, refl, ap, subst, unwrap_or}
+use Rattle.std.proofs.Common.{◌∙◌, Option, Some, None}
 use Rattle.std.specs.List.{list_any, position_or_len}
 use Rattle.std.specs.Ordering.{int_eq}
 use Rattle.std.proofs.lemmas.Bool.{ltb-false, not-true, not-false}
@@ -12,8 +15,11 @@ use Rattle.giv_files.specs.declared.row_why.RowWhy.TheVariants as why
 use Rattle.line_cost_model.specs.declared.side.Side.{Side}
 use Rattle.branch_certificate.specs.declared.node.Node.TheVariants as node
 use Rattle.branch_certificate.specs.declared.tree_row.TreeRow.{TreeRow}
-use Rattle.branch_certificate.specs.ReadRows.{IsTreeRow, first_why, IsRefused, IsRefusedIf, SaysNode, SaysMultiplier}
-use Rattle.branch_certificate.specs.TreeFiles.{NamedIds, is_split, is_empty, is_multiplier, has_stray_cell, is_due, falls_back, has_line, has_edge, announced, node_of, side_of}
+use Rattle.branch_certificate.specs.ReadRows.{IsTreeRow, first_why, IsRefused, IsRefusedIf}
+use Rattle.branch_certificate.specs.ReadRows.{SaysNode, SaysMultiplier}
+use Rattle.branch_certificate.specs.TreeFiles.{NamedIds, is_split, is_empty, is_multiplier}
+use Rattle.branch_certificate.specs.TreeFiles.{has_stray_cell, is_due, falls_back, has_line}
+use Rattle.branch_certificate.specs.TreeFiles.{has_edge, announced, node_of, side_of}
 
 -- ---- an id that is there
 
@@ -50,7 +56,8 @@ missing ids id e = none_passes (int_eq id) ids (ltb-false _ _ (past_all _ _ e))
 abbrev first_of : Bool → Bool → Bool → Bool → Bool → Bool → Option RowWhy
 first_of a b c d e f =
     slice_get (cond a (why.UnknownLine ∷ []) [] ++ (cond b (why.UnknownEdge ∷ []) []
-    ++ (cond c (why.OrderGap ∷ []) [] ++ (cond d (why.OrderGap ∷ []) [] ++ (cond e (why.OrderGap ∷ []) []
+    ++ (cond c (why.OrderGap ∷ []) [] ++ (cond d (why.OrderGap ∷ []) []
+    ++ (cond e (why.OrderGap ∷ []) []
     ++ (cond f (why.OrderGap ∷ []) [] ++ [])))))) 0
 
 pub out_of_order : (c d e f g : Bool) → (c || (d || (e || f))) ≡ g
@@ -131,7 +138,11 @@ module _ (ids : NamedIds) (row : TreeRow) (kind : row.kind ≡ pos 0) where
     place = λ before.
         split_known line stands false none before
         ∙ ap (λ b. cond b (Some why.OrderGap) None) (or_false (is_due before));
-    sound = (within ids.lines row.id line stands, at_most row.value at is cells.value.0 cells.value.1);
+    sound = (
+      within ids.lines row.id line stands,
+      at_most row.value at is cells.value.0
+          cells.value.1,
+    );
   }
 
 -- ---- an empty edge
@@ -181,7 +192,8 @@ module _ (ids : NamedIds) (row : TreeRow) (kind : row.kind ≡ pos 1) where
       → not (int_eq row.multiplier (pos 0)) ≡ true → IsRefused ids row why.OrderGap
   empty_stray edge stands stray before =
       empty_known edge stands _ true refl stray before
-      ∙ ap (λ b. cond (is_due before || b) (Some why.OrderGap) None) (or_true (int_lt (pos 1) row.value))
+      ∙ ap (λ b. cond (is_due before || b) (Some why.OrderGap) None)
+      (or_true (int_lt (pos 1) row.value))
       ∙ ap (λ b. cond b (Some why.OrderGap) None) (or_true (is_due before))
 
   pub empty_says : (edge : ℕ) (side : Side) → position (int_eq row.id) ids.edges ≡ Some edge
@@ -250,7 +262,8 @@ module _ (ids : NamedIds) (row : TreeRow) (kind : row.kind ≡ pos 3) where
       → not (int_eq row.multiplier (pos 0)) ≡ false → IsRefused ids row why.OrderGap
   multiplier_of_0 edge stands none before =
       multiplier_known edge stands true _ (not-false _ none) refl before
-      ∙ ap (λ b. cond (not (is_due before) || (b || not (int_eq row.value (pos 0)))) (Some why.OrderGap) None)
+      ∙ ap (λ b. cond (not (is_due before) || (b || not (int_eq row.value (pos 0))))
+      (Some why.OrderGap) None)
       (or_true (falls_back before row))
       ∙ ap (λ b. cond b (Some why.OrderGap) None) (or_true (not (is_due before)))
 

@@ -1,25 +1,29 @@
 -- What is known after some rows of a tree, with one row more.
-use Rattle.std.proofs.Common.{◌≡◌, ℕ, ℤ, pos, negsuc, suc, ◌≤ℤ◌, ◌+◌, ◌-◌, ◌<◌, ◌≤◌, arith, Bool, true, false, cond, not, ◌||◌, ◌&&◌, nat_lt, int_lt, List, [], ◌∷◌, ◌++◌, length, get_or, map, take, unsigned_abs, refl, ap, sym, ◌∙◌, append_assoc, append-nil, inl, inr, Option, Some, None, option_map, unwrap_or, All}
+use Rattle.std.proofs.Common.{◌≡◌, ℕ, ℤ, pos, negsuc, suc, ◌≤ℤ◌, ◌+◌, ◌-◌, ◌<◌, ◌≤◌, arith, Bool}
+use Rattle.std.proofs.Common.{true, false, cond, not, ◌||◌, ◌&&◌, nat_lt, int_lt, List, [], ◌∷◌}
+use Rattle.std.proofs.Common.{◌++◌, length, get_or, map, take, unsigned_abs, refl, ap, sym, ◌∙◌}
+use Rattle.std.proofs.Common.{append_assoc, append-nil, inl, inr, Option, Some, None}
+use Rattle.std.proofs.Common.{unwrap_or, All}
 use Rattle.std.specs.List.{list_any, prefix_len}
 use Rattle.std.proofs.lemmas.Bool.{lt-ltb, le-ltb, ltb-false, cases_lt}
 use Rattle.std.proofs.lemmas.Int.{ints}
 use Rattle.std.proofs.lemmas.List.{reverse-append}
 use Rattle.std.proofs.lemmas.List.Elements.{All-nil, All-push}
 use Rattle.std.proofs.lemmas.List.Sums.{fold_push}
-use Rattle.giv_files.specs.declared.row_why.RowWhy.{RowWhy}
-use Rattle.giv_files.specs.declared.row_why.RowWhy.TheVariants as why
 use Rattle.line_cost_model.specs.declared.multipliers.Multiplier.{Multiplier}
 use Rattle.line_cost_model.specs.Multipliers.{AreMultipliers, IsAmount}
 use Rattle.line_cost_model.proofs.Pushed.{multipliers_push}
 use Rattle.branch_certificate.specs.declared.node.Node.{Node}
 use Rattle.branch_certificate.specs.declared.node.Node.TheVariants as node
 use Rattle.branch_certificate.specs.declared.open_bound.OpenBound.{OpenBound}
-use Rattle.branch_certificate.specs.declared.read_so_far.ReadSoFar.{ReadSoFar}
-use Rattle.branch_certificate.specs.declared.row_says.RowSays.{RowSays}
-use Rattle.branch_certificate.specs.declared.row_says.RowSays.TheVariants as says
 use Rattle.branch_certificate.specs.declared.tree_row.TreeRow.{TreeRow}
-use Rattle.branch_certificate.specs.ReadRows.{AreRising, SaysNode, SaysBound, SaysMultiplier, Says, begins_inside, IsClosed, IsOpen, IsSoundBound, IsSoundNode, StandsBehind, IsReadSoFar, is_due_in, takes, taken_by, takes_row, closed, with_row, first_why, MayBeTaken, IsInOrder}
-use Rattle.branch_certificate.specs.TreeFiles.{NamedIds, is_multiplier, is_due, due_after, due_behind, announced, falls_back, multiplier_in, multiplier_rows, node_of, nodes_of}
+use Rattle.branch_certificate.specs.ReadRows.{AreRising, SaysNode, SaysBound, SaysMultiplier}
+use Rattle.branch_certificate.specs.ReadRows.{begins_inside, IsClosed, IsOpen, IsSoundBound}
+use Rattle.branch_certificate.specs.ReadRows.{IsSoundNode, StandsBehind, is_due_in}
+use Rattle.branch_certificate.specs.ReadRows.{taken_by, closed}
+use Rattle.branch_certificate.specs.TreeFiles.{NamedIds, is_multiplier, is_due, due_after}
+use Rattle.branch_certificate.specs.TreeFiles.{due_behind, announced, falls_back, multiplier_in}
+use Rattle.branch_certificate.specs.TreeFiles.{multiplier_rows, node_of, nodes_of}
 use Rattle.branch_certificate.proofs.ReadIds.{found_twice}
 use Rattle.branch_certificate.proofs.ReadRules.{within}
 
@@ -119,7 +123,11 @@ module _ (ids : NamedIds) (before : List TreeRow) (row : TreeRow) (nodes : List 
 -- ---- a multiplier behind rows
 
 amount_of : (m : ℤ) → pos 1 ≤ℤ m → m ≤ℤ pos 1000000000000000000 → IsAmount (unsigned_abs m)
-amount_of (pos n) low high = record { some = omega (arith, ints, low); few = omega (arith, ints, high) }
+amount_of (pos n) low high = record {
+  some = omega (arith, ints, low);
+  few = omega
+      (arith, ints, high);
+}
 amount_of (negsuc n) low high = absurd (omega (arith, ints, low))
 
 module _ (ids : NamedIds) (before : List TreeRow) (row : TreeRow) (nodes : List Node)
@@ -149,10 +157,12 @@ module _ (ids : NamedIds) (before : List TreeRow) (row : TreeRow) (nodes : List 
       let few = amount_of millionths said.some said.few in
       record {
         after = All-push (λ (one : Multiplier). one.edge < edge + 1) bound.multipliers added
-            (λ k d l. let low : (get_or bound.multipliers k d).edge < bound.next = h.sound.after k d l in
+            (λ k d l. let low : (get_or bound.multipliers k d).edge < bound.next = h.sound.after k d
+            l in
             omega arith) (omega arith);
         are = multipliers_push bound.multipliers edge (unsigned_abs millionths) h.sound.are few
-            (λ k d l. let low : (get_or bound.multipliers k d).edge < bound.next = h.sound.after k d l in
+            (λ k d l. let low : (get_or bound.multipliers k d).edge < bound.next = h.sound.after k d
+            l in
             omega arith);
         named = All-push (λ (one : Multiplier). one.edge < length ids.edges) bound.multipliers added
             h.sound.named (within ids.edges row.id edge said.stands);
@@ -214,129 +224,3 @@ module _ (ids : NamedIds) (before : List TreeRow) (nodes : List Node) where
   ended_sound (Some bound) h all =
       All-push (IsSoundNode ids) nodes (node.Bound bound.multipliers) all
       (h.sound.named, h.sound.are)
-
--- ---- any row
-
-module _ (ids : NamedIds) (before : List TreeRow) (row : TreeRow) (so_far : ReadSoFar)
-    (up : AreRising ids) (read : IsReadSoFar ids before so_far) where
-  abbrev refused_unless : Bool → Option RowWhy
-  refused_unless taken = cond taken None (Some why.OrderGap)
-
-  -- a row of a node is taken where none is due
-  placed : first_why ids before row ≡ cond (is_due before) (Some why.OrderGap) None
-      → first_why ids before row ≡ refused_unless (not (is_due_in so_far.bound))
-  placed place =
-      place
-      ∙ ap (λ b. cond b (Some why.OrderGap) None) (due_told ids before so_far.nodes so_far.bound read.behind)
-      ∙ turned (is_due_in so_far.bound)
-    where
-      turned : (b : Bool) → cond b (Some why.OrderGap) None ≡ refused_unless (not b)
-      turned true = refl
-      turned false = refl
-
-  abbrev Next : RowSays → Type 0
-  Next said = (first_why ids before row ≡ refused_unless (takes_row so_far said))
-      × (takes_row so_far said ≡ true → IsReadSoFar ids (before ++ row ∷ []) (with_row so_far said))
-
-  none_due : (b : Bool) → not b ≡ true → b ≡ false
-  none_due true e = cc
-  none_due false e = refl
-
-  goes_on : (a b : Bool) → (a && not b) ≡ true → b ≡ false
-  goes_on true true e = cc
-  goes_on true false e = refl
-  goes_on false b e = cc
-
-  either : (a b : Bool) → cond (not a || b) (Some why.OrderGap) None ≡ refused_unless (a && not b)
-  either true true = refl
-  either true false = refl
-  either false b = refl
-
-  -- a multiplier is taken in a bound that takes it
-  in_bound : (nodes : List Node) (bound : Option OpenBound) → All (IsSoundNode ids) nodes
-      → StandsBehind ids before nodes bound → (edge : ℕ) (millionths : ℤ)
-      → SaysMultiplier ids row edge millionths
-      → (first_why ids before row
-      ≡ refused_unless (unwrap_or (option_map (λ bound. takes bound edge) bound) false))
-      × (unwrap_or (option_map (λ bound. takes bound edge) bound) false ≡ true
-      → IsReadSoFar ids (before ++ row ∷ []) (record {
-        nodes = nodes;
-        bound = option_map (λ bound. taken_by bound edge millionths) bound;
-      }))
-  in_bound nodes None sound h edge millionths said = (
-    said.place before
-        ∙ ap (λ b. cond (not b || falls_back before row) (Some why.OrderGap) None)
-        (due_told ids before nodes None h),
-    λ goes. cc,
-  )
-  in_bound nodes (Some bound) sound h edge millionths said = (
-    said.place before
-        ∙ ap (λ b. cond (not b || falls_back before row) (Some why.OrderGap) None)
-        (due_told ids before nodes (Some bound) h)
-        ∙ ap (λ b. cond (not (nat_lt 0 bound.due) || b) (Some why.OrderGap) None)
-        (h.last row edge said.stands)
-        ∙ either (nat_lt 0 bound.due) (nat_lt edge bound.next),
-    λ goes. record {
-      sound = sound;
-      behind = multiplier_more ids before row nodes bound edge millionths h said up
-          (goes_on (nat_lt 0 bound.due) (nat_lt edge bound.next) goes);
-    },
-  )
-
-  pub taken : (said : RowSays) → Says ids row said → Next said
-  taken (says.Whole one) said = (
-    placed (said.place before),
-    λ goes.
-        let none = none_due _ goes in
-        record {
-          sound = All-push (IsSoundNode ids) _ one
-              (ended_sound ids before so_far.nodes so_far.bound read.behind read.sound) said.sound;
-          behind = node_more ids before row _ one
-              (ended ids before so_far.nodes so_far.bound read.behind none) said;
-        },
-  )
-  taken (says.Bound count) said = (
-    placed (said.place before),
-    λ goes.
-        let none = none_due _ goes in
-        record {
-          sound = ended_sound ids before so_far.nodes so_far.bound read.behind read.sound;
-          behind = bound_more ids before row _ count
-              (ended ids before so_far.nodes so_far.bound read.behind none) said;
-        },
-  )
-  taken (says.Multiplier edge millionths) said =
-      in_bound so_far.nodes so_far.bound read.sound read.behind edge millionths said
-
--- ---- what a row asks for
-
-pub may_be_taken : (ids : NamedIds) (row : TreeRow) (said : RowSays) → Says ids row said
-    → MayBeTaken said
-may_be_taken ids row (says.Whole one) said = tt
-may_be_taken ids row (says.Bound count) said = tt
-may_be_taken ids row (says.Multiplier edge millionths) said = (said.small, said.some, said.few)
-
-pub in_order : (ids : NamedIds) (before : List TreeRow) (nodes : List Node)
-    (bound : Option OpenBound) → StandsBehind ids before nodes bound → IsInOrder bound
-in_order ids before nodes None h = tt
-in_order ids before nodes (Some bound) h = h.sound.after
-
--- ---- no row, and the end
-
-pub none_read : (ids : NamedIds) → IsReadSoFar ids [] (record { nodes = []; bound = None })
-none_read ids = record {
-  sound = All-nil (IsSoundNode ids);
-  behind = record { whole = λ rest inside. refl; none_due = refl };
-}
-
-pub all_read : (ids : NamedIds) (rows : List TreeRow) (so_far : ReadSoFar) → IsReadSoFar ids rows so_far
-    → is_due_in so_far.bound ≡ false
-    → (closed so_far.nodes so_far.bound ≡ nodes_of ids rows)
-    × All (IsSoundNode ids) (closed so_far.nodes so_far.bound)
-unfolding nodes_of
-all_read ids rows so_far read none =
-    let behind = ended ids rows so_far.nodes so_far.bound read.behind none in (
-      sym (ap (nodes_of ids) (sym (append-nil rows)) ∙ behind.whole [] refl
-          ∙ append-nil (closed so_far.nodes so_far.bound)),
-      ended_sound ids rows so_far.nodes so_far.bound read.behind read.sound,
-    )

@@ -1,5 +1,6 @@
 -- How many multipliers a bound can have: no more than there are edges, and these have ids.
-use Rattle.std.proofs.Common.{◌≡◌, ℕ, ℤ, suc, pos, ◌+◌, ◌<◌, ◌≤◌, ◌≤ℤ◌, ◌<ℤ◌, int_lt, arith, T, Bool, true, false, cond, List, [], ◌∷◌, length, get_or, map, All}
+use Rattle.std.proofs.Common.{◌≡◌, ℕ, ℤ, suc, pos, ◌+◌, ◌<◌, ◌≤◌, ◌≤ℤ◌, ◌<ℤ◌, int_lt, arith, T}
+use Rattle.std.proofs.Common.{Bool, true, false, cond, List, [], ◌∷◌, length, get_or, map, All}
 use Rattle.std.specs.List.{AllByRecursion}
 use Rattle.std.specs.List.Sorted.{IsStrictlySortedBy, IsStrictlyIncreasing}
 use Rattle.std.specs.Ordering.{int_cmp}
@@ -23,7 +24,11 @@ pub climbs : (next : ℕ) (multipliers : List Multiplier)
     → (0 < length multipliers → next ≤ get_or (map (λ one. one.edge) multipliers) 0 0)
     → ClimbFrom next multipliers
 climbs next [] up low = tt
-climbs next (one ∷ rest) up low = (low (omega arith), climbs (one.edge + 1) rest (λ k h. later k h) first)
+climbs next (one ∷ rest) up low = (
+  low (omega arith),
+  climbs (one.edge + 1) rest (λ k h. later k h)
+      first,
+)
   where
     edges : List ℕ
     edges = map (λ (one : Multiplier). one.edge) rest
@@ -41,14 +46,16 @@ climbs next (one ∷ rest) up low = (low (omega arith), climbs (one.edge + 1) re
         up 0 (omega (arith, length-map rest (λ (one : Multiplier). one.edge))) in
         omega (arith, above)
 
-few_climb : (most next : ℕ) (multipliers : List Multiplier) → next ≤ most → ClimbFrom next multipliers
+few_climb : (most next : ℕ) (multipliers : List Multiplier) → next ≤ most
+    → ClimbFrom next multipliers
     → All (λ one. one.edge < most) multipliers → next + length multipliers ≤ most
 few_climb most next [] h climb below = omega arith
 few_climb most next (one ∷ rest) h climb below =
     let own : one.edge < most = below 0 one (omega arith) in
     let low : next ≤ one.edge = climb.0 in
     let rest_few : one.edge + 1 + length rest ≤ most =
-    few_climb most (one.edge + 1) rest (omega arith) climb.1 (λ k d l. below (suc k) d (omega arith)) in
+    few_climb most (one.edge + 1) rest (omega arith) climb.1
+    (λ k d l. below (suc k) d (omega arith)) in
     omega arith
 
 -- ---- ids that rise
@@ -65,7 +72,8 @@ abbrev LiesBetween : ℕ → ℕ → ℤ → Type 0
 LiesBetween low high id = (pos low ≤ℤ id) × (id ≤ℤ pos high)
 
 behind : (low high : ℕ) (id : ℤ) (ids : List ℤ) → LiesBetween low high id
-    → AllByRecursion (λ other. int_cmp id other ≡ Less) ids → AllByRecursion (LiesBetween low high) ids
+    → AllByRecursion (λ other. int_cmp id other ≡ Less) ids
+    → AllByRecursion (LiesBetween low high) ids
     → AllByRecursion (LiesBetween (low + 1) high) ids
 behind low high id [] own rise all = tt
 behind low high id (other ∷ ids) own rise all =
@@ -100,7 +108,8 @@ few_edges problem sound =
       length-map problem.edges (λ edge. edge.id),
     )
 
-pub climb_of : (multipliers : List Multiplier) → AreMultipliers multipliers → ClimbFrom 0 multipliers
+pub climb_of : (multipliers : List Multiplier) → AreMultipliers multipliers
+    → ClimbFrom 0 multipliers
 climb_of multipliers are = climbs 0 multipliers are.edges_rise (λ h. omega arith)
 
 -- multipliers of the edges of a problem are few

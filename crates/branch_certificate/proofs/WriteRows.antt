@@ -1,5 +1,7 @@
 -- The rows of nodes and of multipliers, one after the other.
-use Rattle.std.proofs.Common.{◌≡◌, ℕ, ℤ, pos, zero, suc, ◌+◌, ◌<◌, arith, List, [], ◌∷◌, ◌++◌, take, slice_get, ap, subst, sym, ◌∙◌, append_assoc, append-nil, Some, option_map, All}
+use Rattle.std.proofs.Common.{◌≡◌, ℕ, ℤ, pos, zero, suc, ◌+◌, ◌<◌, arith, List, [], ◌∷◌, ◌++◌, take}
+use Rattle.std.proofs.Common.{slice_get, ap, subst, sym, ◌∙◌, append_assoc, append-nil, Some}
+use Rattle.std.proofs.Common.{option_map, All}
 use Rattle.std.specs.List.{flat_map}
 use Rattle.giv_files.specs.Tables.{TableRow}
 use Rattle.line_cost_model.specs.declared.multipliers.Multiplier.{Multiplier}

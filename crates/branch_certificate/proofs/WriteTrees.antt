@@ -1,20 +1,19 @@
 -- A tree that is written is read back.
-use Rattle.std.proofs.Common.{◌≡◌, ℕ, ℤ, pos, zero, suc, ◌-◌, ◌<◌, ◌≤◌, ◌≤ℤ◌, ◌^◌, arith, Bool, true, false, cond, not, ◌||◌, nat_lt, int_eq, List, [], ◌∷◌, ◌++◌, length, get_or, map, position, slice_get, refl, sym, ap, subst, ◌∙◌, append_assoc, append-nil, Some, None, option_map, unwrap_or, Result, Ok, Err, IfOk, All}
+use Rattle.std.proofs.Common.{◌≡◌, ℕ, ℤ, pos, ◌<◌, ◌≤◌, ◌≤ℤ◌, ◌^◌, arith, Bool}
+use Rattle.std.proofs.Common.{true, false, not, nat_lt, int_eq, List, [], ◌∷◌, ◌++◌}
+use Rattle.std.proofs.Common.{length, get_or, map, refl, sym, ap, subst, ◌∙◌}
+use Rattle.std.proofs.Common.{append_assoc, append-nil, Result}
+use Rattle.std.proofs.Common.{Ok, Err, IfOk, All}
 use Rattle.std.specs.List.{flat_map}
-use Rattle.std.specs.List.Sorted.{IsStrictlySortedBy}
-use Rattle.std.specs.Ordering.{int_cmp}
-use Rattle.std.proofs.lemmas.Bool.{lt-ltb, le-ltb}
 use Rattle.std.proofs.lemmas.Bool.Decides.{Decides-int_eq}
-use Rattle.std.proofs.lemmas.Cmp.{int_cmp_total, tied_itself}
 use Rattle.std.proofs.lemmas.Int.{ints}
-use Rattle.std.proofs.lemmas.List.{get_or_default, length-map, map-append}
+use Rattle.std.proofs.lemmas.List.{length-map, map-append}
 use Rattle.std.proofs.lemmas.List.Elements.{All-head, All-tail}
 use Rattle.std.proofs.lemmas.Simd.{map-map}
-use Rattle.giv_files.specs.declared.row_why.RowWhy.{RowWhy}
 use Rattle.giv_files.specs.declared.row_why.RowWhy.TheVariants as why
 use Rattle.giv_files.specs.declared.file_id.FileId.TheVariants as file
 use Rattle.giv_files.specs.Columns.{tree_columns}
-use Rattle.giv_files.specs.Inputs.{broken_whys, records}
+use Rattle.giv_files.specs.Inputs.{records}
 use Rattle.giv_files.specs.Reading.{table_of}
 use Rattle.giv_files.specs.Tables.{TableRow}
 use Rattle.giv_files.specs.Writing.{ReadsBack, table_text}
@@ -27,101 +26,24 @@ use Rattle.line_cost_model.specs.Multipliers.{IsAmount}
 use Rattle.line_cost_model.specs.Problems.{CostedLine, IsId, IsProblem, ProblemParts}
 use Rattle.branch_certificate.specs.declared.node.Node.{Node}
 use Rattle.branch_certificate.specs.declared.node.Node.TheVariants as node
-use Rattle.branch_certificate.specs.declared.open_bound.OpenBound.{OpenBound}
 use Rattle.branch_certificate.specs.declared.tree_row.TreeRow.{TreeRow}
-use Rattle.branch_certificate.specs.ReadRows.{IsTreeRow, IsClosed, IsOpen, SaysNode, SaysBound, SaysMultiplier, first_why, taken_by}
-use Rattle.branch_certificate.specs.TreeFiles.{NamedIds, ids_of, is_due, due_after, falls_back, nodes_of, tree_input, tree_rules, tree_row, tree_of, read_faults}
-use Rattle.branch_certificate.specs.TreeTexts.{CanBeWritten, NamesWhatIs, edge_id, line_id, node_rows, side_place, ReadsBackAs, tree_header, tree_text}
-use Rattle.branch_certificate.proofs.ReadIds.{found}
-use Rattle.branch_certificate.proofs.ReadRules.{out_of_order, or_false, split_says, empty_says, multiplier_says}
-use Rattle.branch_certificate.proofs.ReadSteps.{node_more, bound_more, multiplier_more, ended, nodes_none}
-use Rattle.branch_certificate.proofs.WriteFew.{ClimbFrom, climb_of, few_edges}
+use Rattle.branch_certificate.specs.ReadRows.{IsTreeRow, IsClosed, SaysNode, SaysBound}
+use Rattle.branch_certificate.specs.ReadRows.{SaysMultiplier}
+use Rattle.branch_certificate.specs.TreeFiles.{NamedIds, ids_of, is_due}
+use Rattle.branch_certificate.specs.TreeFiles.{nodes_of, tree_input, tree_rules, tree_row, tree_of}
+use Rattle.branch_certificate.specs.TreeFiles.{read_faults}
+use Rattle.branch_certificate.specs.TreeTexts.{CanBeWritten, NamesWhatIs, edge_id, line_id}
+use Rattle.branch_certificate.specs.TreeTexts.{node_rows, side_place, ReadsBackAs, tree_header}
+use Rattle.branch_certificate.specs.TreeTexts.{tree_text}
+use Rattle.branch_certificate.proofs.ReadRules.{out_of_order, or_false, split_says, empty_says}
+use Rattle.branch_certificate.proofs.ReadRules.{multiplier_says}
+use Rattle.branch_certificate.proofs.ReadSteps.{node_more, bound_more}
+use Rattle.branch_certificate.proofs.ReadSteps.{nodes_none}
+use Rattle.branch_certificate.proofs.WriteFew.{climb_of, few_edges}
 use Rattle.branch_certificate.proofs.WriteRows.{cells_row}
 use Rattle.branch_certificate.proofs.WriteInside.{line_there, edge_there}
-
--- ---- the index of an id
-
-id_is : {X : Type 0} (id : X → ℤ) (xs : List X) (i : ℕ) → i < length xs
-    → unwrap_or (option_map id (slice_get xs i)) (pos 0) ≡ get_or (map id xs) i (pos 0)
-id_is id [] i h = absurd (omega arith)
-id_is id (x ∷ xs) zero h = refl
-id_is id (x ∷ xs) (suc i) h = id_is id xs i (omega arith)
-
--- the id at an index stands there first
-pub own_index : {X : Type 0} (id : X → ℤ) (xs : List X) (i : ℕ) → IsStrictlySortedBy int_cmp (map id xs)
-    → i < length xs
-    → position (int_eq (unwrap_or (option_map id (slice_get xs i)) (pos 0))) (map id xs) ≡ Some i
-own_index id xs i up h =
-    let ids = map id xs in
-    let size : i < length ids = omega (arith, length-map xs id) in
-    ap (λ one. position (int_eq one) ids) (id_is id xs i h)
-    ∙ found ids (get_or ids i (pos 0)) up i size (λ d.
-    ap (λ one. int_cmp one (get_or ids i (pos 0))) (get_or_default ids i d (pos 0) size)
-    ∙ tied_itself int_cmp_total (get_or ids i (pos 0)))
-
--- ---- rules that are kept
-
-no_why : (whys : List RowWhy) → slice_get whys 0 ≡ None → whys ≡ []
-no_why [] e = refl
-no_why (x ∷ whys) e = cc
-
-keep_both : (rules : List _) (before some more : List TreeRow) → KeepRules rules before some
-    → KeepRules rules (before ++ some) more → KeepRules rules before (some ++ more)
-keep_both rules before [] more first second =
-    subst (λ all. KeepRules rules all more) (append-nil before) second
-keep_both rules before (row ∷ some) more first second = (
-  first.0,
-  keep_both rules (before ++ row ∷ []) some more first.1
-      (subst (λ all. KeepRules rules all more) (sym (append_assoc before (row ∷ []) some)) second),
-)
-
-module _ (ids : NamedIds) (before : List TreeRow) (row : TreeRow) where
-  -- a row in its place breaks no rule where none is due
-  kept_here : due_after before ≡ 0
-      → first_why ids before row ≡ cond (is_due before) (Some why.OrderGap) None
-      → broken_whys (tree_rules ids) before row ≡ []
-  kept_here none place =
-      no_why _ (place ∙ ap (λ n. cond (nat_lt 0 n) (Some why.OrderGap) None) none)
-
--- ---- the rows of multipliers
-
-module _ (ids : NamedIds) (nodes : List Node) (row_of : Multiplier → TreeRow)
-    (says : (one : Multiplier) → IsAmount one.amount → one.edge < length ids.edges
-    → SaysMultiplier ids (row_of one) one.edge (pos one.amount)) where
-  abbrev with_multipliers : OpenBound → List Multiplier → List Node
-  with_multipliers bound rest = nodes ++ node.Bound (bound.multipliers ++ rest) ∷ []
-
-  multipliers_kept : (up : IsStrictlySortedBy int_cmp ids.lines × IsStrictlySortedBy int_cmp ids.edges)
-      → (rest : List Multiplier) (before : List TreeRow) (bound : OpenBound)
-      → IsOpen ids before nodes bound → bound.due ≡ length rest → ClimbFrom bound.next rest
-      → All (λ one. IsAmount one.amount) rest → All (λ one. one.edge < length ids.edges) rest
-      → KeepRules (tree_rules ids) before (map row_of rest)
-      × IsClosed ids (before ++ map row_of rest) (with_multipliers bound rest)
-  multipliers_kept up [] before bound h due climb amounts named = (
-    tt,
-    subst (λ all. IsClosed ids all (with_multipliers bound [])) (sym (append-nil before))
-        (subst (λ all. IsClosed ids before (nodes ++ node.Bound all ∷ [])) (sym (append-nil bound.multipliers))
-        (ended ids before nodes (Some bound) h (ap (nat_lt 0) due))),
-  )
-  multipliers_kept up (one ∷ rest) before bound h due climb amounts named =
-      let row = row_of one in
-      let said = says one (amounts 0 one (omega arith)) (named 0 one (omega arith)) in
-      let rising : nat_lt one.edge bound.next ≡ false = le-ltb one.edge bound.next climb.0 in
-      let is_late : is_due before ≡ true = ap (nat_lt 0) (h.due ∙ due) ∙ lt-ltb 0 (suc (length rest)) (omega arith) in
-      let none : broken_whys (tree_rules ids) before row ≡ [] = no_why _ (
-      said.place before
-      ∙ ap (λ b. cond (not b || falls_back before row) (Some why.OrderGap) None) is_late
-      ∙ ap (λ b. cond b (Some why.OrderGap) None) (h.last row one.edge said.stands ∙ rising)) in
-      let next = multiplier_more ids before row nodes bound one.edge (pos one.amount) h said up rising in
-      let left : bound.due - 1 ≡ length rest = omega (arith, due) in
-      let others = multipliers_kept up rest (before ++ row ∷ []) (taken_by bound one.edge (pos one.amount))
-      next left climb.1 (λ k d l. amounts (suc k) d (omega arith)) (λ k d l. named (suc k) d (omega arith)) in (
-        (none, others.0),
-        subst (λ all. IsClosed ids all (with_multipliers bound (one ∷ rest)))
-            (append_assoc before (row ∷ []) (map row_of rest))
-            (subst (λ all. IsClosed ids ((before ++ row ∷ []) ++ map row_of rest) (nodes ++ node.Bound all ∷ []))
-            (append_assoc bound.multipliers (one ∷ []) rest) others.1),
-      )
+use Rattle.branch_certificate.proofs.WriteMultipliers.{own_index, keep_both, kept_here}
+use Rattle.branch_certificate.proofs.WriteMultipliers.{multipliers_kept}
 
 -- ---- the rows of nodes
 
@@ -150,7 +72,8 @@ module _ (problem : ProblemParts) (sound : IsProblem problem) where
   split_row line at h few =
       split_says ids (row 0 (line_id problem line) at 0) refl line at
       (own_index (λ (line : CostedLine). line.id) problem.lines line sound.lines_rise h) refl
-      (fits 0 at 0 (line_id problem line) (omega arith) (line_there problem sound line h) few (omega arith))
+      (fits 0 at 0 (line_id problem line) (omega arith) (line_there problem sound line h) few
+      (omega arith))
       refl
 
   empty_row : (edge : ℕ) (side : Side) → edge < length problem.edges
@@ -167,7 +90,8 @@ module _ (problem : ProblemParts) (sound : IsProblem problem) where
     alone = refl;
     stands_for = λ behind. refl;
     due = refl;
-    place = λ before. out_of_order (is_due before) false false false (is_due before) (or_false (is_due before));
+    place = λ before. out_of_order (is_due before) false false false (is_due before)
+        (or_false (is_due before));
   }
 
   point_row : SaysNode ids (row 4 (pos 0) 0 0) node.Point
@@ -175,7 +99,8 @@ module _ (problem : ProblemParts) (sound : IsProblem problem) where
     alone = refl;
     stands_for = λ behind. refl;
     none_due = refl;
-    place = λ before. out_of_order (is_due before) false false false (is_due before) (or_false (is_due before));
+    place = λ before. out_of_order (is_due before) false false false (is_due before)
+        (or_false (is_due before));
     sound = (tt, tt);
   }
 
@@ -202,8 +127,16 @@ module _ (problem : ProblemParts) (sound : IsProblem problem) where
       multiplier_says ids (multiplier_row one) refl one.edge (pos one.amount)
       (own_index (λ (edge : BoundedEdge). edge.id) problem.edges one.edge sound.edges_rise here)
       (few_edges_small one.edge here) refl (some_amount one.amount amount.some)
-      (fits 3 0 one.amount (edge_id problem one.edge) (omega arith) (edge_there problem sound one.edge here)
+      (fits 3 0 one.amount (edge_id problem one.edge) (omega arith)
+      (edge_there problem sound one.edge here)
       (omega arith) amount.few) refl
+
+  named_there : (multipliers : List Multiplier)
+      → All (λ one. one.edge < length problem.edges) multipliers
+      → All (λ one. one.edge < length ids.edges) multipliers
+  named_there multipliers named k d h =
+      let own : (get_or multipliers k d).edge < length problem.edges = named k d h in
+      omega (arith, length-map problem.edges (λ (edge : BoundedEdge). edge.id))
 
   -- what the rows of a node stand for
   abbrev written : Node → List TreeRow
@@ -221,7 +154,8 @@ module _ (problem : ProblemParts) (sound : IsProblem problem) where
   )
 
   node_kept : (this : Node) → NamesWhatIs problem this → CanBeWritten this → (before : List TreeRow)
-      → (nodes : List Node) → IsClosed ids before nodes → Kept before nodes (written this) (this ∷ [])
+      → (nodes : List Node) → IsClosed ids before nodes
+      → Kept before nodes (written this) (this ∷ [])
   node_kept (node.Split line at) named can before nodes h =
       alone before nodes _ _ h (split_row line at named can)
   node_kept (node.Empty edge side) named can before nodes h =
@@ -229,14 +163,14 @@ module _ (problem : ProblemParts) (sound : IsProblem problem) where
   node_kept (node.Bound multipliers) named can before nodes h =
       let first = row 2 (pos (length multipliers)) 0 0 in
       let said = bound_row (length multipliers) in
-      let size = length-map problem.edges (λ (edge : BoundedEdge). edge.id) in
       let others = multipliers_kept ids nodes multiplier_row multiplier_says_row
       (sound.lines_rise, sound.edges_rise) multipliers (before ++ first ∷ [])
       (record { multipliers = []; next = 0; due = length multipliers })
-      (bound_more ids before first nodes (length multipliers) h said) refl (climb_of multipliers can)
-      can.amounts (λ k d l. let own : (get_or multipliers k d).edge < length problem.edges = named k d l in
-      omega (arith, size)) in
-      let same : map (λ row. tree_row row.cells) (map (λ one. cells_row (pos 3) (edge_id problem one.edge)
+      (bound_more ids before first nodes (length multipliers) h said) refl
+      (climb_of multipliers can)
+      can.amounts (named_there multipliers named) in
+      let same : map (λ row. tree_row row.cells)
+      (map (λ one. cells_row (pos 3) (edge_id problem one.edge)
       (pos 0) (pos one.amount)) multipliers) ≡ map multiplier_row multipliers =
       map-map (λ (row : TableRow). tree_row row.cells) (λ (one : Multiplier).
       cells_row (pos 3) (edge_id problem one.edge) (pos 0) (pos one.amount)) multipliers in
@@ -249,7 +183,8 @@ module _ (problem : ProblemParts) (sound : IsProblem problem) where
 
   nodes_kept : (these : List Node) → All (NamesWhatIs problem) these → All CanBeWritten these
       → (before : List TreeRow) (nodes : List Node) → IsClosed ids before nodes
-      → Kept before nodes (map (λ row. tree_row row.cells) (flat_map (node_rows problem) these)) these
+      → Kept before nodes (map (λ row. tree_row row.cells) (flat_map (node_rows problem) these))
+      these
   nodes_kept [] named can before nodes h = (
     tt,
     subst (λ all. IsClosed ids all (nodes ++ [])) (sym (append-nil before))
@@ -259,13 +194,17 @@ module _ (problem : ProblemParts) (sound : IsProblem problem) where
       let first = node_kept this (All-head (NamesWhatIs problem) this these named)
       (All-head CanBeWritten this these can) before nodes h in
       let others = nodes_kept these (All-tail (NamesWhatIs problem) this these named)
-      (All-tail CanBeWritten this these can) (before ++ written this) (nodes ++ this ∷ []) first.1 in
+      (All-tail CanBeWritten this these can) (before ++ written this) (nodes ++ this ∷ [])
+      first.1 in
       let rest = map (λ row. tree_row row.cells) (flat_map (node_rows problem) these) in
       subst (λ rows. Kept before nodes rows (this ∷ these))
-      (sym (map-append (λ row. tree_row row.cells) (node_rows problem this) (flat_map (node_rows problem) these))) (
+      (sym (map-append (λ row. tree_row row.cells) (node_rows problem this)
+      (flat_map (node_rows problem) these))) (
         keep_both (tree_rules ids) before (written this) rest first.0 others.0,
-        subst (λ all. IsClosed ids all (nodes ++ this ∷ these)) (append_assoc before (written this) rest)
-            (subst (IsClosed ids ((before ++ written this) ++ rest)) (append_assoc nodes (this ∷ []) these) others.1),
+        subst (λ all. IsClosed ids all (nodes ++ this ∷ these))
+            (append_assoc before (written this) rest)
+            (subst (IsClosed ids ((before ++ written this) ++ rest))
+            (append_assoc nodes (this ∷ []) these) others.1),
       )
 
   -- a text that reads back as the rows of nodes is read back as the nodes
@@ -284,8 +223,10 @@ module _ (problem : ProblemParts) (sound : IsProblem problem) where
       ∙ map-map tree_row (λ (row : TableRow). row.cells) rows in
       record {
         fine = accepted input rows text back refl all.0
-            (whole_accepted file.Tree is_due why.OrderGap (records input rows) (ap (nat_lt 0) all.1.none_due));
-        same = ap (nodes_of ids) (same ∙ sym (append-nil (records input rows))) ∙ all.1.whole [] refl
+            (whole_accepted file.Tree is_due why.OrderGap (records input rows)
+            (ap (nat_lt 0) all.1.none_due));
+        same = ap (nodes_of ids) (same ∙ sym (append-nil (records input rows)))
+            ∙ all.1.whole [] refl
             ∙ ap (λ some. nodes ++ some) (nodes_none ids) ∙ append-nil nodes;
       }
 
@@ -299,7 +240,8 @@ module _ (problem : ProblemParts) (sound : IsProblem problem) where
     text_told (Ok text) h = h ∙ ap (table_text tree_header tree_columns) is
     text_told (Err error) h = tt
 
-    pub back_told : All (NamesWhatIs problem) nodes → All CanBeWritten nodes → (r : Result (List ℕ) E)
+    pub back_told : All (NamesWhatIs problem) nodes → All CanBeWritten nodes
+        → (r : Result (List ℕ) E)
         → IfOk r (ReadsBack tree_columns table) → IfOk r (λ text. ReadsBackAs problem nodes text)
     back_told named can (Ok text) h =
         nodes_back nodes named can text (subst (λ rows. ReadsBack tree_columns rows text) is h)

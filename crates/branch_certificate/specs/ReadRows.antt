@@ -1,5 +1,8 @@
 -- Inner words of reading a tree: what a row says, and what is known after some rows.
-use Rattle.std.specs.Prelude.{◌≡◌, ℕ, ℤ, pos, ◌+◌, ◌-◌, ◌^◌, ◌<◌, ◌≤ℤ◌, ◌&&◌, ◌||◌, not, nat_lt, if◌then◌else◌, Bool, false, true, List, [], ◌∷◌, ◌++◌, length, map, take, position, slice_get, unsigned_abs, Option, option_map, unwrap_or, Some, None, All, ⊤}
+use Rattle.std.specs.Prelude.{◌≡◌, ℕ, ℤ, pos, ◌+◌, ◌-◌, ◌^◌, ◌<◌, ◌≤ℤ◌, ◌&&◌, ◌||◌, not, nat_lt}
+use Rattle.std.specs.Prelude.{if◌then◌else◌, Bool, false, true, List, [], ◌∷◌, ◌++◌, length, map}
+use Rattle.std.specs.Prelude.{take, position, slice_get, unsigned_abs, Option, option_map}
+use Rattle.std.specs.Prelude.{unwrap_or, Some, None, All, ⊤}
 use Rattle.std.specs.List.{list_any}
 use Rattle.std.specs.List.Sorted.{IsStrictlySortedBy}
 use Rattle.std.specs.Ordering.{int_cmp, int_eq}
@@ -19,7 +22,9 @@ use Rattle.branch_certificate.specs.declared.read_so_far.ReadSoFar.{ReadSoFar}
 use Rattle.branch_certificate.specs.declared.row_says.RowSays.{RowSays}
 use Rattle.branch_certificate.specs.declared.row_says.RowSays.TheVariants as says
 use Rattle.branch_certificate.specs.declared.tree_row.TreeRow.{TreeRow}
-use Rattle.branch_certificate.specs.TreeFiles.{NamedIds, tree_rules, is_multiplier, is_due, due_after, announced, falls_back, multiplier_in, multiplier_rows, node_of, nodes_of}
+use Rattle.branch_certificate.specs.TreeFiles.{NamedIds, tree_rules, is_multiplier, is_due}
+use Rattle.branch_certificate.specs.TreeFiles.{due_after, announced, falls_back, multiplier_in}
+use Rattle.branch_certificate.specs.TreeFiles.{multiplier_rows, node_of, nodes_of}
 use Rattle.branch_certificate.specs.TreeTexts.{CanBeWritten}
 
 -- ids that rise
@@ -44,13 +49,15 @@ IsRefused ids row why = (before : List TreeRow) → first_why ids before row ≡
 -- a row is refused only if it is out of its place
 abbrev pub IsRefusedIf : NamedIds → TreeRow → (List TreeRow → Bool) → Type 0
 IsRefusedIf ids row misplaced =
-    (before : List TreeRow) → first_why ids before row ≡ (if misplaced before then Some why.OrderGap else None)
+    (before : List TreeRow) → first_why ids before row
+    ≡ (if misplaced before then Some why.OrderGap else None)
 
 -- a node names a line, an edge or edges of these ids
 abbrev pub IsNamed : NamedIds → Node → Type 0
 IsNamed ids (node.Split line at) = line < length ids.lines
 IsNamed ids (node.Empty edge side) = edge < length ids.edges
-IsNamed ids (node.Bound multipliers) = All (λ multiplier. multiplier.edge < length ids.edges) multipliers
+IsNamed ids (node.Bound multipliers) = All (λ multiplier. multiplier.edge < length ids.edges)
+    multipliers
 IsNamed ids node.Point = ⊤
 
 -- a node that can stand in a tree
@@ -74,15 +81,16 @@ pub record SaysBound (ids : NamedIds) (row : TreeRow) (count : ℕ) : Type 0 whe
   pub place : IsRefusedIf ids row is_due
 
 -- a row is a multiplier of so many millionths of the edge of an index
-pub record SaysMultiplier (ids : NamedIds) (row : TreeRow) (edge : ℕ) (millionths : ℤ) : Type 0 where
-  pub alone : is_multiplier row ≡ true
-  pub stands_for : (behind : List TreeRow) → node_of ids row behind ≡ []
-  pub stands : position (int_eq row.id) ids.edges ≡ Some edge
-  pub amount : row.multiplier ≡ millionths
-  pub some : pos 1 ≤ℤ millionths
-  pub few : millionths ≤ℤ pos 1000000000000000000
-  pub small : edge < 2 ^ 63
-  pub place : IsRefusedIf ids row (λ before. not (is_due before) || falls_back before row)
+pub record SaysMultiplier (ids : NamedIds) (row : TreeRow) (edge : ℕ) (millionths : ℤ) : Type 0
+  where
+    pub alone : is_multiplier row ≡ true
+    pub stands_for : (behind : List TreeRow) → node_of ids row behind ≡ []
+    pub stands : position (int_eq row.id) ids.edges ≡ Some edge
+    pub amount : row.multiplier ≡ millionths
+    pub some : pos 1 ≤ℤ millionths
+    pub few : millionths ≤ℤ pos 1000000000000000000
+    pub small : edge < 2 ^ 63
+    pub place : IsRefusedIf ids row (λ before. not (is_due before) || falls_back before row)
 
 -- what a row says where no rule refuses it whatever stands before it
 abbrev pub Says : NamedIds → TreeRow → RowSays → Type 0
@@ -100,7 +108,8 @@ pub record IsClosed (ids : NamedIds) (before : List TreeRow) (nodes : List Node)
       → nodes_of ids (before ++ rest) ≡ nodes ++ nodes_of ids rest
   pub none_due : due_after before ≡ 0
 
--- an open bound takes a multiplier of an edge: one is due, and the edge comes after those that are there
+-- an open bound takes a multiplier of an edge: one is due, and the edge comes after those that are
+-- there
 abbrev pub takes : OpenBound → ℕ → Bool
 takes bound edge = nat_lt 0 bound.due && not (nat_lt edge bound.next)
 
@@ -119,9 +128,11 @@ pub record IsSoundBound (ids : NamedIds) (bound : OpenBound) : Type 0 where
   pub named : All (λ multiplier. multiplier.edge < length ids.edges) bound.multipliers
 
 -- a bound is open behind rows
-pub record IsOpen (ids : NamedIds) (before : List TreeRow) (nodes : List Node) (bound : OpenBound) : Type 0 where
+pub record IsOpen (ids : NamedIds) (before : List TreeRow) (nodes : List Node) (bound : OpenBound) :
+    Type 0 where
   pub whole : (rest : List TreeRow) → nodes_of ids (before ++ rest)
-      ≡ nodes ++ node.Bound (bound.multipliers ++ map (multiplier_in ids) (multiplier_rows rest)) ∷ nodes_of ids rest
+      ≡ nodes ++ node.Bound (bound.multipliers ++ map (multiplier_in ids) (multiplier_rows rest))
+      ∷ nodes_of ids rest
   pub due : due_after before ≡ bound.due
   pub last : (row : TreeRow) (edge : ℕ) → position (int_eq row.id) ids.edges ≡ Some edge
       → falls_back before row ≡ nat_lt edge bound.next

@@ -65,7 +65,8 @@ has_edge ids id = list_any (int_eq id) ids.edges
 abbrev pub announced : TreeRow → ℕ
 announced row = if is_bound row then unsigned_abs row.id else 0
 
--- how many multipliers are due behind a row, where some were due before it: one less behind a multiplier,
+-- how many multipliers are due behind a row, where some were due before it: one less behind a
+-- multiplier,
 -- and behind the row of a node those that it announces
 abbrev pub due_behind : ℕ → TreeRow → ℕ
 due_behind due row = if is_multiplier row then due - 1 else announced row
@@ -82,7 +83,8 @@ abbrev pub falls_back : List TreeRow → TreeRow → Bool
 falls_back before row =
     list_any (λ last. is_multiplier last && not (int_lt last.id row.id)) (take 1 (reverse before))
 
--- a cell is not 0 where only 0 may stand: the multiplier but of a multiplier, the value but of a split or of
+-- a cell is not 0 where only 0 may stand: the multiplier but of a multiplier, the value but of a
+-- split or of
 -- an empty edge, the id of a point
 abbrev pub has_stray_cell : TreeRow → Bool
 has_stray_cell row =
@@ -115,7 +117,8 @@ as_due = order_rule (λ before row. if is_multiplier row then not (is_due before
 -- the rule that the edges of multipliers rise, and that none is 0
 abbrev pub rising_edges : RowRule TreeRow
 rising_edges =
-    order_rule (λ before row. is_multiplier row && (falls_back before row || int_eq row.multiplier (pos 0)))
+    order_rule (λ before row. is_multiplier row &&
+    (falls_back before row || int_eq row.multiplier (pos 0)))
 
 -- the rule that an empty edge has one of two sides
 abbrev pub one_side : RowRule TreeRow
@@ -154,7 +157,10 @@ edge_index ids id = unwrap_or (position (int_eq id) ids.edges) 0
 
 -- the multiplier of a row
 abbrev pub multiplier_in : NamedIds → TreeRow → Multiplier
-multiplier_in ids row = record { edge = edge_index ids row.id; amount = unsigned_abs row.multiplier }
+multiplier_in ids row = record {
+  edge = edge_index ids row.id;
+  amount = unsigned_abs row.multiplier;
+}
 
 -- the rows of multipliers that stand right behind a node
 abbrev pub multiplier_rows : List TreeRow → List TreeRow
@@ -185,7 +191,8 @@ tree_of problem text =
 unfoldable pub read_faults : ProblemParts → List ℕ → List Refusal
 read_faults problem text = input_faults (tree_input (ids_of problem)) text
 
--- what reading a tree gives: its nodes where the text has no fault, and else the first of all faults; want
+-- what reading a tree gives: its nodes where the text has no fault, and else the first of all
+-- faults; want
 -- of memory is free
 abbrev pub TreeGives : List Refusal → List Node → Result (List Node) TreeReadFault → Type 0
 TreeGives all nodes (Ok read) = (all ≡ []) × (read ≡ nodes)

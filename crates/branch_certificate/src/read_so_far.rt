@@ -1,5 +1,6 @@
 // What is read of a tree so far.
-ghost use Rattle.std.specs.Prelude.{◌≡◌, ◌<◌, ◌^◌, ◌≤ℤ◌, ◌++◌, ◌∷◌, [], pos, not, option_map, unwrap_or};
+ghost use Rattle.std.specs.Prelude.{◌≡◌, ◌<◌, ◌^◌, ◌≤ℤ◌, ◌++◌, ◌∷◌, [], pos, not, option_map};
+ghost use Rattle.std.specs.Prelude.{unwrap_or};
 ghost use Rattle.std.specs.Prelude.{if◌then◌else◌, false, None, Some, IfOk, OnOk};
 ghost use Rattle.branch_certificate.specs.ReadRows.{IsInOrder, MayBeTaken, closed, is_due_in};
 ghost use Rattle.branch_certificate.specs.ReadRows.{taken_by, takes, takes_row, with_row};

@@ -22,8 +22,9 @@ fn two_edges(alloc: Global) -> Result<LineProblem, NoMemory>
 }
 
 // Each kind of node, as it is written.
-const EACH_KIND: &[u8] =
-    b"# kind; id; value; multiplier\nsplit; 9; 1; 0\nempty; 7; 0; 0\nempty; 4; 1; 0\nbound; 2; 0; 0\nmult; 4; 0; 12.5\nmult; 7; 0; 0.000001\nbound; 0; 0; 0\npoint; 0; 0; 0\nsplit; 3; 1000000000; 0\n";
+const EACH_KIND: &[u8] = b"# kind; id; value; multiplier\n\
+split; 9; 1; 0\nempty; 7; 0; 0\nempty; 4; 1; 0\nbound; 2; 0; 0\nmult; 4; 0; 12.5\n\
+mult; 7; 0; 0.000001\nbound; 0; 0; 0\npoint; 0; 0; 0\nsplit; 3; 1000000000; 0\n";
 
 // The fault at a row.
 fn fault(row: u64, why: RowWhy) -> TreeReadFault {
@@ -116,7 +117,9 @@ fn a_tree_is_written(rt: HostRuntime) -> Result<(), Fail> {
     tree.push(Node::Bound { multipliers })?;
     assert_eq!(rt;
         write_tree(rt.alloc(), &problem, &tree)?.as_bytes(),
-        b"# kind; id; value; multiplier\nsplit; 3; 2; 0\nbound; 1; 0; 0\nmult; 7; 0; 0.25\n".as_slice()
+        b"# kind; id; value; multiplier\n\
+split; 3; 2; 0\nbound; 1; 0; 0\nmult; 7; 0; 0.25\n"
+            .as_slice()
     );
     Ok(())
 }

@@ -1,5 +1,6 @@
 use Rattle.std.proofs.lemmas.Result.{err_from_is_err_and}
-use Rattle.branch_certificate.proofs.ReadTexts.{cells_refuse, rows_refuse, due_refuses, whole_read, names_read, written_read}
+use Rattle.branch_certificate.proofs.ReadTexts.{cells_refuse, rows_refuse, due_refuses, whole_read}
+use Rattle.branch_certificate.proofs.ReadTexts.{names_read, written_read}
 use Rattle.branch_certificate.proofs.read.read_tree.Goals as goal
 
 pub returns-in_err-table-clause-read : goal.returns-in_err-table-clause-read
@@ -13,7 +14,8 @@ returns-in_err-so_far-clause-read c =
     let p = err_from_is_err_and c.from_residual-in_err-so_far.result
     c.from_residual-in_err-so_far.ensures.1 in
     let cells = c.in_ok-table.ensures.table in
-    rw (p.1, p.2) (rows_refuse c.args.problem.now c.args.bytes.now c.in_ok-table.table cells.0 cells.1
+    rw (p.1, p.2) (rows_refuse c.args.problem.now c.args.bytes.now c.in_ok-table.table cells.0
+    cells.1
     c.in_ok-ids.ids c.in_ok-ids.ensures.ids c.in_err-so_far.field-0.0 c.in_err-so_far.ensures)
 
 pub returns-then-is_due-clause-read : goal.returns-then-is_due-clause-read

@@ -1,4 +1,5 @@
-use Rattle.std.proofs.Common.{◌<◌, ℕ, zero, suc, length, nat_eq, List, [], ◌∷◌, pos, refl, arith, ap}
+use Rattle.std.proofs.Common.{◌<◌, ℕ, zero, suc, length, nat_eq, List, [], ◌∷◌, pos, refl, arith}
+use Rattle.std.proofs.Common.{ap}
 use Rattle.std.proofs.lemmas.Int.{ints}
 use Rattle.std.proofs.lemmas.List.{length_push}
 use Rattle.std.specs.List.{All, IsDistinct}
@@ -22,7 +23,15 @@ two_edges : (c : goal.After-push_line-arg-2-1) → 1 < length c.push_edge-2.new.
 two_edges c =
     let first = ap (λ (p : ProblemParts). length p.edges) c.in_ok-push_edge.ensures.ok in
     let second = ap (λ (p : ProblemParts). length p.edges) c.in_ok-push_edge-2.ensures.ok in
-    omega (arith, first, second, length_push c.push_edge.new.self.edges (record { id = pos 7; least = 0; most = 3 }), length_push c.new-problem.result.edges (record { id = pos 4; least = 2; most = 3 }))
+    omega (
+      arith,
+      first,
+      second,
+      length_push c.push_edge.new.self.edges
+          (record { id = pos 7; least = 0; most = 3 }),
+      length_push c.new-problem.result.edges
+          (record { id = pos 4; least = 2; most = 3 }),
+    )
 
 one_there : (edges : ℕ) → 0 < edges → All (λ edge. edge < edges) (0 ∷ [])
 one_there edges h zero d within = h
@@ -41,7 +50,15 @@ one_edge : (c : goal.After-push_line-arg-4-1) → 0 < length c.push_line.new.sel
 one_edge c =
     let second = ap (λ (p : ProblemParts). length p.edges) c.in_ok-push_edge-2.ensures.ok in
     let lines = ap (λ (p : ProblemParts). length p.edges) c.in_ok-push_line.ensures.ok in
-    omega (arith, second, lines, length_push c.push_edge.new.self.edges (record { id = pos 7; least = 0; most = 3 }), length_push c.new-problem.result.edges (record { id = pos 4; least = 2; most = 3 }))
+    omega (
+      arith,
+      second,
+      lines,
+      length_push c.push_edge.new.self.edges
+          (record { id = pos 7; least = 0; most = 3 }),
+      length_push c.new-problem.result.edges
+          (record { id = pos 4; least = 2; most = 3 }),
+    )
 
 pub push_line-requires-2-clause-line : goal.push_line-requires-2-clause-line
 push_line-requires-2-clause-line c = record {

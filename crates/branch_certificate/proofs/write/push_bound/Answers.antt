@@ -1,4 +1,5 @@
-use Rattle.std.proofs.Common.{◌∷◌, ◌++◌, [], pos, length, ap, refl, sym, append_assoc, ◌∙◌, arith, w64}
+use Rattle.std.proofs.Common.{◌∷◌, ◌++◌, [], pos, length, ap, refl, sym, append_assoc, ◌∙◌, arith}
+use Rattle.std.proofs.Common.{w64}
 use Rattle.std.proofs.lemmas.Int.{to_z-of_z}
 use Rattle.branch_certificate.specs.TreeTexts.{edge_id, row_with}
 use Rattle.branch_certificate.proofs.ReadIds.{kept_behind}
@@ -20,7 +21,8 @@ loop-i-init c =
       sfits = omega (arith, few, c.len.ensures.len);
     }) ∙ ap pos c.len.ensures.len in
     c.in_ok-push.ensures.ok
-    ∙ ap (λ row. c.args.table.now ++ row ∷ []) (same_row (pos 2) (pos 0) _ _ (pos 0) (pos 0) count refl)
+    ∙ ap (λ row. c.args.table.now ++ row ∷ [])
+    (same_row (pos 2) (pos 0) _ _ (pos 0) (pos 0) count refl)
 
 pub id_of_edge-requires : goal.id_of_edge-requires
 id_of_edge-requires c =

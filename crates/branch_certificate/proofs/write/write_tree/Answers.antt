@@ -19,8 +19,10 @@ pub write_table-requires : goal.write_table-requires
 write_table-requires c =
     let problem = c.args.problem.now in
     let nodes = c.args.tree.now in
-    let is = c.loop-i.invariant ∙ ap (flat_map (node_rows problem)) (take_all c.loop-i.i nodes (omega arith)) in
-    let inside = rows_inside problem c.edge_count.ensures.sound nodes c.requires.names c.requires.written in (
+    let is = c.loop-i.invariant ∙ ap (flat_map (node_rows problem))
+    (take_all c.loop-i.i nodes (omega arith)) in
+    let inside = rows_inside problem c.edge_count.ensures.sound nodes c.requires.names
+    c.requires.written in (
       omega arith,
       (
         omega arith,
@@ -44,7 +46,8 @@ pub returns-clause-text : goal.returns-clause-text
 returns-clause-text c =
     let problem = c.args.problem.now in
     let nodes = c.args.tree.now in
-    let is = c.loop-i.invariant ∙ ap (flat_map (node_rows problem)) (take_all c.loop-i.i nodes (omega arith)) in
+    let is = c.loop-i.invariant ∙ ap (flat_map (node_rows problem))
+    (take_all c.loop-i.i nodes (omega arith)) in
     text_told problem c.edge_count.ensures.sound nodes c.loop-i.table is c.write_table.result
     c.write_table.ensures.text
 
@@ -52,6 +55,7 @@ pub returns-clause-back : goal.returns-clause-back
 returns-clause-back c =
     let problem = c.args.problem.now in
     let nodes = c.args.tree.now in
-    let is = c.loop-i.invariant ∙ ap (flat_map (node_rows problem)) (take_all c.loop-i.i nodes (omega arith)) in
+    let is = c.loop-i.invariant ∙ ap (flat_map (node_rows problem))
+    (take_all c.loop-i.i nodes (omega arith)) in
     back_told problem c.edge_count.ensures.sound nodes c.loop-i.table is c.requires.names
     c.requires.written c.write_table.result c.write_table.ensures.back

@@ -1,8 +1,10 @@
 use Rattle.std.proofs.Common.{sym, ◌∙◌, arith, w64}
 use Rattle.std.proofs.lemmas.Int.{to_z-of_z}
-use Rattle.branch_certificate.proofs.ReadRules.{multiplier_unknown, multiplier_stray, multiplier_of_0, multiplier_says}
+use Rattle.branch_certificate.proofs.ReadRules.{multiplier_unknown, multiplier_stray}
+use Rattle.branch_certificate.proofs.ReadRules.{multiplier_of_0, multiplier_says}
 use Rattle.branch_certificate.proofs.tree_row.TreeRow.as_multiplier.Goals as goal
-use Rattle.branch_certificate.proofs.tree_row.TreeRow.as_multiplier.Goals.{then-has_value-via-then-has_value, then-has_value-via-else-has_value+then-not-has_multiplier}
+use Rattle.branch_certificate.proofs.tree_row.TreeRow.as_multiplier.Goals.{then-has_value-via-then-has_value}
+use Rattle.branch_certificate.proofs.tree_row.TreeRow.as_multiplier.Goals.{then-has_value-via-else-has_value+then-not-has_multiplier}
 
 pub returns-in_default : goal.returns-in_default
 returns-in_default c =

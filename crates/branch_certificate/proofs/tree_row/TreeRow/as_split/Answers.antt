@@ -5,7 +5,8 @@ use Rattle.branch_certificate.proofs.tree_row.TreeRow.as_split.Goals as goal
 
 pub returns-in_default : goal.returns-in_default
 returns-in_default c =
-    split_unknown c.args.ids.now c.args.self.now c.requires.kind (sym c.line.ensures ∙ c.in_default.is)
+    split_unknown c.args.ids.now c.args.self.now c.requires.kind
+    (sym c.line.ensures ∙ c.in_default.is)
 
 pub returns-then-has_multiplier : goal.returns-then-has_multiplier
 returns-then-has_multiplier c =
