@@ -1,5 +1,7 @@
 -- The file of a tree: its rows, its rules, and the nodes that they are.
-use Rattle.std.specs.Prelude.{ℕ, ℤ, pos, ◌-◌, ◌&&◌, ◌||◌, nat_lt, not, int_lt, if◌then◌else◌, Bool, List, [], ◌∷◌, ◌++◌, map, reverse, take, get_or, position, unsigned_abs, Some, unwrap_or, slice_get, ◌≡◌, Result, Ok, Err, ⊤}
+use Rattle.std.specs.Prelude.{ℕ, ℤ, pos, ◌-◌, ◌&&◌, ◌||◌, nat_lt, not, int_lt, if◌then◌else◌, Bool}
+use Rattle.std.specs.Prelude.{List, [], ◌∷◌, ◌++◌, map, reverse, take, get_or, position}
+use Rattle.std.specs.Prelude.{unsigned_abs, Some, unwrap_or, slice_get, ◌≡◌, Result, Ok, Err, ⊤}
 use Rattle.std.specs.List.{list_any, fold, prefix_len}
 use Rattle.std.specs.Ordering.{int_eq}
 use Rattle.giv_files.specs.declared.file_id.FileId.TheVariants as file
