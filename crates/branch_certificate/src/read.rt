@@ -18,6 +18,12 @@ use giv_files::{ReadFault, RowFault, RowWhy, Table, columns, read_table};
 use line_cost_model::LineProblem;
 use std::alloc::Global;
 
+// A text that ends where a multiplier is due.
+const ENDS_EARLY: TreeReadFault = TreeReadFault::Row(RowFault {
+    row: 0,
+    why: RowWhy::OrderGap,
+});
+
 /// Reads the text of a tree over a line problem, or refuses it by its first fault.
 pub fn read_tree(alloc: Global, bytes: &[u8], problem: &LineProblem) -> Result<Tree, TreeReadFault>
     ensures read { TreeGives
@@ -29,10 +35,7 @@ pub fn read_tree(alloc: Global, bytes: &[u8], problem: &LineProblem) -> Result<T
     let ids = ProblemIds::of(alloc, problem)?;
     let so_far = read_rows(alloc, &ids, &table)?;
     if so_far.is_due() {
-        return Err(TreeReadFault::Row(RowFault {
-            row: 0,
-            why: RowWhy::OrderGap,
-        }));
+        return Err(ENDS_EARLY);
     }
     Ok(so_far.into_tree()?)
 }
