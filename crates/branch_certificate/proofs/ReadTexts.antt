@@ -28,6 +28,12 @@ use Rattle.branch_certificate.specs.TreeTexts.{CanBeWritten, NamesWhatIs}
 use Rattle.branch_certificate.proofs.ReadSteps.{due_told}
 use Rattle.branch_certificate.proofs.ReadTaken.{all_read}
 
+-- what holds of the nodes of a text that is read
+abbrev pub IsRead : ProblemParts → List ℕ → List Node → Type 0
+IsRead problem text tree =
+    (read_faults problem text ≡ []) × (tree ≡ tree_of problem text)
+    × All (NamesWhatIs problem) tree × All CanBeWritten tree
+
 module _ (problem : ProblemParts) (text : List ℕ) where
   abbrev input : Input TreeRow
   input = tree_input (ids_of problem)
@@ -76,19 +82,6 @@ module _ (problem : ProblemParts) (text : List ℕ) where
           ∙ refused_whole input table (stage.Refused (refusal.BadRow file.Tree 0 why.OrderGap)) refl
           none_here (whole_rule_broken input table is_due why.OrderGap [] (due_here ∙ late))
 
-      -- and one that is read
-      pub whole_read : due ≡ false → (tree : List Node) → tree ≡ closed so_far.nodes so_far.bound
-          → (read_faults problem text ≡ []) × (tree ≡ tree_of problem text)
-      unfolding read_faults tree_of
-      whole_read gone tree made = (
-        sym (faults_of_table input text table cells is)
-            ∙ no_faults input table refl none_here
-            (whole_rule_kept input table is_due why.OrderGap [] (due_here ∙ gone)),
-        made ∙ (all_read ids (records (tree_input ids) table) so_far known (sym told ∙ gone)).0
-            ∙ ap (λ ids. nodes_of ids (records (tree_input ids) table)) own
-            ∙ ap (λ rows. nodes_of (ids_of problem) (records input rows)) is,
-      )
-
       names_line : (one : Node) → IsSoundNode ids one → NamesWhatIs problem one
       names_line (node.Split line at) sound =
           omega (
@@ -113,17 +106,17 @@ module _ (problem : ProblemParts) (text : List ℕ) where
           )
       names_line node.Point sound = tt
 
-      -- its nodes name what is there, and can be written
-      pub names_read : due ≡ false → (tree : List Node) → tree ≡ closed so_far.nodes so_far.bound
-          → All (NamesWhatIs problem) tree
-      names_read gone tree made =
-          let sound = (all_read ids (records (tree_input ids) table) so_far known
-          (sym told ∙ gone)).1 in
-          subst (All (NamesWhatIs problem)) (sym made) (λ k d h. names_line _ (sound k d h))
-
-      pub written_read : due ≡ false → (tree : List Node) → tree ≡ closed so_far.nodes so_far.bound
-          → All CanBeWritten tree
-      written_read gone tree made =
-          let sound = (all_read ids (records (tree_input ids) table) so_far known
-          (sym told ∙ gone)).1 in
-          subst (All CanBeWritten) (sym made) (λ k d h. (sound k d h).1)
+      -- and one that is read
+      pub tree_read : due ≡ false → (tree : List Node) → tree ≡ closed so_far.nodes so_far.bound
+          → IsRead problem text tree
+      unfolding read_faults tree_of
+      tree_read gone tree made =
+          let all = all_read ids (records (tree_input ids) table) so_far known (sym told ∙ gone) in (
+            sym (faults_of_table input text table cells is)
+                ∙ no_faults input table refl none_here
+                (whole_rule_kept input table is_due why.OrderGap [] (due_here ∙ gone)),
+            made ∙ all.0 ∙ ap (λ ids. nodes_of ids (records (tree_input ids) table)) own
+                ∙ ap (λ rows. nodes_of (ids_of problem) (records input rows)) is,
+            subst (All (NamesWhatIs problem)) (sym made) (λ k d h. names_line _ (all.1 k d h)),
+            subst (All CanBeWritten) (sym made) (λ k d h. (all.1 k d h).1),
+          )

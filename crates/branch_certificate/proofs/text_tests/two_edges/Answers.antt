@@ -1,4 +1,4 @@
-use Rattle.std.proofs.Common.{◌<◌, ℕ, zero, suc, length, nat_eq, List, [], ◌∷◌, pos, refl, arith}
+use Rattle.std.proofs.Common.{◌<◌, ℕ, zero, suc, length, nat_eq, [], ◌∷◌, pos, refl, arith}
 use Rattle.std.proofs.Common.{ap}
 use Rattle.std.proofs.lemmas.Int.{ints}
 use Rattle.std.proofs.lemmas.List.{length_push}
