@@ -1,10 +1,21 @@
-pub mod Sound
-mod Tried
-mod Shapes
-mod Walking
+pub mod Certifying
+mod FirstOfAll
 mod FirstPlaces
 mod Judging
 mod Leaves
-pub mod Certifying
-mod FirstOfAll
 mod Named
+pub mod ReadIds
+pub mod ReadRules
+pub mod ReadSteps
+pub mod ReadTaken
+pub mod ReadTexts
+pub mod ReadWhole
+mod Shapes
+pub mod Sound
+mod Tried
+mod Walking
+pub mod WriteFew
+pub mod WriteInside
+pub mod WriteMultipliers
+pub mod WriteRows
+pub mod WriteTrees

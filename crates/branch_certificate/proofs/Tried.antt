@@ -2,6 +2,7 @@
 use Rattle.std.proofs.Common.{◌≡◌, ℕ, List, [], ◌∷◌, ◌++◌, refl, pos, codes, slice_get, Some}
 use Rattle.std.specs.Fmt.{digits}
 use Rattle.giv_files.specs.declared.file_id.FileId.TheVariants as file
+use Rattle.giv_files.specs.declared.refusal.Refusal.{Refusal}
 use Rattle.giv_files.specs.declared.refusal.Refusal.TheVariants as refusal
 use Rattle.giv_files.specs.declared.row_why.RowWhy.TheVariants as why
 use Rattle.giv_files.specs.Inputs.{input_faults, row_faults}
@@ -26,7 +27,9 @@ abbrev edge : ℕ → ℕ → ℕ → BoundedEdge
 edge id least most = record { id = pos id; least = least; most = most }
 
 abbrev lines : List CostedLine
-lines = record { id = pos 1; cost = 15000000; edges = 0 ∷ 1 ∷ [] } ∷ record { id = pos 2; cost = 12000000; edges = 0 ∷ [] } ∷ []
+lines =
+    record { id = pos 1; cost = 15000000; edges = 0 ∷ 1 ∷ [] }
+    ∷ record { id = pos 2; cost = 12000000; edges = 0 ∷ [] } ∷ []
 
 -- two edges in a row, a line over both and a line over the first
 abbrev two : ProblemParts
@@ -34,10 +37,14 @@ two = record { edges = edge 1 2 3 ∷ edge 2 1 3 ∷ []; lines = lines }
 
 -- the tree that certifies that no concept costs less than 27
 abbrev nodes : List Node
-nodes = node.Split 0 1 ∷ node.Split 0 0 ∷ node.Empty 1 side.Under ∷ node.Split 1 1 ∷ node.Split 1 0 ∷ node.Empty 0 side.Under ∷ node.Point ∷ node.Bound [] ∷ node.Bound [] ∷ []
+nodes =
+    node.Split 0 1 ∷ node.Split 0 0 ∷ node.Empty 1 side.Under ∷ node.Split 1 1 ∷ node.Split 1 0
+    ∷ node.Empty 0 side.Under ∷ node.Point ∷ node.Bound [] ∷ node.Bound [] ∷ []
 
 abbrev rows_below : List ℕ
-rows_below = codes "split; 1; 0; 0\nempty; 2; 1; 0\nsplit; 2; 1; 0\nsplit; 2; 0; 0\nempty; 1; 1; 0\npoint; 0; 0; 0\nbound; 0; 0; 0\nbound; 0; 0; 0\n"
+rows_below = codes "split; 1; 0; 0\nempty; 2; 1; 0\nsplit; 2; 1; 0\n"
+    ++ codes "split; 2; 0; 0\nempty; 1; 1; 0\npoint; 0; 0; 0\n"
+    ++ codes "bound; 0; 0; 0\nbound; 0; 0; 0\n"
 
 abbrev header : List ℕ
 header = codes "# kind; id; value; multiplier\n"
@@ -57,7 +64,8 @@ unfolding tree_faults first_tree placed_over bound_by
 thirty = refl
 
 -- a leaf is missing; the last of two points is left over; no node at all
-cut_short : tree_faults two (pos 27000000) (node.Split 0 1 ∷ node.Bound [] ∷ []) ≡ fault.Shape 2 ∷ []
+cut_short : tree_faults two (pos 27000000) (node.Split 0 1 ∷ node.Bound [] ∷ [])
+    ≡ fault.Shape 2 ∷ []
 unfolding tree_faults first_tree placed_over bound_by
 cut_short = refl
 
@@ -74,21 +82,31 @@ unfolding tree_text table_text cell_texts cell_text joined digits digits_at
 text = refl
 
 fine : read_faults two (header ++ codes "split; 1; 1; 0\n" ++ rows_below) ≡ []
-unfolding read_faults input_faults row_faults faults table_of cells_from cell_of values errors row_whys rows cleaned spelling_of value_of value_at fixed_of whole_of
+unfolding read_faults input_faults row_faults faults table_of cells_from cell_of values errors
+    row_whys rows cleaned spelling_of value_of value_at fixed_of whole_of
 fine = refl
 
 back : tree_of two (header ++ codes "split; 1; 1; 0\n" ++ rows_below) ≡ nodes
-unfolding tree_of nodes_of table_of cells_from cell_of values rows cleaned spelling_of value_of value_at fixed_of whole_of
+unfolding tree_of nodes_of table_of cells_from cell_of values rows cleaned spelling_of value_of
+    value_at fixed_of whole_of
 back = refl
 
--- the first fault of the same rows with another first row, which splits outside the range of its line
-outside : slice_get (tree_faults two (pos 27000000) (tree_of two (header ++ codes "split; 1; 3; 0\n" ++ rows_below))) 0 ≡ Some (fault.Split 0)
-unfolding tree_faults first_tree placed_over bound_by tree_of nodes_of table_of cells_from cell_of values rows cleaned spelling_of value_of value_at fixed_of whole_of
+-- the first fault of the same rows with another first row, which splits outside its line's range
+outside : slice_get (tree_faults two (pos 27000000)
+    (tree_of two (header ++ codes "split; 1; 3; 0\n" ++ rows_below))) 0
+    ≡ Some (fault.Split 0)
+unfolding tree_faults first_tree placed_over bound_by tree_of nodes_of table_of cells_from cell_of
+    values rows cleaned spelling_of value_of value_at fixed_of whole_of
 outside = refl
 
 -- without their last row a leaf is missing
-without_last : tree_faults two (pos 27000000) (tree_of two (codes "split; 1; 1; 0\nsplit; 1; 0; 0\nempty; 2; 1; 0\nsplit; 2; 1; 0\nsplit; 2; 0; 0\nempty; 1; 1; 0\npoint; 0; 0; 0\nbound; 0; 0; 0\n")) ≡ fault.Shape 8 ∷ []
-unfolding tree_faults first_tree placed_over bound_by tree_of nodes_of table_of cells_from cell_of values rows cleaned spelling_of value_of value_at fixed_of whole_of
+without_last : tree_faults two (pos 27000000)
+    (tree_of two (codes "split; 1; 1; 0\nsplit; 1; 0; 0\nempty; 2; 1; 0\n"
+    ++ codes "split; 2; 1; 0\nsplit; 2; 0; 0\nempty; 1; 1; 0\n"
+    ++ codes "point; 0; 0; 0\nbound; 0; 0; 0\n"))
+    ≡ fault.Shape 8 ∷ []
+unfolding tree_faults first_tree placed_over bound_by tree_of nodes_of table_of cells_from cell_of
+    values rows cleaned spelling_of value_of value_at fixed_of whole_of
 without_last = refl
 
 -- ---- a tree with a multiplier
@@ -97,22 +115,33 @@ without_last = refl
 abbrev loose : ProblemParts
 loose = record { edges = edge 1 2 3 ∷ edge 2 0 3 ∷ []; lines = lines }
 
--- the rows of a tree that certifies that no concept costs less than 24, up to its multiplier, and behind it
+-- the rows of a tree that certifies that no concept costs less than 24, up to its multiplier
 abbrev rows_before : List ℕ
-rows_before = codes "split; 1; 1; 0\nsplit; 1; 0; 0\nsplit; 2; 1; 0\nempty; 1; 1; 0\nsplit; 2; 2; 0\npoint; 0; 0; 0\nbound; 0; 0; 0\nbound; 1; 0; 0\n"
+rows_before = codes "split; 1; 1; 0\nsplit; 1; 0; 0\nsplit; 2; 1; 0\n"
+    ++ codes "empty; 1; 1; 0\nsplit; 2; 2; 0\npoint; 0; 0; 0\n"
+    ++ codes "bound; 0; 0; 0\nbound; 1; 0; 0\n"
 
-multiplied : tree_faults loose (pos 24000000) (tree_of loose (rows_before ++ codes "mult; 1; 0; 12\nbound; 0; 0; 0\n")) ≡ []
-unfolding tree_faults first_tree placed_over bound_by tree_of nodes_of table_of cells_from cell_of values rows cleaned spelling_of value_of value_at fixed_of whole_of
+multiplied : tree_faults loose (pos 24000000)
+    (tree_of loose (rows_before ++ codes "mult; 1; 0; 12\nbound; 0; 0; 0\n"))
+    ≡ []
+unfolding tree_faults first_tree placed_over bound_by tree_of nodes_of table_of cells_from cell_of
+    values rows cleaned spelling_of value_of value_at fixed_of whole_of
 multiplied = refl
 
 -- a multiplier that takes more off the second line than it costs
-raised : tree_faults loose (pos 24000000) (tree_of loose (rows_before ++ codes "mult; 1; 0; 12.000001\nbound; 0; 0; 0\n")) ≡ fault.Multiplier 7 ∷ []
-unfolding tree_faults first_tree placed_over bound_by tree_of nodes_of table_of cells_from cell_of values rows cleaned spelling_of value_of value_at fixed_of whole_of
+raised : tree_faults loose (pos 24000000)
+    (tree_of loose (rows_before ++ codes "mult; 1; 0; 12.000001\nbound; 0; 0; 0\n"))
+    ≡ fault.Multiplier 7 ∷ []
+unfolding tree_faults first_tree placed_over bound_by tree_of nodes_of table_of cells_from cell_of
+    values rows cleaned spelling_of value_of value_at fixed_of whole_of
 raised = refl
 
 -- one that is too little: 15 and 8 are not 24
-lowered : tree_faults loose (pos 24000000) (tree_of loose (rows_before ++ codes "mult; 1; 0; 8\nbound; 0; 0; 0\n")) ≡ fault.Bound 7 ∷ []
-unfolding tree_faults first_tree placed_over bound_by tree_of nodes_of table_of cells_from cell_of values rows cleaned spelling_of value_of value_at fixed_of whole_of
+lowered : tree_faults loose (pos 24000000)
+    (tree_of loose (rows_before ++ codes "mult; 1; 0; 8\nbound; 0; 0; 0\n"))
+    ≡ fault.Bound 7 ∷ []
+unfolding tree_faults first_tree placed_over bound_by tree_of nodes_of table_of cells_from cell_of
+    values rows cleaned spelling_of value_of value_at fixed_of whole_of
 lowered = refl
 
 -- an edge that is not empty on the side that is named
@@ -122,27 +151,41 @@ not_empty = refl
 
 -- ---- what reading refuses
 
+-- a row that is out of order
+abbrev gap : ℕ → Refusal
+gap row = refusal.BadRow file.Tree row why.OrderGap
+
 -- a text that ends where a multiplier is due
-due : read_faults loose (codes "bound; 2; 0; 0\nmult; 1; 0; 1\n") ≡ refusal.BadRow file.Tree 0 why.OrderGap ∷ []
-unfolding read_faults input_faults row_faults faults table_of cells_from cell_of values errors row_whys rows cleaned spelling_of value_of value_at fixed_of whole_of
+due : read_faults loose (codes "bound; 2; 0; 0\nmult; 1; 0; 1\n") ≡ gap 0 ∷ []
+unfolding read_faults input_faults row_faults faults table_of cells_from cell_of values errors
+    row_whys rows cleaned spelling_of value_of value_at fixed_of whole_of
 due = refl
 
-many : read_faults loose (codes "bound; 1000000000; 0; 0\nmult; 1; 0; 1\n") ≡ refusal.BadRow file.Tree 0 why.OrderGap ∷ []
-unfolding read_faults input_faults row_faults faults table_of cells_from cell_of values errors row_whys rows cleaned spelling_of value_of value_at fixed_of whole_of
+many : read_faults loose (codes "bound; 1000000000; 0; 0\nmult; 1; 0; 1\n") ≡ gap 0 ∷ []
+unfolding read_faults input_faults row_faults faults table_of cells_from cell_of values errors
+    row_whys rows cleaned spelling_of value_of value_at fixed_of whole_of
 many = refl
 
 -- a row that breaks several rules: the edge is looked at first
-several : slice_get (read_faults loose (codes "mult; 3; 1; 0\n")) 0 ≡ Some (refusal.BadRow file.Tree 1 why.UnknownEdge)
-unfolding read_faults input_faults row_faults faults table_of cells_from cell_of values errors row_whys rows cleaned spelling_of value_of value_at fixed_of whole_of
+several : slice_get (read_faults loose (codes "mult; 3; 1; 0\n")) 0
+    ≡ Some (refusal.BadRow file.Tree 1 why.UnknownEdge)
+unfolding read_faults input_faults row_faults faults table_of cells_from cell_of values errors
+    row_whys rows cleaned spelling_of value_of value_at fixed_of whole_of
 several = refl
 
-unknown : read_faults loose (codes "split; 3; 0; 0\nempty; 3; 0; 0\n") ≡ refusal.BadRow file.Tree 1 why.UnknownLine ∷ refusal.BadRow file.Tree 2 why.UnknownEdge ∷ []
-unfolding read_faults input_faults row_faults faults table_of cells_from cell_of values errors row_whys rows cleaned spelling_of value_of value_at fixed_of whole_of
+unknown : read_faults loose (codes "split; 3; 0; 0\nempty; 3; 0; 0\n")
+    ≡ refusal.BadRow file.Tree 1 why.UnknownLine ∷ refusal.BadRow file.Tree 2 why.UnknownEdge ∷ []
+unfolding read_faults input_faults row_faults faults table_of cells_from cell_of values errors
+    row_whys rows cleaned spelling_of value_of value_at fixed_of whole_of
 unknown = refl
 
--- a multiplier that is not due, edges that do not rise, a multiplier of 0, a side that is none, cells that are not 0
-gaps : read_faults loose (codes "point; 0; 0; 0\nmult; 1; 0; 1\nbound; 3; 0; 0\nmult; 2; 0; 1\nmult; 1; 0; 1\nmult; 2; 0; 0\nempty; 1; 2; 0\npoint; 1; 0; 0\nsplit; 1; 0; 1\n")
-    ≡ refusal.BadRow file.Tree 2 why.OrderGap ∷ refusal.BadRow file.Tree 5 why.OrderGap ∷ refusal.BadRow file.Tree 6 why.OrderGap ∷ refusal.BadRow file.Tree 7 why.OrderGap
-    ∷ refusal.BadRow file.Tree 8 why.OrderGap ∷ refusal.BadRow file.Tree 9 why.OrderGap ∷ []
-unfolding read_faults input_faults row_faults faults table_of cells_from cell_of values errors row_whys rows cleaned spelling_of value_of value_at fixed_of whole_of
+-- a multiplier that is not due, edges that do not rise, a multiplier of 0, a side that is none,
+-- cells that are not 0
+gaps : read_faults loose (codes "point; 0; 0; 0\nmult; 1; 0; 1\nbound; 3; 0; 0\n"
+    ++ codes "mult; 2; 0; 1\nmult; 1; 0; 1\nmult; 2; 0; 0\n"
+    ++ codes "empty; 1; 2; 0\npoint; 1; 0; 0\nsplit; 1; 0; 1\n")
+    ≡ gap 2 ∷ gap 5 ∷ gap 6 ∷ refusal.BadRow file.Tree 7 why.OrderGap
+    ∷ gap 8 ∷ gap 9 ∷ []
+unfolding read_faults input_faults row_faults faults table_of cells_from cell_of values errors
+    row_whys rows cleaned spelling_of value_of value_at fixed_of whole_of
 gaps = refl

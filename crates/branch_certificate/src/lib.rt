@@ -9,9 +9,13 @@ mod check_shape;
 mod fault;
 mod first_faults;
 mod node;
+mod open_bound;
+mod problem_ids;
 mod read;
 mod read_fault;
+mod read_so_far;
 mod region_walk;
+mod row_says;
 mod tree;
 mod tree_row;
 mod write;
@@ -26,3 +30,5 @@ pub use write::write_tree;
 
 #[cfg(test)]
 mod check_tests;
+#[cfg(test)]
+mod text_tests;

@@ -1,0 +1,226 @@
+-- What is known after some rows of a tree, with one row more.
+use Rattle.std.proofs.Common.{◌≡◌, ℕ, ℤ, pos, negsuc, suc, ◌≤ℤ◌, ◌+◌, ◌-◌, ◌<◌, ◌≤◌, arith, Bool}
+use Rattle.std.proofs.Common.{true, false, cond, not, ◌||◌, ◌&&◌, nat_lt, int_lt, List, [], ◌∷◌}
+use Rattle.std.proofs.Common.{◌++◌, length, get_or, map, take, unsigned_abs, refl, ap, sym, ◌∙◌}
+use Rattle.std.proofs.Common.{append_assoc, append-nil, inl, inr, Option, Some, None}
+use Rattle.std.proofs.Common.{unwrap_or, All}
+use Rattle.std.specs.List.{list_any, prefix_len}
+use Rattle.std.proofs.lemmas.Bool.{lt-ltb, le-ltb, ltb-false, cases_lt}
+use Rattle.std.proofs.lemmas.Int.{ints}
+use Rattle.std.proofs.lemmas.List.{reverse-append}
+use Rattle.std.proofs.lemmas.List.Elements.{All-nil, All-push}
+use Rattle.std.proofs.lemmas.List.Sums.{fold_push}
+use Rattle.line_cost_model.specs.declared.multipliers.Multiplier.{Multiplier}
+use Rattle.line_cost_model.specs.Multipliers.{AreMultipliers, IsAmount}
+use Rattle.line_cost_model.proofs.Pushed.{multipliers_push}
+use Rattle.branch_certificate.specs.declared.node.Node.{Node}
+use Rattle.branch_certificate.specs.declared.node.Node.TheVariants as node
+use Rattle.branch_certificate.specs.declared.open_bound.OpenBound.{OpenBound}
+use Rattle.branch_certificate.specs.declared.tree_row.TreeRow.{TreeRow}
+use Rattle.branch_certificate.specs.ReadRows.{AreRising, SaysNode, SaysBound, SaysMultiplier}
+use Rattle.branch_certificate.specs.ReadRows.{begins_inside, IsClosed, IsOpen, IsSoundBound}
+use Rattle.branch_certificate.specs.ReadRows.{IsSoundNode, StandsBehind, is_due_in}
+use Rattle.branch_certificate.specs.ReadRows.{taken_by, closed}
+use Rattle.branch_certificate.specs.TreeFiles.{NamedIds, is_multiplier, is_due, due_after}
+use Rattle.branch_certificate.specs.TreeFiles.{due_behind, announced, falls_back, multiplier_in}
+use Rattle.branch_certificate.specs.TreeFiles.{multiplier_rows, node_of, nodes_of}
+use Rattle.branch_certificate.proofs.ReadIds.{found_twice}
+use Rattle.branch_certificate.proofs.ReadRules.{within}
+
+-- ---- rows with one more
+
+-- the nodes of rows before others
+pub one_more : (ids : NamedIds) (before : List TreeRow) (row : TreeRow) (rest : List TreeRow)
+    → nodes_of ids ((before ++ row ∷ []) ++ rest) ≡ nodes_of ids (before ++ row ∷ rest)
+one_more ids before row rest = ap (nodes_of ids) (append_assoc before (row ∷ []) rest)
+
+nodes_first : (ids : NamedIds) (row : TreeRow) (rest : List TreeRow)
+    → nodes_of ids (row ∷ rest) ≡ node_of ids row rest ++ nodes_of ids rest
+unfolding nodes_of
+nodes_first ids row rest = refl
+
+pub nodes_none : (ids : NamedIds) → nodes_of ids [] ≡ []
+unfolding nodes_of
+nodes_none ids = refl
+
+-- how many are due
+pub due_more : (before : List TreeRow) (row : TreeRow) (b : Bool) → is_multiplier row ≡ b
+    → due_after (before ++ row ∷ []) ≡ cond b (due_after before - 1) (announced row)
+due_more before row b is =
+    fold_push due_behind 0 before row
+    ∙ ap (λ b. cond b (due_after before - 1) (announced row)) is
+
+-- whether an edge falls back
+pub falls_more : (before : List TreeRow) (last row : TreeRow) (b : Bool) → is_multiplier last ≡ b
+    → falls_back (before ++ last ∷ []) row ≡ ((b && not (int_lt last.id row.id)) || false)
+falls_more before last row b is =
+    ap (λ all. list_any (λ last. is_multiplier last && not (int_lt last.id row.id)) (take 1 all))
+    (reverse-append before (last ∷ []))
+    ∙ ap (λ b. (b && not (int_lt last.id row.id)) || false) is
+
+inside_first : (row : TreeRow) (rest : List TreeRow) → is_multiplier row ≡ false
+    → begins_inside (row ∷ rest) ≡ false
+inside_first row rest is = ap (λ b. b || false) is
+
+-- the multipliers right at the front of rows
+no_multiplier : (rest : List TreeRow) → begins_inside rest ≡ false → multiplier_rows rest ≡ []
+no_multiplier [] h = refl
+no_multiplier (row ∷ rest) h =
+    ap (λ n. take n (row ∷ rest))
+    (ap (λ b. cond b (1 + prefix_len is_multiplier rest) 0) (alone (is_multiplier row) h))
+  where
+    alone : (b : Bool) → (b || false) ≡ false → b ≡ false
+    alone true e = cc
+    alone false e = refl
+
+multiplier_first : (row : TreeRow) (rest : List TreeRow) → is_multiplier row ≡ true
+    → multiplier_rows (row ∷ rest) ≡ row ∷ multiplier_rows rest
+multiplier_first row rest is =
+    ap (λ n. take n (row ∷ rest))
+    (ap (λ b. cond b (1 + prefix_len is_multiplier rest) 0) is)
+    ∙ next (prefix_len is_multiplier rest)
+  where
+    next : (n : ℕ) → take (1 + n) (row ∷ rest) ≡ row ∷ take n rest
+    next n = let e : 1 + n ≡ suc n = omega arith in rw e refl
+
+-- ---- a node behind rows
+
+module _ (ids : NamedIds) (before : List TreeRow) (row : TreeRow) (nodes : List Node) where
+  pub node_more : (node : Node) → IsClosed ids before nodes → SaysNode ids row node
+      → IsClosed ids (before ++ row ∷ []) (nodes ++ node ∷ [])
+  node_more one h says = record {
+    whole = λ rest inside.
+        one_more ids before row rest ∙ h.whole (row ∷ rest) (inside_first row rest says.alone)
+        ∙ ap (λ some. nodes ++ some) (nodes_first ids row rest
+        ∙ ap (λ some. some ++ nodes_of ids rest) (says.stands_for rest))
+        ∙ sym (append_assoc nodes (one ∷ []) (nodes_of ids rest));
+    none_due = due_more before row false says.alone ∙ says.none_due;
+  }
+
+  pub bound_more : (count : ℕ) → IsClosed ids before nodes → SaysBound ids row count
+      → IsOpen ids (before ++ row ∷ []) nodes (record { multipliers = []; next = 0; due = count })
+  bound_more count h says = record {
+    whole = λ rest.
+        one_more ids before row rest ∙ h.whole (row ∷ rest) (inside_first row rest says.alone)
+        ∙ ap (λ some. nodes ++ some) (nodes_first ids row rest
+        ∙ ap (λ some. some ++ nodes_of ids rest) (says.stands_for rest));
+    due = due_more before row false says.alone ∙ says.due;
+    last = λ other edge stands.
+        falls_more before row other false says.alone ∙ sym (le-ltb edge 0 (omega arith));
+    sound = record {
+      after = All-nil (λ (one : Multiplier). one.edge < 0);
+      are = no_multipliers;
+      named = All-nil (λ (one : Multiplier). one.edge < length ids.edges);
+    };
+  }
+    where
+      no_multipliers : AreMultipliers []
+      no_multipliers = record {
+        amounts = λ k d l. absurd (omega arith);
+        edges_rise = λ k l. absurd (omega arith);
+      }
+
+-- ---- a multiplier behind rows
+
+amount_of : (m : ℤ) → pos 1 ≤ℤ m → m ≤ℤ pos 1000000000000000000 → IsAmount (unsigned_abs m)
+amount_of (pos n) low high = record {
+  some = omega (arith, ints, low);
+  few = omega
+      (arith, ints, high);
+}
+amount_of (negsuc n) low high = absurd (omega (arith, ints, low))
+
+module _ (ids : NamedIds) (before : List TreeRow) (row : TreeRow) (nodes : List Node)
+    (bound : OpenBound) (edge : ℕ) (millionths : ℤ) (h : IsOpen ids before nodes bound)
+    (said : SaysMultiplier ids row edge millionths) where
+  abbrev added : Multiplier
+  added = record { edge = edge; amount = unsigned_abs millionths }
+
+  is_added : multiplier_in ids row ≡ added
+  is_added =
+      ap (λ o. record { edge = unwrap_or o 0; amount = unsigned_abs row.multiplier }) said.stands
+      ∙ ap (λ m. record { edge = edge; amount = unsigned_abs m }) said.amount
+
+  all_rows : (rest : List TreeRow)
+      → bound.multipliers ++ map (multiplier_in ids) (multiplier_rows (row ∷ rest))
+      ≡ (bound.multipliers ++ added ∷ []) ++ map (multiplier_in ids) (multiplier_rows rest)
+  all_rows rest =
+      let behind = map (multiplier_in ids) (multiplier_rows rest) in
+      ap (λ rows. bound.multipliers ++ map (multiplier_in ids) rows)
+      (multiplier_first row rest said.alone)
+      ∙ ap (λ one. bound.multipliers ++ one ∷ behind) is_added
+      ∙ sym (append_assoc bound.multipliers (added ∷ []) behind)
+
+  sound_more : nat_lt edge bound.next ≡ false → IsSoundBound ids (taken_by bound edge millionths)
+  sound_more rising =
+      let next : bound.next ≤ edge = ltb-false edge bound.next rising in
+      let few = amount_of millionths said.some said.few in
+      record {
+        after = All-push (λ (one : Multiplier). one.edge < edge + 1) bound.multipliers added
+            (λ k d l. let low : (get_or bound.multipliers k d).edge < bound.next = h.sound.after k d
+            l in
+            omega arith) (omega arith);
+        are = multipliers_push bound.multipliers edge (unsigned_abs millionths) h.sound.are few
+            (λ k d l. let low : (get_or bound.multipliers k d).edge < bound.next = h.sound.after k d
+            l in
+            omega arith);
+        named = All-push (λ (one : Multiplier). one.edge < length ids.edges) bound.multipliers added
+            h.sound.named (within ids.edges row.id edge said.stands);
+      }
+
+  pub multiplier_more : AreRising ids → nat_lt edge bound.next ≡ false
+      → IsOpen ids (before ++ row ∷ []) nodes (taken_by bound edge millionths)
+  multiplier_more up rising = record {
+    whole = λ rest.
+        one_more ids before row rest ∙ h.whole (row ∷ rest)
+        ∙ ap (λ all. nodes ++ node.Bound all ∷ nodes_of ids (row ∷ rest)) (all_rows rest)
+        ∙ ap (λ some. nodes ++ node.Bound ((bound.multipliers ++ added ∷ [])
+        ++ map (multiplier_in ids) (multiplier_rows rest)) ∷ some)
+        (nodes_first ids row rest ∙ ap (λ some. some ++ nodes_of ids rest) (said.stands_for rest));
+    due = due_more before row true said.alone ∙ ap (λ n. n - 1) h.due;
+    last = λ other place stands.
+        falls_more before row other true said.alone
+        ∙ or_none (not (int_lt row.id other.id))
+        ∙ ap not (found_twice ids.edges row.id other.id edge place up.1 said.stands stands)
+        ∙ not_before edge place;
+    sound = sound_more rising;
+  }
+    where
+      or_none : (b : Bool) → (b || false) ≡ b
+      or_none true = refl
+      or_none false = refl
+
+      not_before : (i j : ℕ) → not (nat_lt i j) ≡ nat_lt j (i + 1)
+      not_before i j =
+          elim (cases_lt i j) [
+            | inl less ↦ ap not (lt-ltb i j less) ∙ sym (le-ltb j (i + 1) (omega arith))
+            | inr more ↦ ap not (le-ltb i j more) ∙ sym (lt-ltb j (i + 1) (omega arith))
+          ]
+
+-- ---- a bound that ends
+
+module _ (ids : NamedIds) (before : List TreeRow) (nodes : List Node) where
+  pub due_told : (bound : Option OpenBound) → StandsBehind ids before nodes bound
+      → is_due before ≡ is_due_in bound
+  due_told None h = ap (nat_lt 0) h.none_due
+  due_told (Some bound) h = ap (nat_lt 0) h.due
+
+  pub ended : (bound : Option OpenBound) → StandsBehind ids before nodes bound
+      → is_due_in bound ≡ false → IsClosed ids before (closed nodes bound)
+  ended None h none = h
+  ended (Some bound) h none = record {
+    whole = λ rest inside.
+        h.whole rest
+        ∙ ap (λ some. nodes ++ node.Bound some ∷ nodes_of ids rest)
+        (ap (λ rows. bound.multipliers ++ map (multiplier_in ids) rows) (no_multiplier rest inside)
+        ∙ append-nil bound.multipliers)
+        ∙ sym (append_assoc nodes (node.Bound bound.multipliers ∷ []) (nodes_of ids rest));
+    none_due = let few : bound.due ≤ 0 = ltb-false 0 bound.due none in h.due ∙ omega arith;
+  }
+
+  pub ended_sound : (bound : Option OpenBound) → StandsBehind ids before nodes bound
+      → All (IsSoundNode ids) nodes → All (IsSoundNode ids) (closed nodes bound)
+  ended_sound None h all = all
+  ended_sound (Some bound) h all =
+      All-push (IsSoundNode ids) nodes (node.Bound bound.multipliers) all
+      (h.sound.named, h.sound.are)

@@ -1,0 +1,47 @@
+-- The rows of nodes and of multipliers, one after the other.
+use Rattle.std.proofs.Common.{◌≡◌, ℕ, ℤ, pos, zero, suc, ◌+◌, ◌<◌, arith, List, [], ◌∷◌, ◌++◌, take}
+use Rattle.std.proofs.Common.{slice_get, ap, subst, sym, ◌∙◌, append_assoc, append-nil, Some}
+use Rattle.std.proofs.Common.{option_map, All}
+use Rattle.std.specs.List.{flat_map}
+use Rattle.giv_files.specs.Tables.{TableRow}
+use Rattle.line_cost_model.specs.declared.multipliers.Multiplier.{Multiplier}
+
+-- a row with these cells
+abbrev pub cells_row : ℤ → ℤ → ℤ → ℤ → TableRow
+cells_row kind id value multiplier =
+    record { number = 0; cells = kind ∷ id ∷ value ∷ multiplier ∷ [] }
+
+-- rows with equal cells
+pub same_row : (kind value a id b multiplier : ℤ) → a ≡ id → b ≡ multiplier
+    → cells_row kind a value b ≡ cells_row kind id value multiplier
+same_row kind value a id b multiplier first last =
+    ap (λ x. cells_row kind x value b) first ∙ ap (λ x. cells_row kind id value x) last
+
+-- the rows of the first items, with those of one more
+pub rows_more : {X Y : Type 0} (rows : X → List Y) (xs : List X) (i : ℕ) (x : X) (old new : List Y)
+    → new ≡ old ++ rows x → old ≡ flat_map rows (take i xs) → slice_get xs i ≡ Some x
+    → new ≡ flat_map rows (take (i + 1) xs)
+rows_more rows xs i x old new pushed are there =
+    pushed ∙ ap (λ some. some ++ rows x) are ∙ sym (more xs i there)
+  where
+    more : (xs : List _) (i : ℕ) → slice_get xs i ≡ Some x
+        → flat_map rows (take (i + 1) xs) ≡ flat_map rows (take i xs) ++ rows x
+    more [] i e = cc
+    more (y ∷ xs) zero e =
+        let same : y ≡ x = cc in ap (λ z. rows z ++ []) same ∙ append-nil (rows x)
+    more (y ∷ xs) (suc i) e =
+        let next : suc i + 1 ≡ suc (i + 1) = omega arith in
+        rw next (ap (λ rest. rows y ++ rest) (more xs i e)
+        ∙ sym (append_assoc (rows y) (flat_map rows (take i xs)) (rows x)))
+
+-- the edge at a place is one of those that are there
+pub edge_there : (edges : ℕ) (multipliers : List Multiplier) (i : ℕ) (r : ℕ × ℤ)
+    → All (λ one. one.edge < edges) multipliers
+    → option_map (λ at. (at.edge, pos at.amount)) (slice_get multipliers i) ≡ Some r → r.0 < edges
+edge_there edges [] i r all e = cc
+edge_there edges (one ∷ rest) zero r all e =
+    let same : (one.edge, pos one.amount) ≡ r = cc in
+    let own : one.edge < edges = all 0 one (omega arith) in
+    subst (λ (r : ℕ × ℤ). r.0 < edges) same own
+edge_there edges (one ∷ rest) (suc i) r all e =
+    edge_there edges rest i r (λ k d h. all (suc k) d (omega arith)) e

@@ -1,0 +1,248 @@
+-- A tree that is written is read back.
+use Rattle.std.proofs.Common.{◌≡◌, ℕ, ℤ, pos, ◌<◌, ◌≤◌, ◌≤ℤ◌, ◌^◌, arith, Bool}
+use Rattle.std.proofs.Common.{true, false, not, nat_lt, int_eq, List, [], ◌∷◌, ◌++◌}
+use Rattle.std.proofs.Common.{length, get_or, map, refl, sym, ap, subst, ◌∙◌}
+use Rattle.std.proofs.Common.{append_assoc, append-nil, Result}
+use Rattle.std.proofs.Common.{Ok, Err, IfOk, All}
+use Rattle.std.specs.List.{flat_map}
+use Rattle.std.proofs.lemmas.Bool.Decides.{Decides-int_eq}
+use Rattle.std.proofs.lemmas.Int.{ints}
+use Rattle.std.proofs.lemmas.List.{length-map, map-append}
+use Rattle.std.proofs.lemmas.List.Elements.{All-head, All-tail}
+use Rattle.std.proofs.lemmas.Simd.{map-map}
+use Rattle.giv_files.specs.declared.row_why.RowWhy.TheVariants as why
+use Rattle.giv_files.specs.declared.file_id.FileId.TheVariants as file
+use Rattle.giv_files.specs.Columns.{tree_columns}
+use Rattle.giv_files.specs.Inputs.{records}
+use Rattle.giv_files.specs.Reading.{table_of}
+use Rattle.giv_files.specs.Tables.{TableRow}
+use Rattle.giv_files.specs.Writing.{ReadsBack, table_text}
+use Rattle.giv_files.proofs.Accepted.{KeepRules, accepted, whole_accepted}
+use Rattle.line_cost_model.specs.declared.edge.BoundedEdge.{BoundedEdge}
+use Rattle.line_cost_model.specs.declared.multipliers.Multiplier.{Multiplier}
+use Rattle.line_cost_model.specs.declared.side.Side.{Side}
+use Rattle.line_cost_model.specs.declared.side.Side.TheVariants as side
+use Rattle.line_cost_model.specs.Multipliers.{IsAmount}
+use Rattle.line_cost_model.specs.Problems.{CostedLine, IsId, IsProblem, ProblemParts}
+use Rattle.branch_certificate.specs.declared.node.Node.{Node}
+use Rattle.branch_certificate.specs.declared.node.Node.TheVariants as node
+use Rattle.branch_certificate.specs.declared.tree_row.TreeRow.{TreeRow}
+use Rattle.branch_certificate.specs.ReadRows.{IsTreeRow, IsClosed, SaysNode, SaysBound}
+use Rattle.branch_certificate.specs.ReadRows.{SaysMultiplier}
+use Rattle.branch_certificate.specs.TreeFiles.{NamedIds, ids_of, is_due}
+use Rattle.branch_certificate.specs.TreeFiles.{nodes_of, tree_input, tree_rules, tree_row, tree_of}
+use Rattle.branch_certificate.specs.TreeFiles.{read_faults}
+use Rattle.branch_certificate.specs.TreeTexts.{CanBeWritten, NamesWhatIs, edge_id, line_id}
+use Rattle.branch_certificate.specs.TreeTexts.{node_rows, side_place, ReadsBackAs, tree_header}
+use Rattle.branch_certificate.specs.TreeTexts.{tree_text}
+use Rattle.branch_certificate.proofs.ReadRules.{out_of_order, or_false, split_says, empty_says}
+use Rattle.branch_certificate.proofs.ReadRules.{multiplier_says}
+use Rattle.branch_certificate.proofs.ReadSteps.{node_more, bound_more}
+use Rattle.branch_certificate.proofs.ReadSteps.{nodes_none}
+use Rattle.branch_certificate.proofs.WriteFew.{climb_of, few_edges}
+use Rattle.branch_certificate.proofs.WriteRows.{cells_row}
+use Rattle.branch_certificate.proofs.WriteInside.{line_there, edge_there}
+use Rattle.branch_certificate.proofs.WriteMultipliers.{own_index, keep_both, kept_here}
+use Rattle.branch_certificate.proofs.WriteMultipliers.{multipliers_kept}
+
+-- ---- the rows of nodes
+
+module _ (problem : ProblemParts) (sound : IsProblem problem) where
+  abbrev ids : NamedIds
+  ids = ids_of problem
+
+  abbrev row : ℕ → ℤ → ℕ → ℕ → TreeRow
+  row kind id value multiplier =
+      record { kind = pos kind; id = id; value = pos value; multiplier = pos multiplier }
+
+  number : (n most : ℕ) → n ≤ most → (pos 0 ≤ℤ pos n) × (pos n ≤ℤ pos most)
+  number n most h = (omega (arith, ints), omega (arith, ints))
+
+  fits : (kind value multiplier : ℕ) (id : ℤ) → kind ≤ 4 → IsId id → value ≤ 1000000000
+      → multiplier ≤ 1000000000000000000 → IsTreeRow (row kind id value multiplier)
+  fits kind value multiplier id known is few amount = record {
+    kind = number kind 4 known;
+    id = (omega (arith, ints, is.low), is.high);
+    value = number value 1000000000 few;
+    multiplier = number multiplier 1000000000000000000 amount;
+  }
+
+  split_row : (line at : ℕ) → line < length problem.lines → at ≤ 1000000000
+      → SaysNode ids (row 0 (line_id problem line) at 0) (node.Split line at)
+  split_row line at h few =
+      split_says ids (row 0 (line_id problem line) at 0) refl line at
+      (own_index (λ (line : CostedLine). line.id) problem.lines line sound.lines_rise h) refl
+      (fits 0 at 0 (line_id problem line) (omega arith) (line_there problem sound line h) few
+      (omega arith))
+      refl
+
+  empty_row : (edge : ℕ) (side : Side) → edge < length problem.edges
+      → SaysNode ids (row 1 (edge_id problem edge) (side_place side) 0) (node.Empty edge side)
+  empty_row edge side.Over h =
+      empty_says ids (row 1 (edge_id problem edge) 0 0) refl edge side.Over
+      (own_index (λ (edge : BoundedEdge). edge.id) problem.edges edge sound.edges_rise h) refl refl
+  empty_row edge side.Under h =
+      empty_says ids (row 1 (edge_id problem edge) 1 0) refl edge side.Under
+      (own_index (λ (edge : BoundedEdge). edge.id) problem.edges edge sound.edges_rise h) refl refl
+
+  bound_row : (count : ℕ) → SaysBound ids (row 2 (pos count) 0 0) count
+  bound_row count = record {
+    alone = refl;
+    stands_for = λ behind. refl;
+    due = refl;
+    place = λ before. out_of_order (is_due before) false false false (is_due before)
+        (or_false (is_due before));
+  }
+
+  point_row : SaysNode ids (row 4 (pos 0) 0 0) node.Point
+  point_row = record {
+    alone = refl;
+    stands_for = λ behind. refl;
+    none_due = refl;
+    place = λ before. out_of_order (is_due before) false false false (is_due before)
+        (or_false (is_due before));
+    sound = (tt, tt);
+  }
+
+  abbrev multiplier_row : Multiplier → TreeRow
+  multiplier_row one = row 3 (edge_id problem one.edge) 0 one.amount
+
+  some_amount : (n : ℕ) → 1 ≤ n → not (int_eq (pos n) (pos 0)) ≡ true
+  some_amount n h = is_some (int_eq (pos n) (pos 0)) refl
+    where
+      is_some : (b : Bool) → int_eq (pos n) (pos 0) ≡ b → not b ≡ true
+      is_some false is = refl
+      is_some true is =
+          let same : pos n ≡ pos 0 = (Decides-int_eq (pos n) (pos 0)).0 is in
+          absurd (omega (arith, ints, same, h))
+
+  few_edges_small : (edge : ℕ) → edge < length problem.edges → edge < 2 ^ 63
+  few_edges_small edge h = omega (arith, few_edges problem sound)
+
+  multiplier_says_row : (one : Multiplier) → IsAmount one.amount → one.edge < length ids.edges
+      → SaysMultiplier ids (multiplier_row one) one.edge (pos one.amount)
+  multiplier_says_row one amount h =
+      let here : one.edge < length problem.edges =
+      omega (arith, length-map problem.edges (λ (edge : BoundedEdge). edge.id)) in
+      multiplier_says ids (multiplier_row one) refl one.edge (pos one.amount)
+      (own_index (λ (edge : BoundedEdge). edge.id) problem.edges one.edge sound.edges_rise here)
+      (few_edges_small one.edge here) refl (some_amount one.amount amount.some)
+      (fits 3 0 one.amount (edge_id problem one.edge) (omega arith)
+      (edge_there problem sound one.edge here)
+      (omega arith) amount.few) refl
+
+  named_there : (multipliers : List Multiplier)
+      → All (λ one. one.edge < length problem.edges) multipliers
+      → All (λ one. one.edge < length ids.edges) multipliers
+  named_there multipliers named k d h =
+      let own : (get_or multipliers k d).edge < length problem.edges = named k d h in
+      omega (arith, length-map problem.edges (λ (edge : BoundedEdge). edge.id))
+
+  -- what the rows of a node stand for
+  abbrev written : Node → List TreeRow
+  written one = map (λ row. tree_row row.cells) (node_rows problem one)
+
+  abbrev Kept : List TreeRow → List Node → List TreeRow → List Node → Type 0
+  Kept before nodes rows more =
+      KeepRules (tree_rules ids) before rows × IsClosed ids (before ++ rows) (nodes ++ more)
+
+  alone : (before : List TreeRow) (nodes : List Node) (one : TreeRow) (this : Node)
+      → IsClosed ids before nodes → SaysNode ids one this → Kept before nodes (one ∷ []) (this ∷ [])
+  alone before nodes one this h said = (
+    (kept_here ids before one h.none_due (said.place before), tt),
+    node_more ids before one nodes this h said,
+  )
+
+  node_kept : (this : Node) → NamesWhatIs problem this → CanBeWritten this → (before : List TreeRow)
+      → (nodes : List Node) → IsClosed ids before nodes
+      → Kept before nodes (written this) (this ∷ [])
+  node_kept (node.Split line at) named can before nodes h =
+      alone before nodes _ _ h (split_row line at named can)
+  node_kept (node.Empty edge side) named can before nodes h =
+      alone before nodes _ _ h (empty_row edge side named)
+  node_kept (node.Bound multipliers) named can before nodes h =
+      let first = row 2 (pos (length multipliers)) 0 0 in
+      let said = bound_row (length multipliers) in
+      let others = multipliers_kept ids nodes multiplier_row multiplier_says_row
+      (sound.lines_rise, sound.edges_rise) multipliers (before ++ first ∷ [])
+      (record { multipliers = []; next = 0; due = length multipliers })
+      (bound_more ids before first nodes (length multipliers) h said) refl
+      (climb_of multipliers can)
+      can.amounts (named_there multipliers named) in
+      let same : map (λ row. tree_row row.cells)
+      (map (λ one. cells_row (pos 3) (edge_id problem one.edge)
+      (pos 0) (pos one.amount)) multipliers) ≡ map multiplier_row multipliers =
+      map-map (λ (row : TableRow). tree_row row.cells) (λ (one : Multiplier).
+      cells_row (pos 3) (edge_id problem one.edge) (pos 0) (pos one.amount)) multipliers in
+      subst (λ rows. Kept before nodes (first ∷ rows) (node.Bound multipliers ∷ [])) (sym same) (
+        (kept_here ids before first h.none_due (said.place before), others.0),
+        subst (λ all. IsClosed ids all (nodes ++ node.Bound multipliers ∷ []))
+            (append_assoc before (first ∷ []) (map multiplier_row multipliers)) others.1,
+      )
+  node_kept node.Point named can before nodes h = alone before nodes _ _ h point_row
+
+  nodes_kept : (these : List Node) → All (NamesWhatIs problem) these → All CanBeWritten these
+      → (before : List TreeRow) (nodes : List Node) → IsClosed ids before nodes
+      → Kept before nodes (map (λ row. tree_row row.cells) (flat_map (node_rows problem) these))
+      these
+  nodes_kept [] named can before nodes h = (
+    tt,
+    subst (λ all. IsClosed ids all (nodes ++ [])) (sym (append-nil before))
+        (subst (IsClosed ids before) (sym (append-nil nodes)) h),
+  )
+  nodes_kept (this ∷ these) named can before nodes h =
+      let first = node_kept this (All-head (NamesWhatIs problem) this these named)
+      (All-head CanBeWritten this these can) before nodes h in
+      let others = nodes_kept these (All-tail (NamesWhatIs problem) this these named)
+      (All-tail CanBeWritten this these can) (before ++ written this) (nodes ++ this ∷ [])
+      first.1 in
+      let rest = map (λ row. tree_row row.cells) (flat_map (node_rows problem) these) in
+      subst (λ rows. Kept before nodes rows (this ∷ these))
+      (sym (map-append (λ row. tree_row row.cells) (node_rows problem this)
+      (flat_map (node_rows problem) these))) (
+        keep_both (tree_rules ids) before (written this) rest first.0 others.0,
+        subst (λ all. IsClosed ids all (nodes ++ this ∷ these))
+            (append_assoc before (written this) rest)
+            (subst (IsClosed ids ((before ++ written this) ++ rest))
+            (append_assoc nodes (this ∷ []) these) others.1),
+      )
+
+  -- a text that reads back as the rows of nodes is read back as the nodes
+  pub nodes_back : (nodes : List Node) → All (NamesWhatIs problem) nodes → All CanBeWritten nodes
+      → (text : List ℕ) → ReadsBack tree_columns (flat_map (node_rows problem) nodes) text
+      → ReadsBackAs problem nodes text
+  unfolding read_faults tree_of
+  nodes_back nodes named can text back =
+      let rows = flat_map (node_rows problem) nodes in
+      let input = tree_input ids in
+      let table = table_of tree_columns text in
+      let none : IsClosed ids [] [] = record { whole = λ rest inside. refl; none_due = refl } in
+      let all = nodes_kept nodes named can [] [] none in
+      let same : records input table ≡ records input rows =
+      sym (map-map tree_row (λ (row : TableRow). row.cells) table) ∙ ap (map tree_row) back.1
+      ∙ map-map tree_row (λ (row : TableRow). row.cells) rows in
+      record {
+        fine = accepted input rows text back refl all.0
+            (whole_accepted file.Tree is_due why.OrderGap (records input rows)
+            (ap (nat_lt 0) all.1.none_due));
+        same = ap (nodes_of ids) (same ∙ sym (append-nil (records input rows)))
+            ∙ all.1.whole [] refl
+            ∙ ap (λ some. nodes ++ some) (nodes_none ids) ∙ append-nil nodes;
+      }
+
+  module _ {E : Type 0} (nodes : List Node) (table : List TableRow)
+      (is : table ≡ flat_map (node_rows problem) nodes) where
+    -- the clauses of a table that is written, as those of a tree
+    pub text_told : (r : Result (List ℕ) E)
+        → IfOk r (λ text. text ≡ table_text tree_header tree_columns table)
+        → IfOk r (λ text. text ≡ tree_text problem nodes)
+    unfolding tree_text
+    text_told (Ok text) h = h ∙ ap (table_text tree_header tree_columns) is
+    text_told (Err error) h = tt
+
+    pub back_told : All (NamesWhatIs problem) nodes → All CanBeWritten nodes
+        → (r : Result (List ℕ) E)
+        → IfOk r (ReadsBack tree_columns table) → IfOk r (λ text. ReadsBackAs problem nodes text)
+    back_told named can (Ok text) h =
+        nodes_back nodes named can text (subst (λ rows. ReadsBack tree_columns rows text) is h)
+    back_told named can (Err error) h = tt

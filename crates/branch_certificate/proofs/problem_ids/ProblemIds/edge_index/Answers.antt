@@ -1,0 +1,11 @@
+use Rattle.std.proofs.Common.{position, ap, ◌∙◌, w64}
+use Rattle.std.specs.Ordering.{int_eq}
+use Rattle.std.proofs.lemmas.Int.{to_z-of_z}
+use Rattle.branch_certificate.proofs.problem_ids.ProblemIds.edge_index.Goals as goal
+
+pub returns-clause-index : goal.returns-clause-index
+returns-clause-index c =
+    c.index_of.ensures.index ∙ ap (position _) c.deref.ensures.value
+    ∙ ap (λ id. position (int_eq id) c.self.inside.edges.items)
+    (to_z-of_z w64 c.args.id c.ranges.id)
+    ∙ ap (λ ids. position (int_eq c.args.id) ids.edges) c.self.view_is
