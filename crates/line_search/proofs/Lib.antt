@@ -1,1 +1,3 @@
-
+mod ConceptRows
+mod FirstRows
+mod SameCells
