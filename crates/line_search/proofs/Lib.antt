@@ -1,3 +1,4 @@
 mod ConceptRows
 mod FirstRows
+mod Judging
 mod SameCells
