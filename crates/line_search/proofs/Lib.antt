@@ -1,7 +1,9 @@
 mod ConceptRows
+mod EdgesOfTexts
 mod FirstRows
 mod Judging
 mod Lists
 mod PushedEdges
 mod PushedLines
+mod Refusals
 mod SameCells
