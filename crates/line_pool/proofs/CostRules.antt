@@ -27,7 +27,8 @@ given_is_there id rows = any_found (λ (row : CostRow). int_eq id row.line) (λ 
 
 module _ (lines : List LineParts) (before : List CostRow) (row : CostRow) where
   pub unknown : list_any (λ (line : LineParts). int_eq row.line line.id) lines ≡ false
-      → Some why.UnknownLine ≡ slice_get (broken_whys (pool_cost_input lines).row_rules before row) 0
+      → Some why.UnknownLine
+      ≡ slice_get (broken_whys (pool_cost_input lines).row_rules before row) 0
   unknown none = rw none refl
 
   pub repeated : list_any (λ (line : LineParts). int_eq row.line line.id) lines ≡ true
@@ -53,7 +54,8 @@ lacks rows line = not (list_any (λ row. int_eq line.id row.line) rows)
 
 module _ (rows : List CostRow) (lines : List LineParts) (i : ℕ) (lt : i < length lines)
     (cost : Option ℤ)
-    (is : option_map (λ (line : LineParts). cost_for line.id rows) (slice_get lines i) ≡ Some cost) where
+    (is : option_map (λ (line : LineParts). cost_for line.id rows) (slice_get lines i)
+    ≡ Some cost) where
   cost_is : cost_for (get_or lines i no_parts).id rows ≡ cost
   cost_is = same_Some _ _ (sym (ap (option_map (λ (line : LineParts). cost_for line.id rows))
       (slice_get-get_or lines i no_parts lt)) ∙ is)

@@ -30,14 +30,15 @@ module _ (problem : ProblemParts) where
       → row.0 ≡ edge_id problem edge
   edge_is edge row is = one (slice_get problem.edges edge) is
     where
-      one : (found : Option BoundedEdge) → option_map (λ at. (at.id, at.least, at.most)) found ≡ Some row
+      one : (found : Option BoundedEdge)
+          → option_map (λ at. (at.id, at.least, at.most)) found ≡ Some row
           → row.0 ≡ unwrap_or (option_map (λ at. at.id) found) (pos 0)
       one None is = cc
       one (Some at) is = ap (λ (row : ℤ × ℕ × ℕ). row.0) (sym (same_Some _ _ is))
 
   -- a line of the problem
-  own_line : IsProblem problem → (line : ℕ) (at : CostedLine) → slice_get problem.lines line ≡ Some at
-      → IsCostedLine (length problem.edges) at
+  own_line : IsProblem problem → (line : ℕ) (at : CostedLine)
+      → slice_get problem.lines line ≡ Some at → IsCostedLine (length problem.edges) at
   own_line sound line at found = subst (IsCostedLine (length problem.edges))
       (get_or_from_slice_get problem.lines line at no_line found)
       (All-get_or (IsCostedLine (length problem.edges)) problem.lines line no_line
@@ -97,8 +98,10 @@ module _ (problem : ProblemParts) where
         one (Some at) is over =
             let id : at.id ≡ row.0 = ap (λ (row : ℤ × ℤ). row.0) (same_Some _ _ is) in
             let own : at.edges ≡ edges = same_Some _ _ over in
-            ap Some (ap (λ id. old ++ map (row_at problem id frequency) (enumerate_from 1 at.edges)) id
-            ∙ ap (λ edges. old ++ map (row_at problem row.0 frequency) (enumerate_from 1 edges)) own
+            ap Some (ap (λ id. old ++ map (row_at problem id frequency)
+            (enumerate_from 1 at.edges)) id
+            ∙ ap (λ edges. old ++ map (row_at problem row.0 frequency)
+            (enumerate_from 1 edges)) own
             ∙ sym made)
 
     -- its edges are there
@@ -116,7 +119,8 @@ module _ (problem : ProblemParts) where
 
   module _ (frequencies : List ℕ) where
     abbrev pub rows_of_lines : ℕ → List TableRow
-    rows_of_lines i = flat_map (λ at. line_rows problem at.0 at.1) (take i (zip problem.lines frequencies))
+    rows_of_lines i =
+        flat_map (λ at. line_rows problem at.0 at.1) (take i (zip problem.lines frequencies))
 
     -- one line more
     pub lines_more : (i : ℕ) (table : List TableRow) → length frequencies ≡ length problem.lines
@@ -126,7 +130,8 @@ module _ (problem : ProblemParts) where
         → table ≡ rows_of_lines (i + 1)
     lines_more i table each lt is =
         let both = zip problem.lines frequencies in
-        let at : get_or both i (no_line, 0) ≡ (get_or problem.lines i no_line, get_or frequencies i 0) =
+        let at : get_or both i (no_line, 0)
+        ≡ (get_or problem.lines i no_line, get_or frequencies i 0) =
         get_or-zip problem.lines frequencies i (no_line, 0) lt (omega (arith, each)) in
         let more : rows_of_lines (i + 1) ≡ rows_of_lines i
         ++ line_rows problem (get_or problem.lines i no_line) (get_or frequencies i 0) =

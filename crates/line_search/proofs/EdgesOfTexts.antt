@@ -23,8 +23,8 @@ id_in cells within =
     let id = in_column edge_columns cells 0 kind.Skip (pos 0) within (lit< tt) in
     record { low = id.0; high = id.1 }
 
-entries : (stops : List ℤ) (rows : List TableRow) → All (λ row. InColumns edge_columns row.cells) rows
-    → All (λ (edge : Edge). IsId edge.id)
+entries : (stops : List ℤ) (rows : List TableRow)
+    → All (λ row. InColumns edge_columns row.cells) rows → All (λ (edge : Edge). IsId edge.id)
     (values_of (map (edge_entry stops) (records (edge_input stops) rows)))
 entries stops [] all = λ k d h. absurd (omega arith)
 entries stops (row ∷ rows) all =

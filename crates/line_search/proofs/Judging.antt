@@ -17,7 +17,8 @@ use Rattle.line_search.proofs.SameCells.{same_are}
 none_there : {X : Type 0} (list : List X) → has_some list ≡ false → list ≡ []
 none_there [] e = refl
 none_there (x ∷ list) e =
-    let some : has_some (x ∷ list) ≡ true = ap not (ne_eqb (length (x ∷ list)) 0 (λ none. omega (arith, none))) in
+    let some : has_some (x ∷ list) ≡ true = ap not (ne_eqb (length (x ∷ list)) 0
+    (λ none. omega (arith, none))) in
     cc
 
 or_none : {X : Type 0} (option : Option X) → option_or option None ≡ option
@@ -33,7 +34,8 @@ in_turn row lines bounds tree =
 module _ (problem : ProblemParts) (text : List ℕ) (certificate : Option (List ℕ)) where
   -- what reading gives
   abbrev pub read_rows : Option (List TableRow)
-  read_rows = cond (has_some (faults concept_columns text)) None (Some (table_of concept_columns text))
+  read_rows =
+      cond (has_some (faults concept_columns text)) None (Some (table_of concept_columns text))
 
   pub not_read : None ≡ read_rows → Some fault.Row ≡ first_broken problem text certificate
   unfolding first_broken
@@ -44,7 +46,8 @@ module _ (problem : ProblemParts) (text : List ℕ) (certificate : Option (List 
       broken false e = cc
 
   module _ (table : List TableRow) (read : Some table ≡ read_rows) where
-    is_read : (has_some (faults concept_columns text) ≡ false) × (table ≡ table_of concept_columns text)
+    is_read : (has_some (faults concept_columns text) ≡ false)
+        × (table ≡ table_of concept_columns text)
     is_read = one (has_some (faults concept_columns text)) read
       where
         one : (b : Bool) → Some table ≡ cond b None (Some (table_of concept_columns text))
@@ -80,8 +83,10 @@ module _ (problem : ProblemParts) (text : List ℕ) (certificate : Option (List 
         passes feasible marked =
             record {
               frequencies = fs;
-              reads = (none_there _ is_read.0, ap (map (λ (row : TableRow). row.cells)) (sym is_read.1)
-                  ∙ same_are table rows (sym same) ∙ ap (map (λ (row : TableRow). row.cells)) made);
+              reads = (none_there _ is_read.0,
+                  ap (map (λ (row : TableRow). row.cells)) (sym is_read.1)
+                  ∙ same_are table rows (sym same)
+                  ∙ ap (map (λ (row : TableRow). row.cells)) made);
               feasible = feasible;
               marked = marked;
             }

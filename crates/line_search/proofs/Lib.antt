@@ -7,3 +7,4 @@ mod PushedEdges
 mod PushedLines
 mod Refusals
 mod SameCells
+mod Tried

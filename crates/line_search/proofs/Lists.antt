@@ -32,7 +32,8 @@ zip_at (a ∷ xs) (b ∷ ys) (suc i) x y is own = zip_at xs ys i x y is own
 less_is : (x y : ℤ) → int_cmp x y ≡ Less → x <ℤ y
 less_is x y e = one (int_lt x y) refl e
   where
-    one : (b : Bool) → int_lt x y ≡ b → cond b Less (cond (int_lt y x) Greater Equal) ≡ Less → x <ℤ y
+    one : (b : Bool) → int_lt x y ≡ b → cond b Less (cond (int_lt y x) Greater Equal) ≡ Less
+        → x <ℤ y
     one true is e = lt_z_yes (T_from_true _ is)
     one false is e = elim (int_lt y x) as (λ c. cond c Greater Equal ≡ Less → x <ℤ y) [
         | true ↦ λ e. cc

@@ -22,7 +22,8 @@ bounded edges loads = map (λ at. bounded_by at.0 at.1) (zip edges loads)
 
 -- they have the ids of the edges
 bounded_ids : (edges : List Edge) (loads : List EdgeLoad) → length loads ≡ length edges
-    → map (λ (edge : BoundedEdge). edge.id) (bounded edges loads) ≡ map (λ (edge : Edge). edge.id) edges
+    → map (λ (edge : BoundedEdge). edge.id) (bounded edges loads)
+    ≡ map (λ (edge : Edge). edge.id) edges
 bounded_ids [] loads each = refl
 bounded_ids (edge ∷ edges) [] each = absurd (omega (arith, each))
 bounded_ids (edge ∷ edges) (load ∷ loads) each =

@@ -74,8 +74,11 @@ is_costed edges line cost count same sound cheap =
 -- the line of what is told of it
 pub told_line : (line : LineParts) (id cost : ℤ) (over : List ℕ) → IsId line.id → IsCost cost
     → id ≡ line.id → over ≡ line.edges
-    → record { id = to_z w64 (of_z w64 id); cost = unsigned_abs (to_z w64 (of_z w64 cost)); edges = over }
-    ≡ costed_by line cost
+    → record {
+      id = to_z w64 (of_z w64 id);
+      cost = unsigned_abs (to_z w64 (of_z w64 cost));
+      edges = over;
+    } ≡ costed_by line cost
 told_line line id cost over own cheap p q =
     let same : to_z w64 (of_z w64 id) ≡ line.id = ap (λ id. to_z w64 (of_z w64 id)) p
     ∙ told_id line.id own in

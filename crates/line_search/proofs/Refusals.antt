@@ -53,7 +53,8 @@ module _ (bundle : BundleParts) where
         (cost_faults (pool_of (network_of (text 0) (text 1)) (text 2)))) (sym none)
 
     -- a text that gives no pool
-    pub pool_refused : (fault : StageFault) → Refuses (pool_faults network (input_text bundle 2)) fault
+    pub pool_refused : (fault : StageFault)
+        → Refuses (pool_faults network (input_text bundle 2)) fault
         → Refuses (problem_faults bundle) fault
     pool_refused fault by = subst (λ all. Refuses all fault) behind_network
         (refused_append _ _ fault (refused_append _ _ fault by))
@@ -71,7 +72,8 @@ module _ (bundle : BundleParts) where
       pub loads_refused : (fault : StageFault)
           → Refuses (input_faults (load_input file.Load network.edges) (input_text bundle 3)) fault
           → Refuses (problem_faults bundle) fault
-      loads_refused fault by = subst (λ all. Refuses all fault) behind_pool (refused_append _ _ fault by)
+      loads_refused fault by =
+          subst (λ all. Refuses all fault) behind_pool (refused_append _ _ fault by)
 
       module _ (loads : List EdgeLoad)
           (loaded : input_faults (load_input file.Load network.edges) (input_text bundle 3) ≡ [])
@@ -99,6 +101,7 @@ module _ (bundle : BundleParts) where
           ∙ ap (λ some. problem_over network.edges some pool (costs_of pool (text 4))) loads_are
           ∙ ap (λ some. problem_over network.edges (loads_of file.Load network.edges (text 3)) some
               (costs_of some (text 4))) lines
-          ∙ ap (λ (some : NetworkParts). problem_over some.edges (loads_of file.Load some.edges (text 3))
-              (pool_of some (text 2)) (costs_of (pool_of some (text 2)) (text 4))) is,
+          ∙ ap (λ (some : NetworkParts). problem_over some.edges
+              (loads_of file.Load some.edges (text 3)) (pool_of some (text 2))
+              (costs_of (pool_of some (text 2)) (text 4))) is,
         )

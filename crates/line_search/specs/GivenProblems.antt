@@ -1,5 +1,5 @@
--- The line problem of a bundle, whose inputs are the texts of stops, of edges, of the pool, of loads with
--- bounds of frequency and of costs.
+-- The line problem of a bundle, whose inputs are the texts of stops, of edges, of the pool, of loads
+-- with bounds of frequency and of costs.
 use Rattle.std.specs.Prelude.{ℤ, List, ◌++◌, map, zip, unsigned_abs}
 use Rattle.giv_files.specs.declared.file_id.FileId.TheVariants as file
 use Rattle.giv_files.specs.declared.refusal.Refusal.{Refusal}

@@ -24,7 +24,7 @@ fn bundle(alloc: Global, loads: &[u8], costs: &[u8]) -> Result<Bundle, Fail> {
     Ok(bundle)
 }
 
-/// The first rule that a concept breaks, or that a tree beside it does, over loads of the two edges.
+/// The first rule that a concept breaks, or that a tree beside it does, over loads of the edges.
 pub(crate) fn broken(
     alloc: Global,
     loads: &[u8],

@@ -48,7 +48,8 @@ pub(crate) fn first_fault(
 
 // The table that a text is, where it is one.
 fn concept_rows(alloc: Global, text: &[u8]) -> Result<Option<Table<4>>, NoMemory>
-    ensures read { IfOk result (λ read. read ≡ (if has_some (faults concept_columns text.now) then None
+    ensures read { IfOk result (λ read. read
+        ≡ (if has_some (faults concept_columns text.now) then None
         else Some (table_of concept_columns text.now))) }
     ensures cells { IfOk result (λ read. IfSome read
         (λ table. All (λ row. InColumns concept_columns row.cells) table)) }

@@ -12,8 +12,8 @@ fn the_first_broken_rule_of_a_tree_is_told(rt: HostRuntime) -> Result<(), Fail> 
     let cases: [(&[u8], &[u8], Option<ConceptFault>); 7] = [
         (
             CHEAPEST,
-            b"# tree\nsplit; 1; 1; 0\nsplit; 1; 0; 0\nempty; 2; 1; 0\nsplit; 2; 1; 0\nsplit; 2; 0; 0\n\
-              empty; 1; 1; 0\npoint; 0; 0; 0\nbound; 0; 0; 0\nbound; 0; 0; 0\n",
+            b"# tree\nsplit; 1; 1; 0\nsplit; 1; 0; 0\nempty; 2; 1; 0\nsplit; 2; 1; 0\n\
+              split; 2; 0; 0\nempty; 1; 1; 0\npoint; 0; 0; 0\nbound; 0; 0; 0\nbound; 0; 0; 0\n",
             None,
         ),
         // The point costs less than the concept.
@@ -65,7 +65,8 @@ fn multipliers_cost_no_more_than_lines(rt: HostRuntime) -> Result<(), Fail> {
         ),
         (
             b"split; 1; 1; 0\nsplit; 1; 0; 0\nsplit; 2; 1; 0\nempty; 1; 1; 0\nsplit; 2; 2; 0\n\
-              point; 0; 0; 0\nbound; 0; 0; 0\nbound; 1; 0; 0\nmult; 1; 0; 12.000001\nbound; 0; 0; 0\n",
+              point; 0; 0; 0\nbound; 0; 0; 0\nbound; 1; 0; 0\nmult; 1; 0; 12.000001\n\
+              bound; 0; 0; 0\n",
             Some(ConceptFault::Multiplier),
         ),
     ];

@@ -24,7 +24,8 @@ loop-place-preserved c =
     let i = c.loop-place.place in
     let row = row_at c.args.problem.now id c.args.frequency (i + 1, slice_index_or edges i 0) in
     c.in_ok-push_row.ensures ∙ ap (λ table. table ++ row ∷ []) c.loop-place.invariant
-    ∙ append_assoc c.args.table.now (rows_to c.args.problem.now id c.args.frequency edges i) (row ∷ [])
+    ∙ append_assoc c.args.table.now (rows_to c.args.problem.now id c.args.frequency edges i)
+    (row ∷ [])
     ∙ ap (λ rows. c.args.table.now ++ rows) (sym (rows_more c.args.problem.now id c.args.frequency
     edges i c.loop-place-test.true))
 
@@ -39,6 +40,7 @@ returns c =
     line_is problem c.args.line row edges c.line_row-id.ensures c.line_edges-edge-items.ensures
     c.args.frequency c.args.table.now c.loop-place.table
     (c.loop-place.invariant
-    ∙ ap (λ id. c.args.table.now ++ rows_to problem id c.args.frequency edges c.loop-place.place) own
+    ∙ ap (λ id. c.args.table.now ++ rows_to problem id c.args.frequency edges
+    c.loop-place.place) own
     ∙ ap (λ rows. c.args.table.now ++ rows) (rows_whole problem row.0 c.args.frequency edges
     c.loop-place.place c.loop-place-test.false))

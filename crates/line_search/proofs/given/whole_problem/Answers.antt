@@ -20,7 +20,8 @@ push_line-requires-clause-line c =
     let count = ap (λ (problem : ProblemParts). length problem.edges) c.loop-line.invariant
     ∙ bounded_length edges c.args.loads.now c.requires.loads in
     subst (IsCostedLine (length c.loop-line.problem.edges))
-    (sym (told_line is.line c.line_id.result c.get.result c.edges.result.now id cost is.id_is is.over_is))
+    (sym (told_line is.line c.line_id.result c.get.result c.edges.result.now id cost is.id_is
+    is.over_is))
     (is_costed edges is.line c.get.result (length c.loop-line.problem.edges) count sound cost)
 
 pub push_line-requires-clause-rising : goal.push_line-requires-clause-rising
@@ -32,7 +33,8 @@ push_line-requires-clause-rising c =
     c.requires.lines.each is.at in
     let id : IsId is.line.id = record { low = sound.id_least; high = sound.id_greatest } in
     let own = ap (λ id. to_z w64 (of_z w64 id)) is.id_is ∙ told_id is.line.id id in
-    subst (λ (id : ℤ). All (λ (other : CostedLine). other.id <ℤ id) c.loop-line.problem.lines) (sym own)
+    subst (λ (id : ℤ). All (λ (other : CostedLine). other.id <ℤ id) c.loop-line.problem.lines)
+    (sym own)
     (subst (All (λ (other : CostedLine). other.id <ℤ is.line.id))
     (sym (ap (λ (problem : ProblemParts). problem.lines) c.loop-line.invariant))
     (lines_below pool c.args.costs.now c.loop-line.line is.line c.get.result is.at
@@ -52,13 +54,17 @@ loop-line-preserved c =
     c.get.result c.edges.result.now id c.get.ensures.sound is.id_is is.over_is)
     ∙ ap (λ (problem : ProblemParts). record { edges = problem.edges;
     lines = problem.lines ++ costed_by is.line c.get.result ∷ [] }) c.loop-line.invariant
-    ∙ ap (λ lines. record { edges = bounded c.args.network.now.edges c.args.loads.now; lines = lines })
-    (sym (lines_more pool c.args.costs.now c.loop-line.line is.line c.get.result is.at
+    ∙ ap (λ lines. record {
+      edges = bounded c.args.network.now.edges c.args.loads.now;
+      lines = lines;
+    }) (sym (lines_more pool c.args.costs.now c.loop-line.line is.line c.get.result is.at
     c.get.ensures.place))
 
 pub returns : goal.returns
 returns c =
     c.loop-line.invariant
-    ∙ ap (λ lines. record { edges = bounded c.args.network.now.edges c.args.loads.now; lines = lines })
-    (lines_whole c.args.pool.now c.args.costs.now c.loop-line.line c.requires.costs
+    ∙ ap (λ lines. record {
+      edges = bounded c.args.network.now.edges c.args.loads.now;
+      lines = lines;
+    }) (lines_whole c.args.pool.now c.args.costs.now c.loop-line.line c.requires.costs
     (omega (arith, c.loop-line-test.false, c.line_count-line-end.ensures)))

@@ -40,8 +40,10 @@ returns-in-Some-tree-clause-first c =
     ≡ tree_rule problem (cost_of problem c.deref-in-Some-tree.result.now) (Some text))
     (λ answer. answer ≡ first_broken problem c.args.concept.now (option_copied c.args.tree))
     c.tree_fault.result (λ answer is. is
-    ∙ ap (λ fs. tree_rule problem (cost_of problem fs) (Some text)) c.deref-in-Some-tree.ensures.value
-    ∙ ap (λ tree. tree_rule problem (cost_of problem fs) (option_copied tree)) (sym c.in-Some-tree.is)
+    ∙ ap (λ fs. tree_rule problem (cost_of problem fs) (Some text))
+    c.deref-in-Some-tree.ensures.value
+    ∙ ap (λ tree. tree_rule problem (cost_of problem fs) (option_copied tree))
+    (sym c.in-Some-tree.is)
     ∙ by_tree problem c.args.concept.now (option_copied c.args.tree) c.in-Some.table
     (sym c.in-Some.is ∙ c.in_ok-table.ensures.read) c.in_ok-frequencies.frequencies.items
     c.in_ok-frequencies.ensures.read c.in_ok-rows_of_concept.field-0
@@ -57,7 +59,8 @@ returns-in-Some-tree-clause-passes c =
     let text = c.in-Some-tree.text.now in
     ok_then (λ answer. IfNone answer (Marks problem c.deref-in-Some-tree.result.now text))
     (λ answer. IfNone answer (Passes problem c.args.concept.now (option_copied c.args.tree)))
-    c.tree_fault.result (λ answer. none_then answer (λ marks. passes problem c.args.concept.now (option_copied c.args.tree) c.in-Some.table
+    c.tree_fault.result (λ answer. none_then answer (λ marks. passes problem c.args.concept.now
+    (option_copied c.args.tree) c.in-Some.table
     (sym c.in-Some.is ∙ c.in_ok-table.ensures.read) c.in_ok-frequencies.frequencies.items
     c.in_ok-frequencies.ensures.read c.in_ok-rows_of_concept.field-0
     (c.in_ok-rows_of_concept.ensures ∙ ap (concept_rows problem) c.deref.ensures.value)
