@@ -1,5 +1,5 @@
 -- What holds of the costs of a text without a fault.
-use Rattle.std.proofs.Common.{◌≡◌, ℕ, ℤ, pos, arith, lit<, cond, Bool, true, false, List, [], ◌∷◌, length, map, get_or, refl, ap, ◌∙◌, Option, Some, None, option_map, unwrap_or}
+use Rattle.std.proofs.Common.{◌≡◌, ℕ, ℤ, pos, arith, lit<, cond, Bool, true, false, List, [], ◌∷◌, length, get_or, ap, ◌∙◌, Some, option_map, unwrap_or}
 use Rattle.std.specs.List.{All, find}
 use Rattle.std.specs.Ordering.{int_eq}
 use Rattle.std.proofs.lemmas.Int.{ints}

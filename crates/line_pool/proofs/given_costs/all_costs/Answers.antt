@@ -1,4 +1,4 @@
-use Rattle.std.proofs.Common.{None, cond, ◌∷◌, ◌++◌, [], refl, ap, sym, ◌∙◌, arith, to_z, of_z, w64}
+use Rattle.std.proofs.Common.{◌∷◌, ◌++◌, [], refl, ap, sym, ◌∙◌, arith, w64}
 use Rattle.std.proofs.lemmas.Int.{to_z-of_z}
 use Rattle.line_pool.proofs.CostRules.{line_missing, none_missing, cost_more}
 use Rattle.line_pool.proofs.FirstRows.{given}

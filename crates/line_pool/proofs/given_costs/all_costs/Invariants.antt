@@ -1,5 +1,5 @@
 -- Each of the lines so far has a cost.
-use Rattle.std.proofs.Common.{◌≡◌, false, map, take}
+use Rattle.std.proofs.Common.{◌≡◌, false, take}
 use Rattle.std.specs.List.{list_any}
 use Rattle.line_pool.specs.GivenCosts.{costs_over}
 use Rattle.line_pool.proofs.CostRules.{lacks}
