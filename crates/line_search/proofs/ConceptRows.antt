@@ -1,5 +1,5 @@
 -- The rows of a concept, line by line and edge by edge.
-use Rattle.std.proofs.Common.{◌≡◌, ℕ, suc, ℤ, pos, ◌+◌, ◌<◌, ◌≤◌, arith, List, [], ◌∷◌, ◌++◌, length, map, take, get_or, slice_get, zip, refl, ap, subst, sym, ◌∙◌, Option, Some, None, option_map, unwrap_or}
+use Rattle.std.proofs.Common.{◌≡◌, ℕ, suc, ℤ, pos, ◌+◌, ◌<◌, ◌≤◌, arith, List, [], ◌∷◌, ◌++◌, length, map, take, get_or, slice_get, zip, refl, ap, subst, sym, ◌∙◌, Option, Some, None, option_map}
 use Rattle.std.specs.List.{All, flat_map, enumerate_from}
 use Rattle.std.proofs.lemmas.Grind.{flat_map-append}
 use Rattle.std.proofs.lemmas.List.{take_more, take_all, map_push, append-nil}
@@ -8,9 +8,7 @@ use Rattle.std.proofs.lemmas.List.FromFn.{length-enumerate_from, get_or-enumerat
 use Rattle.std.proofs.lemmas.Option.{same_Some, slice_get_within, get_or_from_slice_get, slice_get-get_or}
 use Rattle.std.proofs.lemmas.Slice.Zip.{get_or-zip}
 use Rattle.giv_files.specs.Tables.{TableRow}
-use Rattle.line_cost_model.specs.declared.edge.BoundedEdge.{BoundedEdge}
 use Rattle.line_cost_model.specs.Problems.{CostedLine, ProblemParts, IsProblem, IsCostedLine, IsId}
-use Rattle.branch_certificate.specs.TreeTexts.{edge_id}
 use Rattle.line_search.specs.ConceptTables.{row_at, line_rows, concept_rows}
 
 no_line : CostedLine
@@ -24,18 +22,6 @@ zip_length (x ∷ xs) [] same = absurd (omega (arith, same))
 zip_length (x ∷ xs) (y ∷ ys) same = ap suc (zip_length xs ys (omega (arith, same)))
 
 module _ (problem : ProblemParts) where
-  -- the id of an edge that is there
-  pub edge_is : (edge : ℕ) (row : ℤ × ℕ × ℕ)
-      → option_map (λ at. (at.id, at.least, at.most)) (slice_get problem.edges edge) ≡ Some row
-      → row.0 ≡ edge_id problem edge
-  edge_is edge row is = one (slice_get problem.edges edge) is
-    where
-      one : (found : Option BoundedEdge)
-          → option_map (λ at. (at.id, at.least, at.most)) found ≡ Some row
-          → row.0 ≡ unwrap_or (option_map (λ at. at.id) found) (pos 0)
-      one None is = cc
-      one (Some at) is = ap (λ (row : ℤ × ℕ × ℕ). row.0) (sym (same_Some _ _ is))
-
   -- a line of the problem
   own_line : IsProblem problem → (line : ℕ) (at : CostedLine)
       → slice_get problem.lines line ≡ Some at → IsCostedLine (length problem.edges) at

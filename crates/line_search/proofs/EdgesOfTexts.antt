@@ -1,5 +1,5 @@
 -- The ids of the edges of a network that texts give.
-use Rattle.std.proofs.Common.{◌≡◌, ℕ, ℤ, pos, ◌<◌, arith, lit<, List, [], ◌∷◌, length, map, get_or}
+use Rattle.std.proofs.Common.{◌≡◌, ℕ, ℤ, pos, arith, lit<, List, [], ◌∷◌, map, get_or}
 use Rattle.std.specs.List.{All}
 use Rattle.std.specs.Map.{values_of}
 use Rattle.std.proofs.lemmas.List.Elements.{All-cons, All-head, All-tail}

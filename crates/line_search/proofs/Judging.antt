@@ -1,5 +1,5 @@
 -- The rules of a concept, from what is found of its text.
-use Rattle.std.proofs.Common.{◌≡◌, ℕ, ◌==◌, not, Bool, true, false, cond, List, [], ◌∷◌, length, map, refl, ap, sym, ◌∙◌, arith, Option, Some, None, IfNone, IfSome, IfOk, Result, Ok, Err}
+use Rattle.std.proofs.Common.{◌≡◌, ℕ, not, Bool, true, false, cond, List, [], ◌∷◌, length, map, refl, ap, sym, ◌∙◌, arith, Option, Some, None, IfNone, IfSome, IfOk, Result, Ok, Err}
 use Rattle.std.specs.Option.{option_or}
 use Rattle.std.proofs.lemmas.Bool.{ne_eqb}
 use Rattle.std.proofs.lemmas.Option.{same_Some}
@@ -83,10 +83,12 @@ module _ (problem : ProblemParts) (text : List ℕ) (certificate : Option (List 
         passes feasible marked =
             record {
               frequencies = fs;
-              reads = (none_there _ is_read.0,
-                  ap (map (λ (row : TableRow). row.cells)) (sym is_read.1)
-                  ∙ same_are table rows (sym same)
-                  ∙ ap (map (λ (row : TableRow). row.cells)) made);
+              reads = (
+                none_there _ is_read.0,
+                ap (map (λ (row : TableRow). row.cells)) (sym is_read.1)
+                    ∙ same_are table rows (sym same)
+                    ∙ ap (map (λ (row : TableRow). row.cells)) made,
+              );
               feasible = feasible;
               marked = marked;
             }

@@ -1,10 +1,9 @@
 -- What is at a place of a list, and what stands before it.
-use Rattle.std.proofs.Common.{◌≡◌, ℕ, zero, suc, ℤ, pos, ◌+◌, ◌<◌, ◌≤◌, ◌<ℤ◌, arith, Bool, true, false, cond, int_lt, List, [], ◌∷◌, ◌++◌, length, map, take, get_or, slice_get, zip, refl, ap, subst, sym, ◌∙◌, Option, Some}
+use Rattle.std.proofs.Common.{◌≡◌, ℕ, zero, suc, ℤ, pos, ◌<◌, ◌<ℤ◌, arith, Bool, true, false, cond, int_lt, List, [], ◌∷◌, length, map, take, get_or, slice_get, zip, refl, ap, subst, sym, ◌∙◌, Some}
 use Rattle.std.specs.Int.Signed.{lt_z_yes}
 use Rattle.std.specs.List.{All}
 use Rattle.std.specs.List.Sorted.{IsStrictlySortedBy}
 use Rattle.std.specs.Ordering.{int_cmp}
-use Rattle.std.specs.declared.cmp.Ordering.{Ordering}
 use Rattle.std.specs.declared.cmp.Ordering.TheVariants.{Less, Equal, Greater}
 use Rattle.std.proofs.lemmas.Float.{T_from_true}
 use Rattle.std.proofs.lemmas.List.{get_or-map, length-map, length-take-le, get_or-take}
@@ -36,9 +35,9 @@ less_is x y e = one (int_lt x y) refl e
         → x <ℤ y
     one true is e = lt_z_yes (T_from_true _ is)
     one false is e = elim (int_lt y x) as (λ c. cond c Greater Equal ≡ Less → x <ℤ y) [
-        | true ↦ λ e. cc
-        | false ↦ λ e. cc
-      ] e
+      | true ↦ λ e. cc
+      | false ↦ λ e. cc
+    ] e
 
 -- where ids rise, those before a place are below its own
 pub below : {X : Type 0} (id : X → ℤ) (xs : List X) (i : ℕ) (x : X)

@@ -1,5 +1,5 @@
 -- Edges with their bounds, one after the other.
-use Rattle.std.proofs.Common.{◌≡◌, ℕ, suc, ℤ, pos, negsuc, ◌+◌, ◌≤◌, ◌≤ℤ◌, ◌<ℤ◌, arith, List, [], ◌∷◌, ◌++◌, length, map, take, slice_get, zip, unsigned_abs, FitsSigned, to_z, of_z, w64, refl, ap, subst, sym, ◌∙◌, Some, option_map}
+use Rattle.std.proofs.Common.{◌≡◌, ℕ, ℤ, pos, negsuc, ◌+◌, ◌≤◌, ◌≤ℤ◌, ◌<ℤ◌, arith, List, [], ◌∷◌, ◌++◌, length, map, take, slice_get, zip, unsigned_abs, FitsSigned, to_z, of_z, w64, refl, ap, subst, sym, ◌∙◌, Some, option_map}
 use Rattle.std.specs.List.{All}
 use Rattle.std.specs.List.Sorted.{IsStrictlySortedBy}
 use Rattle.std.specs.Ordering.{int_cmp}

@@ -1,18 +1,18 @@
 -- Lines with their costs, one after the other.
-use Rattle.std.proofs.Common.{◌≡◌, ℕ, ℤ, pos, ◌+◌, ◌<◌, ◌≤◌, ◌≤ℤ◌, ◌<ℤ◌, arith, List, [], ◌∷◌, ◌++◌, length, map, take, slice_get, zip, unsigned_abs, to_z, of_z, w64, refl, ap, subst, sym, ◌∙◌, Option, Some, None, option_map}
+use Rattle.std.proofs.Common.{◌≡◌, ℕ, ℤ, pos, ◌+◌, ◌<◌, ◌≤◌, ◌<ℤ◌, arith, List, [], ◌∷◌, ◌++◌, length, map, take, slice_get, zip, unsigned_abs, to_z, of_z, w64, refl, ap, subst, sym, ◌∙◌, Option, Some, None, option_map}
 use Rattle.std.specs.List.{All}
 use Rattle.std.specs.List.Sorted.{IsStrictlySortedBy}
 use Rattle.std.specs.Ordering.{int_cmp}
-use Rattle.std.proofs.lemmas.Int.{ints, to_z-of_z}
+use Rattle.std.proofs.lemmas.Int.{to_z-of_z}
 use Rattle.std.proofs.lemmas.Option.{same_Some, slice_get-map}
 use Rattle.ptn_network.specs.declared.edge.Edge.{Edge}
 use Rattle.line_pool.specs.GivenCosts.{IsCost}
-use Rattle.line_pool.specs.Pools.{LineParts, IsLine, AreLines}
+use Rattle.line_pool.specs.Pools.{LineParts, IsLine}
 use Rattle.line_cost_model.specs.Problems.{CostedLine, IsCostedLine, IsId}
 use Rattle.line_cost_model.proofs.Mapped.{map_more, map_whole}
 use Rattle.line_search.specs.GivenProblems.{costed_by}
 use Rattle.line_search.proofs.ConceptRows.{zip_length}
-use Rattle.line_search.proofs.Lists.{below, held, zip_at}
+use Rattle.line_search.proofs.Lists.{below, zip_at}
 use Rattle.line_search.proofs.PushedEdges.{abs_rises, fits, told_id}
 
 -- the lines with their costs

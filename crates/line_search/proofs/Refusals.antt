@@ -1,5 +1,5 @@
 -- What each input of the search gives: the first fault, or a part of the line problem.
-use Rattle.std.proofs.Common.{◌≡◌, ℕ, ℤ, List, [], ◌++◌, refl, ap, subst, sym, ◌∙◌}
+use Rattle.std.proofs.Common.{◌≡◌, ℕ, ℤ, List, [], ◌++◌, ap, subst, sym, ◌∙◌}
 use Rattle.giv_files.specs.declared.file_id.FileId.TheVariants as file
 use Rattle.giv_files.specs.declared.refusal.Refusal.{Refusal}
 use Rattle.giv_files.specs.declared.refusal.StageFault.{StageFault}
@@ -97,11 +97,11 @@ module _ (bundle : BundleParts) where
         given costs problem costed costs_are made = (
           sym behind_loads ∙ costed,
           made
-          ∙ ap (problem_over network.edges loads pool) costs_are
-          ∙ ap (λ some. problem_over network.edges some pool (costs_of pool (text 4))) loads_are
-          ∙ ap (λ some. problem_over network.edges (loads_of file.Load network.edges (text 3)) some
+              ∙ ap (problem_over network.edges loads pool) costs_are
+              ∙ ap (λ some. problem_over network.edges some pool (costs_of pool (text 4))) loads_are
+              ∙ ap (λ some. problem_over network.edges (loads_of file.Load network.edges (text 3)) some
               (costs_of some (text 4))) lines
-          ∙ ap (λ (some : NetworkParts). problem_over some.edges
+              ∙ ap (λ (some : NetworkParts). problem_over some.edges
               (loads_of file.Load some.edges (text 3)) (pool_of some (text 2))
               (costs_of (pool_of some (text 2)) (text 4))) is,
         )

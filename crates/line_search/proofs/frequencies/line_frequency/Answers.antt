@@ -8,8 +8,11 @@ pub returns-then-is_of_line-clause-read : goal.returns-then-is_of_line-clause-re
 returns-then-is_of_line-clause-read c =
     let id = to_z w64 (of_z w64 c.args.id) in
     c.row_frequency.ensures.read
-    ∙ sym (first_is id c.args.table.now c.loop-row.row (omega (arith, c.loop-row-test.true,
-    c.len-row-end.ensures.len)) (sym c.if-is_of_line.true ∙ c.is_of_line.ensures))
+    ∙ sym (first_is id c.args.table.now c.loop-row.row (omega (
+      arith,
+      c.loop-row-test.true,
+      c.len-row-end.ensures.len,
+    )) (sym c.if-is_of_line.true ∙ c.is_of_line.ensures))
     ∙ sym c.loop-row.invariant
     ∙ ap (λ id. frequency_in c.args.table.now id) (to_z-of_z w64 c.args.id c.ranges.id)
 

@@ -1,4 +1,4 @@
-use Rattle.std.proofs.Common.{ℤ, ◌<ℤ◌, [], ◌∷◌, ◌++◌, ap, sym, ◌∙◌, arith, subst, w64}
+use Rattle.std.proofs.Common.{ℤ, ◌<ℤ◌, [], ◌∷◌, ◌++◌, ap, sym, ◌∙◌, arith, subst}
 use Rattle.std.specs.List.{All}
 use Rattle.line_cost_model.specs.declared.edge.BoundedEdge.{BoundedEdge}
 use Rattle.line_cost_model.specs.Problems.{ProblemParts, IsBoundedEdge, IsId}
@@ -42,12 +42,16 @@ loop-index-preserved c =
     let id = held (λ edge. IsId edge.id) c.args.network.now.edges c.loop-index.index edge
     c.requires.ids c.edge.ensures.place in
     c.in_ok-push_edge.ensures.ok
-    ∙ ap (λ (edge : BoundedEdge). record { edges = c.loop-index.problem.edges ++ edge ∷ [];
-    lines = c.loop-index.problem.lines }) (told_edge edge load c.frequency.result
+    ∙ ap (λ (edge : BoundedEdge). record {
+      edges = c.loop-index.problem.edges ++ edge ∷ [];
+      lines = c.loop-index.problem.lines;
+    }) (told_edge edge load c.frequency.result
     c.frequency-in-loop-index.result id c.get-load.ensures.sound c.frequency.ensures
     c.frequency-in-loop-index.ensures)
-    ∙ ap (λ (problem : ProblemParts). record { edges = problem.edges ++ bounded_by edge load ∷ [];
-    lines = problem.lines }) c.loop-index.invariant
+    ∙ ap (λ (problem : ProblemParts). record {
+      edges = problem.edges ++ bounded_by edge load ∷ [];
+      lines = problem.lines;
+    }) c.loop-index.invariant
     ∙ ap (λ edges. record { edges = edges; lines = [] }) (sym (edges_more c.args.network.now.edges
     c.args.loads.now c.loop-index.index edge load c.edge.ensures.place c.get-load.ensures.place))
 

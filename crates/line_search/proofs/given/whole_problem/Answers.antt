@@ -1,4 +1,4 @@
-use Rattle.std.proofs.Common.{ℤ, ◌<ℤ◌, ◌∷◌, ◌++◌, [], length, take, ap, sym, ◌∙◌, arith, subst, to_z, of_z, w64}
+use Rattle.std.proofs.Common.{ℤ, ◌<ℤ◌, ◌∷◌, ◌++◌, [], length, ap, sym, ◌∙◌, arith, subst, to_z, of_z, w64}
 use Rattle.std.specs.List.{All}
 use Rattle.line_cost_model.specs.Problems.{CostedLine, ProblemParts, IsCostedLine, IsId}
 use Rattle.line_pool.specs.Pools.{IsLine}
@@ -49,11 +49,15 @@ loop-line-preserved c =
     c.requires.lines.each is.at in
     let id : IsId is.line.id = record { low = sound.id_least; high = sound.id_greatest } in
     c.in_ok-push_line.ensures.ok
-    ∙ ap (λ (line : CostedLine). record { edges = c.loop-line.problem.edges;
-    lines = c.loop-line.problem.lines ++ line ∷ [] }) (told_line is.line c.line_id.result
+    ∙ ap (λ (line : CostedLine). record {
+      edges = c.loop-line.problem.edges;
+      lines = c.loop-line.problem.lines ++ line ∷ [];
+    }) (told_line is.line c.line_id.result
     c.get.result c.edges.result.now id c.get.ensures.sound is.id_is is.over_is)
-    ∙ ap (λ (problem : ProblemParts). record { edges = problem.edges;
-    lines = problem.lines ++ costed_by is.line c.get.result ∷ [] }) c.loop-line.invariant
+    ∙ ap (λ (problem : ProblemParts). record {
+      edges = problem.edges;
+      lines = problem.lines ++ costed_by is.line c.get.result ∷ [];
+    }) c.loop-line.invariant
     ∙ ap (λ lines. record {
       edges = bounded c.args.network.now.edges c.args.loads.now;
       lines = lines;

@@ -1,4 +1,4 @@
-use Rattle.std.proofs.Common.{refl, ◌≡◌, Some, None, IfNone, IfSome, ap, sym, ◌∙◌, subst, option_copied}
+use Rattle.std.proofs.Common.{refl, ◌≡◌, Some, IfNone, IfSome, ap, sym, ◌∙◌, subst, option_copied}
 use Rattle.line_cost_model.specs.Concepts.{IsFeasible, is_feasible, cost_of}
 use Rattle.line_search.specs.ConceptTables.{concept_rows}
 use Rattle.line_search.specs.Judged.{Marks, Passes, first_broken, tree_rule}
