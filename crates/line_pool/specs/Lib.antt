@@ -1,4 +1,5 @@
 pub mod CostStage
+pub mod GivenCosts
 pub mod LineCosts
 pub mod LinesSoFar
 pub mod PoolCosts

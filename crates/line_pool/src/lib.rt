@@ -3,6 +3,7 @@
 
 mod cost_table;
 mod ends;
+mod given_costs;
 mod line_file;
 mod line_row;
 mod line_rows;
@@ -11,9 +12,12 @@ mod pool;
 mod stage;
 mod walk;
 
+pub use given_costs::LineCosts;
 pub use pool::Pool;
 pub use stage::make_cost;
 
+#[cfg(test)]
+mod given_costs_tests;
 #[cfg(test)]
 mod pool_tests;
 #[cfg(test)]

@@ -1,1 +1,10 @@
-
+mod ConceptRows
+mod EdgesOfTexts
+mod FirstRows
+mod Judging
+mod Lists
+mod PushedEdges
+mod PushedLines
+mod Refusals
+mod SameCells
+mod Tried

@@ -1,18 +1,18 @@
--- The line problem of a bundle, whose inputs are the texts of stops, of edges, of the pool, of loads with
--- bounds of frequency and of costs.
-use Rattle.std.specs.Prelude.{pos, List, [], ◌∷◌, ◌++◌, map, zip, find, unsigned_abs, unwrap_or}
-use Rattle.std.specs.Ordering.{int_eq}
+-- The line problem of a bundle, whose inputs are the texts of stops, of edges, of the pool, of loads
+-- with bounds of frequency and of costs.
+use Rattle.std.specs.Prelude.{ℤ, List, ◌++◌, map, zip, unsigned_abs}
 use Rattle.giv_files.specs.declared.file_id.FileId.TheVariants as file
 use Rattle.giv_files.specs.declared.refusal.Refusal.{Refusal}
-use Rattle.giv_files.specs.Inputs.{records_of, input_faults}
+use Rattle.giv_files.specs.Inputs.{input_faults}
 use Rattle.giv_files.specs.Settings.{BundleParts}
 use Rattle.giv_files.specs.StageCalls.{input_text}
 use Rattle.ptn_network.specs.declared.edge.Edge.{Edge}
 use Rattle.ptn_network.specs.declared.edge_load.EdgeLoad.{EdgeLoad}
 use Rattle.ptn_network.specs.Loads.{load_input, loads_of}
 use Rattle.ptn_network.specs.Networks.{network_faults, network_in}
+use Rattle.line_pool.specs.GivenCosts.{costs_of}
 use Rattle.line_pool.specs.Pools.{LineParts, pool_of, pool_faults}
-use Rattle.line_pool.specs.PoolCosts.{CostRow, pool_cost_input}
+use Rattle.line_pool.specs.PoolCosts.{pool_cost_input}
 use Rattle.line_cost_model.specs.declared.edge.BoundedEdge.{BoundedEdge}
 use Rattle.line_cost_model.specs.Problems.{CostedLine, ProblemParts}
 
@@ -33,24 +33,22 @@ abbrev pub bounded_by : Edge → EdgeLoad → BoundedEdge
 bounded_by edge load =
     record { id = edge.id; least = unsigned_abs load.least; most = unsigned_abs load.most }
 
--- a line with the cost that a row gives it
-abbrev pub costed_by : List CostRow → LineParts → CostedLine
-costed_by rows line =
-    let row = unwrap_or (find (λ row. int_eq line.id row.line) rows)
-    (record { line = line.id; length = pos 0; cost = pos 0 }) in
-    record { id = line.id; cost = unsigned_abs row.cost; edges = line.edges }
+-- a line with its cost
+abbrev pub costed_by : LineParts → ℤ → CostedLine
+costed_by line cost = record { id = line.id; cost = unsigned_abs cost; edges = line.edges }
 
--- the edges with their bounds
-abbrev pub bounded_edges : BundleParts → List BoundedEdge
-bounded_edges bundle =
-    let edges = (network_in bundle).edges in
-    map (λ at. bounded_by at.0 at.1) (zip edges (loads_of file.Load edges (input_text bundle 3)))
+-- the line problem of edges with their loads, and of lines with their costs
+abbrev pub problem_over : List Edge → List EdgeLoad → List LineParts → List ℤ → ProblemParts
+problem_over edges loads lines costs = record {
+  edges = map (λ at. bounded_by at.0 at.1) (zip edges loads);
+  lines = map (λ at. costed_by at.0 at.1) (zip lines costs);
+}
 
--- the lines with their costs
-abbrev pub costed_lines : BundleParts → List CostedLine
-costed_lines bundle =
-    map (costed_by (records_of (pool_cost_input (lines_in bundle)) (input_text bundle 4))) (lines_in bundle)
-
--- the line problem
+-- the line problem of a bundle
 unfoldable pub problem_of : BundleParts → ProblemParts
-problem_of bundle = record { edges = bounded_edges bundle; lines = costed_lines bundle }
+problem_of bundle =
+    problem_over
+    (network_in bundle).edges
+    (loads_of file.Load (network_in bundle).edges (input_text bundle 3))
+    (lines_in bundle)
+    (costs_of (lines_in bundle) (input_text bundle 4))

@@ -7,6 +7,8 @@ ghost use Rattle.line_search.specs.GivenProblems.{problem_faults, problem_of};
 ghost use Rattle.line_search.specs.Judged.{Passes, first_broken};
 
 use crate::fault::ConceptFault;
+use crate::given::read_problem;
+use crate::judge::first_fault;
 use giv_files::{Bundle, StageFault};
 use std::alloc::Global;
 
@@ -27,5 +29,6 @@ pub fn check_concept(
     ensures passes { IfOk result (λ answer. IfNone answer
         (Passes (problem_of bundle.now) concept.now (option_copied tree.entry))) }
 {
-    Err(StageFault::NoMemory)
+    let problem = read_problem(alloc, bundle)?;
+    Ok(first_fault(alloc, &problem, concept, tree)?)
 }

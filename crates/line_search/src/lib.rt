@@ -2,7 +2,16 @@
 #![tactic(auto)]
 
 mod check;
+mod concept_table;
 mod fault;
+mod frequencies;
+mod given;
+mod judge;
 
 pub use check::check_concept;
 pub use fault::ConceptFault;
+
+#[cfg(test)]
+mod check_tests;
+#[cfg(test)]
+mod tree_tests;

@@ -1,0 +1,61 @@
+-- What holds of the costs of a text without a fault.
+use Rattle.std.proofs.Common.{◌≡◌, ℕ, ℤ, pos, arith, lit<, cond, Bool, true, false, List, [], ◌∷◌, length, get_or, ap, ◌∙◌, Some, option_map, unwrap_or}
+use Rattle.std.specs.List.{All, find}
+use Rattle.std.specs.Ordering.{int_eq}
+use Rattle.std.proofs.lemmas.Int.{ints}
+use Rattle.std.proofs.lemmas.List.{length-map}
+use Rattle.std.proofs.lemmas.List.Elements.{All-head, All-tail, All-map}
+use Rattle.giv_files.specs.declared.column.ColumnKind.TheVariants as kind
+use Rattle.giv_files.specs.Columns.{pool_cost_columns}
+use Rattle.giv_files.specs.Inputs.{records, records_of, input_faults}
+use Rattle.giv_files.specs.Reading.{table_of}
+use Rattle.giv_files.specs.Tables.{TableRow}
+use Rattle.giv_files.specs.Writing.{InColumns}
+use Rattle.giv_files.proofs.Inputs.{sound_rows}
+use Rattle.giv_files.proofs.WriteFacts.{in_column}
+use Rattle.line_pool.specs.GivenCosts.{cost_for, costs_over, costs_of, IsCost}
+use Rattle.line_pool.specs.PoolCosts.{CostRow, cost_row_of, pool_cost_input}
+use Rattle.line_pool.specs.Pools.{LineParts}
+
+row_is_cost : (cells : List ℤ) → InColumns pool_cost_columns cells → IsCost (cost_row_of cells).cost
+row_is_cost cells within =
+    let cost = in_column pool_cost_columns cells 2 kind.Skip (pos 0) within (lit< tt) in
+    record { low = cost.0; high = cost.1 }
+
+found_is_cost : (p : CostRow → Bool) (rows : List CostRow) → All (λ row. IsCost row.cost) rows
+    → IsCost (unwrap_or (option_map (λ row. row.cost) (find p rows)) (pos 0))
+found_is_cost p [] all = record { low = omega (arith, ints); high = omega (arith, ints) }
+found_is_cost p (row ∷ rows) all =
+    elim (p row) as (λ b. IsCost
+    (unwrap_or (option_map (λ row. row.cost) (cond b (Some row) (find p rows))) (pos 0))) [
+      | true ↦ All-head (λ row. IsCost row.cost) row rows all
+      | false ↦ found_is_cost p rows (All-tail (λ row. IsCost row.cost) row rows all)
+    ]
+
+pub costs_sound : (lines : List LineParts) (text : List ℕ)
+    → input_faults (pool_cost_input lines) text ≡ [] → All IsCost (costs_of lines text)
+unfolding costs_of
+costs_sound lines text none =
+    let input = pool_cost_input lines in
+    let rows = records_of input text in
+    let sound = sound_rows input text none in
+    let all = All-map (λ (row : CostRow). IsCost row.cost)
+    (λ (row : TableRow). cost_row_of row.cells) (table_of input.columns text)
+    (λ k d h. row_is_cost _ (sound k d h).2) in
+    All-map IsCost (λ (line : LineParts). unwrap_or (cost_for line.id rows) (pos 0)) lines
+    (λ k d h. found_is_cost (λ row. int_eq (get_or lines k d).id row.line) rows all)
+
+-- the costs of a table are those of its text
+pub costs_are : (lines : List LineParts) (text : List ℕ) (table : List TableRow) (costs : List ℤ)
+    → table ≡ table_of pool_cost_columns text
+    → costs ≡ costs_over lines (records (pool_cost_input lines) table) → costs ≡ costs_of lines text
+unfolding costs_of
+costs_are lines text table costs is told =
+    told ∙ ap (λ rows. costs_over lines (records (pool_cost_input lines) rows)) is
+
+-- there is one for each line
+pub costs_count : (lines : List LineParts) (text : List ℕ)
+    → length (costs_of lines text) ≡ length lines
+unfolding costs_of
+costs_count lines text = length-map lines (λ line. unwrap_or
+    (cost_for line.id (records_of (pool_cost_input lines) text)) (pos 0))

@@ -1,0 +1,47 @@
+-- The frequency of a line, which is that of its first row.
+use Rattle.std.proofs.Common.{◌≡◌, ℕ, ℤ, pos, ◌+◌, ◌<◌, ◌≤◌, Bool, true, false, cond, List, length, drop, get_or, slice_get, ap, sym, ◌∙◌, Option, Some, None, option_map, unwrap_or}
+use Rattle.std.specs.List.{find}
+use Rattle.std.specs.Ordering.{int_eq}
+use Rattle.std.proofs.lemmas.List.{drop_more, drop_all}
+use Rattle.std.proofs.lemmas.Option.{same_Some}
+use Rattle.giv_files.specs.Tables.{TableRow, cell_at, no_row}
+use Rattle.line_cost_model.specs.Problems.{CostedLine}
+use Rattle.line_search.specs.ConceptTables.{frequency_in, frequency_of_row}
+
+module _ (id : ℤ) (rows : List TableRow) (i : ℕ) where
+  module _ (lt : i < length rows) where
+    step : (own : Bool) → own ≡ int_eq id (cell_at rows i 0)
+        → frequency_in (drop i rows) id ≡ unwrap_or (option_map frequency_of_row
+        (cond own (Some (get_or rows i no_row))
+        (find (λ row. int_eq id (get_or row.cells 0 (pos 0))) (drop (i + 1) rows)))) 0
+    step own is =
+        ap (λ some. frequency_in some id) (drop_more rows i no_row lt)
+        ∙ ap (λ b. unwrap_or (option_map frequency_of_row (cond b (Some (get_or rows i no_row))
+        (find (λ row. int_eq id (get_or row.cells 0 (pos 0))) (drop (i + 1) rows)))) 0) (sym is)
+
+    -- the row at a place is the first of the line
+    pub first_is : true ≡ int_eq id (cell_at rows i 0)
+        → frequency_in (drop i rows) id ≡ frequency_of_row (get_or rows i no_row)
+    first_is own = step true own
+
+    -- or none of it
+    pub first_behind : false ≡ int_eq id (cell_at rows i 0)
+        → frequency_in (drop i rows) id ≡ frequency_in (drop (i + 1) rows) id
+    first_behind other = step false other
+
+  -- there is none of it
+  pub no_first : length rows ≤ i → frequency_in (drop i rows) id ≡ 0
+  no_first past = ap (λ some. frequency_in some id) (drop_all i rows past)
+
+-- the frequency of the line at a place
+pub frequency_at : (lines : List CostedLine) (rows : List TableRow) (line : ℕ) (row : ℤ × ℤ) (n : ℕ)
+    → option_map (λ at. (at.id, pos at.cost)) (slice_get lines line) ≡ Some row
+    → n ≡ frequency_in rows row.0
+    → option_map (λ at. frequency_in rows at.id) (slice_get lines line) ≡ Some n
+frequency_at lines rows line row n is read = one (slice_get lines line) is
+  where
+    one : (found : Option CostedLine) → option_map (λ at. (at.id, pos at.cost)) found ≡ Some row
+        → option_map (λ at. frequency_in rows at.id) found ≡ Some n
+    one None is = cc
+    one (Some at) is = ap Some (ap (λ (row : ℤ × ℤ). frequency_in rows row.0) (same_Some _ _ is)
+        ∙ sym read)

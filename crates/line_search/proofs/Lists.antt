@@ -1,0 +1,58 @@
+-- What is at a place of a list, and what stands before it.
+use Rattle.std.proofs.Common.{◌≡◌, ℕ, zero, suc, ℤ, pos, ◌<◌, ◌<ℤ◌, arith, Bool, true, false, cond, int_lt, List, [], ◌∷◌, length, map, take, get_or, slice_get, zip, refl, ap, subst, sym, ◌∙◌, Some}
+use Rattle.std.specs.Int.Signed.{lt_z_yes}
+use Rattle.std.specs.List.{All}
+use Rattle.std.specs.List.Sorted.{IsStrictlySortedBy}
+use Rattle.std.specs.Ordering.{int_cmp}
+use Rattle.std.specs.declared.cmp.Ordering.TheVariants.{Less, Equal, Greater}
+use Rattle.std.proofs.lemmas.Float.{T_from_true}
+use Rattle.std.proofs.lemmas.List.{get_or-map, length-map, length-take-le, get_or-take}
+use Rattle.std.proofs.lemmas.List.Elements.{All-get_or}
+use Rattle.std.proofs.lemmas.Map.Keys.{Less-from_sorted}
+use Rattle.std.proofs.lemmas.Option.{get_or_from_slice_get, slice_get_within, none-some}
+
+-- what holds of all holds of the one at a place
+pub held : {X : Type 0} (P : X → Type 0) (xs : List X) (i : ℕ) (x : X) → All P xs
+    → slice_get xs i ≡ Some x → P x
+held P xs i x all is = subst P (get_or_from_slice_get xs i x x is)
+    (All-get_or P xs i x (slice_get_within xs i x is) all)
+
+-- two at a place are a pair there
+pub zip_at : {X Y : Type 0} (xs : List X) (ys : List Y) (i : ℕ) (x : X) (y : Y)
+    → slice_get xs i ≡ Some x → slice_get ys i ≡ Some y → slice_get (zip xs ys) i ≡ Some (x, y)
+zip_at [] ys i x y is own = absurd (none-some x is)
+zip_at (a ∷ xs) [] i x y is own = absurd (none-some y own)
+zip_at (a ∷ xs) (b ∷ ys) zero x y is own =
+    let first : a ≡ x = cc in
+    let second : b ≡ y = cc in
+    λ k. Some (first k, second k)
+zip_at (a ∷ xs) (b ∷ ys) (suc i) x y is own = zip_at xs ys i x y is own
+
+less_is : (x y : ℤ) → int_cmp x y ≡ Less → x <ℤ y
+less_is x y e = one (int_lt x y) refl e
+  where
+    one : (b : Bool) → int_lt x y ≡ b → cond b Less (cond (int_lt y x) Greater Equal) ≡ Less
+        → x <ℤ y
+    one true is e = lt_z_yes (T_from_true _ is)
+    one false is e = elim (int_lt y x) as (λ c. cond c Greater Equal ≡ Less → x <ℤ y) [
+      | true ↦ λ e. cc
+      | false ↦ λ e. cc
+    ] e
+
+-- where ids rise, those before a place are below its own
+pub below : {X : Type 0} (id : X → ℤ) (xs : List X) (i : ℕ) (x : X)
+    → IsStrictlySortedBy int_cmp (map id xs) → slice_get xs i ≡ Some x
+    → All (λ y. id y <ℤ id x) (take i xs)
+below id xs i x rise is = λ k d h.
+    let within = slice_get_within xs i x is in
+    let few = length-take-le i xs (omega (arith, within)) in
+    let before : k < i = omega (arith, h, few) in
+    let there : k < length xs = omega (arith, before, within) in
+    let less = Less-from_sorted int_cmp (map id xs) k i (pos 0) rise before
+    (omega (arith, within, length-map xs id)) in
+    let low : get_or (map id xs) k (pos 0) ≡ id (get_or (take i xs) k d) =
+    get_or-map id xs k d (pos 0) there ∙ ap id (sym (get_or-take i xs k d before)) in
+    let high : get_or (map id xs) i (pos 0) ≡ id x =
+    get_or-map id xs i x (pos 0) within ∙ ap id (get_or_from_slice_get xs i x x is) in
+    less_is _ _ (ap (λ n. int_cmp n (id x)) (sym low) ∙ ap (int_cmp (get_or (map id xs) k (pos 0)))
+    (sym high) ∙ less)

@@ -1,0 +1,130 @@
+-- The definitions on a small dataset.
+use Rattle.std.proofs.Common.{◌≡◌, ℕ, List, [], ◌∷◌, refl, pos, codes, Some, None}
+use Rattle.giv_files.specs.declared.file_id.FileId.TheVariants as file
+use Rattle.giv_files.specs.declared.key.Key.TheVariants as key
+use Rattle.giv_files.specs.declared.refusal.Refusal.TheVariants as refusal
+use Rattle.giv_files.specs.declared.row_why.RowWhy.TheVariants as why
+use Rattle.giv_files.specs.declared.stage.Stage.TheVariants as stage
+use Rattle.giv_files.specs.Inputs.{input_faults, row_faults}
+use Rattle.giv_files.specs.Reading.{faults, table_of, cells_from, cell_of, errors, values, row_whys}
+use Rattle.giv_files.specs.Rows.{rows, cleaned}
+use Rattle.giv_files.specs.Settings.{BundleParts}
+use Rattle.giv_files.specs.Writing.{cell_text, cell_texts, joined, table_text}
+use Rattle.plan_num.specs.Number.{spelling_of, value_of, value_at, fixed_of, whole_of}
+use Rattle.plan_num.specs.Print.{digits_at}
+use Rattle.std.specs.Fmt.{digits}
+use Rattle.ptn_network.specs.Loads.{loads_of}
+use Rattle.ptn_network.specs.Networks.{by_id, stops_of, network_of, network_faults}
+use Rattle.line_pool.specs.GivenCosts.{costs_of}
+use Rattle.line_pool.specs.Pools.{walk_from, lines_of, line_faults}
+use Rattle.line_cost_model.specs.declared.edge.BoundedEdge.{BoundedEdge}
+use Rattle.line_cost_model.specs.Problems.{CostedLine, ProblemParts}
+use Rattle.line_cost_model.specs.Concepts.{is_feasible}
+use Rattle.line_cost_model.specs.DualBounds.{bound_by}
+use Rattle.branch_certificate.specs.TreeFaults.{tree_faults}
+use Rattle.branch_certificate.specs.TreeFiles.{nodes_of, tree_of, read_faults}
+use Rattle.branch_certificate.specs.Trees.{first_tree, placed_over}
+use Rattle.line_search.specs.declared.fault.ConceptFault.TheVariants as fault
+use Rattle.line_search.specs.ConceptTables.{concept_text}
+use Rattle.line_search.specs.GivenProblems.{problem_of, problem_faults}
+use Rattle.line_search.specs.Judged.{first_broken}
+
+abbrev edge : ℕ → ℕ → ℕ → BoundedEdge
+edge id least most = record { id = pos id; least = least; most = most }
+
+abbrev line : ℕ → ℕ → List ℕ → CostedLine
+line id cost edges = record { id = pos id; cost = cost; edges = edges }
+
+abbrev lines : List CostedLine
+lines = line 1 15000000 (0 ∷ 1 ∷ []) ∷ line 2 12000000 (0 ∷ []) ∷ []
+
+-- two edges in a row, a line over both and a line over the first
+abbrev two : ProblemParts
+two = record { edges = edge 1 2 3 ∷ edge 2 1 3 ∷ []; lines = lines }
+
+-- ---- the line problem of a bundle
+
+abbrev bundle : List ℕ → List ℕ → BundleParts
+bundle loads costs = record {
+  stage = stage.Concept;
+  settings = record { key = key.ConceptBudget; value = pos 9 } ∷ [];
+  inputs = codes "1; A; A; 0; 0\n2; B; B; 0; 0\n3; C; C; 0; 0\n"
+      ∷ codes "1; 1; 2; 2; 4; 5\n2; 2; 3; 3; 6; 6\n"
+      ∷ codes "1; 1; 1\n1; 2; 2\n2; 1; 1\n" ∷ loads ∷ costs ∷ [];
+}
+
+problem : problem_of (bundle (codes "2; 40; 1; 3\n1; 100; 2; 3\n") (codes "2; 2; 12\n1; 5; 15\n")) ≡ two
+unfolding problem_of loads_of costs_of lines_of network_of stops_of by_id walk_from table_of cells_from cell_of values rows cleaned spelling_of value_of value_at fixed_of whole_of
+problem = refl
+
+-- a row for an edge that is not there, bounds that are crossed, a second row of an edge, an edge without a row; a
+-- line that is not there, a second row of a line, a line without a row
+broken : problem_faults (bundle (codes "3; 100; 2; 3\n2; 40; 4; 3\n2; 1; 1; 1\n") (codes "3; 5; 15\n2; 2; 12\n2; 2; 12\n"))
+    ≡ refusal.BadRow file.Load 1 why.UnknownEdge
+    ∷ refusal.BadRow file.Load 2 why.BoundsCrossed
+    ∷ refusal.BadRow file.Load 3 why.RepeatedId
+    ∷ refusal.BadRow file.Load 0 why.MissingEdge
+    ∷ refusal.BadRow file.PoolCost 1 why.UnknownLine
+    ∷ refusal.BadRow file.PoolCost 3 why.RepeatedId
+    ∷ refusal.BadRow file.PoolCost 0 why.MissingLine
+    ∷ []
+unfolding problem_faults lines_of line_faults network_of network_faults stops_of input_faults row_faults faults by_id walk_from table_of cells_from cell_of values errors row_whys rows cleaned spelling_of value_of value_at fixed_of whole_of
+broken = refl
+
+-- ---- the rules of a concept from any hand
+
+abbrev concept : List ℕ
+concept = codes "# line-id; edge-order; edge-id; frequency\n1; 1; 1; 1\n1; 2; 2; 1\n2; 1; 1; 1\n"
+
+abbrev tree : List ℕ
+tree = codes "# kind; id; value; multiplier\nsplit; 1; 1; 0\nsplit; 1; 0; 0\nempty; 2; 1; 0\nsplit; 2; 1; 0\nsplit; 2; 0; 0\nempty; 1; 1; 0\npoint; 0; 0; 0\nbound; 0; 0; 0\nbound; 0; 0; 0\n"
+
+written : concept_text two (1 ∷ 1 ∷ []) ≡ concept
+unfolding concept_text digits digits_at cell_text cell_texts joined table_text
+written = refl
+
+passes : first_broken two concept (Some tree) ≡ None
+unfolding first_broken is_feasible tree_faults first_tree placed_over bound_by read_faults tree_of nodes_of input_faults row_faults faults table_of cells_from cell_of values errors row_whys rows cleaned spelling_of value_of value_at fixed_of whole_of
+passes = refl
+
+-- the last row of the tree is missing
+no_tree : first_broken two concept (Some (codes "split; 1; 1; 0\nsplit; 1; 0; 0\nempty; 2; 1; 0\nsplit; 2; 1; 0\nsplit; 2; 0; 0\nempty; 1; 1; 0\npoint; 0; 0; 0\nbound; 0; 0; 0\n")) ≡ Some fault.Tree
+unfolding first_broken is_feasible tree_faults first_tree placed_over bound_by read_faults tree_of nodes_of input_faults row_faults faults table_of cells_from cell_of values errors row_whys rows cleaned spelling_of value_of value_at fixed_of whole_of
+no_tree = refl
+
+-- the first split stands outside the range of its line
+outside : first_broken two concept (Some (codes "split; 1; 3; 0\nsplit; 1; 0; 0\nempty; 2; 1; 0\nsplit; 2; 1; 0\nsplit; 2; 0; 0\nempty; 1; 1; 0\npoint; 0; 0; 0\nbound; 0; 0; 0\nbound; 0; 0; 0\n")) ≡ Some fault.Split
+unfolding first_broken is_feasible tree_faults first_tree placed_over bound_by read_faults tree_of nodes_of input_faults row_faults faults table_of cells_from cell_of values errors row_whys rows cleaned spelling_of value_of value_at fixed_of whole_of
+outside = refl
+
+-- the second line is not driven
+too_few : first_broken two (codes "1; 1; 1; 1\n1; 2; 2; 1\n2; 1; 1; 0\n") (Some tree) ≡ Some fault.Bounds
+unfolding first_broken is_feasible faults table_of cells_from cell_of values errors row_whys rows cleaned spelling_of value_of value_at fixed_of whole_of
+too_few = refl
+
+-- the first line is driven twice, which costs more than the point
+dear : first_broken two (codes "1; 1; 1; 2\n1; 2; 2; 2\n2; 1; 1; 0\n") (Some tree) ≡ Some fault.Point
+unfolding first_broken is_feasible tree_faults first_tree placed_over bound_by read_faults tree_of nodes_of input_faults row_faults faults table_of cells_from cell_of values errors row_whys rows cleaned spelling_of value_of value_at fixed_of whole_of
+dear = refl
+
+-- without a tree it passes
+unproved : first_broken two (codes "1; 1; 1; 2\n1; 2; 2; 2\n2; 1; 1; 0\n") None ≡ None
+unfolding first_broken is_feasible faults table_of cells_from cell_of values errors row_whys rows cleaned spelling_of value_of value_at fixed_of whole_of
+unproved = refl
+
+-- a line with two frequencies; an edge too few; rows in another order; no table
+differs : first_broken two (codes "1; 1; 1; 1\n1; 2; 2; 2\n2; 1; 1; 1\n") None ≡ Some fault.Lines
+unfolding first_broken is_feasible faults table_of cells_from cell_of values errors row_whys rows cleaned spelling_of value_of value_at fixed_of whole_of
+differs = refl
+
+lacks : first_broken two (codes "1; 1; 1; 1\n2; 1; 1; 1\n") None ≡ Some fault.Lines
+unfolding first_broken is_feasible faults table_of cells_from cell_of values errors row_whys rows cleaned spelling_of value_of value_at fixed_of whole_of
+lacks = refl
+
+turned : first_broken two (codes "2; 1; 1; 1\n1; 1; 1; 1\n1; 2; 2; 1\n") None ≡ Some fault.Lines
+unfolding first_broken is_feasible faults table_of cells_from cell_of values errors row_whys rows cleaned spelling_of value_of value_at fixed_of whole_of
+turned = refl
+
+no_table : first_broken two (codes "1; 1; 1\n") None ≡ Some fault.Row
+unfolding first_broken is_feasible faults table_of cells_from cell_of values errors row_whys rows cleaned spelling_of value_of value_at fixed_of whole_of
+no_table = refl
