@@ -13,7 +13,8 @@ use plan_num::NoMemory;
 use std::alloc::Global;
 
 /// The first reason for which a tree does not certify that each feasible concept costs so many
-/// millionths at least; none where it does.
+/// millionths at least; none where it does. Its shape is looked at first, and then its splits, its
+/// empty edges, its multipliers, its bounds and its points, each kind node by node.
 pub fn check_tree(
     alloc: Global,
     problem: &LineProblem,
