@@ -9,7 +9,14 @@ const LOADS: &[u8] = b"1; 100; 2; 3\n2; 40; 1; 3\n";
 
 const COSTS: &[u8] = b"1; 5; 15\n2; 2; 12\n";
 
-fn bundle(alloc: Global, loads: &[u8], costs: &[u8]) -> Result<Bundle, Fail> {
+// What the test gives of a concept, with a tree beside it, over loads and costs.
+fn checked(
+    alloc: Global,
+    loads: &[u8],
+    costs: &[u8],
+    concept: &[u8],
+    tree: Option<&[u8]>,
+) -> Result<Result<Option<ConceptFault>, StageFault>, Fail> {
     let mut settings = Settings::new(alloc);
     settings.push(Key::ConceptBudget, 9)?;
     let mut bundle = Bundle::new(alloc, Stage::Concept, settings);
@@ -21,7 +28,7 @@ fn bundle(alloc: Global, loads: &[u8], costs: &[u8]) -> Result<Bundle, Fail> {
     if !bundle.fits() {
         return Err(Fail::from("the bundle does not fit"));
     }
-    Ok(bundle)
+    Ok(check_concept(alloc, &bundle, concept, tree))
 }
 
 /// The first rule that a concept breaks, or that a tree beside it does, over loads of the edges.
@@ -31,8 +38,7 @@ pub(crate) fn broken(
     concept: &[u8],
     tree: Option<&[u8]>,
 ) -> Result<Option<ConceptFault>, Fail> {
-    let bundle = bundle(alloc, loads, COSTS)?;
-    Ok(check_concept(alloc, &bundle, concept, tree)?)
+    Ok(checked(alloc, loads, COSTS, concept, tree)??)
 }
 
 #[test]
@@ -87,8 +93,7 @@ fn inputs_with_a_fault_are_refused(rt: HostRuntime) -> Result<(), Fail> {
         ),
     ];
     for (loads, costs, file, row, why) in &cases {
-        let bundle = bundle(rt.alloc(), loads, costs)?;
-        let found = check_concept(rt.alloc(), &bundle, concept, None).err();
+        let found = checked(rt.alloc(), loads, costs, concept, None)?.err();
         let want = Refusal::BadRow {
             file: *file,
             row: *row,

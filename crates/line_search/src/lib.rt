@@ -13,5 +13,3 @@ pub use fault::ConceptFault;
 
 #[cfg(test)]
 mod check_tests;
-#[cfg(test)]
-mod tree_tests;
