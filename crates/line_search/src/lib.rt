@@ -13,3 +13,5 @@ pub use fault::ConceptFault;
 
 #[cfg(test)]
 mod check_tests;
+#[cfg(test)]
+mod tree_tests;
