@@ -1,0 +1,3 @@
+mod Tried
+pub mod LeastTensions
+pub mod Slack
