@@ -9,7 +9,7 @@ use Rattle.pesp_model.specs.Timetables.{IsTension, tension}
 abbrev pub rest : ℕ → ℕ → ℕ → ℕ → ℕ
 rest period l from to = (to + (from + l) * period - (from + l)) % period
 
-tension_is : (period l from to : ℕ) → 0 < period
+pub tension_is : (period l from to : ℕ) → 0 < period
     → tension period (pos l) from to ≡ pos (l + rest period l from to)
 tension_is period l from to some =
     ap (λ z. pos l +ℤ z) (slack_is period l from to some (le-mul_of_pos_right (from + l) some))
@@ -30,7 +30,7 @@ rest_least period l from to from_in to_in =
           let over = low_of l other low in
           let whole : from + l + (other - l) ≡ from + other = omega arith in
           let near = not_above (from + l) (other - l) (rest period l from to) period to small
-              (ap (λ n. n % period) whole ∙ shows) leads in
+          (ap (λ n. n % period) whole ∙ shows) leads in
           omega arith;
     }
   where
@@ -40,9 +40,9 @@ rest_least period l from to from_in to_in =
 pub tension_least : (period : ℕ) (lower : ℤ) (from to : ℕ) → from < period → to < period
     → pos 0 ≤ℤ lower
     → (tension period lower from to ≡ pos (unsigned_abs (tension period lower from to)))
-      × IsTension period lower from to (unsigned_abs (tension period lower from to))
+    × IsTension period lower from to (unsigned_abs (tension period lower from to))
 tension_least period (pos l) from to from_in to_in low =
     let some : 0 < period = omega arith in
     subst (λ z. (z ≡ pos (unsigned_abs z)) × IsTension period (pos l) from to (unsigned_abs z))
-        (sym (tension_is period l from to some)) (refl, rest_least period l from to from_in to_in)
+    (sym (tension_is period l from to some)) (refl, rest_least period l from to from_in to_in)
 tension_least period (negsuc n) from to from_in to_in low = absurd (omega (arith, ints))

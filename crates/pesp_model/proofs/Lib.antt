@@ -1,3 +1,6 @@
-mod Tried
+pub mod FirstBroken
+pub mod Keeping
 pub mod LeastTensions
 pub mod Slack
+pub mod Texts
+mod Tried

@@ -67,9 +67,9 @@ abbrev pub IsFirstBroken : Problem → List ℕ → Option ℕ → Type 0
 IsFirstBroken problem times None = IsTimetable problem times
 IsFirstBroken problem times (Some index) = (index < length problem.activities)
     × ((activity : PespActivity) → slice_get problem.activities index ≡ Some activity
-        → ¬ IsKept problem.period times activity)
+    → ¬ IsKept problem.period times activity)
     × ((earlier : ℕ) (activity : PespActivity) → earlier < index
-        → slice_get problem.activities earlier ≡ Some activity → IsKept problem.period times activity)
+    → slice_get problem.activities earlier ≡ Some activity → IsKept problem.period times activity)
 
 -- what always holds of a problem that was read: a period, and activities that go from event to event
 -- within bounds in order

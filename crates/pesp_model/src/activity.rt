@@ -1,7 +1,7 @@
 // Activities.
-ghost use Rattle.std.specs.Prelude.{◌≡◌, ◌<◌, ◌≤◌, ◌≤ℤ◌, pos};
+ghost use Rattle.std.specs.Prelude.{◌≡◌, ◌<◌, ◌≤◌, ◌≤ℤ◌, pos, length, All};
 ghost use Rattle.pesp_model.specs.PespTexts.{activity_of};
-ghost use Rattle.pesp_model.specs.Timetables.{keeps};
+ghost use Rattle.pesp_model.specs.Timetables.{keeps, keeps_in, IsActivity};
 
 use crate::tensions::tension;
 use event_tables::PeriodicActivity;
@@ -40,5 +40,14 @@ impl PespActivity {
         ensures { result ≡ keeps period self.now from to }
     {
         tension(self.lower, from, to, period) <= self.upper
+    }
+
+    /// Whether it keeps its bounds where each event has a time.
+    pub(crate) fn keeps_in(&self, period: u32, times: &[u32]) -> bool
+        requires activity { IsActivity (length times.now) self.now }
+        requires within { All (λ time. time < period) times.now }
+        ensures { result ≡ keeps_in period times.now self.now }
+    {
+        self.keeps(period, times[self.from], times[self.to])
     }
 }

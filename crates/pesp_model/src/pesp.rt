@@ -1,11 +1,14 @@
 // Periodic event scheduling problems.
-ghost use Rattle.std.specs.Prelude.{◌≡◌, ◌<◌, ◌≤◌, length, slice_get, Some, None, All};
+ghost use Rattle.std.specs.Prelude.{◌≡◌, ◌<◌, ◌≤◌, length, map, position, slice_get, not, is_none};
+ghost use Rattle.std.specs.Prelude.{Some, All, Decides, IfOk};
 ghost use Rattle.giv_files.specs.Inputs.{UnlessFault};
-ghost use Rattle.pesp_model.specs.PespTexts.{problem_of, problem_faults};
-ghost use Rattle.pesp_model.specs.Timetables.{first_broken, IsActivity, IsFirstBroken, IsProblem, IsTimetable};
+ghost use Rattle.pesp_model.specs.PespTexts.{activity_of, problem_of, problem_faults};
+ghost use Rattle.pesp_model.specs.Timetables.{first_broken, keeps_in, IsActivity, IsFirstBroken, IsProblem, IsTimetable};
 
 use crate::activity::PespActivity;
+use event_tables::{PeriodicActivity, periodic_activities, periodic_events};
 use giv_files::StageFault;
+use plan_num::NoMemory;
 use std::alloc::Global;
 use std::marker::Model;
 
@@ -50,11 +53,14 @@ impl Pesp {
         ensures { UnlessFault (problem_faults events.now activities.now)
             (λ pesp. pesp ≡ problem_of period events.now activities.now) result }
     {
-        let _ = alloc;
-        let _ = period;
-        let _ = events;
-        let _ = activities;
-        Err(StageFault::NoMemory)
+        let events = periodic_events(alloc, events)?;
+        let rows = periodic_activities(alloc, &events, activities)?;
+        let activities = activities_of_rows(alloc, &rows)?;
+        Ok(Pesp {
+            period,
+            events: events.len(),
+            activities,
+        })
     }
 
     /// How many events there are.
@@ -81,4 +87,45 @@ impl Pesp {
     {
         self.activities[index]
     }
+
+    /// The index of the first activity that breaks its bounds where each event has a time; none
+    /// exactly where the times are a timetable of the problem.
+    pub fn first_violated(&self, times: &[u32]) -> Option<usize>
+        requires each { length times.now ≡ self.now.events }
+        requires within { All (λ time. time < self.now.period) times.now }
+        ensures value { result ≡ first_broken self.now times.now }
+        ensures first { IsFirstBroken self.now times.now result }
+        ensures feasible { Decides (is_none result) (IsTimetable self.now times.now) }
+    {
+        first_broken(&self.activities, self.period, times)
+    }
+}
+
+// The activities of rows.
+fn activities_of_rows(
+    alloc: Global,
+    rows: &[PeriodicActivity],
+) -> Result<Vec<PespActivity>, NoMemory>
+    requires { All (λ row. (1 ≤ row.from) × (1 ≤ row.to)) rows.now }
+    ensures { IfOk result (λ activities. activities.items ≡ map activity_of rows.now) }
+{
+    let mut activities = Vec::new(alloc);
+    for row in rows {
+        activities.push(PespActivity::of_row(row))?;
+    }
+    Ok(activities)
+}
+
+// The index of the first of some activities that breaks its bounds.
+fn first_broken(activities: &[PespActivity], period: u32, times: &[u32]) -> Option<usize>
+    requires activities { All (IsActivity (length times.now)) activities.now }
+    requires within { All (λ time. time < period) times.now }
+    ensures { result ≡ position (λ activity. not (keeps_in period times.now activity)) activities.now }
+{
+    for (index, activity) in activities.iter().enumerate() {
+        if !activity.keeps_in(period, times) {
+            return Some(index);
+        }
+    }
+    None
 }
