@@ -58,7 +58,7 @@ module _ (problem : Problem) (times : List ℕ) (is : IsProblem problem) (each :
 
   told_at : (i : ℕ) → i < length problem.activities
       → Decides (keeps_in problem.period times (get_or problem.activities i no_activity))
-        (Kept (get_or problem.activities i no_activity))
+      (Kept (get_or problem.activities i no_activity))
   told_at i some = told (get_or problem.activities i no_activity) (is.sound i no_activity some)
 
   kept_at : (i : ℕ) → i < length problem.activities
@@ -82,14 +82,15 @@ module _ (problem : Problem) (times : List ℕ) (is : IsProblem problem) (each :
             (λ i some. kept_at i some (keep i no_activity some));
       }
   first_at (Some index) found =
-      let parts = position-Some breaks problem.activities index no_activity found in
-      (parts.0
-      , (λ activity at kept.
-          let own = subst Kept (sym (named index activity at)) kept in
-          false≢true (sym (not-true _ parts.1) ∙ (told_at index parts.0).1 own))
-      , (λ earlier activity less at.
-          subst Kept (named earlier activity at)
-          (kept_at earlier (omega (arith, less, parts.0)) (parts.2 earlier less))))
+      let parts = position-Some breaks problem.activities index no_activity found in (
+        parts.0,
+        (λ activity at kept.
+            let own = subst Kept (sym (named index activity at)) kept in
+            false≢true (sym (not-true _ parts.1) ∙ (told_at index parts.0).1 own)),
+        (λ earlier activity less at.
+            subst Kept (named earlier activity at)
+            (kept_at earlier (omega (arith, less, parts.0)) (parts.2 earlier less))),
+      )
 
   pub first_is : (found : Option ℕ) → found ≡ first_broken problem times
       → IsFirstBroken problem times found
@@ -99,8 +100,9 @@ module _ (problem : Problem) (times : List ℕ) (is : IsProblem problem) (each :
   pub none_is : (found : Option ℕ) → IsFirstBroken problem times found
       → Decides (is_none found) (IsTimetable problem times)
   none_is None first = ((λ _. first), (λ _. refl))
-  none_is (Some index) first =
-      ((λ e. absurd (false≢true e))
-      , (λ timetable. absurd (first.1 (get_or problem.activities index no_activity)
-          (slice_get-get_or problem.activities index no_activity first.0)
-          (timetable.kept index no_activity first.0))))
+  none_is (Some index) first = (
+    (λ e. absurd (false≢true e)),
+    (λ timetable. absurd (first.1 (get_or problem.activities index no_activity)
+        (slice_get-get_or problem.activities index no_activity first.0)
+        (timetable.kept index no_activity first.0))),
+  )

@@ -29,11 +29,12 @@ passes : (period l u from to : ℕ) → from < period → to < period
 passes period l u from to from_in to_in =
     let is = tension_is period l from to (omega arith) in
     let least = rest_least period l from to from_in to_in in
-    subst (λ z. Decides (int_le z (pos u)) (Within period (pos l) (pos u) from to)) (sym is)
-    ((λ yes. (l + rest period l from to, least.leads, least.enough, le_z_yes (T_from_true _ yes)))
-    , (λ kept.
-        let near = least.least kept.0 kept.1 kept.2 in
-        is_true _ ((high_of (l + rest period l from to) kept.0 u near (low_of kept.0 u kept.3)).le)))
+    subst (λ z. Decides (int_le z (pos u)) (Within period (pos l) (pos u) from to)) (sym is) (
+      (λ yes. (l + rest period l from to, least.leads, least.enough, le_z_yes (T_from_true _ yes))),
+      (λ kept.
+          let near = least.least kept.0 kept.1 kept.2 in
+          is_true _ ((high_of (l + rest period l from to) kept.0 u near (low_of kept.0 u kept.3)).le)),
+    )
 
 passes_z : (period : ℕ) (lower upper : ℤ) (from to : ℕ) → from < period → to < period
     → pos 0 ≤ℤ lower → lower ≤ℤ upper
@@ -50,8 +51,9 @@ module _ (period : ℕ) (times : List ℕ) (within : All (λ time. time < period
       → Decides (keeps_in period times activity) (IsKept period times activity)
   test_tells activity is =
       let told = passes_z period activity.lower activity.upper (time_of times activity.from)
-          (time_of times activity.to) (time_in activity.from is.from) (time_in activity.to is.to)
-          is.low is.in_order in
-      ((λ yes. let kept = told.0 yes in
-          record { minutes = kept.0; leads = kept.1; enough = kept.2; short = kept.3 })
-      , (λ kept. told.1 (kept.minutes, kept.leads, kept.enough, kept.short)))
+      (time_of times activity.to) (time_in activity.from is.from) (time_in activity.to is.to)
+      is.low is.in_order in (
+        (λ yes. let kept = told.0 yes in
+            record { minutes = kept.0; leads = kept.1; enough = kept.2; short = kept.3 }),
+        (λ kept. told.1 (kept.minutes, kept.leads, kept.enough, kept.short)),
+      )

@@ -38,7 +38,7 @@ module _ (events_text activities_text : List ℕ) where
         → count ≡ length events → rows ≡ records_of (periodic_activity_input (periodic_event_ids events)) activities_text
         → activities ≡ map activity_of rows
         → record { period = period; events = count; activities = activities }
-          ≡ problem_of period events_text activities_text
+        ≡ problem_of period events_text activities_text
     unfolding problem_of events_of activities_of
     problem_is period count rows activities counted read made =
         ap (λ some. record { period = period; events = count; activities = some }) made

@@ -3,7 +3,8 @@ ghost use Rattle.std.specs.Prelude.{◌≡◌, ◌<◌, ◌≤◌, length, map, 
 ghost use Rattle.std.specs.Prelude.{Some, All, Decides, IfOk};
 ghost use Rattle.giv_files.specs.Inputs.{UnlessFault};
 ghost use Rattle.pesp_model.specs.PespTexts.{activity_of, problem_of, problem_faults};
-ghost use Rattle.pesp_model.specs.Timetables.{first_broken, keeps_in, IsActivity, IsFirstBroken, IsProblem, IsTimetable};
+ghost use Rattle.pesp_model.specs.Timetables.{first_broken, keeps_in, IsActivity, IsFirstBroken};
+ghost use Rattle.pesp_model.specs.Timetables.{IsProblem, IsTimetable};
 
 use crate::activity::PespActivity;
 use event_tables::{PeriodicActivity, periodic_activities, periodic_events};
@@ -50,8 +51,9 @@ impl Pesp {
     ) -> Result<Pesp, StageFault>
         requires some { 1 ≤ period }
         requires few { period ≤ 720 }
-        ensures { UnlessFault (problem_faults events.now activities.now)
+        ensures read { UnlessFault (problem_faults events.now activities.now)
             (λ pesp. pesp ≡ problem_of period events.now activities.now) result }
+        ensures period { IfOk result (λ pesp. pesp.period ≡ period) }
     {
         let events = periodic_events(alloc, events)?;
         let rows = periodic_activities(alloc, &events, activities)?;
@@ -120,7 +122,8 @@ fn activities_of_rows(
 fn first_broken(activities: &[PespActivity], period: u32, times: &[u32]) -> Option<usize>
     requires activities { All (IsActivity (length times.now)) activities.now }
     requires within { All (λ time. time < period) times.now }
-    ensures { result ≡ position (λ activity. not (keeps_in period times.now activity)) activities.now }
+    ensures { result
+        ≡ position (λ activity. not (keeps_in period times.now activity)) activities.now }
 {
     for (index, activity) in activities.iter().enumerate() {
         if !activity.keeps_in(period, times) {

@@ -5,18 +5,18 @@ use Rattle.pesp_model.specs.PespTexts.{activity_of}
 use Rattle.pesp_model.proofs.Texts.{refused_events, activity_faults, problem_is, problem_sound}
 use Rattle.pesp_model.proofs.pesp.Pesp.from_texts.Goals as goal
 
-pub returns-in_err-events : goal.returns-in_err-events
-returns-in_err-events c =
+pub returns-in_err-events-clause-read : goal.returns-in_err-events-clause-read
+returns-in_err-events-clause-read c =
     let p = err_from_is_err_and c.from_residual.result c.from_residual.ensures.1 in
     rw (p.1, p.2) (refused_events c.args.events.now c.args.activities.now c.in_err-events.field-0.0
     c.in_err-events.ensures.read)
 
-pub returns-in_err-rows : goal.returns-in_err-rows
-returns-in_err-rows c =
+pub returns-in_err-rows-clause-read : goal.returns-in_err-rows-clause-read
+returns-in_err-rows-clause-read c =
     let p = err_from_is_err_and c.from_residual-in_err-rows.result c.from_residual-in_err-rows.ensures.1 in
     let read = c.in_ok-events.ensures.read in
     let all = activity_faults c.args.events.now c.args.activities.now c.deref.result.now read.0
-        (c.deref.ensures.value ∙ read.1) in
+    (c.deref.ensures.value ∙ read.1) in
     rw (p.1, p.2) (subst (λ some. Refuses some c.in_err-rows.field-0.0) all
     c.in_err-rows.ensures.read)
 
@@ -29,14 +29,15 @@ invariant_of-result c =
     c.in_ok-events.ensures.sound.few) c.in_ok-activities.activities.items
     (c.in_ok-activities.ensures ∙ ap (map activity_of) c.deref-2.ensures.value)
 
-pub returns : goal.returns
-returns c =
+pub returns-clause-read : goal.returns-clause-read
+returns-clause-read c =
     let read = c.in_ok-events.ensures.read in
     let are = c.deref.ensures.value ∙ read.1 in
     let rows = c.in_ok-rows.ensures.read in
-    let events = c.deref.result.now in
-    (sym (activity_faults c.args.events.now c.args.activities.now events read.0 are) ∙ rows.0
-    , problem_is c.args.events.now c.args.activities.now events read.0 are c.args.period c.len.result
-      c.deref-2.result.now c.in_ok-activities.activities.items
-      (c.len.ensures ∙ sym c.deref.ensures.len) (c.deref-2.ensures.value ∙ rows.1)
-      c.in_ok-activities.ensures)
+    let events = c.deref.result.now in (
+      sym (activity_faults c.args.events.now c.args.activities.now events read.0 are) ∙ rows.0,
+      problem_is c.args.events.now c.args.activities.now events read.0 are c.args.period c.len.result
+          c.deref-2.result.now c.in_ok-activities.activities.items
+          (c.len.ensures ∙ sym c.deref.ensures.len) (c.deref-2.ensures.value ∙ rows.1)
+          c.in_ok-activities.ensures,
+    )
