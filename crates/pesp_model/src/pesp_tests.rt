@@ -1,5 +1,5 @@
 // Problems of texts, what refuses them, and activities that break their bounds.
-ghost use Rattle.std.specs.Prelude.{◌≡◌};
+ghost use Rattle.std.specs.Prelude.{◌≡◌, ◌<◌, length};
 
 use crate::{Pesp, PespActivity, tension};
 use giv_files::{FileId, Refusal, RowWhy, StageFault};
@@ -42,11 +42,11 @@ fn texts_are_a_problem(rt: HostRuntime) -> Result<(), Fail> {
 fn a_timetable_keeps_every_activity(rt: HostRuntime) -> Result<(), Fail> {
     let pesp = Pesp::from_texts(rt.alloc(), 20, EVENTS, ACTIVITIES)?;
     assert_eq!(rt; violated(&pesp, 20, &TIMES), Some(None));
+    assert_eq!(rt; pesp.activity_count(), 14);
     let changes = [16, 14, 9, 21, 3, 16];
     for i in 0..6 {
-        let change = pesp.activity(8 + i);
-        let minutes = tension(change.lower, TIMES[change.from], TIMES[change.to], 20);
-        assert_eq!(rt; minutes, changes[i], "change {i}");
+        let minutes = tension_at(&pesp, 20, &TIMES, 8 + i);
+        assert_eq!(rt; minutes, Some(changes[i]), "change {i}");
     }
     Ok(())
 }
@@ -119,6 +119,20 @@ fn violated(pesp: &Pesp, period: u32, times: &[u32]) -> Option<Option<usize>>
     let fits = times.len() == pesp.event_count() && times.iter().all(|time| *time < period);
     if fits {
         Some(pesp.first_violated(times))
+    } else {
+        None
+    }
+}
+
+// The tension of an activity, if its events have times in the period.
+fn tension_at(pesp: &Pesp, period: u32, times: &[u32], index: usize) -> Option<i64>
+    requires { index < length pesp.now.activities }
+{
+    let activity = pesp.activity(index);
+    let from = *times.get(activity.from)?;
+    let to = *times.get(activity.to)?;
+    if from < period && to < period {
+        Some(tension(activity.lower, from, to, period))
     } else {
         None
     }
