@@ -44,7 +44,8 @@ found_in problem times period activities found same all is = is
 abbrev no_activity : PespActivity
 no_activity = record { from = 0; to = 0; lower = pos 0; upper = pos 0 }
 
-module _ (problem : Problem) (times : List ℕ) (is : IsProblem problem) (each : length times ≡ problem.events) (within : All (λ time. time < problem.period) times) where
+module _ (problem : Problem) (times : List ℕ) (is : IsProblem problem) (each : length times
+    ≡ problem.events) (within : All (λ time. time < problem.period) times) where
   abbrev Kept : PespActivity → Type 0
   Kept = IsKept problem.period times
 

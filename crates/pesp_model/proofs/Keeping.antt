@@ -25,7 +25,8 @@ high_of n other u h k = omega (arith, ints)
 
 -- between plain bounds
 passes : (period l u from to : ℕ) → from < period → to < period
-    → Decides (int_le (tension period (pos l) from to) (pos u)) (Within period (pos l) (pos u) from to)
+    → Decides (int_le (tension period (pos l) from to) (pos u))
+    (Within period (pos l) (pos u) from to)
 passes period l u from to from_in to_in =
     let is = tension_is period l from to (omega arith) in
     let least = rest_least period l from to from_in to_in in
@@ -33,13 +34,15 @@ passes period l u from to from_in to_in =
       (λ yes. (l + rest period l from to, least.leads, least.enough, le_z_yes (T_from_true _ yes))),
       (λ kept.
           let near = least.least kept.0 kept.1 kept.2 in
-          is_true _ ((high_of (l + rest period l from to) kept.0 u near (low_of kept.0 u kept.3)).le)),
+          let high = high_of (l + rest period l from to) kept.0 u near (low_of kept.0 u kept.3) in
+          is_true _ (high.le)),
     )
 
 passes_z : (period : ℕ) (lower upper : ℤ) (from to : ℕ) → from < period → to < period
     → pos 0 ≤ℤ lower → lower ≤ℤ upper
     → Decides (int_le (tension period lower from to) upper) (Within period lower upper from to)
-passes_z period (pos l) (pos u) from to from_in to_in low order = passes period l u from to from_in to_in
+passes_z period (pos l) (pos u) from to from_in to_in low order =
+    passes period l u from to from_in to_in
 passes_z period (pos l) (negsuc u) from to from_in to_in low order = absurd (omega (arith, ints))
 passes_z period (negsuc l) upper from to from_in to_in low order = absurd (omega (arith, ints))
 

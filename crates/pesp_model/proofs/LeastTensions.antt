@@ -22,7 +22,8 @@ pub rest_least : (period l from to : ℕ) → from < period → to < period
 rest_least period l from to from_in to_in =
     let some : 0 < period = omega arith in
     let leads = slack_leads (from + l) period to to_in (le-mul_of_pos_right (from + l) some) in
-    let small : rest period l from to < period = mod-lt (to + (from + l) * period - (from + l)) some in
+    let small : rest period l from to < period =
+    mod-lt (to + (from + l) * period - (from + l)) some in
     record {
       leads = ap (λ n. n % period) (turn (rest period l from to)) ∙ leads;
       enough = omega (arith, ints);

@@ -5,7 +5,7 @@ use Rattle.std.proofs.lemmas.List.{length-map}
 use Rattle.std.proofs.lemmas.List.Elements.{All-map}
 use Rattle.giv_files.specs.declared.refusal.StageFault.{StageFault}
 use Rattle.giv_files.specs.Columns.{activities_p_columns}
-use Rattle.giv_files.specs.Inputs.{Refuses, records_of, input_faults}
+use Rattle.giv_files.specs.Inputs.{Input, Refuses, records_of, input_faults}
 use Rattle.giv_files.specs.Writing.{InColumns}
 use Rattle.giv_files.proofs.Inputs.{refused_append}
 use Rattle.event_tables.specs.declared.periodic_activity.PeriodicActivity.{PeriodicActivity}
@@ -16,26 +16,35 @@ use Rattle.pesp_model.specs.declared.activity.PespActivity.{PespActivity}
 use Rattle.pesp_model.specs.PespTexts.{activity_of, problem_over, events_of, activities_of, problem_of, problem_faults}
 use Rattle.pesp_model.specs.Timetables.{IsActivity, IsProblem}
 
+-- the file of activities between some events
+abbrev activities_between : List PeriodicEvent → Input PeriodicActivity
+activities_between events = periodic_activity_input (periodic_event_ids events)
+
 module _ (events_text activities_text : List ℕ) where
   -- a text of events that is refused
-  pub refused_events : (fault : StageFault) → Refuses (input_faults periodic_event_input events_text) fault
+  pub refused_events : (fault : StageFault)
+      → Refuses (input_faults periodic_event_input events_text) fault
       → Refuses (problem_faults events_text activities_text) fault
   unfolding problem_faults
-  refused_events fault by = refused_append (input_faults periodic_event_input events_text) _ fault by
+  refused_events fault by =
+      refused_append (input_faults periodic_event_input events_text) _ fault by
 
-  module _ (events : List PeriodicEvent) (none : input_faults periodic_event_input events_text ≡ []) (are : events ≡ records_of periodic_event_input events_text) where
+  module _ (events : List PeriodicEvent) (none : input_faults periodic_event_input events_text
+      ≡ []) (are : events ≡ records_of periodic_event_input events_text) where
     -- the faults of the activities are all, where the events have none
-    pub activity_faults : input_faults (periodic_activity_input (periodic_event_ids events)) activities_text
+    pub activity_faults : input_faults (activities_between events) activities_text
         ≡ problem_faults events_text activities_text
     unfolding problem_faults events_of
     activity_faults =
-        let faults_of = λ (some : List PeriodicEvent). input_faults (periodic_activity_input (periodic_event_ids some)) activities_text in
-        ap faults_of are
-        ∙ ap (λ first. first ++ faults_of (records_of periodic_event_input events_text)) (sym none)
+        ap (λ some. input_faults (activities_between some) activities_text) are
+        ∙ ap (λ first. first
+        ++ input_faults (activities_between (records_of periodic_event_input events_text))
+        activities_text) (sym none)
 
     -- the problem of the events and of the rows of the activities
-    pub problem_is : (period count : ℕ) (rows : List PeriodicActivity) (activities : List PespActivity)
-        → count ≡ length events → rows ≡ records_of (periodic_activity_input (periodic_event_ids events)) activities_text
+    pub problem_is : (period count : ℕ) (rows : List PeriodicActivity)
+        (activities : List PespActivity) → count ≡ length events
+        → rows ≡ records_of (activities_between events) activities_text
         → activities ≡ map activity_of rows
         → record { period = period; events = count; activities = activities }
         ≡ problem_of period events_text activities_text
@@ -43,9 +52,10 @@ module _ (events_text activities_text : List ℕ) where
     problem_is period count rows activities counted read made =
         ap (λ some. record { period = period; events = count; activities = some }) made
         ∙ ap (problem_over period count) read
-        ∙ ap (λ some. problem_over period some (records_of (periodic_activity_input (periodic_event_ids events)) activities_text)) counted
+        ∙ ap (λ some. problem_over period some
+        (records_of (activities_between events) activities_text)) counted
         ∙ ap (λ some. problem_over period (length some)
-        (records_of (periodic_activity_input (periodic_event_ids some)) activities_text)) are
+        (records_of (activities_between some) activities_text)) are
 
 -- ---- what holds of such a problem
 
@@ -54,7 +64,8 @@ high_of : (row : PeriodicActivity) → InColumns activities_p_columns (periodic_
 high_of row fits = fits.1.1.1.1.1.0.1
 
 module _ (events : ℕ) (rows : List PeriodicActivity) (are : ArePeriodicActivities events rows) where
-  sound_at : (i : ℕ) (d : PeriodicActivity) → i < length rows → IsActivity events (activity_of (get_or rows i d))
+  sound_at : (i : ℕ) (d : PeriodicActivity) → i < length rows
+      → IsActivity events (activity_of (get_or rows i d))
   sound_at i d some =
       let is = are.each i d some in
       record {
@@ -65,8 +76,8 @@ module _ (events : ℕ) (rows : List PeriodicActivity) (are : ArePeriodicActivit
         high = high_of (get_or rows i d) (are.fit i d some);
       }
 
-  pub problem_sound : (period : ℕ) → 1 ≤ period → period ≤ 720 → (count : ℕ) → count ≡ events → events ≤ 4000
-      → (activities : List PespActivity) → activities ≡ map activity_of rows
+  pub problem_sound : (period : ℕ) → 1 ≤ period → period ≤ 720 → (count : ℕ) → count ≡ events
+      → events ≤ 4000 → (activities : List PespActivity) → activities ≡ map activity_of rows
       → IsProblem (record { period = period; events = count; activities = activities })
   problem_sound period some few count counted few_events activities made =
       rw (counted, made) (record {

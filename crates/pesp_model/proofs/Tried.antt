@@ -35,9 +35,9 @@ abbrev lines : Problem
 lines = record {
   period = 20;
   events = 12;
-  activities = goes 0 1 4 5 ∷ goes 1 2 1 3 ∷ goes 2 3 6 6 ∷ goes 4 5 6 6 ∷ goes 5 6 1 3 ∷ goes 6 7 4 5
-      ∷ goes 8 9 4 5 ∷ goes 10 11 4 5 ∷ goes 1 10 2 62 ∷ goes 5 10 2 62 ∷ goes 7 8 2 62
-      ∷ goes 9 2 2 62 ∷ goes 9 6 2 62 ∷ goes 11 0 2 62 ∷ [];
+  activities = goes 0 1 4 5 ∷ goes 1 2 1 3 ∷ goes 2 3 6 6 ∷ goes 4 5 6 6 ∷ goes 5 6 1 3
+      ∷ goes 6 7 4 5 ∷ goes 8 9 4 5 ∷ goes 10 11 4 5 ∷ goes 1 10 2 62 ∷ goes 5 10 2 62
+      ∷ goes 7 8 2 62 ∷ goes 9 2 2 62 ∷ goes 9 6 2 62 ∷ goes 11 0 2 62 ∷ [];
 }
 
 abbrev their_times : List ℕ
@@ -47,8 +47,8 @@ abbrev tensions_in : Problem → List ℕ → List ℤ
 tensions_in problem times = map (λ activity. tension problem.period activity.lower
     (time_of times activity.from) (time_of times activity.to)) problem.activities
 
-their_tensions : tensions_in lines their_times ≡ pos 4 ∷ pos 1 ∷ pos 6 ∷ pos 6 ∷ pos 1 ∷ pos 4 ∷ pos 4
-    ∷ pos 4 ∷ pos 16 ∷ pos 14 ∷ pos 9 ∷ pos 21 ∷ pos 3 ∷ pos 16 ∷ []
+their_tensions : tensions_in lines their_times ≡ pos 4 ∷ pos 1 ∷ pos 6 ∷ pos 6 ∷ pos 1 ∷ pos 4
+    ∷ pos 4 ∷ pos 4 ∷ pos 16 ∷ pos 14 ∷ pos 9 ∷ pos 21 ∷ pos 3 ∷ pos 16 ∷ []
 their_tensions = refl
 
 they_are_kept : first_broken lines their_times ≡ None
@@ -58,7 +58,11 @@ they_are_kept = refl
 -- ---- a drive, a wait and a sync back to the first event
 
 abbrev three : Problem
-three = record { period = 10; events = 3; activities = goes 0 1 3 5 ∷ goes 1 2 2 2 ∷ goes 2 0 4 4 ∷ [] }
+three = record {
+  period = 10;
+  events = 3;
+  activities = goes 0 1 3 5 ∷ goes 1 2 2 2 ∷ goes 2 0 4 4 ∷ [];
+}
 
 kept : first_broken three (0 ∷ 4 ∷ 6 ∷ []) ≡ None
 unfolding first_broken
@@ -75,7 +79,8 @@ third = refl
 -- ---- from texts
 
 abbrev events : List ℕ
-events = codes "# events\n1; departure; 1; 1; >; 1\n2; arrival; 2; 1; >; 1\n3; departure; 2; 1; >; 1\n"
+events = codes "# events\n1; departure; 1; 1; >; 1\n2; arrival; 2; 1; >; 1\n"
+    ++ codes "3; departure; 2; 1; >; 1\n"
 
 abbrev activities : List ℕ
 activities = codes "1; drive; 1; 2; 3; 5\n2; wait; 2; 3; 2; 2\n3; sync; 3; 1; 4; 4\n"
@@ -116,7 +121,7 @@ back : IsKept 10 (0 ∷ 4 ∷ 6 ∷ []) (goes 2 0 4 4)
 back = record { minutes = 4; leads = refl; enough = omega arith; short = omega arith }
 
 least : IsTension 20 (pos 2) 4 0 16
-least = record { leads = refl; enough = omega arith; least = λ other leads enough. later other leads enough }
+least = record { leads = refl; enough = omega arith; least = later }
   where
     later : (other : ℕ) → (4 + other) % 20 ≡ 0 → pos 2 ≤ℤ pos other → 16 ≤ other
     later other leads enough = omega arith

@@ -9,8 +9,8 @@ pub record Problem : Type 0 where
   pub events : ℕ
   pub activities : List PespActivity
 
--- the minutes by which an activity takes longer than its lower bound, from the time of its first event
--- to the next time of its second one
+-- the minutes by which an activity takes longer than its lower bound, from the time of its first
+-- event to the next time of its second one
 abbrev pub slack : ℕ → ℤ → ℕ → ℕ → ℤ
 slack period lower from to = int_rem_euclid (pos to -ℤ pos from -ℤ lower) (pos period)
 
@@ -71,8 +71,8 @@ IsFirstBroken problem times (Some index) = (index < length problem.activities)
     × ((earlier : ℕ) (activity : PespActivity) → earlier < index
     → slice_get problem.activities earlier ≡ Some activity → IsKept problem.period times activity)
 
--- what always holds of a problem that was read: a period, and activities that go from event to event
--- within bounds in order
+-- what always holds of a problem that was read: a period, and activities that go from event to
+-- event within bounds in order
 pub record IsActivity (events : ℕ) (activity : PespActivity) : Type 0 where
   pub from : activity.from < events
   pub to : activity.to < events

@@ -10,5 +10,7 @@ returns-clause-value c = grind (arith, common_steps)
 pub returns-clause-least : goal.returns-clause-least
 returns-clause-least c =
     let a = c.args in
-    let least = tension_least a.period a.lower a.from a.to c.requires.from c.requires.to c.requires.low in
-    subst (λ z. IsTension a.period a.lower a.from a.to (unsigned_abs z)) (sym (returns-clause-value c)) least.1
+    let least = tension_least a.period a.lower a.from a.to c.requires.from c.requires.to
+    c.requires.low in
+    subst (λ z. IsTension a.period a.lower a.from a.to (unsigned_abs z))
+    (sym (returns-clause-value c)) least.1

@@ -13,7 +13,8 @@ returns-in_err-events-clause-read c =
 
 pub returns-in_err-rows-clause-read : goal.returns-in_err-rows-clause-read
 returns-in_err-rows-clause-read c =
-    let p = err_from_is_err_and c.from_residual-in_err-rows.result c.from_residual-in_err-rows.ensures.1 in
+    let p = err_from_is_err_and c.from_residual-in_err-rows.result
+    c.from_residual-in_err-rows.ensures.1 in
     let read = c.in_ok-events.ensures.read in
     let all = activity_faults c.args.events.now c.args.activities.now c.deref.result.now read.0
     (c.deref.ensures.value ∙ read.1) in
@@ -36,8 +37,8 @@ returns-clause-read c =
     let rows = c.in_ok-rows.ensures.read in
     let events = c.deref.result.now in (
       sym (activity_faults c.args.events.now c.args.activities.now events read.0 are) ∙ rows.0,
-      problem_is c.args.events.now c.args.activities.now events read.0 are c.args.period c.len.result
-          c.deref-2.result.now c.in_ok-activities.activities.items
+      problem_is c.args.events.now c.args.activities.now events read.0 are c.args.period
+          c.len.result c.deref-2.result.now c.in_ok-activities.activities.items
           (c.len.ensures ∙ sym c.deref.ensures.len) (c.deref-2.ensures.value ∙ rows.1)
           c.in_ok-activities.ensures,
     )
