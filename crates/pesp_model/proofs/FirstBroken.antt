@@ -1,10 +1,10 @@
 -- The first broken activity of a problem: how it is found, and what it means.
-use Rattle.std.proofs.Common.{◌≡◌, ◌≢◌, ℕ, ◌+◌, ◌<◌, pos, Bool, true, false, not, cond, List, [], ◌∷◌, length, drop, get_or, slice_get, position, refl, ap, sym, subst, ◌∙◌, Option, Some, None, All, Decides, arith}
+use Rattle.std.proofs.Common.{◌≡◌, ℕ, ◌+◌, ◌<◌, pos, Bool, true, false, not, cond, List, [], ◌∷◌, length, get_or, slice_get, position, refl, ap, sym, subst, ◌∙◌, Option, Some, None, All, Decides, arith}
 use Rattle.std.specs.List.{position_from}
 use Rattle.std.specs.Option.{is_none}
 use Rattle.std.proofs.lemmas.Bool.{false≢true, not-false, not-true}
 use Rattle.std.proofs.lemmas.Iterator.Adapters.{position_from-zero}
-use Rattle.std.proofs.lemmas.List.Elements.{All-nil, All-cons, All-get_or, All-from_get_or}
+use Rattle.std.proofs.lemmas.List.Elements.{All-nil, All-cons, All-from_get_or}
 use Rattle.std.proofs.lemmas.List.Quantifiers.{position-Some}
 use Rattle.std.proofs.lemmas.Option.{get_or_from_slice_get, slice_get-get_or}
 use Rattle.pesp_model.specs.declared.activity.PespActivity.{PespActivity}
