@@ -1,0 +1,2 @@
+pub mod PespTexts
+pub mod Timetables

@@ -1,0 +1,13 @@
+//! Periodic event scheduling: problems, timetables and tensions.
+#![tactic(auto)]
+
+mod activity;
+mod pesp;
+mod tensions;
+
+pub use activity::PespActivity;
+pub use pesp::Pesp;
+pub use tensions::tension;
+
+#[cfg(test)]
+mod pesp_tests;
