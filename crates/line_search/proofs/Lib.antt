@@ -2,6 +2,8 @@ mod ConceptRows
 mod EdgesOfTexts
 mod FirstRows
 mod Judging
+pub mod Lengths
+mod Levels
 mod Lists
 mod PushedEdges
 mod PushedLines

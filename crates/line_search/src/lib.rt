@@ -7,9 +7,11 @@ mod fault;
 mod frequencies;
 mod given;
 mod judge;
+mod stage;
 
 pub use check::check_concept;
 pub use fault::ConceptFault;
+pub use stage::make_concept;
 
 #[cfg(test)]
 mod check_tests;
