@@ -4,6 +4,7 @@ mod FirstRows
 mod Judging
 pub mod Lengths
 mod Levels
+pub mod LineOrder
 mod Lists
 mod PushedEdges
 mod PushedLines
