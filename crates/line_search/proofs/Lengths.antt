@@ -112,7 +112,7 @@ all_map P Q [] f all = tt
 all_map P Q (x ∷ xs) f all = (f x all.0, all_map P Q xs f all.1)
 
 -- the open lines of some lines, whose indexes go from one on
-abbrev open_from : ℕ → List CostedLine → List LineRange → List (ℕ × CostedLine)
+abbrev pub open_from : ℕ → List CostedLine → List LineRange → List (ℕ × CostedLine)
 open_from n lines region =
     map (λ at. (at.0, at.1.0)) (filter (λ at. has_several at.1.1) (enumerate_from n (zip lines region)))
 

@@ -6,8 +6,10 @@ pub mod Lengths
 mod Levels
 pub mod LineOrder
 mod Lists
+pub mod LowerFirst
 mod PushedEdges
 mod PushedLines
 mod Refusals
+pub mod Said
 mod SameCells
 mod Tried
