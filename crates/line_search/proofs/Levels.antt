@@ -11,7 +11,7 @@ use Rattle.line_search.proofs.Lengths.{AreOrdered, IsOpenAt, first_open_is, lowe
 abbrev width : LineRange → ℕ
 width range = range.hi - range.lo
 
-fewer_below : (region : List LineRange) (line at : ℕ) → IsOpenAt region line → (range_of region line).lo ≤ at
+pub fewer_below : (region : List LineRange) (line at : ℕ) → IsOpenAt region line → (range_of region line).lo ≤ at
     → at < (range_of region line).hi → levels_of (part_up_to region line at) < levels_of region
 fewer_below [] line at is_open low high = absurd (omega (arith, is_open.0))
 fewer_below (range ∷ region) zero at is_open low high =
@@ -33,7 +33,7 @@ fewer_below (range ∷ region) (suc line) at is_open low high =
           high,
     )
 
-fewer_above : (region : List LineRange) (line at : ℕ) → IsOpenAt region line → (range_of region line).lo ≤ at
+pub fewer_above : (region : List LineRange) (line at : ℕ) → IsOpenAt region line → (range_of region line).lo ≤ at
     → at < (range_of region line).hi → levels_of (part_from region line (at + 1)) < levels_of region
 fewer_above [] line at is_open low high = absurd (omega (arith, is_open.0))
 fewer_above (range ∷ region) zero at is_open low high =

@@ -13,3 +13,4 @@ mod Refusals
 pub mod Said
 mod SameCells
 mod Tried
+pub mod Visited
