@@ -14,3 +14,4 @@ pub mod Said
 mod SameCells
 mod Tried
 pub mod Visited
+pub mod VisitedRegions

@@ -54,12 +54,12 @@ abbrev pub StandsFirst : ProblemParts → List LineRange → Option (List ℕ) �
 StandsFirst problem region best =
     (chosen : List ℕ) → best ≡ Some chosen → (concept : List ℕ) → LiesIn region concept → ¬ ComesBefore problem concept chosen
 
-never_before_self : (problem : ProblemParts) (concept : List ℕ) → ¬ ComesBefore problem concept concept
+pub never_before_self : (problem : ProblemParts) (concept : List ℕ) → ¬ ComesBefore problem concept concept
 never_before_self problem concept h = omega (arith, h.less)
 
 -- ---- parts lie inside
 
-lower_inside : (region : List LineRange) (line at : ℕ) (x : List ℕ) → at ≤ (range_of region line).hi
+pub lower_inside : (region : List LineRange) (line at : ℕ) (x : List ℕ) → at ≤ (range_of region line).hi
     → LiesIn (part_up_to region line at) x → LiesIn region x
 lower_inside [] line at x high inside = inside
 lower_inside (range ∷ region) zero at [] high inside = absurd inside
@@ -69,7 +69,7 @@ lower_inside (range ∷ region) zero at (f ∷ x) high inside =
 lower_inside (range ∷ region) (suc line) at (f ∷ x) high inside =
     (inside.0, lower_inside region line at x high inside.1)
 
-upper_inside : (region : List LineRange) (line from : ℕ) (x : List ℕ) → (range_of region line).lo ≤ from
+pub upper_inside : (region : List LineRange) (line from : ℕ) (x : List ℕ) → (range_of region line).lo ≤ from
     → LiesIn (part_from region line from) x → LiesIn region x
 upper_inside [] line from x low inside = inside
 upper_inside (range ∷ region) zero from [] low inside = absurd inside
@@ -79,7 +79,7 @@ upper_inside (range ∷ region) zero from (f ∷ x) low inside =
 upper_inside (range ∷ region) (suc line) from (f ∷ x) low inside =
     (inside.0, upper_inside region line from x low inside.1)
 
-least_inside : (region : List LineRange) → AreOrdered region → LiesIn region (least_in region)
+pub least_inside : (region : List LineRange) → AreOrdered region → LiesIn region (least_in region)
 least_inside [] ordered = tt
 least_inside (range ∷ region) ordered =
     (record { low = omega arith; high = ordered.0 }, least_inside region ordered.1)
