@@ -1,3 +1,4 @@
+pub mod ChosenFound
 mod ConceptRows
 mod EdgesOfTexts
 mod FirstRows

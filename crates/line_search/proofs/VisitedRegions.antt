@@ -60,7 +60,7 @@ least_below : (problem : ProblemParts) (region : List LineRange)
 unfolding bound_by
 least_below problem region = omega arith
 
-part_length : (region : List LineRange) (line : ℕ) (range : LineRange)
+pub part_length : (region : List LineRange) (line : ℕ) (range : LineRange)
     → length (slice_set region line range) ≡ length region
 part_length region line range = length-set region line range
 
