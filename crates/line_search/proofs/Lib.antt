@@ -13,6 +13,7 @@ mod PushedLines
 mod Refusals
 pub mod Said
 mod SameCells
+pub mod SoundProblems
 mod Tried
 pub mod Visited
 pub mod VisitedRegions
