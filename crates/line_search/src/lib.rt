@@ -15,3 +15,5 @@ pub use stage::make_concept;
 
 #[cfg(test)]
 mod check_tests;
+#[cfg(test)]
+mod tree_tests;
