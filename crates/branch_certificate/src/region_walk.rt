@@ -23,7 +23,7 @@ pub(crate) struct OpenSplit {
 /// The region at which a node of a tree stands, and the splits above it. Contracts see it as that
 /// region and those of the upper parts that wait.
 #[derive(Debug, Drop)]
-pub(crate) struct RegionWalk {
+pub struct RegionWalk {
     region: Region,
     splits: Vec<OpenSplit>,
 }
@@ -44,7 +44,7 @@ impl Model for RegionWalk {
 
 impl RegionWalk {
     /// At the root of a tree.
-    pub(crate) fn new(alloc: Global, problem: &LineProblem) -> Result<RegionWalk, NoMemory>
+    pub fn new(alloc: Global, problem: &LineProblem) -> Result<RegionWalk, NoMemory>
         ensures root { IfOk result
             (λ walk. walk ≡ record { region = root_of problem.now; waiting = [] }) }
         ensures each { IfOk result (λ _. HasEachFeasible problem.now (root_of problem.now)) }
@@ -57,14 +57,14 @@ impl RegionWalk {
     }
 
     /// The region of the node.
-    pub(crate) fn region(&self) -> &Region
+    pub fn region(&self) -> &Region
         ensures { result.now ≡ self.now.region }
     {
         &self.region
     }
 
     /// From a split on to the root of its lower part.
-    pub(crate) fn enter(&mut self, line: usize, at: u32) -> Result<(), NoMemory>
+    pub fn enter(&mut self, line: usize, at: u32) -> Result<(), NoMemory>
         requires there { line < length self.old.region }
         requires inside { SplitsInside self.old.region line at }
         ensures { OnOk result (self.new ≡ record {
@@ -85,7 +85,7 @@ impl RegionWalk {
     }
 
     /// From a leaf on to the root of the innermost upper part that waits, where there is one.
-    pub(crate) fn leave(&mut self) -> Result<bool, NoMemory>
+    pub fn leave(&mut self) -> Result<bool, NoMemory>
         ensures waiting { IfOk result (λ more. MatchBool more
             (self.new.region ∷ self.new.waiting ≡ self.old.waiting) (self.old.waiting ≡ [])) }
         ensures size { length self.new.region ≡ length self.old.region }
