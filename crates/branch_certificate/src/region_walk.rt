@@ -1,8 +1,10 @@
 // The regions of the nodes of a tree, one after the other.
-ghost use Rattle.std.specs.Prelude.{◌≡◌, ◌<◌, ◌+◌, ◌∷◌, [], length, reverse, All, IfOk, OnOk, MatchBool};
+ghost use Rattle.std.specs.Prelude.{◌≡◌, ◌<◌, ◌+◌, ◌∷◌, [], length, reverse, false, if◌then◌else◌};
+ghost use Rattle.std.specs.Prelude.{All, IfOk, OnOk, MatchBool};
 ghost use Rattle.line_cost_model.specs.Regions.{HasEachFeasible, root_of, part_from, part_up_to};
 ghost use Rattle.branch_certificate.specs.Certified.{SplitsInside};
-ghost use Rattle.branch_certificate.specs.Walks.{IsOpenSplit, behind_node, waiting_of};
+ghost use Rattle.branch_certificate.specs.TreeFaults.{splits_outside};
+ghost use Rattle.branch_certificate.specs.Walks.{IsOpenSplit, SplitsOne, behind_node, waiting_of};
 
 use crate::node::Node;
 use line_cost_model::{LineProblem, Region};
@@ -64,7 +66,7 @@ impl RegionWalk {
     }
 
     /// From a split on to the root of its lower part.
-    pub fn enter(&mut self, line: usize, at: u32) -> Result<(), NoMemory>
+    pub(crate) fn enter(&mut self, line: usize, at: u32) -> Result<(), NoMemory>
         requires there { line < length self.old.region }
         requires inside { SplitsInside self.old.region line at }
         ensures { OnOk result (self.new ≡ record {
@@ -85,12 +87,30 @@ impl RegionWalk {
     }
 
     /// From a leaf on to the root of the innermost upper part that waits, where there is one.
-    pub fn leave(&mut self) -> Result<bool, NoMemory>
+    pub(crate) fn leave(&mut self) -> Result<bool, NoMemory>
         ensures waiting { IfOk result (λ more. MatchBool more
             (self.new.region ∷ self.new.waiting ≡ self.old.waiting) (self.old.waiting ≡ [])) }
         ensures size { length self.new.region ≡ length self.old.region }
     {
         leave(&mut self.region, &mut self.splits)
+    }
+}
+
+/// From a node on to the next one, where one is to come.
+pub fn go_on(walk: &mut RegionWalk, node: &Node) -> Result<bool, NoMemory>
+    requires there { SplitsOne walk.old.region node.now }
+    requires inside { splits_outside walk.old.region node.now ≡ false }
+    ensures waiting { IfOk result (λ more.
+        (if more then walk.new.region ∷ walk.new.waiting else [])
+        ≡ behind_node walk.old.region walk.old.waiting node.now) }
+    ensures size { IfOk result (λ _. length walk.new.region ≡ length walk.old.region) }
+{
+    match node {
+        Node::Split { line, at } => {
+            walk.enter(*line, *at)?;
+            Ok(true)
+        }
+        _ => walk.leave(),
     }
 }
 

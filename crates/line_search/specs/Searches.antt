@@ -84,6 +84,21 @@ IsSearchedOn problem search more count =
     IsSearchedBy problem (if more then search.walk.region ∷ search.walk.waiting else []) search.tree search.best
     count
 
+-- what a search says of its region
+abbrev pub node_here : ProblemParts → Search → Node
+node_here problem search = node_at problem search.walk.region (concept_in search.best)
+
+-- a search takes one entry more, and another one is to come or not
+pub record TakesEntry (problem : ProblemParts) (before after : Search) (more : Bool) : Type 0 where
+  pub regions : (if more then after.walk.region ∷ after.walk.waiting else [])
+      ≡ behind_node before.walk.region before.walk.waiting (node_here problem before)
+  pub tree : after.tree ≡ before.tree ++ node_here problem before ∷ []
+  pub best : concept_in after.best
+      ≡ best_after (concept_in before.best) (entry_of before.walk.region (node_here problem before) ∷ [])
+  pub names : NamesWhatIs problem (node_here problem before)
+  pub written : CanBeWritten (node_here problem before)
+  pub priced : ArePriced problem after.best
+
 -- what a search within a budget found
 pub record IsResult (problem : ProblemParts) (budget : ℕ) (found : Searched) : Type 0 where
   pub best_is : concept_in found.best ≡ best_after None (take budget (listing problem))

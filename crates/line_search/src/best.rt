@@ -1,6 +1,6 @@
 // The best concept of a search so far.
-ghost use Rattle.std.specs.Prelude.{◌≡◌, length, IfOk};
-ghost use Rattle.line_cost_model.specs.Regions.{least_in};
+ghost use Rattle.std.specs.Prelude.{◌≡◌, ◌<◌, ◌≤◌, length, All, IfOk};
+ghost use Rattle.line_cost_model.specs.Regions.{least_in, range_of};
 ghost use Rattle.line_search.specs.Searches.{IsPriced};
 
 use line_cost_model::{LineProblem, Region};

@@ -1,7 +1,10 @@
 // What a search says of a region.
-ghost use Rattle.std.specs.Prelude.{◌≡◌, length, IfOk};
+ghost use Rattle.std.specs.Prelude.{◌≡◌, ◌<◌, ◌≤◌, length, option_map, unwrap_or, IfOk, IfSome};
+ghost use Rattle.line_cost_model.specs.Multipliers.{AreMultipliers};
+ghost use Rattle.line_cost_model.specs.Regions.{range_of};
+ghost use Rattle.branch_certificate.specs.declared.node.Node.TheVariants as node;
 ghost use Rattle.branch_certificate.specs.TreeTexts.{CanBeWritten, NamesWhatIs};
-ghost use Rattle.line_search.specs.Listings.{node_at};
+ghost use Rattle.line_search.specs.Listings.{as_bound, as_split, middle, node_at};
 ghost use Rattle.line_search.specs.Searches.{ArePriced, concept_in};
 
 use crate::best::BestConcept;

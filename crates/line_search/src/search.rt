@@ -1,12 +1,14 @@
 // The search of a line concept within a budget of entries.
-ghost use Rattle.std.specs.Prelude.{◌≡◌, ◌≤◌, ◌+◌, ◌∷◌, [], IfOk, OnErr};
-ghost use Rattle.line_search.specs.Listings.{listing};
+ghost use Rattle.std.specs.Prelude.{◌≡◌, ◌≤◌, ◌+◌, ◌∷◌, [], length, None, Some};
+ghost use Rattle.std.specs.Prelude.{IfOk, OnErr, OnOk};
+ghost use Rattle.line_search.specs.Listings.{best_after, listing};
 ghost use Rattle.line_search.specs.Budgets.{entries_listed};
-ghost use Rattle.line_search.specs.Searches.{IsResult, IsSearched};
+ghost use Rattle.line_search.specs.Searches.{ArePriced, IsResult, IsSearched, IsVisited, TakesEntry};
+ghost use Rattle.line_search.specs.Searches.{concept_in, entry_of};
 
 use crate::best::BestConcept;
 use crate::region_node::node_at;
-use branch_certificate::{Node, RegionWalk, Tree};
+use branch_certificate::{Node, RegionWalk, Tree, go_on};
 use line_cost_model::{LineProblem, Region};
 use plan_num::{Ledger, NoMemory, Steps};
 use std::alloc::Global;
@@ -31,7 +33,7 @@ pub(crate) struct Searched {
 
 /// Searches the concepts of a line problem by branch and bound, with so many entries at most. Each
 /// entry takes a step.
-pub(crate) fn search<L: Ledger>(
+pub(crate) fn search_concept<L: Ledger>(
     alloc: Global,
     problem: &LineProblem,
     budget: u64,
@@ -56,7 +58,7 @@ pub(crate) fn search<L: Ledger>(
 impl Search {
     // Before the first entry.
     fn new(alloc: Global, problem: &LineProblem) -> Result<Search, NoMemory>
-        ensures { IfOk result (λ search. IsSearched problem.now search 0) }
+        ensures { IfOk result (λ found. IsSearched problem.now found 0) }
     {
         let walk = RegionWalk::new(alloc, problem)?;
         Ok(Search {
@@ -68,6 +70,9 @@ impl Search {
 
     // One entry more, and whether another one is to come.
     fn take_entry(&mut self, alloc: Global, problem: &LineProblem) -> Result<bool, NoMemory>
+        requires visited { IsVisited problem.now self.old.walk.region }
+        requires priced { ArePriced problem.now self.old.best }
+        ensures { IfOk result (TakesEntry problem.now self.old self.new) }
     {
         let node = node_at(alloc, problem, self.walk.region(), &self.best)?;
         take_found(alloc, problem, self.walk.region(), &node, &mut self.best)?;
@@ -78,6 +83,8 @@ impl Search {
 
     // What it found, where no region waits.
     fn whole(self, entries: u64) -> Searched
+        ensures { result
+            ≡ record { best = self.best; tree = Some self.tree; entries = entries } }
     {
         Searched {
             best: self.best,
@@ -88,6 +95,7 @@ impl Search {
 
     // What it found, where the budget is spent.
     fn spent(self, entries: u64) -> Searched
+        ensures { result ≡ record { best = self.best; tree = None; entries = entries } }
     {
         Searched {
             best: self.best,
@@ -105,6 +113,11 @@ fn take_found(
     node: &Node,
     best: &mut Option<BestConcept>,
 ) -> Result<(), NoMemory>
+    requires each { length region.now ≡ length problem.now.lines }
+    requires priced { ArePriced problem.now best.old }
+    ensures found { OnOk result (concept_in best.new
+        ≡ best_after (concept_in best.old) (entry_of region.now node.now ∷ [])) }
+    ensures priced { OnOk result (ArePriced problem.now best.new) }
 {
     match node {
         Node::Point => {
@@ -113,16 +126,4 @@ fn take_found(
         _ => {}
     }
     Ok(())
-}
-
-// From a region on to the next one that waits, where there is one.
-fn go_on(walk: &mut RegionWalk, node: &Node) -> Result<bool, NoMemory>
-{
-    match node {
-        Node::Split { line, at } => {
-            walk.enter(*line, *at)?;
-            Ok(true)
-        }
-        _ => walk.leave(),
-    }
 }

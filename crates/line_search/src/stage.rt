@@ -9,7 +9,7 @@ ghost use Rattle.line_search.specs.RightConcepts.{IsEnough, IsWhole, OutcomeIsRi
 
 use crate::found::search_made;
 use crate::given::read_problem;
-use crate::search::search;
+use crate::search::search_concept;
 use giv_files::{Bundle, Key, Made, StageFault};
 use plan_num::{Ledger, Steps};
 use std::alloc::Global;
@@ -44,6 +44,6 @@ fn searched_concept<L: Ledger>(
 {
     let problem = read_problem(alloc, bundle)?;
     let budget = bundle.settings().amount(Key::ConceptBudget);
-    let found = search(alloc, &problem, budget, steps)?;
+    let found = search_concept(alloc, &problem, budget, steps)?;
     search_made(alloc, &problem, found)
 }
