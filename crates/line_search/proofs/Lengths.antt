@@ -207,7 +207,7 @@ listing_short problem (suc levels) region best ordered =
     (then_also (IsOpenAt region) _ (first_open problem region) (first_open_is problem region)
     (split_short (entries_within problem levels) (listing_short problem levels) region best ordered))
 
-root_ordered : (edges : List BoundedEdge) (lines : List CostedLine)
+pub root_ordered : (edges : List BoundedEdge) (lines : List CostedLine)
     → AreOrdered (map (λ line. record { lo = 0; hi = most_of edges line }) lines)
 root_ordered edges [] = tt
 root_ordered edges (line ∷ lines) = (omega arith, root_ordered edges lines)

@@ -1,6 +1,9 @@
 -- Inner words: a search between two entries, and what it has found. A reader of the contracts of this crate
 -- needs none of them.
-use Rattle.std.specs.Prelude.{◌≡◌, ℕ, ℤ, pos, ◌≤◌, int_lt, int_le, ◌+◌, nat_le, min, if◌then◌else◌, Bool, true, false, List, [], ◌∷◌, ◌++◌, length, take, All, Option, Some, None, option_map, IfSome, ⊤}
+use Rattle.std.specs.Prelude.{◌≡◌, ℕ, ℤ, pos, ◌≤◌, int_le, nat_le, if◌then◌else◌, Bool, true, false, List, [], ◌∷◌, ◌++◌, length, take, All, Option, Some, None, option_map, IfSome, Result, Ok, Err, codes, decimal}
+use Rattle.plan_num.specs.Print.{fixed_text}
+use Rattle.giv_files.specs.declared.refusal.Refusal.{Refusal}
+use Rattle.giv_files.specs.declared.refusal.Refusal.TheVariants as refusal
 use Rattle.std.specs.List.{AllByRecursion}
 use Rattle.line_cost_model.specs.declared.range.LineRange.{LineRange}
 use Rattle.line_cost_model.specs.Problems.{ProblemParts}
@@ -9,12 +12,13 @@ use Rattle.line_cost_model.specs.Regions.{least_in}
 use Rattle.branch_certificate.specs.declared.node.Node.{Node}
 use Rattle.branch_certificate.specs.declared.node.Node.TheVariants as node
 use Rattle.branch_certificate.specs.TreeTexts.{CanBeWritten, NamesWhatIs}
-use Rattle.branch_certificate.specs.Walks.{WalkedRegions, behind_node}
+use Rattle.branch_certificate.specs.Walks.{behind_node}
 use Rattle.line_search.specs.declared.best.BestConcept.{BestConcept}
 use Rattle.line_search.specs.declared.search.Search.{Search}
 use Rattle.line_search.specs.declared.search.Searched.{Searched}
 use Rattle.line_search.specs.Listings.{Entry, best_after, listing, node_at, visit}
-use Rattle.line_search.specs.Budgets.{entries_listed, nodes_in}
+use Rattle.line_search.specs.Budgets.{FoundConcept, entries_listed, nodes_in}
+use Rattle.line_search.specs.ConceptStage.{mark_text}
 
 -- the dearer one of the open line so far and a line, where that is open
 abbrev pub dearer : Option (ℕ × ℤ) → ℕ → ℤ → Bool → Option (ℕ × ℤ)
@@ -107,3 +111,27 @@ pub record IsResult (problem : ProblemParts) (budget : ℕ) (found : Searched) :
   pub entries_are : found.entries ≡ entries_listed budget (listing problem)
   pub written : IfSome found.tree (AreWritten problem)
   pub priced : ArePriced problem found.best
+
+-- the concept that was found, with the tree that marks it
+abbrev pub concept_of : BestConcept → Option (List Node) → ℕ → FoundConcept
+concept_of best tree entries =
+    record { frequencies = best.frequencies.items; tree = tree; entries = entries }
+
+-- why none was found
+abbrev pub why_none : Option (List Node) → ℕ → Refusal
+why_none None entries = refusal.Spent entries
+why_none (Some nodes) entries = refusal.NoSolution
+
+abbrev pub result_by : Option BestConcept → Option (List Node) → ℕ → Result FoundConcept Refusal
+result_by None tree entries = Err (why_none tree entries)
+result_by (Some best) tree entries = Ok (concept_of best tree entries)
+
+-- the concept that a search found, or why it found none
+abbrev pub result_of : Searched → Result FoundConcept Refusal
+result_of found = result_by found.best found.tree found.entries
+
+-- the line of the report
+abbrev pub report_of : ℤ → Option (List Node) → ℕ → List ℕ
+report_of cost tree entries =
+    codes "concept: cost " ++ fixed_text cost ++ codes ", " ++ mark_text tree ++ codes ", " ++ decimal entries
+    ++ codes " entries"

@@ -1,5 +1,5 @@
 // The line whose range is split.
-ghost use Rattle.std.specs.Prelude.{◌≡◌, ◌<◌, length, pos};
+ghost use Rattle.std.specs.Prelude.{◌≡◌, ◌<◌, length, option_map};
 ghost use Rattle.line_search.specs.Listings.{first_open};
 ghost use Rattle.line_search.specs.Searches.{dearer};
 
@@ -17,6 +17,13 @@ pub(crate) fn first_open(problem: &LineProblem, region: &Region) -> Option<usize
         let (_, cost) = problem.line_row(line);
         first = dearer(first, line, cost, lo < hi);
     }
+    line_of(first)
+}
+
+// The line, without its cost.
+fn line_of(first: Option<(usize, i64)>) -> Option<usize>
+    ensures { result ≡ option_map (λ first. first.0) first }
+{
     first.map(|(line, _)| line)
 }
 

@@ -1,5 +1,11 @@
 // What is made of the concept that a search found.
-ghost use Rattle.std.specs.Prelude.{◌≡◌, IfOk};
+ghost use Rattle.std.specs.Prelude.{◌≡◌, ◌++◌, ◌≤ℤ◌, pos, codes, length, All, IfOk, IfSome, OnOk};
+ghost use Rattle.plan_num.specs.Print.{fixed_text};
+ghost use Rattle.giv_files.specs.StageCalls.{StageGives};
+ghost use Rattle.line_search.specs.ConceptStage.{concept_made, mark_text, search_made, tree_files};
+ghost use Rattle.line_search.specs.ConceptTables.{concept_text};
+ghost use Rattle.line_search.specs.Searches.{ArePriced, AreWritten, IsPriced, concept_of, report_of};
+ghost use Rattle.line_search.specs.Searches.{result_of, why_none};
 
 use crate::best::BestConcept;
 use crate::concept_table::rows_of_concept;
@@ -19,15 +25,24 @@ pub(crate) fn search_made(
     problem: &LineProblem,
     found: Searched,
 ) -> Result<Made, StageFault>
+    requires priced { ArePriced problem.now found.best }
+    requires written { IfSome found.tree (AreWritten problem.now) }
+    ensures { StageGives (search_made problem.now (result_of found)) result }
 {
-    match found.best {
-        Some(best) => Ok(concept_made(alloc, problem, &best, &found.tree, found.entries)?),
-        None => Err(StageFault::Refused(nothing_found(&found.tree, found.entries))),
+    let Searched {
+        best,
+        tree,
+        entries,
+    } = found;
+    match best {
+        Some(best) => Ok(concept_made(alloc, problem, &best, &tree, entries)?),
+        None => Err(StageFault::Refused(nothing_found(&tree, entries))),
     }
 }
 
 // Why nothing was found.
 fn nothing_found(tree: &Option<Tree>, entries: u64) -> Refusal
+    ensures { result ≡ why_none tree.now entries }
 {
     match tree {
         Some(_) => Refusal::NoSolution,
@@ -43,6 +58,10 @@ fn concept_made(
     tree: &Option<Tree>,
     entries: u64,
 ) -> Result<Made, NoMemory>
+    requires priced { IsPriced problem.now best.now }
+    requires written { IfSome tree.now (AreWritten problem.now) }
+    ensures { IfOk result
+        (λ made. made ≡ concept_made problem.now (concept_of best.now tree.now entries)) }
 {
     let mut files = MadeList::new(alloc);
     files.push(MadeFile {
@@ -60,6 +79,9 @@ fn concept_text(
     problem: &LineProblem,
     best: &BestConcept,
 ) -> Result<Text, NoMemory>
+    requires { IsPriced problem.now best.now }
+    ensures { IfOk result
+        (λ text. text ≡ concept_text problem.now best.now.frequencies.items) }
 {
     let table = rows_of_concept(alloc, problem, &best.frequencies)?;
     write_table(
@@ -77,6 +99,8 @@ fn push_tree(
     tree: &Option<Tree>,
     files: &mut MadeList,
 ) -> Result<(), NoMemory>
+    requires { IfSome tree.now (AreWritten problem.now) }
+    ensures { OnOk result (files.new ≡ files.old ++ tree_files problem.now tree.now) }
 {
     if let Some(tree) = tree {
         files.push(MadeFile {
@@ -94,6 +118,9 @@ fn concept_report(
     tree: &Option<Tree>,
     entries: u64,
 ) -> Result<Text, NoMemory>
+    requires low { pos 0 ≤ℤ cost }
+    requires high { cost ≤ℤ pos 10000000000000000000000000000000000000 }
+    ensures { IfOk result (λ text. text ≡ report_of cost tree.now entries) }
 {
     report_line(
         alloc,
@@ -108,6 +135,9 @@ fn concept_report(
 
 // What a concept costs.
 fn cost_text(alloc: Global, cost: i128) -> Result<Text, NoMemory>
+    requires low { pos 0 ≤ℤ cost }
+    requires high { cost ≤ℤ pos 10000000000000000000000000000000000000 }
+    ensures { IfOk result (λ text. text ≡ codes "cost " ++ fixed_text cost) }
 {
     let mut text = Vec::from_slice(alloc, b"cost ")?;
     text.extend_from_slice(print_fixed(alloc, cost)?.as_bytes())?;
@@ -116,6 +146,7 @@ fn cost_text(alloc: Global, cost: i128) -> Result<Text, NoMemory>
 
 // How the report tells of a mark.
 fn mark_text(tree: &Option<Tree>) -> &'static [u8]
+    ensures { result.now ≡ mark_text tree.now }
 {
     match tree {
         Some(_) => b"optimal",

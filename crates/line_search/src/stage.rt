@@ -1,5 +1,5 @@
 // The stage that searches a line concept of least cost.
-ghost use Rattle.std.specs.Prelude.{◌≡◌};
+ghost use Rattle.std.specs.Prelude.{◌≡◌, ◌+◌};
 ghost use Rattle.giv_files.specs.declared.stage.Stage.TheVariants as stages;
 ghost use Rattle.giv_files.specs.Settings.{Fits};
 ghost use Rattle.giv_files.specs.StageCalls.{StageGives, TakesSteps};
@@ -41,6 +41,8 @@ fn searched_concept<L: Ledger>(
 ) -> Result<Made, StageFault>
     requires stage { bundle.now.stage ≡ stages.Concept }
     requires fits { Fits bundle.now }
+    ensures made { StageGives (concept_stage bundle.now) result }
+    ensures steps { TakesSteps (concept_work bundle.now) (steps.old + 1) steps.new result }
 {
     let problem = read_problem(alloc, bundle)?;
     let budget = bundle.settings().amount(Key::ConceptBudget);
