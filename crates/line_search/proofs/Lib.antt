@@ -1,7 +1,9 @@
 mod ConceptRows
+mod ConceptWritten
 mod DearestLines
 mod EdgesOfTexts
 mod FirstRows
+mod InputRefusals
 mod Judging
 pub mod Lengths
 mod Levels
@@ -12,5 +14,6 @@ mod PushedLines
 mod Refusals
 mod SameCells
 mod SearchTurns
+mod StageResults
 mod Tried
 mod VisitsInTurn

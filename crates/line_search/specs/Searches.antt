@@ -129,9 +129,3 @@ result_by (Some best) tree entries = Ok (concept_of best tree entries)
 -- the concept that a search found, or why it found none
 abbrev pub result_of : Searched → Result FoundConcept Refusal
 result_of found = result_by found.best found.tree found.entries
-
--- the line of the report
-abbrev pub report_of : ℤ → Option (List Node) → ℕ → List ℕ
-report_of cost tree entries =
-    codes "concept: cost " ++ fixed_text cost ++ codes ", " ++ mark_text tree ++ codes ", " ++ decimal entries
-    ++ codes " entries"

@@ -1,10 +1,11 @@
 // What is made of the concept that a search found.
-ghost use Rattle.std.specs.Prelude.{◌≡◌, ◌++◌, ◌≤ℤ◌, pos, codes, length, All, IfOk, IfSome, OnOk};
+ghost use Rattle.std.specs.Prelude.{◌≡◌, ◌++◌, pos, codes, IfOk, IfSome, OnOk};
 ghost use Rattle.plan_num.specs.Print.{fixed_text};
 ghost use Rattle.giv_files.specs.StageCalls.{StageGives};
+ghost use Rattle.line_cost_model.specs.Concepts.{cost_of};
 ghost use Rattle.line_search.specs.ConceptStage.{concept_made, mark_text, search_made, tree_files};
 ghost use Rattle.line_search.specs.ConceptTables.{concept_text};
-ghost use Rattle.line_search.specs.Searches.{ArePriced, AreWritten, IsPriced, concept_of, report_of};
+ghost use Rattle.line_search.specs.Searches.{ArePriced, AreWritten, IsPriced, concept_of};
 ghost use Rattle.line_search.specs.Searches.{result_of, why_none};
 
 use crate::best::BestConcept;
@@ -69,7 +70,7 @@ fn concept_made(
         text: concept_text(alloc, problem, best)?,
     })?;
     push_tree(alloc, problem, tree, &mut files)?;
-    let report = concept_report(alloc, best.cost, tree, entries)?;
+    let report = concept_report(alloc, problem, best, tree, entries)?;
     Ok(Made { files, report })
 }
 
@@ -83,6 +84,8 @@ fn concept_text(
     ensures { IfOk result
         (λ text. text ≡ concept_text problem.now best.now.frequencies.items) }
 {
+    // A count tells what always holds of a problem.
+    let _ = problem.line_count();
     let table = rows_of_concept(alloc, problem, &best.frequencies)?;
     write_table(
         alloc,
@@ -114,19 +117,20 @@ fn push_tree(
 // The line of the report.
 fn concept_report(
     alloc: Global,
-    cost: i128,
+    problem: &LineProblem,
+    best: &BestConcept,
     tree: &Option<Tree>,
     entries: u64,
 ) -> Result<Text, NoMemory>
-    requires low { pos 0 ≤ℤ cost }
-    requires high { cost ≤ℤ pos 10000000000000000000000000000000000000 }
-    ensures { IfOk result (λ text. text ≡ report_of cost tree.now entries) }
+    requires { IsPriced problem.now best.now }
+    ensures { IfOk result (λ text. text
+        ≡ (concept_made problem.now (concept_of best.now tree.now entries)).report) }
 {
     report_line(
         alloc,
         Stage::Concept,
         &[
-            cost_text(alloc, cost)?,
+            cost_text(alloc, problem, best)?,
             Text::copy(alloc, mark_text(tree))?,
             count_text(alloc, entries as usize, "entries")?,
         ],
@@ -134,13 +138,15 @@ fn concept_report(
 }
 
 // What a concept costs.
-fn cost_text(alloc: Global, cost: i128) -> Result<Text, NoMemory>
-    requires low { pos 0 ≤ℤ cost }
-    requires high { cost ≤ℤ pos 10000000000000000000000000000000000000 }
-    ensures { IfOk result (λ text. text ≡ codes "cost " ++ fixed_text cost) }
+fn cost_text(alloc: Global, problem: &LineProblem, best: &BestConcept) -> Result<Text, NoMemory>
+    requires { IsPriced problem.now best.now }
+    ensures { IfOk result (λ text. text ≡ codes "cost "
+        ++ fixed_text (pos (cost_of problem.now best.now.frequencies.items))) }
 {
+    // A count tells what always holds of a problem.
+    let _ = problem.line_count();
     let mut text = Vec::from_slice(alloc, b"cost ")?;
-    text.extend_from_slice(print_fixed(alloc, cost)?.as_bytes())?;
+    text.extend_from_slice(print_fixed(alloc, best.cost)?.as_bytes())?;
     Ok(Text::from_vec(text))
 }
 

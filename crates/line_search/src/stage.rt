@@ -1,5 +1,5 @@
 // The stage that searches a line concept of least cost.
-ghost use Rattle.std.specs.Prelude.{◌≡◌, ◌+◌};
+ghost use Rattle.std.specs.Prelude.{◌≡◌};
 ghost use Rattle.giv_files.specs.declared.stage.Stage.TheVariants as stages;
 ghost use Rattle.giv_files.specs.Settings.{Fits};
 ghost use Rattle.giv_files.specs.StageCalls.{StageGives, TakesSteps};
@@ -29,11 +29,10 @@ pub fn make_concept<L: Ledger>(
     ensures whole { IsEnough (problem_of bundle.now) (budget_of bundle.now) → IsWhole result }
     ensures steps { TakesSteps (concept_work bundle.now) steps.old steps.new result }
 {
-    steps.tick();
     searched_concept(alloc, bundle, steps)
 }
 
-// What the stage gives behind its first step.
+// What the stage gives, and in how many steps.
 fn searched_concept<L: Ledger>(
     alloc: Global,
     bundle: &Bundle,
@@ -42,8 +41,10 @@ fn searched_concept<L: Ledger>(
     requires stage { bundle.now.stage ≡ stages.Concept }
     requires fits { Fits bundle.now }
     ensures made { StageGives (concept_stage bundle.now) result }
-    ensures steps { TakesSteps (concept_work bundle.now) (steps.old + 1) steps.new result }
+    ensures whole { IsEnough (problem_of bundle.now) (budget_of bundle.now) → IsWhole result }
+    ensures steps { TakesSteps (concept_work bundle.now) steps.old steps.new result }
 {
+    steps.tick();
     let problem = read_problem(alloc, bundle)?;
     let budget = bundle.settings().amount(Key::ConceptBudget);
     let found = search_concept(alloc, &problem, budget, steps)?;
