@@ -6,3 +6,4 @@ pub mod GivenProblems
 pub mod Judged
 pub mod Listings
 pub mod RightConcepts
+pub mod Searches

@@ -7,7 +7,10 @@ ghost use Rattle.line_search.specs.ConceptStage.{budget_of, concept_stage, conce
 ghost use Rattle.line_search.specs.GivenProblems.{problem_of};
 ghost use Rattle.line_search.specs.RightConcepts.{IsEnough, IsWhole, OutcomeIsRight};
 
-use giv_files::{Bundle, Made, StageFault};
+use crate::found::search_made;
+use crate::given::read_problem;
+use crate::search::search_concept;
+use giv_files::{Bundle, Key, Made, StageFault};
 use plan_num::{Ledger, Steps};
 use std::alloc::Global;
 
@@ -26,5 +29,24 @@ pub fn make_concept<L: Ledger>(
     ensures whole { IsEnough (problem_of bundle.now) (budget_of bundle.now) → IsWhole result }
     ensures steps { TakesSteps (concept_work bundle.now) steps.old steps.new result }
 {
-    Err(StageFault::NoMemory)
+    searched_concept(alloc, bundle, steps)
+}
+
+// What the stage gives, and in how many steps.
+fn searched_concept<L: Ledger>(
+    alloc: Global,
+    bundle: &Bundle,
+    steps: &mut Steps<L>,
+) -> Result<Made, StageFault>
+    requires stage { bundle.now.stage ≡ stages.Concept }
+    requires fits { Fits bundle.now }
+    ensures made { StageGives (concept_stage bundle.now) result }
+    ensures whole { IsEnough (problem_of bundle.now) (budget_of bundle.now) → IsWhole result }
+    ensures steps { TakesSteps (concept_work bundle.now) steps.old steps.new result }
+{
+    steps.tick();
+    let problem = read_problem(alloc, bundle)?;
+    let budget = bundle.settings().amount(Key::ConceptBudget);
+    let found = search_concept(alloc, &problem, budget, steps)?;
+    search_made(alloc, &problem, found)
 }
