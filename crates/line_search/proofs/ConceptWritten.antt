@@ -1,30 +1,31 @@
 -- The rows of a concept can be written, and what it costs can be printed.
-use Rattle.std.proofs.Common.{◌≡◌, ◌≢◌, ℕ, ℤ, zero, suc, pos, ◌+◌, ◌*◌, ◌≤◌, ◌<◌, ◌≤ℤ◌, ◌∙◌, ◌==◌, nat_eq, Bool, true, false, List, [], ◌∷◌, ◌++◌, length, map, zip, sum_by, arith, refl, ap, sym, All}
-use Rattle.std.specs.List.{IsDistinct, enumerate_from, flat_map, list_any}
-use Rattle.std.proofs.lemmas.Bool.{eqb-eq}
-use Rattle.std.proofs.lemmas.Int.{ints}
+use Rattle.std.proofs.Common.{◌≡◌, ℕ, ℤ, zero, suc, pos, ◌+◌, ◌*◌, ◌≤◌, ◌<◌, ◌≤ℤ◌, ◌∙◌, nat_eq, ◌||◌, true, false, List, [], ◌∷◌, length, map, zip, sum_by, arith, refl, ap, All, Result, Ok, Err, IfOk, to_z, of_z}
+use Rattle.std.specs.Int.{w128}
+use Rattle.std.specs.List.{enumerate_from, flat_map, list_any}
+use Rattle.std.proofs.lemmas.Bool.{eqb-true}
+use Rattle.std.proofs.lemmas.Int.{ints, to_z-of_z}
 use Rattle.std.proofs.lemmas.List.Elements.{All-nil, All-cons, All-append}
 use Rattle.std.proofs.lemmas.List.Sums.{sum_by-cons}
 use Rattle.std.proofs.lemmas.Map.Steps.{length-le_from_distinct_below}
 use Rattle.std.proofs.lemmas.Nat.{mul-le}
 use Rattle.giv_files.specs.Columns.{concept_columns}
 use Rattle.giv_files.specs.Tables.{TableRow}
-use Rattle.giv_files.specs.Writing.{CanWrite, InColumns}
+use Rattle.giv_files.specs.Writing.{CanWrite, InColumns, table_text}
 use Rattle.line_cost_model.specs.Concepts.{cost_of}
 use Rattle.line_cost_model.specs.Problems.{CostedLine, IsCostedLine, IsId, IsProblem, ProblemParts}
 use Rattle.line_cost_model.proofs.FewLines.{few_edges, few_lines}
 use Rattle.branch_certificate.proofs.WriteInside.{edge_there}
-use Rattle.line_search.specs.ConceptTables.{concept_rows, line_rows, row_at}
+use Rattle.line_search.specs.ConceptTables.{concept_header, concept_text, concept_rows, line_rows, row_at}
 
 abbrev InConcept : TableRow → Type 0
 InConcept row = InColumns concept_columns row.cells
 
 pub columns_written : All CanWrite concept_columns
-columns_written =
-    All-cons CanWrite _ _ small (All-cons CanWrite _ _ small (All-cons CanWrite _ _ small
-    (All-cons CanWrite _ _ small (All-nil CanWrite))))
-  where
-    small = ?
+columns_written zero d h = (omega (arith, ints), omega (arith, ints))
+columns_written (suc zero) d h = (omega (arith, ints), omega (arith, ints))
+columns_written (suc (suc zero)) d h = (omega (arith, ints), omega (arith, ints))
+columns_written (suc (suc (suc zero))) d h = (omega (arith, ints), omega (arith, ints))
+columns_written (suc (suc (suc (suc k)))) d h = absurd (omega arith)
 
 -- ---- the edges of a line
 
@@ -33,8 +34,8 @@ one_below : (edges : List ℕ) (n : ℕ) → All (λ edge. edge < n) edges → (
 one_below [] n all edge is = absurd (cc)
 one_below (first ∷ edges) n all edge is =
     elim (nat_eq edge first) as
-    (λ b. nat_eq edge first ≡ b → (cond b true (list_any (nat_eq edge) edges)) ≡ true → edge < n) [
-      | true ↦ λ same _. omega (arith, all 0 first (omega arith), eqb-eq edge first same)
+    (λ b. nat_eq edge first ≡ b → (b || list_any (nat_eq edge) edges) ≡ true → edge < n) [
+      | true ↦ λ same _. omega (arith, all 0 first (omega arith), eqb-true edge first same)
       | false ↦ λ _ is. one_below edges n (λ k d h. all (suc k) d (omega (arith, h))) edge is
     ] refl is
 
@@ -115,3 +116,22 @@ module _ (problem : ProblemParts) (sound : IsProblem problem) where
       → cost_of problem frequencies ≤ 10000000000000000000000000000000000000
   modest_cost frequencies few =
       omega (arith, lines_cost problem.lines frequencies sound.lines few, few_lines problem sound)
+
+-- a text of the rows of a concept is its text
+pub concept_told : {E : Type 0} (problem : ProblemParts) (frequencies : List ℕ) (table : List TableRow)
+    → table ≡ concept_rows problem frequencies → (result : Result (List ℕ) E)
+    → IfOk result (λ text. text ≡ table_text concept_header concept_columns table)
+    → IfOk result (λ text. text ≡ concept_text problem frequencies)
+unfolding concept_text
+concept_told problem frequencies table is (Ok text) told =
+    told ∙ ap (table_text concept_header concept_columns) is
+concept_told problem frequencies table is (Err error) told = tt
+
+-- a cost that is handed on
+pub cost_handed : (cost : ℤ) (own : ℕ) → cost ≡ pos own
+    → own ≤ 10000000000000000000000000000000000000
+    → to_z w128 (of_z w128 cost) ≤ℤ pos 10000000000000000000000000000000000000
+cost_handed cost own is few =
+    let kept : to_z w128 (of_z w128 cost) ≡ cost =
+    to_z-of_z w128 cost (record { sfits = omega (arith, ints, is, few) }) in
+    omega (arith, ints, kept, is, few)

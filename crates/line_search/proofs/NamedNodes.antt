@@ -1,5 +1,5 @@
 -- What is said of a region names lines and edges that are there.
-use Rattle.std.proofs.Common.{◌≡◌, ℕ, ◌+◌, ◌≤◌, ◌<◌, ◌==◌, Bool, true, false, cond, List, [], ◌∷◌, ◌++◌, length, filter_map, fold, slice_get, arith, Option, Some, None, option_map, IfSome, All, ap, sym, subst, nat_le}
+use Rattle.std.proofs.Common.{◌≡◌, ℕ, ◌+◌, ◌≤◌, ◌<◌, ◌==◌, true, false, cond, List, [], ◌∷◌, length, filter_map, fold, slice_get, arith, Option, Some, None, option_map, IfSome, All, ap, sym, subst, nat_le}
 use Rattle.std.proofs.lemmas.List.Elements.{All-nil, All-cons, All-append}
 use Rattle.std.specs.List.{cons_option, enumerate_from}
 use Rattle.line_cost_model.specs.declared.edge.BoundedEdge.{BoundedEdge}

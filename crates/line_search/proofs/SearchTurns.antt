@@ -1,5 +1,5 @@
 -- A search entry by entry, and what it found at its end.
-use Rattle.std.proofs.Common.{◌≡◌, ℕ, ◌+◌, ◌≤◌, ◌<◌, ◌∙◌, Bool, if◌then◌else◌, List, [], ◌∷◌, ◌++◌, length, take, refl, arith, ap, sym, subst, Option, Some, None, All}
+use Rattle.std.proofs.Common.{◌≡◌, ℕ, ◌+◌, ◌≤◌, ◌<◌, ◌∙◌, Bool, if◌then◌else◌, List, [], ◌∷◌, ◌++◌, length, take, refl, arith, ap, sym, subst, Option, Some, None, All, Result, Ok, Err, OnErr, true, false}
 use Rattle.std.proofs.lemmas.Bool.{le-leb, lt-leb}
 use Rattle.std.proofs.lemmas.List.{append_assoc, append-nil, length-append, map-append, take_all}
 use Rattle.std.proofs.lemmas.List.Elements.{All-nil, All-push}
@@ -137,3 +137,26 @@ pub one_within : (problem : ProblemParts) (region : List LineRange)
     → count + 1 ≤ entries_listed budget (listing problem)
 one_within problem region waiting nodes best count budget so few =
     le-min (omega (arith, few)) (longer problem region waiting nodes best count so)
+
+-- the last entry: no region is to come
+pub last_taken : (problem : ProblemParts) (before after : Search) (more : Bool) (count budget : ℕ)
+    → IsSearched problem before count → TakesEntry problem before after more → more ≡ false
+    → count < budget
+    → IsResult problem budget (record { best = after.best; tree = Some after.tree; entries = count + 1 })
+last_taken problem before after more count budget so taken is few =
+    search_done problem after.tree after.best (count + 1) budget
+    (subst (λ more. IsSearchedOn problem after more (count + 1)) is
+    (entry_taken problem before after more count so taken)) (omega (arith, few))
+
+-- another one is to come
+pub next_taken : (problem : ProblemParts) (before after : Search) (more : Bool) (count : ℕ)
+    → IsSearched problem before count → TakesEntry problem before after more → more ≡ true
+    → IsSearched problem after (count + 1)
+next_taken problem before after more count so taken is =
+    subst (λ more. IsSearchedOn problem after more (count + 1)) is
+    (entry_taken problem before after more count so taken)
+
+-- where a call fails
+pub on_error : {X E : Type 0} (result : Result X E) (Left : Type 0) → Left → OnErr result Left
+on_error (Ok value) Left left = tt
+on_error (Err error) Left left = left

@@ -1,7 +1,6 @@
 -- Inner words: a search between two entries, and what it has found. A reader of the contracts of this crate
 -- needs none of them.
-use Rattle.std.specs.Prelude.{◌≡◌, ℕ, ℤ, pos, ◌≤◌, int_le, nat_le, if◌then◌else◌, Bool, true, false, List, [], ◌∷◌, ◌++◌, length, take, All, Option, Some, None, option_map, IfSome, Result, Ok, Err, codes, decimal}
-use Rattle.plan_num.specs.Print.{fixed_text}
+use Rattle.std.specs.Prelude.{◌≡◌, ℕ, ℤ, pos, ◌≤◌, int_le, nat_le, if◌then◌else◌, Bool, true, false, List, [], ◌∷◌, ◌++◌, length, take, All, Option, Some, None, option_map, IfSome, Result, Ok, Err}
 use Rattle.giv_files.specs.declared.refusal.Refusal.{Refusal}
 use Rattle.giv_files.specs.declared.refusal.Refusal.TheVariants as refusal
 use Rattle.std.specs.List.{AllByRecursion}
@@ -18,7 +17,6 @@ use Rattle.line_search.specs.declared.search.Search.{Search}
 use Rattle.line_search.specs.declared.search.Searched.{Searched}
 use Rattle.line_search.specs.Listings.{Entry, best_after, listing, node_at, visit}
 use Rattle.line_search.specs.Budgets.{FoundConcept, entries_listed, nodes_in}
-use Rattle.line_search.specs.ConceptStage.{mark_text}
 
 -- the dearer one of the open line so far and a line, where that is open
 abbrev pub dearer : Option (ℕ × ℤ) → ℕ → ℤ → Bool → Option (ℕ × ℤ)
