@@ -17,6 +17,7 @@ mod PushedLines
 mod Refusals
 pub mod Said
 mod SameCells
+pub mod SearchRight
 mod SearchTurns
 pub mod SoundProblems
 mod StageResults

@@ -1,11 +1,11 @@
 // The stage that searches a line concept of least cost.
-ghost use Rattle.std.specs.Prelude.{◌≡◌};
+ghost use Rattle.std.specs.Prelude.{◌≡◌, []};
 ghost use Rattle.giv_files.specs.declared.stage.Stage.TheVariants as stages;
 ghost use Rattle.giv_files.specs.Settings.{Fits};
 ghost use Rattle.giv_files.specs.StageCalls.{StageGives, TakesSteps};
 ghost use Rattle.line_search.specs.ConceptStage.{budget_of, concept_stage, concept_work};
-ghost use Rattle.line_search.specs.GivenProblems.{problem_of};
-ghost use Rattle.line_search.specs.RightConcepts.{IsEnough, IsWhole, OutcomeIsRight};
+ghost use Rattle.line_search.specs.GivenProblems.{problem_faults, problem_of};
+ghost use Rattle.line_search.specs.RightConcepts.{IsEnough, IsWhole, SearchIsRight};
 
 use crate::found::search_made;
 use crate::given::read_problem;
@@ -25,7 +25,7 @@ pub fn make_concept<L: Ledger>(
     requires stage { bundle.now.stage ≡ stages.Concept }
     requires fits { Fits bundle.now }
     ensures made { StageGives (concept_stage bundle.now) result }
-    ensures right { OutcomeIsRight bundle.now result }
+    ensures right { problem_faults bundle.now ≡ [] → SearchIsRight (problem_of bundle.now) }
     ensures whole { IsEnough (problem_of bundle.now) (budget_of bundle.now) → IsWhole result }
     ensures steps { TakesSteps (concept_work bundle.now) steps.old steps.new result }
 {
