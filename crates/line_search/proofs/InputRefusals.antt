@@ -1,5 +1,6 @@
 -- A fault of the inputs is no end of a search.
-use Rattle.std.proofs.Common.{◌≡◌, ℕ, Bool, true, false, cond, List, [], ◌∷◌, ◌++◌, map, nat_lt, slice_get, subst, Option, Some, None}
+use Rattle.std.proofs.Common.{◌≡◌, ℕ, Bool, true, false, cond, List, [], ◌∷◌, ◌++◌, map, nat_lt}
+use Rattle.std.proofs.Common.{slice_get, subst, Option, Some, None}
 use Rattle.std.specs.Prelude.{⊤}
 use Rattle.std.specs.List.{flat_map}
 use Rattle.giv_files.specs.declared.file_id.FileId.{FileId}
@@ -7,7 +8,9 @@ use Rattle.giv_files.specs.declared.file_id.FileId.TheVariants as file
 use Rattle.giv_files.specs.declared.row_why.RowWhy.{RowWhy}
 use Rattle.giv_files.specs.declared.refusal.Refusal.{Refusal}
 use Rattle.giv_files.specs.declared.refusal.Refusal.TheVariants as refusal
-use Rattle.giv_files.specs.Inputs.{Numbered, RowRule, TableRule, Input, broken_whys, cell_faults, fault_at, input_faults, limit_faults, numbered, or_else, records, row_faults, table_row_faults, whole_faults}
+use Rattle.giv_files.specs.Inputs.{Numbered, RowRule, TableRule, Input, broken_whys, cell_faults}
+use Rattle.giv_files.specs.Inputs.{fault_at, input_faults, limit_faults, numbered, or_else, records}
+use Rattle.giv_files.specs.Inputs.{row_faults, table_row_faults, whole_faults}
 use Rattle.giv_files.specs.Reading.{faults, table_of}
 use Rattle.giv_files.specs.Settings.{BundleParts}
 use Rattle.giv_files.specs.StageCalls.{input_text}

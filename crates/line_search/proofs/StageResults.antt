@@ -1,5 +1,7 @@
 -- What the stage gives, by what the search found.
-use Rattle.std.proofs.Common.{◌≡◌, ℕ, ◌+◌, ◌≤◌, ◌∙◌, Bool, true, false, cond, nat_le, List, [], ◌∷◌, length, take, min, slice_get, refl, arith, ap, sym, subst, Option, Some, None, option_map, Result, Ok, Err}
+use Rattle.std.proofs.Common.{◌≡◌, ℕ, ◌+◌, ◌≤◌, ◌∙◌, Bool, true, false, cond, nat_le, List, [], ◌∷◌}
+use Rattle.std.proofs.Common.{length, take, min, slice_get, refl, arith, ap, sym, subst, Option}
+use Rattle.std.proofs.Common.{Some, None, option_map, Result, Ok, Err}
 use Rattle.std.specs.Prelude.{ok_or}
 use Rattle.std.proofs.lemmas.Bool.{le-leb, leb-true, leb-false}
 use Rattle.std.proofs.lemmas.List.{take_all, length-take-le}
@@ -17,8 +19,10 @@ use Rattle.line_cost_model.specs.Problems.{ProblemParts}
 use Rattle.branch_certificate.specs.declared.node.Node.{Node}
 use Rattle.line_search.specs.declared.best.BestConcept.{BestConcept}
 use Rattle.line_search.specs.declared.search.Searched.{Searched}
-use Rattle.line_search.specs.Budgets.{FoundConcept, entries_listed, last_found, nodes_in, result_within}
-use Rattle.line_search.specs.ConceptStage.{after_faults, budget_of, concept_stage, concept_work, search_made, work_after}
+use Rattle.line_search.specs.Budgets.{FoundConcept, entries_listed, last_found, nodes_in}
+use Rattle.line_search.specs.Budgets.{result_within}
+use Rattle.line_search.specs.ConceptStage.{after_faults, budget_of, concept_stage, concept_work}
+use Rattle.line_search.specs.ConceptStage.{search_made, work_after}
 use Rattle.line_search.specs.GivenProblems.{problem_faults, problem_of}
 use Rattle.line_search.specs.Listings.{Entry, best_after, listing}
 use Rattle.line_search.specs.RightConcepts.{IsEnough, IsWhole}

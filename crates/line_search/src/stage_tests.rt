@@ -84,7 +84,10 @@ fn the_first_concept_of_equal_cost_is_chosen(rt: HostRuntime) -> Result<(), Fail
 #[test]
 fn there_may_be_no_solution(rt: HostRuntime) -> Result<(), Fail> {
     let (outcome, steps) = made(rt.alloc(), 9, b"1; 100; 0; 1\n2; 40; 2; 2\n", COSTS)?;
-    assert_eq!(rt; outcome.err(), Some(StageFault::Refused(Refusal::NoSolution)));
+    assert_eq!(rt;
+        outcome.err(),
+        Some(StageFault::Refused(Refusal::NoSolution))
+    );
     assert_eq!(rt; steps, 2);
     Ok(())
 }

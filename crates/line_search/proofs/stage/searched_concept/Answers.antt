@@ -3,7 +3,8 @@ use Rattle.std.proofs.lemmas.Result.{err_from_is_err_and}
 use Rattle.giv_files.specs.declared.key.Key.TheVariants as key
 use Rattle.giv_files.specs.Settings.{amount}
 use Rattle.line_search.specs.ConceptStage.{budget_of}
-use Rattle.line_search.proofs.StageResults.{stage_found, stage_refused, steps_listed, steps_refused, steps_stopped, whole_given}
+use Rattle.line_search.proofs.StageResults.{stage_found, stage_refused, steps_listed, steps_refused}
+use Rattle.line_search.proofs.StageResults.{steps_stopped, whole_given}
 use Rattle.line_search.proofs.stage.searched_concept.Goals as goal
 
 pub returns-in_err-problem-clause-made : goal.returns-in_err-problem-clause-made
