@@ -3,7 +3,7 @@ use Rattle.std.proofs.lemmas.Result.{err_from_is_err_and}
 use Rattle.giv_files.specs.declared.key.Key.TheVariants as key
 use Rattle.giv_files.specs.Settings.{amount}
 use Rattle.line_search.specs.ConceptStage.{budget_of}
-use Rattle.line_search.proofs.StageResults.{stage_found, stage_refused, steps_listed, steps_refused}
+use Rattle.line_search.proofs.StageResults.{known_given, stage_found, stage_refused, steps_listed, steps_refused}
 use Rattle.line_search.proofs.StageResults.{steps_stopped, whole_given}
 use Rattle.line_search.proofs.stage.searched_concept.Goals as goal
 
@@ -56,3 +56,12 @@ returns-in_err-problem-clause-whole g c =
 pub returns-clause-whole : goal.returns-clause-whole
 returns-clause-whole g c =
     whole_given c.args.bundle.now c.search_made.result (returns-clause-made g c)
+
+pub returns-clause-known : goal.returns-clause-known
+returns-clause-known g c =
+    let budget_is : c.amount-budget.result ≡ budget_of c.args.bundle.now =
+    c.amount-budget.ensures.amount
+    ∙ ap (λ settings. amount settings key.ConceptBudget) c.settings.ensures in
+    known_given c.args.bundle.now c.in_ok-problem.problem c.amount-budget.result c.in_ok-found.found
+    c.search_made.result c.in_ok-problem.ensures.1 budget_is c.line_count.ensures.sound
+    c.in_ok-found.ensures.found
