@@ -1,5 +1,7 @@
 -- The rows of a concept can be written, and what it costs can be printed.
-use Rattle.std.proofs.Common.{◌≡◌, ℕ, ℤ, zero, suc, pos, ◌+◌, ◌*◌, ◌≤◌, ◌<◌, ◌≤ℤ◌, ◌∙◌, nat_eq, ◌||◌, true, false, List, [], ◌∷◌, length, map, zip, sum_by, arith, refl, ap, All, Result, Ok, Err, IfOk, to_z, of_z}
+use Rattle.std.proofs.Common.{◌≡◌, ℕ, ℤ, zero, suc, pos, ◌+◌, ◌*◌, ◌≤◌, ◌<◌, ◌≤ℤ◌, ◌∙◌, nat_eq}
+use Rattle.std.proofs.Common.{◌||◌, true, false, List, [], ◌∷◌, length, map, zip, sum_by, arith}
+use Rattle.std.proofs.Common.{refl, ap, All, Result, Ok, Err, IfOk, to_z, of_z}
 use Rattle.std.specs.Int.{w128}
 use Rattle.std.specs.List.{enumerate_from, flat_map, list_any}
 use Rattle.std.proofs.lemmas.Bool.{eqb-true}
@@ -15,7 +17,8 @@ use Rattle.line_cost_model.specs.Concepts.{cost_of}
 use Rattle.line_cost_model.specs.Problems.{CostedLine, IsCostedLine, IsId, IsProblem, ProblemParts}
 use Rattle.line_cost_model.proofs.FewLines.{few_edges, few_lines}
 use Rattle.branch_certificate.proofs.WriteInside.{edge_there}
-use Rattle.line_search.specs.ConceptTables.{concept_header, concept_text, concept_rows, line_rows, row_at}
+use Rattle.line_search.specs.ConceptTables.{concept_header, concept_text, concept_rows, line_rows}
+use Rattle.line_search.specs.ConceptTables.{row_at}
 
 abbrev InConcept : TableRow → Type 0
 InConcept row = InColumns concept_columns row.cells

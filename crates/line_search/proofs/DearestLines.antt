@@ -1,5 +1,8 @@
 -- The first open line of a region is the first of the dearest open lines, since ids of lines rise.
-use Rattle.std.proofs.Common.{◌≡◌, ℕ, ℤ, zero, suc, pos, ◌+◌, ◌≤◌, ◌<◌, ◌<ℤ◌, ◌==◌, ◌&&◌, ◌||◌, not, Bool, true, false, cond, nat_lt, int_lt, int_le, List, [], ◌∷◌, ◌++◌, length, map, filter, find, fold, drop, zip, slice_get, refl, arith, ap, sym, subst, ◌∙◌, Option, Some, None, option_map}
+use Rattle.std.proofs.Common.{◌≡◌, ℕ, ℤ, zero, suc, pos, ◌+◌, ◌≤◌, ◌<◌, ◌<ℤ◌, ◌==◌, ◌&&◌, ◌||◌, not}
+use Rattle.std.proofs.Common.{Bool, true, false, cond, nat_lt, int_lt, int_le, List, [], ◌∷◌, ◌++◌}
+use Rattle.std.proofs.Common.{length, map, filter, find, fold, drop, zip, slice_get, refl, arith}
+use Rattle.std.proofs.Common.{ap, sym, subst, ◌∙◌, Option, Some, None, option_map}
 use Rattle.std.proofs.lemmas.Bool.{lt-ltb, le-ltb, ne_eqb}
 use Rattle.std.proofs.lemmas.Int.{ints}
 use Rattle.std.proofs.lemmas.List.{append_assoc, drop_all}
@@ -164,9 +167,11 @@ one_dearer done first at d false is =
       less = subst (AllByRecursion (λ other. other.1.cost < at.1.cost)) (sym d.whole)
           (all_behind (λ other. other.1.cost < at.1.cost) d.before ((first.0, d.line) ∷ d.behind)
           (all_by (λ other. other.1.cost < d.line.cost) (λ other. other.1.cost < at.1.cost) d.before
-          (λ other less. omega (arith, less, more)) d.less)
-          (more, all_by (λ other. other.1.cost ≤ d.line.cost) (λ other. other.1.cost < at.1.cost)
-          d.behind (λ other most. omega (arith, most, more)) d.most));
+          (λ other less. omega (arith, less, more)) d.less) (
+            more,
+            all_by (λ other. other.1.cost ≤ d.line.cost) (λ other. other.1.cost < at.1.cost)
+                d.behind (λ other most. omega (arith, most, more)) d.most,
+          ));
       most = tt;
     }
   where
@@ -278,12 +283,13 @@ first_found before at behind less most rise =
     let own : list_all (stands at) all ≡ true =
     all_hold (stands at) all (all_behind (λ other. stands at other ≡ true) before (at ∷ behind)
     (all_by (λ other. other.1.cost < at.1.cost) (λ other. stands at other ≡ true) before
-    (λ other less. not_before_dearer other.1 at.1 less) less)
-    (not_before_first at.1 at.1 (omega arith) (not_less at.1.id at.1.id (λ e. omega (arith, ints, e))),
-    both (λ other. other.1.cost ≤ at.1.cost) (λ other. at.1.id <ℤ other.1.id)
-    (λ other. stands at other ≡ true) behind
-    (λ other most rise. not_before_first other.1 at.1 most
-    (not_less other.1.id at.1.id (λ e. omega (arith, ints, e, rise)))) most rise)) in
+    (λ other less. not_before_dearer other.1 at.1 less) less) (
+      not_before_first at.1 at.1 (omega arith) (not_less at.1.id at.1.id (λ e. omega (arith, ints, e))),
+      both (λ other. other.1.cost ≤ at.1.cost) (λ other. at.1.id <ℤ other.1.id)
+          (λ other. stands at other ≡ true) behind
+          (λ other most rise. not_before_first other.1 at.1 most
+          (not_less other.1.id at.1.id (λ e. omega (arith, ints, e, rise)))) most rise,
+    )) in
     let others : AllByRecursion (λ line. list_all (stands line) all ≡ false) before =
     all_by (λ other. other.1.cost < at.1.cost) (λ line. list_all (stands line) all ≡ false) before
     (λ line less. one_fails (stands line) before at behind (before_cheaper at.1 line.1 less)) less in

@@ -1,5 +1,6 @@
 -- A fault of the inputs is no end of a search.
-use Rattle.std.proofs.Common.{◌≡◌, ℕ, Bool, true, false, cond, List, [], ◌∷◌, ◌++◌, map, nat_lt, slice_get, subst, Option, Some, None}
+use Rattle.std.proofs.Common.{◌≡◌, ℕ, Bool, true, false, cond, List, [], ◌∷◌, ◌++◌, map, nat_lt}
+use Rattle.std.proofs.Common.{slice_get, subst, Option, Some, None}
 use Rattle.std.specs.Prelude.{⊤}
 use Rattle.std.specs.List.{flat_map}
 use Rattle.giv_files.specs.declared.file_id.FileId.{FileId}
@@ -7,16 +8,17 @@ use Rattle.giv_files.specs.declared.file_id.FileId.TheVariants as file
 use Rattle.giv_files.specs.declared.row_why.RowWhy.{RowWhy}
 use Rattle.giv_files.specs.declared.refusal.Refusal.{Refusal}
 use Rattle.giv_files.specs.declared.refusal.Refusal.TheVariants as refusal
-use Rattle.giv_files.specs.Inputs.{Numbered, RowRule, TableRule, Input, broken_whys, cell_faults, fault_at, input_faults, limit_faults, numbered, or_else, records, row_faults, table_row_faults, whole_faults}
+use Rattle.giv_files.specs.Inputs.{Numbered, RowRule, TableRule, Input, broken_whys, cell_faults}
+use Rattle.giv_files.specs.Inputs.{fault_at, input_faults, limit_faults, numbered, or_else, records}
+use Rattle.giv_files.specs.Inputs.{row_faults, table_row_faults, whole_faults}
 use Rattle.giv_files.specs.Reading.{faults, table_of}
 use Rattle.giv_files.specs.Settings.{BundleParts}
 use Rattle.giv_files.specs.StageCalls.{input_text}
 use Rattle.ptn_network.specs.Inputs.{edge_input, stop_input}
 use Rattle.ptn_network.specs.Loads.{load_input}
-use Rattle.ptn_network.specs.Networks.{network_faults, network_in, stops_of}
-use Rattle.line_pool.specs.declared.line_file.LineFile.TheVariants as kind
+use Rattle.ptn_network.specs.Networks.{NetworkParts, network_faults, network_in, stops_of}
 use Rattle.line_pool.specs.PoolCosts.{pool_cost_input}
-use Rattle.line_pool.specs.Pools.{line_faults, line_input, pool_faults}
+use Rattle.line_pool.specs.Pools.{line_faults, pool_faults}
 use Rattle.line_search.specs.GivenProblems.{lines_in, problem_faults}
 
 -- a refusal of an input: by a row or by a limit
@@ -95,8 +97,12 @@ of_network stops edges = behind (input_faults stop_input stops)
     (input_faults (edge_input (stops_of stops)) edges) (of_text stop_input stops)
     (of_text (edge_input (stops_of stops)) edges)
 
+of_pool : (network : NetworkParts) (text : List ℕ) → AreOfInputs (pool_faults network text)
+unfolding line_faults
+of_pool network text = of_text _ text
+
 of_problem : (bundle : BundleParts) → AreOfInputs (problem_faults bundle)
-unfolding problem_faults line_faults
+unfolding problem_faults
 of_problem bundle =
     let network = network_faults (input_text bundle 0) (input_text bundle 1) in
     let pool = pool_faults (network_in bundle) (input_text bundle 2) in
@@ -104,7 +110,7 @@ of_problem bundle =
     behind (network ++ pool ++ loads) _
     (behind (network ++ pool) loads
     (behind network pool (of_network (input_text bundle 0) (input_text bundle 1))
-    (of_text (line_input kind.Pool (network_in bundle).edges) (input_text bundle 2)))
+    (of_pool (network_in bundle) (input_text bundle 2)))
     (of_text (load_input file.Load (network_in bundle).edges) (input_text bundle 3)))
     (of_text (pool_cost_input (lines_in bundle)) (input_text bundle 4))
 

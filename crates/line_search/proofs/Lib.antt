@@ -1,4 +1,6 @@
 pub mod ChosenFound
+pub mod ConceptMakes
+pub mod ConceptNames
 mod ConceptRows
 mod ConceptWritten
 mod DearestLines

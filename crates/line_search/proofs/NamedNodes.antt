@@ -1,5 +1,7 @@
 -- What is said of a region names lines and edges that are there.
-use Rattle.std.proofs.Common.{◌≡◌, ℕ, ◌+◌, ◌≤◌, ◌<◌, ◌==◌, true, false, cond, List, [], ◌∷◌, length, filter_map, fold, slice_get, arith, Option, Some, None, option_map, IfSome, All, ap, sym, subst, nat_le}
+use Rattle.std.proofs.Common.{◌≡◌, ℕ, ◌+◌, ◌≤◌, ◌<◌, ◌==◌, true, false, cond, List, [], ◌∷◌, length}
+use Rattle.std.proofs.Common.{filter_map, fold, slice_get, arith, Option, Some, None, option_map}
+use Rattle.std.proofs.Common.{IfSome, All, ap, sym, subst, nat_le}
 use Rattle.std.proofs.lemmas.List.Elements.{All-nil, All-cons, All-append}
 use Rattle.std.specs.List.{cons_option, enumerate_from}
 use Rattle.line_cost_model.specs.declared.edge.BoundedEdge.{BoundedEdge}
@@ -8,7 +10,8 @@ use Rattle.line_cost_model.specs.declared.range.LineRange.{LineRange}
 use Rattle.line_cost_model.specs.declared.side.Side.{Side}
 use Rattle.line_cost_model.specs.Problems.{CostedLine, ProblemParts}
 use Rattle.line_cost_model.specs.Concepts.{cost_of}
-use Rattle.line_cost_model.specs.DualBounds.{dual_bound, multipliers_of, next_multiplier, unless_zero, with_next}
+use Rattle.line_cost_model.specs.DualBounds.{dual_bound, multipliers_of, next_multiplier}
+use Rattle.line_cost_model.specs.DualBounds.{unless_zero, with_next}
 use Rattle.line_cost_model.specs.Regions.{empty_edge, empty_side}
 use Rattle.branch_certificate.specs.declared.node.Node.{Node}
 use Rattle.branch_certificate.specs.declared.node.Node.TheVariants as node

@@ -1,5 +1,7 @@
 -- A search entry by entry, and what it found at its end.
-use Rattle.std.proofs.Common.{◌≡◌, ℕ, ◌+◌, ◌≤◌, ◌<◌, ◌∙◌, Bool, if◌then◌else◌, List, [], ◌∷◌, ◌++◌, length, take, refl, arith, ap, sym, subst, Option, Some, None, All, Result, Ok, Err, OnErr, true, false}
+use Rattle.std.proofs.Common.{◌≡◌, ℕ, ◌+◌, ◌≤◌, ◌<◌, ◌∙◌, Bool, if◌then◌else◌, List, [], ◌∷◌, ◌++◌}
+use Rattle.std.proofs.Common.{length, take, refl, arith, ap, sym, subst, Option, Some, None, All}
+use Rattle.std.proofs.Common.{Result, Ok, Err, OnErr, true, false}
 use Rattle.std.proofs.lemmas.Bool.{le-leb, lt-leb}
 use Rattle.std.proofs.lemmas.List.{append_assoc, append-nil, length-append, map-append, take_all}
 use Rattle.std.proofs.lemmas.List.Elements.{All-nil, All-push}
@@ -16,8 +18,10 @@ use Rattle.line_search.specs.declared.best.BestConcept.{BestConcept}
 use Rattle.line_search.specs.declared.search.Search.{Search}
 use Rattle.line_search.specs.Budgets.{entries_listed, nodes_in}
 use Rattle.line_search.specs.Listings.{best_after, listing}
-use Rattle.line_search.specs.Searches.{IsResult, IsSearched, IsSearchedBy, IsSearchedOn, IsVisited, TakesEntry, concept_in, entry_of, node_here, visits}
-use Rattle.line_search.proofs.VisitsInTurn.{best_behind, root_visited, root_visits, visit_turn, visited_behind}
+use Rattle.line_search.specs.Searches.{IsResult, IsSearched, IsSearchedBy, IsSearchedOn, IsVisited}
+use Rattle.line_search.specs.Searches.{TakesEntry, concept_in, entry_of, node_here, visits}
+use Rattle.line_search.proofs.VisitsInTurn.{best_behind, root_visited, root_visits, visit_turn}
+use Rattle.line_search.proofs.VisitsInTurn.{visited_behind}
 
 -- ---- before the first entry
 

@@ -1,6 +1,8 @@
 -- What the stage gives, by what the search found.
-use Rattle.std.proofs.Common.{◌≡◌, ℕ, ◌+◌, ◌≤◌, ◌<◌, ◌∙◌, ◌*◌, Bool, true, false, cond, nat_le, if◌then◌else◌, List, [], ◌∷◌, ◌++◌, length, map, take, min, slice_get, refl, arith, ap, sym, subst, Option, Some, None, option_map, Result, Ok, Err}
-use Rattle.std.specs.Prelude.{ok_or}
+use Rattle.std.proofs.Common.{◌≡◌, ℕ, ◌+◌, ◌≤◌, ◌∙◌, Bool, true, false, cond, nat_le, List, [], ◌∷◌}
+use Rattle.std.proofs.Common.{length, take, min, slice_get, refl, arith, ap, sym, subst, Option}
+use Rattle.std.proofs.Common.{Some, None, option_map, Result, Ok, Err}
+use Rattle.std.specs.Prelude.{IfSome, OnOk, ok_or}
 use Rattle.std.proofs.lemmas.Bool.{le-leb, leb-true, leb-false}
 use Rattle.std.proofs.lemmas.List.{take_all, length-take-le}
 use Rattle.std.proofs.lemmas.Option.{same_Some}
@@ -13,15 +15,18 @@ use Rattle.giv_files.specs.declared.refusal.StageFault.TheVariants as stage
 use Rattle.giv_files.specs.Inputs.{Refuses}
 use Rattle.giv_files.specs.Settings.{BundleParts}
 use Rattle.giv_files.specs.StageCalls.{StageGives, TakesSteps}
-use Rattle.line_cost_model.specs.Problems.{ProblemParts}
+use Rattle.line_cost_model.specs.Problems.{IsProblem, ProblemParts}
 use Rattle.branch_certificate.specs.declared.node.Node.{Node}
 use Rattle.line_search.specs.declared.best.BestConcept.{BestConcept}
 use Rattle.line_search.specs.declared.search.Searched.{Searched}
-use Rattle.line_search.specs.Budgets.{FoundConcept, entries_listed, last_found, nodes_in, result_within}
-use Rattle.line_search.specs.ConceptStage.{after_faults, budget_of, concept_made, concept_stage, concept_work, search_made, work_after}
+use Rattle.line_search.specs.Budgets.{FoundConcept, entries_listed, last_found, nodes_in}
+use Rattle.line_search.specs.Budgets.{result_within}
+use Rattle.line_search.specs.ConceptStage.{after_faults, budget_of, concept_stage, concept_work}
+use Rattle.line_search.specs.ConceptStage.{search_made, work_after}
 use Rattle.line_search.specs.GivenProblems.{problem_faults, problem_of}
 use Rattle.line_search.specs.Listings.{Entry, best_after, listing}
 use Rattle.line_search.specs.RightConcepts.{IsEnough, IsWhole}
+use Rattle.line_search.specs.Searches.{AreWritten, IsKnown}
 use Rattle.line_search.specs.Searches.{IsResult, concept_in, result_by, result_of, why_none}
 use Rattle.line_search.proofs.InputRefusals.{input_refused}
 use Rattle.line_search.proofs.Lengths.{listing_bound}
@@ -142,20 +147,15 @@ module _ (bundle : BundleParts) (before now : ℕ) where
 
 -- ---- a budget that is enough
 
+abbrev file_count : Result Made Refusal → ℕ
+file_count (Ok made) = length made.files
+file_count (Err why) = 0
+
 whole_by : (problem : ProblemParts) (best : Option (List ℕ)) (nodes : List Node) (entries : ℕ)
     (result : Result Made StageFault)
     → StageGives (search_made problem (by_parts best (Some nodes) entries)) result → IsWhole result
 whole_by problem None nodes entries (Ok made) gives = absurd (cc)
-whole_by problem (Some best) nodes entries (Ok made) gives = made_two made gives
-  where
-    made_two : (made : Made) → Ok (concept_made problem
-        (record { frequencies = best; tree = Some nodes; entries = entries })) ≡ Ok made
-        → length made.files ≡ 2
-    made_two made is = sym (ap file_count is)
-      where
-        file_count : Result Made Refusal → ℕ
-        file_count (Ok made) = length made.files
-        file_count (Err why) = 0
+whole_by problem (Some best) nodes entries (Ok made) gives = sym (ap file_count gives)
 whole_by problem None nodes entries (Err (stage.Refused (refusal.Spent spent))) gives = absurd (cc)
 whole_by problem None nodes entries (Err (stage.Refused (refusal.BadRow file row why))) gives = tt
 whole_by problem None nodes entries (Err (stage.Refused (refusal.TooMany what count))) gives = tt
@@ -190,13 +190,13 @@ whole_after : (bundle : BundleParts) (faults : List Refusal) (outcome : Result M
     (result : Result Made StageFault) → faults ≡ problem_faults bundle
     → (StageGives outcome result → IsWhole result)
     → StageGives (after_faults faults outcome) result → IsWhole result
-whole_after bundle [] outcome result is then gives = then gives
-whole_after bundle (first ∷ more) outcome (Ok made) is then gives = absurd (cc)
-whole_after bundle (first ∷ more) outcome (Err (stage.Refused reason)) is then gives =
+whole_after bundle [] outcome result is so gives = so gives
+whole_after bundle (first ∷ more) outcome (Ok made) is so gives = absurd (cc)
+whole_after bundle (first ∷ more) outcome (Err (stage.Refused reason)) is so gives =
     let same : first ≡ reason = cc in
     whole_refused bundle (stage.Refused reason)
     (sym (ap (λ faults. slice_get faults 0) is) ∙ ap (λ first. Some first) same)
-whole_after bundle (first ∷ more) outcome (Err stage.NoMemory) is then gives = tt
+whole_after bundle (first ∷ more) outcome (Err stage.NoMemory) is so gives = tt
 
 pub whole_given : (bundle : BundleParts) (result : Result Made StageFault)
     → StageGives (concept_stage bundle) result
@@ -205,3 +205,26 @@ unfolding concept_stage
 whole_given bundle result gives enough =
     whole_after bundle (problem_faults bundle) _ result refl
     (whole_found (problem_of bundle) (budget_of bundle) result enough) gives
+
+-- ---- what the search tells of its problem
+
+known_by : (problem : ProblemParts) (budget : ℕ) (found : Searched) → IsProblem problem
+    → IsResult problem budget found → IsKnown problem budget
+known_by problem budget found sound is = record {
+  sound = sound;
+  written = λ few. subst (λ tree. IfSome tree (AreWritten problem))
+      (is.tree_is ∙ ap (λ b. cond b (Some (nodes_in (listing problem))) None) few) is.written;
+}
+
+where_ok : (result : Result Made StageFault) (Told : Type 0) → Told → OnOk result Told
+where_ok (Ok made) Told told = told
+where_ok (Err fault) Told told = tt
+
+pub known_given : (bundle : BundleParts) (problem : ProblemParts) (budget : ℕ) (found : Searched)
+    (result : Result Made StageFault) → problem ≡ problem_of bundle → budget ≡ budget_of bundle
+    → IsProblem problem → IsResult problem budget found
+    → OnOk result (IsKnown (problem_of bundle) (budget_of bundle))
+known_given bundle problem budget found result problem_is budget_is sound is =
+    where_ok result (IsKnown (problem_of bundle) (budget_of bundle))
+    (subst (λ problem. IsKnown problem (budget_of bundle)) problem_is
+    (subst (IsKnown problem) budget_is (known_by problem budget found sound is)))

@@ -1,5 +1,6 @@
 -- The visits of the regions that wait, entry by entry.
-use Rattle.std.proofs.Common.{◌≡◌, ℕ, ◌+◌, ◌<◌, ◌∙◌, false, not, ◌&&◌, List, [], ◌∷◌, ◌++◌, length, filter_map, refl, ap, Option, Some, None}
+use Rattle.std.proofs.Common.{◌≡◌, ℕ, ◌+◌, ◌<◌, ◌∙◌, false, not, ◌&&◌, List, [], ◌∷◌, ◌++◌, length}
+use Rattle.std.proofs.Common.{filter_map, refl, ap, Option, Some, None}
 use Rattle.std.proofs.lemmas.Bool.{le-leb, lt-ltb}
 use Rattle.std.proofs.lemmas.List.{append_assoc, append-nil, length-map, length-set}
 use Rattle.std.proofs.lemmas.List.Elements.{filter_map-append}
@@ -11,9 +12,11 @@ use Rattle.branch_certificate.specs.declared.node.Node.{Node}
 use Rattle.branch_certificate.specs.declared.node.Node.TheVariants as node
 use Rattle.branch_certificate.specs.TreeFaults.{splits_outside}
 use Rattle.branch_certificate.specs.Walks.{SplitsOne, behind_node}
-use Rattle.line_search.specs.Listings.{Entry, best_after, entries_by, entry, first_open, listing, middle, node_at, visit}
+use Rattle.line_search.specs.Listings.{Entry, best_after, entries_by, entry, first_open, listing}
+use Rattle.line_search.specs.Listings.{middle, node_at, visit}
 use Rattle.line_search.specs.Searches.{IsVisited, entry_of, visits}
-use Rattle.line_search.proofs.Lengths.{IsOpenAt, first_open_is, lower_ordered, middle_inside, node_cases, root_ordered, then_also, upper_ordered}
+use Rattle.line_search.proofs.Lengths.{IsOpenAt, first_open_is, lower_ordered, middle_inside}
+use Rattle.line_search.proofs.Lengths.{node_cases, root_ordered, then_also, upper_ordered}
 use Rattle.line_search.proofs.Levels.{visit_unrolls}
 
 -- ---- the best concept behind entries

@@ -75,11 +75,7 @@ fn concept_made(
 }
 
 // The text of a concept.
-fn concept_text(
-    alloc: Global,
-    problem: &LineProblem,
-    best: &BestConcept,
-) -> Result<Text, NoMemory>
+fn concept_text(alloc: Global, problem: &LineProblem, best: &BestConcept) -> Result<Text, NoMemory>
     requires { IsPriced problem.now best.now }
     ensures { IfOk result
         (λ text. text ≡ concept_text problem.now best.now.frequencies.items) }

@@ -3,8 +3,8 @@ ghost use Rattle.std.specs.Prelude.{◌≡◌, ◌≤◌, ◌+◌, ◌∷◌, []
 ghost use Rattle.std.specs.Prelude.{IfOk, OnErr, OnOk};
 ghost use Rattle.line_search.specs.Listings.{best_after, listing};
 ghost use Rattle.line_search.specs.Budgets.{entries_listed};
-ghost use Rattle.line_search.specs.Searches.{ArePriced, IsResult, IsSearched, IsVisited, TakesEntry};
-ghost use Rattle.line_search.specs.Searches.{concept_in, entry_of};
+ghost use Rattle.line_search.specs.Searches.{ArePriced, IsResult, IsSearched, IsVisited};
+ghost use Rattle.line_search.specs.Searches.{TakesEntry, concept_in, entry_of};
 
 use crate::best::BestConcept;
 use crate::region_node::node_at;

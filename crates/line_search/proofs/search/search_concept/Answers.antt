@@ -1,6 +1,7 @@
 use Rattle.std.proofs.Common.{◌≡◌, arith, subst, sym}
 use Rattle.line_search.specs.Searches.{IsResult, IsSearched}
-use Rattle.line_search.proofs.SearchTurns.{last_taken, next_taken, on_error, one_within, search_spent}
+use Rattle.line_search.proofs.SearchTurns.{last_taken, next_taken, on_error, one_within}
+use Rattle.line_search.proofs.SearchTurns.{search_spent}
 use Rattle.line_search.proofs.search.search_concept.Goals as goal
 
 pub take_entry-requires-clause-visited : goal.take_entry-requires-clause-visited
