@@ -1,14 +1,13 @@
 // Whether the nodes of a tree show what they are to show, each over its region.
-ghost use Rattle.std.specs.Prelude.{◌≡◌, ◌∷◌, [], slice_get, length, IfOk, All, if◌then◌else◌, false};
+ghost use Rattle.std.specs.Prelude.{◌≡◌, ◌∷◌, [], slice_get, IfOk, All};
 ghost use Rattle.line_cost_model.specs.Regions.{HasEachFeasible, root_of};
-ghost use Rattle.branch_certificate.specs.TreeFaults.{placed_faults, splits_outside};
+ghost use Rattle.branch_certificate.specs.TreeFaults.{placed_faults};
 ghost use Rattle.branch_certificate.specs.TreeTexts.{NamesWhatIs};
-ghost use Rattle.branch_certificate.specs.Walks.{SplitsOne, behind_node, walked};
+ghost use Rattle.branch_certificate.specs.Walks.{walked};
 
 use crate::fault::TreeFault;
 use crate::first_faults::{FirstFaults, splits_outside};
-use crate::node::Node;
-use crate::region_walk::RegionWalk;
+use crate::region_walk::{RegionWalk, go_on};
 use crate::tree::Tree;
 use line_cost_model::LineProblem;
 use plan_num::NoMemory;
@@ -40,22 +39,4 @@ pub(crate) fn node_fault(
         }
     }
     Ok(firsts.first())
-}
-
-// From a node on to the next one, where one is to come.
-fn go_on(walk: &mut RegionWalk, node: &Node) -> Result<bool, NoMemory>
-    requires there { SplitsOne walk.old.region node.now }
-    requires inside { splits_outside walk.old.region node.now ≡ false }
-    ensures waiting { IfOk result (λ more.
-        (if more then walk.new.region ∷ walk.new.waiting else [])
-        ≡ behind_node walk.old.region walk.old.waiting node.now) }
-    ensures size { IfOk result (λ _. length walk.new.region ≡ length walk.old.region) }
-{
-    match node {
-        Node::Split { line, at } => {
-            walk.enter(*line, *at)?;
-            Ok(true)
-        }
-        _ => walk.leave(),
-    }
 }

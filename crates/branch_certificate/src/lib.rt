@@ -25,6 +25,7 @@ pub use fault::TreeFault;
 pub use node::Node;
 pub use read::read_tree;
 pub use read_fault::TreeReadFault;
+pub use region_walk::{RegionWalk, go_on};
 pub use tree::Tree;
 pub use write::write_tree;
 

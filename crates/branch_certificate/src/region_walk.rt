@@ -1,8 +1,10 @@
 // The regions of the nodes of a tree, one after the other.
-ghost use Rattle.std.specs.Prelude.{◌≡◌, ◌<◌, ◌+◌, ◌∷◌, [], length, reverse, All, IfOk, OnOk, MatchBool};
+ghost use Rattle.std.specs.Prelude.{◌≡◌, ◌<◌, ◌+◌, ◌∷◌, [], length, reverse, false, if◌then◌else◌};
+ghost use Rattle.std.specs.Prelude.{All, IfOk, OnOk, MatchBool};
 ghost use Rattle.line_cost_model.specs.Regions.{HasEachFeasible, root_of, part_from, part_up_to};
 ghost use Rattle.branch_certificate.specs.Certified.{SplitsInside};
-ghost use Rattle.branch_certificate.specs.Walks.{IsOpenSplit, behind_node, waiting_of};
+ghost use Rattle.branch_certificate.specs.TreeFaults.{splits_outside};
+ghost use Rattle.branch_certificate.specs.Walks.{IsOpenSplit, SplitsOne, behind_node, waiting_of};
 
 use crate::node::Node;
 use line_cost_model::{LineProblem, Region};
@@ -23,7 +25,7 @@ pub(crate) struct OpenSplit {
 /// The region at which a node of a tree stands, and the splits above it. Contracts see it as that
 /// region and those of the upper parts that wait.
 #[derive(Debug, Drop)]
-pub(crate) struct RegionWalk {
+pub struct RegionWalk {
     region: Region,
     splits: Vec<OpenSplit>,
 }
@@ -44,7 +46,7 @@ impl Model for RegionWalk {
 
 impl RegionWalk {
     /// At the root of a tree.
-    pub(crate) fn new(alloc: Global, problem: &LineProblem) -> Result<RegionWalk, NoMemory>
+    pub fn new(alloc: Global, problem: &LineProblem) -> Result<RegionWalk, NoMemory>
         ensures root { IfOk result
             (λ walk. walk ≡ record { region = root_of problem.now; waiting = [] }) }
         ensures each { IfOk result (λ _. HasEachFeasible problem.now (root_of problem.now)) }
@@ -57,7 +59,7 @@ impl RegionWalk {
     }
 
     /// The region of the node.
-    pub(crate) fn region(&self) -> &Region
+    pub fn region(&self) -> &Region
         ensures { result.now ≡ self.now.region }
     {
         &self.region
@@ -91,6 +93,24 @@ impl RegionWalk {
         ensures size { length self.new.region ≡ length self.old.region }
     {
         leave(&mut self.region, &mut self.splits)
+    }
+}
+
+/// From a node on to the next one, where one is to come.
+pub fn go_on(walk: &mut RegionWalk, node: &Node) -> Result<bool, NoMemory>
+    requires there { SplitsOne walk.old.region node.now }
+    requires inside { splits_outside walk.old.region node.now ≡ false }
+    ensures waiting { IfOk result (λ more.
+        (if more then walk.new.region ∷ walk.new.waiting else [])
+        ≡ behind_node walk.old.region walk.old.waiting node.now) }
+    ensures size { IfOk result (λ _. length walk.new.region ≡ length walk.old.region) }
+{
+    match node {
+        Node::Split { line, at } => {
+            walk.enter(*line, *at)?;
+            Ok(true)
+        }
+        _ => walk.leave(),
     }
 }
 

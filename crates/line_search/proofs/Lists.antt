@@ -28,7 +28,7 @@ zip_at (a ∷ xs) (b ∷ ys) zero x y is own =
     λ k. Some (first k, second k)
 zip_at (a ∷ xs) (b ∷ ys) (suc i) x y is own = zip_at xs ys i x y is own
 
-less_is : (x y : ℤ) → int_cmp x y ≡ Less → x <ℤ y
+pub less_is : (x y : ℤ) → int_cmp x y ≡ Less → x <ℤ y
 less_is x y e = one (int_lt x y) refl e
   where
     one : (b : Bool) → int_lt x y ≡ b → cond b Less (cond (int_lt y x) Greater Equal) ≡ Less

@@ -21,7 +21,7 @@ abbrev pub bounded : List Edge → List EdgeLoad → List BoundedEdge
 bounded edges loads = map (λ at. bounded_by at.0 at.1) (zip edges loads)
 
 -- they have the ids of the edges
-bounded_ids : (edges : List Edge) (loads : List EdgeLoad) → length loads ≡ length edges
+pub bounded_ids : (edges : List Edge) (loads : List EdgeLoad) → length loads ≡ length edges
     → map (λ (edge : BoundedEdge). edge.id) (bounded edges loads)
     ≡ map (λ (edge : Edge). edge.id) edges
 bounded_ids [] loads each = refl

@@ -20,7 +20,7 @@ abbrev pub costed : List LineParts → List ℤ → List CostedLine
 costed lines costs = map (λ at. costed_by at.0 at.1) (zip lines costs)
 
 -- they have the ids of the lines
-costed_ids : (lines : List LineParts) (costs : List ℤ) → length costs ≡ length lines
+pub costed_ids : (lines : List LineParts) (costs : List ℤ) → length costs ≡ length lines
     → map (λ (line : CostedLine). line.id) (costed lines costs)
     ≡ map (λ (line : LineParts). line.id) lines
 costed_ids [] costs each = refl

@@ -5,20 +5,19 @@ use std::alloc::Global;
 use std::test::Fail;
 
 /// Two edges in a row, a line over both and a line over the first.
-const LOADS: &[u8] = b"1; 100; 2; 3\n2; 40; 1; 3\n";
+pub(crate) const LOADS: &[u8] = b"1; 100; 2; 3\n2; 40; 1; 3\n";
 
-const COSTS: &[u8] = b"1; 5; 15\n2; 2; 12\n";
+pub(crate) const COSTS: &[u8] = b"1; 5; 15\n2; 2; 12\n";
 
-// What the test gives of a concept, with a tree beside it, over loads and costs.
-fn checked(
+/// The inputs of the search within a budget, over loads and costs.
+pub(crate) fn bundle_of(
     alloc: Global,
+    budget: i64,
     loads: &[u8],
     costs: &[u8],
-    concept: &[u8],
-    tree: Option<&[u8]>,
-) -> Result<Result<Option<ConceptFault>, StageFault>, Fail> {
+) -> Result<Bundle, Fail> {
     let mut settings = Settings::new(alloc);
-    settings.push(Key::ConceptBudget, 9)?;
+    settings.push(Key::ConceptBudget, budget)?;
     let mut bundle = Bundle::new(alloc, Stage::Concept, settings);
     bundle.push_input(b"1; A; A; 0; 0\n2; B; B; 0; 0\n3; C; C; 0; 0\n")?;
     bundle.push_input(b"1; 1; 2; 2; 4; 5\n2; 2; 3; 3; 6; 6\n")?;
@@ -28,6 +27,18 @@ fn checked(
     if !bundle.fits() {
         return Err(Fail::from("the bundle does not fit"));
     }
+    Ok(bundle)
+}
+
+// What the test gives of a concept, with a tree beside it, over loads and costs.
+fn checked(
+    alloc: Global,
+    loads: &[u8],
+    costs: &[u8],
+    concept: &[u8],
+    tree: Option<&[u8]>,
+) -> Result<Result<Option<ConceptFault>, StageFault>, Fail> {
+    let bundle = bundle_of(alloc, 9, loads, costs)?;
     Ok(check_concept(alloc, &bundle, concept, tree))
 }
 

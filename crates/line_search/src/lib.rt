@@ -1,17 +1,26 @@
 //! Line concepts: the test of one from any hand, and of the tree that may certify what it costs.
 #![tactic(auto)]
 
+mod best;
 mod check;
 mod concept_table;
 mod fault;
+mod first_open;
+mod found;
 mod frequencies;
 mod given;
 mod judge;
+mod region_node;
+mod search;
+mod stage;
 
 pub use check::check_concept;
 pub use fault::ConceptFault;
+pub use stage::make_concept;
 
 #[cfg(test)]
 mod check_tests;
+#[cfg(test)]
+mod stage_tests;
 #[cfg(test)]
 mod tree_tests;

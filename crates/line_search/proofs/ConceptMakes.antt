@@ -1,0 +1,48 @@
+-- Which files the stage of line concepts makes.
+use Rattle.std.proofs.Common.{◌≡◌, ℕ, List, [], ◌∷◌, Option, Some, None, Result, Ok, Err, ap, lit<}
+use Rattle.giv_files.specs.declared.file_id.FileId.{FileId}
+use Rattle.giv_files.specs.declared.made.Made.{Made}
+use Rattle.giv_files.specs.declared.refusal.Refusal.{Refusal}
+use Rattle.giv_files.specs.declared.stage.Stage.TheVariants as stage
+use Rattle.giv_files.specs.MadeLists.{MakesAs, ids_of}
+use Rattle.giv_files.specs.Settings.{BundleParts}
+use Rattle.line_cost_model.specs.Problems.{ProblemParts}
+use Rattle.branch_certificate.specs.declared.node.Node.{Node}
+use Rattle.line_search.specs.Budgets.{FoundConcept, result_within}
+use Rattle.line_search.specs.ConceptStage.{after_faults, budget_of, concept_stage, search_made}
+use Rattle.line_search.specs.GivenProblems.{problem_faults, problem_of}
+use Rattle.line_search.specs.Listings.{listing}
+
+-- the files that are made, where some are
+abbrev ids_in : Result Made Refusal → List FileId
+ids_in (Ok made) = ids_of made.files
+ids_in (Err why) = []
+
+concept_makes : (problem : ProblemParts) (frequencies : List ℕ) (tree : Option (List Node))
+    (entries : ℕ) (made : Made)
+    → search_made problem (Ok (record { frequencies = frequencies; tree = tree; entries = entries }))
+    ≡ Ok made
+    → MakesAs stage.Concept (ids_of made.files)
+concept_makes problem frequencies (Some nodes) entries made is = (0, lit< tt, ap ids_in is)
+concept_makes problem frequencies None entries made is = (1, lit< tt, ap ids_in is)
+
+search_makes : (problem : ProblemParts) (result : Result FoundConcept Refusal) (made : Made)
+    → search_made problem result ≡ Ok made → MakesAs stage.Concept (ids_of made.files)
+search_makes problem (Ok concept) made is =
+    concept_makes problem concept.frequencies concept.tree concept.entries made is
+search_makes problem (Err why) made is = absurd (cc)
+
+makes_after : (faults : List Refusal) (problem : ProblemParts)
+    (result : Result FoundConcept Refusal) (made : Made)
+    → after_faults faults (search_made problem result) ≡ Ok made
+    → MakesAs stage.Concept (ids_of made.files)
+makes_after [] problem result made is = search_makes problem result made is
+makes_after (first ∷ more) problem result made is = absurd (cc)
+
+-- they are those that the stage may make: without a mark there is no Tree
+pub concept_stage_makes : (bundle : BundleParts) (made : Made) → concept_stage bundle ≡ Ok made
+    → MakesAs stage.Concept (ids_of made.files)
+unfolding concept_stage
+concept_stage_makes bundle made is =
+    makes_after (problem_faults bundle) (problem_of bundle)
+    (result_within (budget_of bundle) (listing (problem_of bundle))) made is

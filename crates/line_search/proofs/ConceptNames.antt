@@ -1,0 +1,79 @@
+-- Which files the stage of line concepts names where it refuses a row.
+use Rattle.std.proofs.Common.{◌≡◌, ℕ, Bool, true, false, cond, List, [], ◌∷◌, ◌++◌, length, nat_le}
+use Rattle.std.proofs.Common.{Option, Some, None, Result, Err, subst}
+use Rattle.std.specs.Prelude.{ok_or}
+use Rattle.giv_files.specs.declared.file_id.FileId.{FileId}
+use Rattle.giv_files.specs.declared.file_id.FileId.TheVariants as file
+use Rattle.giv_files.specs.declared.made.Made.{Made}
+use Rattle.giv_files.specs.declared.refusal.Refusal.{Refusal}
+use Rattle.giv_files.specs.declared.refusal.Refusal.TheVariants as refusal
+use Rattle.giv_files.specs.Inputs.{input_faults}
+use Rattle.giv_files.specs.NamedFiles.{NamesOnly}
+use Rattle.giv_files.specs.Settings.{BundleParts}
+use Rattle.giv_files.specs.StageCalls.{input_text}
+use Rattle.giv_files.proofs.Named.{AllName, names_both, input_names}
+use Rattle.ptn_network.specs.Loads.{load_input}
+use Rattle.ptn_network.specs.Networks.{NetworkParts, network_faults, network_in}
+use Rattle.ptn_network.proofs.NamedFaults.{network_names}
+use Rattle.line_pool.specs.PoolCosts.{pool_cost_input}
+use Rattle.line_pool.specs.Pools.{line_faults, pool_faults}
+use Rattle.line_cost_model.specs.Problems.{ProblemParts}
+use Rattle.line_search.specs.Budgets.{FoundConcept, result_within, whole_result, spent_result}
+use Rattle.line_search.specs.ConceptStage.{after_faults, budget_of, concept_stage, search_made}
+use Rattle.line_search.specs.GivenProblems.{lines_in, problem_faults, problem_of}
+use Rattle.line_search.specs.Listings.{Entry, listing}
+
+ended : (test : FileId → Bool) (problem : ProblemParts) (found : Option FoundConcept)
+    (why reason : Refusal) → NamesOnly test why
+    → search_made problem (ok_or found why) ≡ Err reason → NamesOnly test reason
+ended test problem (Some concept) why reason h is = absurd (cc)
+ended test problem None why reason h is =
+    let same : why ≡ reason = cc in subst (NamesOnly test) same h
+
+-- a search names no file
+search_names : (test : FileId → Bool) (problem : ProblemParts) (budget : ℕ) (entries : List Entry)
+    (reason : Refusal) → search_made problem (result_within budget entries) ≡ Err reason
+    → NamesOnly test reason
+unfolding result_within
+search_names test problem budget entries reason is =
+    elim (nat_le (length entries) budget) as
+    (λ b. search_made problem (cond b (whole_result entries) (spent_result budget entries)) ≡ Err reason
+    → NamesOnly test reason) [
+      | true ↦ ended test problem _ refusal.NoSolution reason tt
+      | false ↦ ended test problem _ (refusal.Spent budget) reason tt
+    ] is
+
+names_after : (test : FileId → Bool) (faults : List Refusal) (outcome : Result Made Refusal)
+    (reason : Refusal) → AllName test faults → (outcome ≡ Err reason → NamesOnly test reason)
+    → after_faults faults outcome ≡ Err reason → NamesOnly test reason
+names_after test [] outcome reason named so is = so is
+names_after test (first ∷ more) outcome reason named so is =
+    let same : first ≡ reason = cc in subst (NamesOnly test) same named.0
+
+-- the faults of a pool name its file
+pool_names : (test : FileId → Bool) → test file.Pool ≡ true → (network : NetworkParts)
+    (text : List ℕ) → AllName test (pool_faults network text)
+unfolding line_faults
+pool_names test pool network text = input_names test _ text pool
+
+-- a refusal by a row names the file of stops, of edges, of the pool, of loads or of costs
+pub concept_stage_names : (test : FileId → Bool) → test file.Stop ≡ true → test file.Edge ≡ true
+    → test file.Pool ≡ true → test file.Load ≡ true → test file.PoolCost ≡ true
+    → (bundle : BundleParts) (reason : Refusal) → concept_stage bundle ≡ Err reason
+    → NamesOnly test reason
+unfolding concept_stage problem_faults
+concept_stage_names test stop edge pool load cost bundle reason is =
+    let network = network_faults (input_text bundle 0) (input_text bundle 1) in
+    let lines = pool_faults (network_in bundle) (input_text bundle 2) in
+    let loads = input_faults (load_input file.Load (network_in bundle).edges) (input_text bundle 3) in
+    let costs = input_faults (pool_cost_input (lines_in bundle)) (input_text bundle 4) in
+    let named : AllName test (problem_faults bundle) =
+    names_both test (network ++ lines ++ loads) costs
+    (names_both test (network ++ lines) loads
+    (names_both test network lines
+    (network_names test stop edge (input_text bundle 0) (input_text bundle 1))
+    (pool_names test pool (network_in bundle) (input_text bundle 2)))
+    (input_names test (load_input file.Load (network_in bundle).edges) (input_text bundle 3) load))
+    (input_names test (pool_cost_input (lines_in bundle)) (input_text bundle 4) cost) in
+    names_after test (problem_faults bundle) _ reason named
+    (search_names test (problem_of bundle) (budget_of bundle) (listing (problem_of bundle)) reason) is

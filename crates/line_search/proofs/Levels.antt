@@ -1,0 +1,112 @@
+-- More levels than a region needs list the same.
+use Rattle.std.proofs.Common.{◌≡◌, ℕ, zero, suc, ◌+◌, ◌-◌, ◌≤◌, ◌<◌, List, [], ◌∷◌, refl, arith, Option, sum_by}
+use Rattle.std.proofs.lemmas.List.Sums.{sum_by-cons}
+use Rattle.line_cost_model.specs.declared.range.LineRange.{LineRange}
+use Rattle.line_cost_model.specs.Problems.{ProblemParts}
+use Rattle.line_cost_model.specs.Regions.{part_from, part_up_to, range_of}
+use Rattle.branch_certificate.specs.declared.node.Node.TheVariants as node
+use Rattle.line_search.specs.Listings.{Entry, best_after, entries_by, entries_within, first_open, levels_of, middle, visit, node_at}
+use Rattle.line_search.proofs.Lengths.{AreOrdered, IsOpenAt, first_open_is, lower_ordered, middle_inside, node_cases, then_also, upper_ordered}
+
+abbrev width : LineRange → ℕ
+width range = range.hi - range.lo
+
+pub fewer_below : (region : List LineRange) (line at : ℕ) → IsOpenAt region line → (range_of region line).lo ≤ at
+    → at < (range_of region line).hi → levels_of (part_up_to region line at) < levels_of region
+fewer_below [] line at is_open low high = absurd (omega (arith, is_open.0))
+fewer_below (range ∷ region) zero at is_open low high =
+    omega (
+      arith,
+      low,
+      high,
+      sum_by-cons width range region,
+      sum_by-cons width
+          (record { lo = range.lo; hi = at }) region,
+    )
+fewer_below (range ∷ region) (suc line) at is_open low high =
+    omega (
+      arith,
+      sum_by-cons width range region,
+      sum_by-cons width range
+          (part_up_to region line at),
+      fewer_below region line at (omega (arith, is_open.0), is_open.1) low
+          high,
+    )
+
+pub fewer_above : (region : List LineRange) (line at : ℕ) → IsOpenAt region line → (range_of region line).lo ≤ at
+    → at < (range_of region line).hi → levels_of (part_from region line (at + 1)) < levels_of region
+fewer_above [] line at is_open low high = absurd (omega (arith, is_open.0))
+fewer_above (range ∷ region) zero at is_open low high =
+    omega (
+      arith,
+      low,
+      high,
+      sum_by-cons width range region,
+      sum_by-cons width
+          (record { lo = at + 1; hi = range.hi }) region,
+    )
+fewer_above (range ∷ region) (suc line) at is_open low high =
+    omega (
+      arith,
+      sum_by-cons width range region,
+      sum_by-cons width range
+          (part_from region line (at + 1)),
+      fewer_above region line at
+          (omega (arith, is_open.0), is_open.1) low high,
+    )
+
+-- two ways to list the parts of a split agree
+abbrev Agree : (List LineRange → Option (List ℕ) → List Entry)
+    → (List LineRange → Option (List ℕ) → List Entry) → ℕ → Type 0
+Agree one other most = (region : List LineRange) (best : Option (List ℕ)) → AreOrdered region
+    → levels_of region ≤ most → one region best ≡ other region best
+
+split_agrees : (one other : List LineRange → Option (List ℕ) → List Entry) (most : ℕ) → Agree one other most
+    → (region : List LineRange) (best : Option (List ℕ)) → AreOrdered region → levels_of region ≤ most + 1
+    → (line : ℕ) → IsOpenAt region line
+    → entries_by one region best (node.Split line (middle (range_of region line)))
+    ≡ entries_by other region best (node.Split line (middle (range_of region line)))
+split_agrees one other most agree region best ordered few line is_open =
+    let at = middle (range_of region line) in
+    let inside = middle_inside (range_of region line).lo (range_of region line).hi is_open.1 in
+    let below : one (part_up_to region line at) best ≡ other (part_up_to region line at) best =
+    agree (part_up_to region line at) best (lower_ordered region line at ordered inside.0)
+    (omega (arith, few, fewer_below region line at is_open inside.0 inside.1)) in
+    let above = agree (part_from region line (at + 1))
+    (best_after best (other (part_up_to region line at) best))
+    (upper_ordered region line at ordered inside.1)
+    (omega (arith, few, fewer_above region line at is_open inside.0 inside.1)) in
+    rw (below, above) refl
+
+pub same_levels : (problem : ProblemParts) (m n most : ℕ) → most ≤ m → most ≤ n
+    → Agree (entries_within problem m) (entries_within problem n) most
+unfolding entries_within
+same_levels problem zero n most hm hn region best ordered few = absurd (omega (arith, hm, few))
+same_levels problem (suc m) zero most hm hn region best ordered few = absurd (omega (arith, hn, few))
+same_levels problem (suc m) (suc n) most hm hn region best ordered few =
+    node_cases problem region best (λ at. entries_by (entries_within problem m) region best at ≡ entries_by
+    (entries_within problem n) region best at)
+    (λ e s. refl) (λ ms. refl) refl
+    (then_also (IsOpenAt region) _ (first_open problem region) (first_open_is problem region)
+    (split_agrees (entries_within problem m) (entries_within problem n) (most - 1)
+    (same_levels problem m n (most - 1) (omega (arith, hm)) (omega (arith, hn))) region best ordered
+    (omega (arith, few))))
+
+visit_agrees : (problem : ProblemParts) (most : ℕ) → Agree (entries_within problem most) (visit problem) most
+visit_agrees problem most region best ordered few = same_levels problem most (levels_of region)
+    (levels_of region) few (omega arith) region best ordered (omega arith)
+
+-- the listing as it is told in words: what is said of a region, and behind a split the visits of its parts
+pub visit_unrolls : (problem : ProblemParts) (region : List LineRange) (best : Option (List ℕ))
+    → AreOrdered region → visit problem region best ≡ entries_by (visit problem) region best
+    (node_at problem region best)
+unfolding entries_within
+visit_unrolls problem region best ordered =
+    let one_more : levels_of region ≡ suc (sum_by width region) = omega arith in
+    rw one_more (node_cases problem region best
+    (λ at. entries_by (entries_within problem (sum_by width region)) region best at ≡ entries_by
+    (visit problem) region best at)
+    (λ e s. refl) (λ ms. refl) refl
+    (then_also (IsOpenAt region) _ (first_open problem region) (first_open_is problem region)
+    (split_agrees (entries_within problem (sum_by width region)) (visit problem) (sum_by width region)
+    (visit_agrees problem (sum_by width region)) region best ordered (omega arith))))

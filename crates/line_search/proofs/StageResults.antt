@@ -1,0 +1,230 @@
+-- What the stage gives, by what the search found.
+use Rattle.std.proofs.Common.{◌≡◌, ℕ, ◌+◌, ◌≤◌, ◌∙◌, Bool, true, false, cond, nat_le, List, [], ◌∷◌}
+use Rattle.std.proofs.Common.{length, take, min, slice_get, refl, arith, ap, sym, subst, Option}
+use Rattle.std.proofs.Common.{Some, None, option_map, Result, Ok, Err}
+use Rattle.std.specs.Prelude.{IfSome, OnOk, ok_or}
+use Rattle.std.proofs.lemmas.Bool.{le-leb, leb-true, leb-false}
+use Rattle.std.proofs.lemmas.List.{take_all, length-take-le}
+use Rattle.std.proofs.lemmas.Option.{same_Some}
+use Rattle.std.proofs.Math.Nat.{min-eq_left, min-eq_right}
+use Rattle.giv_files.specs.declared.made.Made.{Made}
+use Rattle.giv_files.specs.declared.refusal.Refusal.{Refusal}
+use Rattle.giv_files.specs.declared.refusal.Refusal.TheVariants as refusal
+use Rattle.giv_files.specs.declared.refusal.StageFault.{StageFault}
+use Rattle.giv_files.specs.declared.refusal.StageFault.TheVariants as stage
+use Rattle.giv_files.specs.Inputs.{Refuses}
+use Rattle.giv_files.specs.Settings.{BundleParts}
+use Rattle.giv_files.specs.StageCalls.{StageGives, TakesSteps}
+use Rattle.line_cost_model.specs.Problems.{IsProblem, ProblemParts}
+use Rattle.branch_certificate.specs.declared.node.Node.{Node}
+use Rattle.line_search.specs.declared.best.BestConcept.{BestConcept}
+use Rattle.line_search.specs.declared.search.Searched.{Searched}
+use Rattle.line_search.specs.Budgets.{FoundConcept, entries_listed, last_found, nodes_in}
+use Rattle.line_search.specs.Budgets.{result_within}
+use Rattle.line_search.specs.ConceptStage.{after_faults, budget_of, concept_stage, concept_work}
+use Rattle.line_search.specs.ConceptStage.{search_made, work_after}
+use Rattle.line_search.specs.GivenProblems.{problem_faults, problem_of}
+use Rattle.line_search.specs.Listings.{Entry, best_after, listing}
+use Rattle.line_search.specs.RightConcepts.{IsEnough, IsWhole}
+use Rattle.line_search.specs.Searches.{AreWritten, IsKnown}
+use Rattle.line_search.specs.Searches.{IsResult, concept_in, result_by, result_of, why_none}
+use Rattle.line_search.proofs.InputRefusals.{input_refused}
+use Rattle.line_search.proofs.Lengths.{listing_bound}
+
+-- ---- the concept within a budget
+
+abbrev by_parts : Option (List ℕ) → Option (List Node) → ℕ → Result FoundConcept Refusal
+by_parts best tree entries =
+    ok_or (option_map (λ found. record { frequencies = found; tree = tree; entries = entries }) best)
+    (why_none tree entries)
+
+in_parts : (best : Option BestConcept) (tree : Option (List Node)) (entries : ℕ)
+    → result_by best tree entries ≡ by_parts (concept_in best) tree entries
+in_parts None tree entries = refl
+in_parts (Some best) tree entries = refl
+
+-- by the test whether the listing is within the budget
+within_by : (budget : ℕ) (all : List Entry) (b : Bool) → nat_le (length all) budget ≡ b
+    → by_parts (best_after None (take budget all)) (cond b (Some (nodes_in all)) None)
+    (entries_listed budget all) ≡ result_within budget all
+unfolding result_within
+within_by budget all true is =
+    let few = leb-true (length all) budget is in
+    (λ i. by_parts (best_after None (take_all budget all few i)) (Some (nodes_in all))
+    (min-eq_right few i))
+    ∙ ap (λ b. cond b (by_parts (best_after None all) (Some (nodes_in all)) (length all))
+    (ok_or (last_found None (take budget all)) (refusal.Spent budget))) (sym is)
+within_by budget all false is =
+    let over = leb-false (length all) budget is in
+    let first : length (take budget all) ≡ budget = length-take-le budget all (omega (arith, over)) in
+    let less : min budget (length all) ≡ budget = min-eq_left (omega (arith, over)) in
+    (λ i. ok_or (option_map
+    (λ found. record { frequencies = found; tree = None; entries = (less ∙ sym first) i })
+    (best_after None (take budget all))) (refusal.Spent (less i)))
+    ∙ ap (λ b. cond b (by_parts (best_after None all) (Some (nodes_in all)) (length all))
+    (ok_or (last_found None (take budget all)) (refusal.Spent budget))) (sym is)
+
+pub result_is : (problem : ProblemParts) (budget : ℕ) (found : Searched)
+    → IsResult problem budget found → result_of found ≡ result_within budget (listing problem)
+result_is problem budget found is =
+    in_parts found.best found.tree found.entries
+    ∙ (λ i. by_parts (is.best_is i) (is.tree_is i) (is.entries_are i))
+    ∙ within_by budget (listing problem) (nat_le (length (listing problem)) budget) refl
+
+-- ---- the outcome
+
+-- a fault of the inputs is what the stage gives
+refused_first : (faults : List Refusal) (outcome : Result Made Refusal) (fault : StageFault)
+    → Refuses faults fault → StageGives (after_faults faults outcome) (Err fault)
+refused_first [] outcome (stage.Refused reason) h = absurd (cc)
+refused_first (first ∷ more) outcome (stage.Refused reason) h = ap (λ r. Err r) (same_Some _ _ h)
+refused_first faults outcome stage.NoMemory h = tt
+
+module _ (bundle : BundleParts) where
+  pub stage_refused : (fault : StageFault) → Refuses (problem_faults bundle) fault
+      → StageGives (concept_stage bundle) (Err fault)
+  unfolding concept_stage
+  stage_refused fault h = refused_first (problem_faults bundle) _ fault h
+
+  pub stage_found : (problem : ProblemParts) (budget : ℕ) (found : Searched)
+      (result : Result Made StageFault) → problem_faults bundle ≡ [] → problem ≡ problem_of bundle
+      → budget ≡ budget_of bundle → IsResult problem budget found
+      → StageGives (search_made problem (result_of found)) result
+      → StageGives (concept_stage bundle) result
+  unfolding concept_stage
+  stage_found problem budget found result none problem_is budget_is is gives =
+      subst (λ function. StageGives function result)
+      (ap (search_made problem) (result_is problem budget found is)
+      ∙ (λ i. search_made (problem_is i) (result_within (budget_is i) (listing (problem_is i))))
+      ∙ ap (λ faults. after_faults faults (search_made (problem_of bundle)
+      (result_within (budget_of bundle) (listing (problem_of bundle))))) (sym none)) gives
+
+-- ---- steps
+
+some_steps : (faults : List Refusal) (entries before now : ℕ) (fault : StageFault)
+    → Refuses faults fault → now ≡ before + 1
+    → TakesSteps {T = Made} (work_after faults entries) before now (Err fault)
+some_steps [] entries before now (stage.Refused reason) h is = absurd (cc)
+some_steps (first ∷ more) entries before now (stage.Refused reason) h is = is
+some_steps [] entries before now stage.NoMemory h is = (omega (arith, is), omega (arith, is))
+some_steps (first ∷ more) entries before now stage.NoMemory h is =
+    (omega (arith, is), omega (arith, is))
+
+steps_by : (work before now : ℕ) (result : Result Made StageFault) → now ≡ before + work
+    → TakesSteps work before now result
+steps_by work before now (Ok made) is = is
+steps_by work before now (Err (stage.Refused reason)) is = is
+steps_by work before now (Err stage.NoMemory) is = (omega (arith, is), omega (arith, is))
+
+module _ (bundle : BundleParts) (before now : ℕ) where
+  pub steps_refused : (fault : StageFault) → Refuses (problem_faults bundle) fault
+      → now ≡ before + 1 → TakesSteps {T = Made} (concept_work bundle) before now (Err fault)
+  unfolding concept_work
+  steps_refused fault h is = some_steps (problem_faults bundle) _ before now fault h is
+
+  module _ (problem : ProblemParts) (budget : ℕ) (none : problem_faults bundle ≡ [])
+      (problem_is : problem ≡ problem_of bundle) (budget_is : budget ≡ budget_of bundle) where
+    work_is : 1 + entries_listed budget (listing problem) ≡ concept_work bundle
+    unfolding concept_work
+    work_is = (λ i. 1 + entries_listed (budget_is i) (listing (problem_is i)))
+        ∙ ap (λ faults. work_after faults
+        (entries_listed (budget_of bundle) (listing (problem_of bundle)))) (sym none)
+
+    -- no memory for an entry
+    pub steps_stopped : before + 1 ≤ now
+        → now ≤ before + 1 + entries_listed budget (listing problem)
+        → TakesSteps {T = Made} (concept_work bundle) before now (Err stage.NoMemory)
+    steps_stopped low high =
+        subst (λ work. TakesSteps {T = Made} work before now (Err stage.NoMemory)) work_is
+        (omega (arith, low), omega (arith, high))
+
+    pub steps_listed : (result : Result Made StageFault)
+        → now ≡ before + 1 + entries_listed budget (listing problem)
+        → TakesSteps (concept_work bundle) before now result
+    steps_listed result is = subst (λ work. TakesSteps work before now result) work_is
+        (steps_by (1 + entries_listed budget (listing problem)) before now result
+        (omega (arith, is)))
+
+-- ---- a budget that is enough
+
+abbrev file_count : Result Made Refusal → ℕ
+file_count (Ok made) = length made.files
+file_count (Err why) = 0
+
+whole_by : (problem : ProblemParts) (best : Option (List ℕ)) (nodes : List Node) (entries : ℕ)
+    (result : Result Made StageFault)
+    → StageGives (search_made problem (by_parts best (Some nodes) entries)) result → IsWhole result
+whole_by problem None nodes entries (Ok made) gives = absurd (cc)
+whole_by problem (Some best) nodes entries (Ok made) gives = sym (ap file_count gives)
+whole_by problem None nodes entries (Err (stage.Refused (refusal.Spent spent))) gives = absurd (cc)
+whole_by problem None nodes entries (Err (stage.Refused (refusal.BadRow file row why))) gives = tt
+whole_by problem None nodes entries (Err (stage.Refused (refusal.TooMany what count))) gives = tt
+whole_by problem None nodes entries (Err (stage.Refused refusal.NoSolution)) gives = tt
+whole_by problem (Some best) nodes entries (Err (stage.Refused reason)) gives = absurd (cc)
+whole_by problem best nodes entries (Err stage.NoMemory) gives = tt
+
+whole_refused : (bundle : BundleParts) (fault : StageFault) → Refuses (problem_faults bundle) fault
+    → IsWhole (Err fault)
+whole_refused bundle (stage.Refused (refusal.Spent spent)) h =
+    input_refused bundle (refusal.Spent spent) h
+whole_refused bundle (stage.Refused (refusal.BadRow file row why)) h = tt
+whole_refused bundle (stage.Refused (refusal.TooMany what count)) h = tt
+whole_refused bundle (stage.Refused refusal.NoSolution) h = tt
+whole_refused bundle stage.NoMemory h = tt
+
+-- the outcome within a budget that is enough, where the inputs have no fault
+whole_found : (problem : ProblemParts) (budget : ℕ) (result : Result Made StageFault)
+    → IsEnough problem budget
+    → StageGives (search_made problem (result_within budget (listing problem))) result → IsWhole result
+unfolding result_within
+whole_found problem budget result enough gives =
+    let long = listing_bound problem in
+    let within = le-leb (length (listing problem)) budget (omega (arith, long, enough)) in
+    let all = listing problem in
+    whole_by problem (best_after None all) (nodes_in all) (length all) result
+    (subst (λ b. StageGives (search_made problem
+    (cond b (by_parts (best_after None all) (Some (nodes_in all)) (length all))
+    (ok_or (last_found None (take budget all)) (refusal.Spent budget)))) result) within gives)
+
+whole_after : (bundle : BundleParts) (faults : List Refusal) (outcome : Result Made Refusal)
+    (result : Result Made StageFault) → faults ≡ problem_faults bundle
+    → (StageGives outcome result → IsWhole result)
+    → StageGives (after_faults faults outcome) result → IsWhole result
+whole_after bundle [] outcome result is so gives = so gives
+whole_after bundle (first ∷ more) outcome (Ok made) is so gives = absurd (cc)
+whole_after bundle (first ∷ more) outcome (Err (stage.Refused reason)) is so gives =
+    let same : first ≡ reason = cc in
+    whole_refused bundle (stage.Refused reason)
+    (sym (ap (λ faults. slice_get faults 0) is) ∙ ap (λ first. Some first) same)
+whole_after bundle (first ∷ more) outcome (Err stage.NoMemory) is so gives = tt
+
+pub whole_given : (bundle : BundleParts) (result : Result Made StageFault)
+    → StageGives (concept_stage bundle) result
+    → IsEnough (problem_of bundle) (budget_of bundle) → IsWhole result
+unfolding concept_stage
+whole_given bundle result gives enough =
+    whole_after bundle (problem_faults bundle) _ result refl
+    (whole_found (problem_of bundle) (budget_of bundle) result enough) gives
+
+-- ---- what the search tells of its problem
+
+known_by : (problem : ProblemParts) (budget : ℕ) (found : Searched) → IsProblem problem
+    → IsResult problem budget found → IsKnown problem budget
+known_by problem budget found sound is = record {
+  sound = sound;
+  written = λ few. subst (λ tree. IfSome tree (AreWritten problem))
+      (is.tree_is ∙ ap (λ b. cond b (Some (nodes_in (listing problem))) None) few) is.written;
+}
+
+where_ok : (result : Result Made StageFault) (Told : Type 0) → Told → OnOk result Told
+where_ok (Ok made) Told told = told
+where_ok (Err fault) Told told = tt
+
+pub known_given : (bundle : BundleParts) (problem : ProblemParts) (budget : ℕ) (found : Searched)
+    (result : Result Made StageFault) → problem ≡ problem_of bundle → budget ≡ budget_of bundle
+    → IsProblem problem → IsResult problem budget found
+    → OnOk result (IsKnown (problem_of bundle) (budget_of bundle))
+known_given bundle problem budget found result problem_is budget_is sound is =
+    where_ok result (IsKnown (problem_of bundle) (budget_of bundle))
+    (subst (λ problem. IsKnown problem (budget_of bundle)) problem_is
+    (subst (IsKnown problem) budget_is (known_by problem budget found sound is)))

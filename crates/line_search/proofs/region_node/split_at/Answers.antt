@@ -1,0 +1,14 @@
+use Rattle.std.proofs.Common.{arith, sym, ◌∙◌}
+use Rattle.line_search.proofs.NamedNodes.{split_names}
+use Rattle.line_search.proofs.region_node.split_at.Goals as goal
+
+pub middle-requires : goal.middle-requires
+middle-requires c =
+    split_names c.args.problem.now c.args.region.now c.in-Some.line
+    (sym c.in-Some.is ∙ c.first_open.ensures)
+
+pub returns-in-Some-clause-names : goal.returns-in-Some-clause-names
+returns-in-Some-clause-names c =
+    let there = split_names c.args.problem.now c.args.region.now c.in-Some.line
+    (sym c.in-Some.is ∙ c.first_open.ensures) in
+    omega (arith, there, c.requires.each)

@@ -1,0 +1,16 @@
+use Rattle.std.proofs.Common.{◌≡◌, List, false, ap, sym, subst, ◌∙◌}
+use Rattle.line_cost_model.specs.declared.range.LineRange.{LineRange}
+use Rattle.branch_certificate.specs.TreeFaults.{splits_outside}
+use Rattle.line_search.specs.Listings.{node_at}
+use Rattle.line_search.specs.Searches.{concept_in}
+use Rattle.line_search.proofs.VisitsInTurn.{split_inside}
+use Rattle.line_search.proofs.search.Search.take_entry.Goals as goal
+
+pub go_on-requires-clause-inside : goal.go_on-requires-clause-inside
+go_on-requires-clause-inside c =
+    let best = concept_in c.args.self.now.best in
+    let region : List LineRange = c.args.self.now.walk.region in
+    subst (λ at. splits_outside region at ≡ false)
+    (sym (c.in_ok-node.ensures.node
+    ∙ ap (λ (region : List LineRange). node_at c.args.problem.now region best) c.region.ensures))
+    (split_inside c.args.problem.now region best).1

@@ -1,0 +1,67 @@
+-- The stage of line concepts: from bounds of frequency and costs of lines to a concept and its mark.
+use Rattle.std.specs.Prelude.{ℕ, pos, ◌+◌, List, [], ◌∷◌, ◌++◌, codes, decimal, Option, Some, None}
+use Rattle.std.specs.Prelude.{Result, Ok, Err}
+use Rattle.plan_num.specs.Print.{fixed_text}
+use Rattle.giv_files.specs.declared.file_id.FileId.TheVariants as file
+use Rattle.giv_files.specs.declared.key.Key.TheVariants as key
+use Rattle.giv_files.specs.declared.made.Made.{Made}
+use Rattle.giv_files.specs.declared.made.MadeFile.{MadeFile}
+use Rattle.giv_files.specs.declared.refusal.Refusal.{Refusal}
+use Rattle.giv_files.specs.Settings.{BundleParts, amount}
+use Rattle.line_cost_model.specs.Problems.{ProblemParts}
+use Rattle.line_cost_model.specs.Concepts.{cost_of}
+use Rattle.branch_certificate.specs.declared.node.Node.{Node}
+use Rattle.branch_certificate.specs.TreeTexts.{tree_text}
+use Rattle.line_search.specs.Budgets.{FoundConcept, result_within, entries_listed}
+use Rattle.line_search.specs.ConceptTables.{concept_text}
+use Rattle.line_search.specs.GivenProblems.{problem_faults, problem_of}
+use Rattle.line_search.specs.Listings.{listing}
+
+-- how many entries may be listed
+abbrev pub budget_of : BundleParts → ℕ
+budget_of bundle = amount bundle.settings key.ConceptBudget
+
+-- the file of a tree, where there is one
+abbrev pub tree_files : ProblemParts → Option (List Node) → List MadeFile
+tree_files problem None = []
+tree_files problem (Some nodes) = record { file = file.Tree; text = tree_text problem nodes } ∷ []
+
+-- how a report tells of a mark
+abbrev pub mark_text : Option (List Node) → List ℕ
+mark_text None = codes "not proved optimal"
+mark_text (Some nodes) = codes "optimal"
+
+-- what is made of a concept: its table, the tree that marks it, and the line of the report
+abbrev pub concept_made : ProblemParts → FoundConcept → Made
+concept_made problem concept = record {
+  files = record { file = file.Concept; text = concept_text problem concept.frequencies }
+      ∷ tree_files problem concept.tree;
+  report = codes "concept: cost " ++ fixed_text (pos (cost_of problem concept.frequencies)) ++ codes ", "
+      ++ mark_text concept.tree ++ codes ", " ++ decimal concept.entries ++ codes " entries";
+}
+
+-- what is made of the concept that a search found, or why it found none
+abbrev pub search_made : ProblemParts → Result FoundConcept Refusal → Result Made Refusal
+search_made problem (Err why) = Err why
+search_made problem (Ok concept) = Ok (concept_made problem concept)
+
+-- the first of some faults, or else what a stage comes to
+abbrev pub after_faults : List Refusal → Result Made Refusal → Result Made Refusal
+after_faults [] outcome = outcome
+after_faults (first ∷ more) outcome = Err first
+
+-- the stage: from settings and input texts to what is made, or the first fault, or why the search found no
+-- concept
+unfoldable pub concept_stage : BundleParts → Result Made Refusal
+concept_stage bundle =
+    after_faults (problem_faults bundle)
+    (search_made (problem_of bundle) (result_within (budget_of bundle) (listing (problem_of bundle))))
+
+-- how many steps it takes: one, and where the inputs have no fault one for each entry that is listed
+abbrev pub work_after : List Refusal → ℕ → ℕ
+work_after [] entries = 1 + entries
+work_after (first ∷ more) entries = 1
+
+unfoldable pub concept_work : BundleParts → ℕ
+concept_work bundle =
+    work_after (problem_faults bundle) (entries_listed (budget_of bundle) (listing (problem_of bundle)))

@@ -1,0 +1,58 @@
+// The best concept of a search so far.
+ghost use Rattle.std.specs.Prelude.{◌≡◌, ◌<◌, ◌≤◌, length, All, IfOk};
+ghost use Rattle.line_cost_model.specs.Regions.{least_in, range_of};
+ghost use Rattle.line_search.specs.Searches.{IsPriced};
+
+use line_cost_model::{LineProblem, Region};
+use plan_num::NoMemory;
+use std::alloc::Global;
+
+/// A concept, with what it costs in millionths.
+#[derive(Debug, Drop)]
+pub(crate) struct BestConcept {
+    pub(crate) frequencies: Vec<u32>,
+    pub(crate) cost: i128,
+}
+
+impl BestConcept {
+    /// The concept of least frequencies in a region.
+    pub(crate) fn least_in(
+        alloc: Global,
+        problem: &LineProblem,
+        region: &Region,
+    ) -> Result<BestConcept, NoMemory>
+        requires each { length region.now ≡ length problem.now.lines }
+        ensures least { IfOk result (λ best. best.frequencies.items ≡ least_in region.now) }
+        ensures priced { IfOk result (IsPriced problem.now) }
+    {
+        let frequencies = least_frequencies(alloc, problem, region)?;
+        let cost = problem.cost(&frequencies);
+        Ok(BestConcept { frequencies, cost })
+    }
+}
+
+// The least frequencies in a region.
+fn least_frequencies(
+    alloc: Global,
+    problem: &LineProblem,
+    region: &Region,
+) -> Result<Vec<u32>, NoMemory>
+    requires each { length region.now ≡ length problem.now.lines }
+    ensures least { IfOk result (λ all. all.items ≡ least_in region.now) }
+    ensures few { IfOk result (λ all. All (λ frequency. frequency ≤ 1000) all.items) }
+{
+    let mut frequencies = Vec::new(alloc);
+    for line in 0..problem.line_count() {
+        frequencies.push(least_of(region, line))?;
+    }
+    Ok(frequencies)
+}
+
+// The least frequency of a line in a region.
+fn least_of(region: &Region, line: usize) -> u32
+    requires { line < length region.now }
+    ensures least { result ≡ (range_of region.now line).lo }
+    ensures few { result ≤ 1000 }
+{
+    region.ends(line).0
+}

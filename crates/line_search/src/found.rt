@@ -1,0 +1,157 @@
+// What is made of the concept that a search found.
+ghost use Rattle.std.specs.Prelude.{◌≡◌, ◌++◌, pos, codes, IfOk, IfSome, OnOk};
+ghost use Rattle.plan_num.specs.Print.{fixed_text};
+ghost use Rattle.giv_files.specs.StageCalls.{StageGives};
+ghost use Rattle.line_cost_model.specs.Concepts.{cost_of};
+ghost use Rattle.line_search.specs.ConceptStage.{concept_made, mark_text, search_made, tree_files};
+ghost use Rattle.line_search.specs.ConceptTables.{concept_text};
+ghost use Rattle.line_search.specs.Searches.{ArePriced, AreWritten, IsPriced, concept_of};
+ghost use Rattle.line_search.specs.Searches.{result_of, why_none};
+
+use crate::best::BestConcept;
+use crate::concept_table::rows_of_concept;
+use crate::search::Searched;
+use branch_certificate::{Tree, write_tree};
+use giv_files::{
+    FileId, Made, MadeFile, MadeList, Refusal, Stage, StageFault, columns, count_text, report_line,
+    write_table,
+};
+use line_cost_model::LineProblem;
+use plan_num::{NoMemory, Text, print_fixed};
+use std::alloc::Global;
+
+/// What is made of the concept that a search within a budget found, or why it found none.
+pub(crate) fn search_made(
+    alloc: Global,
+    problem: &LineProblem,
+    found: Searched,
+) -> Result<Made, StageFault>
+    requires priced { ArePriced problem.now found.best }
+    requires written { IfSome found.tree (AreWritten problem.now) }
+    ensures { StageGives (search_made problem.now (result_of found)) result }
+{
+    let Searched {
+        best,
+        tree,
+        entries,
+    } = found;
+    match best {
+        Some(best) => Ok(concept_made(alloc, problem, &best, &tree, entries)?),
+        None => Err(StageFault::Refused(nothing_found(&tree, entries))),
+    }
+}
+
+// Why nothing was found.
+fn nothing_found(tree: &Option<Tree>, entries: u64) -> Refusal
+    ensures { result ≡ why_none tree.now entries }
+{
+    match tree {
+        Some(_) => Refusal::NoSolution,
+        None => Refusal::Spent { entries },
+    }
+}
+
+// The files of a concept, and the line of the report.
+fn concept_made(
+    alloc: Global,
+    problem: &LineProblem,
+    best: &BestConcept,
+    tree: &Option<Tree>,
+    entries: u64,
+) -> Result<Made, NoMemory>
+    requires priced { IsPriced problem.now best.now }
+    requires written { IfSome tree.now (AreWritten problem.now) }
+    ensures { IfOk result
+        (λ made. made ≡ concept_made problem.now (concept_of best.now tree.now entries)) }
+{
+    let mut files = MadeList::new(alloc);
+    files.push(MadeFile {
+        file: FileId::Concept,
+        text: concept_text(alloc, problem, best)?,
+    })?;
+    push_tree(alloc, problem, tree, &mut files)?;
+    let report = concept_report(alloc, problem, best, tree, entries)?;
+    Ok(Made { files, report })
+}
+
+// The text of a concept.
+fn concept_text(alloc: Global, problem: &LineProblem, best: &BestConcept) -> Result<Text, NoMemory>
+    requires { IsPriced problem.now best.now }
+    ensures { IfOk result
+        (λ text. text ≡ concept_text problem.now best.now.frequencies.items) }
+{
+    // A count tells what always holds of a problem.
+    let _ = problem.line_count();
+    let table = rows_of_concept(alloc, problem, &best.frequencies)?;
+    write_table(
+        alloc,
+        b"# line-id; edge-order; edge-id; frequency",
+        &table,
+        &columns!(Concept),
+    )
+}
+
+// The file of the tree that marks a concept, where there is one.
+fn push_tree(
+    alloc: Global,
+    problem: &LineProblem,
+    tree: &Option<Tree>,
+    files: &mut MadeList,
+) -> Result<(), NoMemory>
+    requires { IfSome tree.now (AreWritten problem.now) }
+    ensures { OnOk result (files.new ≡ files.old ++ tree_files problem.now tree.now) }
+{
+    if let Some(tree) = tree {
+        files.push(MadeFile {
+            file: FileId::Tree,
+            text: write_tree(alloc, problem, tree)?,
+        })?;
+    }
+    Ok(())
+}
+
+// The line of the report.
+fn concept_report(
+    alloc: Global,
+    problem: &LineProblem,
+    best: &BestConcept,
+    tree: &Option<Tree>,
+    entries: u64,
+) -> Result<Text, NoMemory>
+    requires { IsPriced problem.now best.now }
+    ensures { IfOk result (λ text. text
+        ≡ (concept_made problem.now (concept_of best.now tree.now entries)).report) }
+{
+    report_line(
+        alloc,
+        Stage::Concept,
+        &[
+            cost_text(alloc, problem, best)?,
+            Text::copy(alloc, mark_text(tree))?,
+            count_text(alloc, entries as usize, "entries")?,
+        ],
+    )
+}
+
+// What a concept costs.
+fn cost_text(alloc: Global, problem: &LineProblem, best: &BestConcept) -> Result<Text, NoMemory>
+    requires { IsPriced problem.now best.now }
+    ensures { IfOk result (λ text. text ≡ codes "cost "
+        ++ fixed_text (pos (cost_of problem.now best.now.frequencies.items))) }
+{
+    // A count tells what always holds of a problem.
+    let _ = problem.line_count();
+    let mut text = Vec::from_slice(alloc, b"cost ")?;
+    text.extend_from_slice(print_fixed(alloc, best.cost)?.as_bytes())?;
+    Ok(Text::from_vec(text))
+}
+
+// How the report tells of a mark.
+fn mark_text(tree: &Option<Tree>) -> &'static [u8]
+    ensures { result.now ≡ mark_text tree.now }
+{
+    match tree {
+        Some(_) => b"optimal",
+        None => b"not proved optimal",
+    }
+}

@@ -1,0 +1,56 @@
+// The stage that searches a line concept of least cost.
+ghost use Rattle.std.specs.Prelude.{◌≡◌, [], OnOk};
+ghost use Rattle.giv_files.specs.declared.stage.Stage.TheVariants as stages;
+ghost use Rattle.giv_files.specs.Settings.{Fits};
+ghost use Rattle.giv_files.specs.StageCalls.{StageGives, TakesSteps};
+ghost use Rattle.line_search.specs.ConceptStage.{budget_of, concept_stage, concept_work};
+ghost use Rattle.line_search.specs.GivenProblems.{problem_faults, problem_of};
+ghost use Rattle.line_search.specs.Searches.{IsKnown};
+ghost use Rattle.line_search.specs.RightConcepts.{IsEnough, IsWhole, SearchIsRight};
+
+use crate::found::search_made;
+use crate::given::read_problem;
+use crate::search::search_concept;
+use giv_files::{Bundle, Key, Made, StageFault};
+use plan_num::{Ledger, Steps};
+use std::alloc::Global;
+
+/// Searches a line concept of least cost over the inputs of the stage by branch and bound, with at
+/// most as many entries as the budget allows. Where the whole search fits into it, the concept is
+/// marked by the tree that certifies its cost.
+pub fn make_concept<L: Ledger>(
+    alloc: Global,
+    bundle: &Bundle,
+    steps: &mut Steps<L>,
+) -> Result<Made, StageFault>
+    requires stage { bundle.now.stage ≡ stages.Concept }
+    requires fits { Fits bundle.now }
+    ensures made { StageGives (concept_stage bundle.now) result }
+    ensures right { problem_faults bundle.now ≡ [] → SearchIsRight (problem_of bundle.now) }
+    ensures whole { IsEnough (problem_of bundle.now) (budget_of bundle.now) → IsWhole result }
+    ensures steps { TakesSteps (concept_work bundle.now) steps.old steps.new result }
+{
+    searched_concept(alloc, bundle, steps)
+}
+
+// What the stage gives, and in how many steps.
+fn searched_concept<L: Ledger>(
+    alloc: Global,
+    bundle: &Bundle,
+    steps: &mut Steps<L>,
+) -> Result<Made, StageFault>
+    requires stage { bundle.now.stage ≡ stages.Concept }
+    requires fits { Fits bundle.now }
+    ensures made { StageGives (concept_stage bundle.now) result }
+    ensures whole { IsEnough (problem_of bundle.now) (budget_of bundle.now) → IsWhole result }
+    ensures steps { TakesSteps (concept_work bundle.now) steps.old steps.new result }
+    ensures known { OnOk result (IsKnown (problem_of bundle.now) (budget_of bundle.now)) }
+{
+    steps.tick();
+    let problem = read_problem(alloc, bundle)?;
+    // A count tells what always holds of a problem.
+    let _ = problem.line_count();
+    let budget = bundle.settings().amount(Key::ConceptBudget);
+    let found = search_concept(alloc, &problem, budget, steps)?;
+    search_made(alloc, &problem, found)
+}
