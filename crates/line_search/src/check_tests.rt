@@ -1,4 +1,8 @@
 // The test of line concepts on whole bundles.
+ghost use Rattle.std.specs.Prelude.{◌≡◌, IfOk};
+ghost use Rattle.giv_files.specs.declared.stage.Stage.TheVariants as stages;
+ghost use Rattle.giv_files.specs.Settings.{Fits};
+
 use crate::{ConceptFault, check_concept};
 use giv_files::{Bundle, FileId, Key, Refusal, RowWhy, Settings, Stage, StageFault};
 use std::alloc::Global;
@@ -15,7 +19,10 @@ pub(crate) fn bundle_of(
     budget: i64,
     loads: &[u8],
     costs: &[u8],
-) -> Result<Bundle, Fail> {
+) -> Result<Bundle, Fail>
+    ensures stage { IfOk result (λ bundle. bundle.stage ≡ stages.Concept) }
+    ensures fits { IfOk result Fits }
+{
     let mut settings = Settings::new(alloc);
     settings.push(Key::ConceptBudget, budget)?;
     let mut bundle = Bundle::new(alloc, Stage::Concept, settings);

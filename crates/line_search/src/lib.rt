@@ -1,4 +1,5 @@
-//! Line concepts: the test of one from any hand, and of the tree that may certify what it costs.
+//! Line concepts: the search of one of least cost by branch and bound, and the test of one from any
+//! hand and of the tree that may certify what it costs.
 #![tactic(auto)]
 
 mod best;
