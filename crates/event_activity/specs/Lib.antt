@@ -1,0 +1,4 @@
+pub mod Activities
+pub mod EanStage
+pub mod RightEan
+pub mod Runs
