@@ -71,6 +71,13 @@ with_ids events = map with_id (enumerate_from 1 events)
 unfoldable pub concept_events : NetworkParts → List LineParts → List RunEvent
 concept_events network lines = with_ids (flat_map (line_events network) lines)
 
+-- the line at a place of a concept
+abbrev pub no_line : LineParts
+no_line = record { id = pos 0; edges = []; stops = []; frequency = 0 }
+
+abbrev pub line_at : List LineParts → ℕ → LineParts
+line_at lines line = slice_index_or lines line no_line
+
 -- a network whose stops have ids in their range, and lines over it
 pub record AreServed (network : NetworkParts) (lines : List LineParts) : Type 0 where
   pub network_is : IsNetwork network
