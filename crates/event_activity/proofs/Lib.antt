@@ -1,1 +1,7 @@
+mod Added
+mod Along
+mod Given
+mod Joined
+mod LineEvents
+mod StopsOfRuns
 mod Tried

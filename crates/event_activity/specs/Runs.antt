@@ -1,5 +1,5 @@
 -- The events of a line concept, run by run.
-use Rattle.std.specs.Prelude.{ℕ, ℤ, pos, ◌+◌, ◌*◌, ◌/◌, ◌%◌, ◌≤ℤ◌, List, [], ◌∷◌, ◌++◌, length, map, reverse, slice_index_or, unsigned_abs, All}
+use Rattle.std.specs.Prelude.{ℕ, ℤ, pos, ◌+◌, ◌*◌, ◌/◌, ◌%◌, ◌≤◌, ◌≤ℤ◌, List, [], ◌∷◌, ◌++◌, length, map, reverse, slice_index_or, unsigned_abs, All}
 use Rattle.std.specs.List.{flat_map, range_with_len, enumerate_from}
 use Rattle.event_tables.specs.declared.direction.Direction.{Direction}
 use Rattle.event_tables.specs.declared.direction.Direction.TheVariants as direction
@@ -83,3 +83,4 @@ pub record AreServed (network : NetworkParts) (lines : List LineParts) : Type 0 
   pub network_is : IsNetwork network
   pub stop_ids : All (λ id. (pos 1 ≤ℤ id) × (id ≤ℤ pos 1000000000)) network.stops
   pub lines_are : AreLines network.edges lines
+  pub short : All (λ line. length line.edges ≤ 1000) lines

@@ -1,5 +1,5 @@
 // The event at a place of a run.
-ghost use Rattle.std.specs.Prelude.{◌≡◌, ◌<◌, ◌*◌, ◌%◌, length, slice_index_or, unsigned_abs};
+ghost use Rattle.std.specs.Prelude.{◌≡◌, ◌<◌, ◌+◌, ◌*◌, ◌/◌, ◌%◌, length, slice_index_or, unsigned_abs};
 ghost use Rattle.event_tables.specs.Kinds.{event_kind_at};
 ghost use Rattle.event_activity.specs.Runs.{AreServed, along, edge_at, line_at, run_event, stop_id};
 
