@@ -2,7 +2,7 @@
 use Rattle.std.proofs.Common.{◌≡◌, ℕ, ℤ, pos, negsuc, ◌+◌, ◌*◌, ◌/◌, ◌<◌, ◌≤◌, ◌≤ℤ◌, arith, All, List, length, map, get_or, unsigned_abs, ap, subst, sym, ◌∙◌}
 use Rattle.std.specs.List.{flat_map, range_with_len}
 use Rattle.std.proofs.lemmas.Int.{ints}
-use Rattle.std.proofs.lemmas.List.Elements.{All-append, All-map, All-get_or, All-from_get_or}
+use Rattle.std.proofs.lemmas.List.Elements.{All-append, All-map, All-weaker, All-get_or, All-from_get_or}
 use Rattle.event_tables.specs.declared.direction.Direction.{Direction}
 use Rattle.event_tables.specs.declared.direction.Direction.TheVariants as direction
 use Rattle.line_pool.specs.Pools.{LineParts, IsLine}
@@ -108,3 +108,15 @@ module _ (network : NetworkParts) (lines : List LineParts) (served : AreServed n
       let size = numbered_size with_id events in
       all_numbered IsDriven (IsNumbered (length (concept_events network lines))) with_id events
       (λ n event low high is. with_a_number _ n event low (omega (arith, high, size)) is) all_driven
+
+  -- the same of events that are those of the lines
+  pub events_given : (events : List RunEvent) → events ≡ concept_events network lines
+      → All (IsNumbered (length events)) events
+  events_given events are =
+      subst (λ some. All (IsNumbered (length some)) some) (sym are) events_numbered
+
+-- events that are numbered are driven
+pub numbered_driven : (count : ℕ) (events : List RunEvent) → All (IsNumbered count) events
+    → All IsDriven events
+numbered_driven count events all =
+    All-weaker (IsNumbered count) IsDriven (λ event is. is.driven) events all

@@ -1,5 +1,5 @@
 -- What holds of the activities between events.
-use Rattle.std.proofs.Common.{◌≡◌, ℕ, ◌+◌, ◌*◌, ◌/◌, ◌<◌, ◌≤◌, arith, All, List, [], ◌∷◌, length, map, filter}
+use Rattle.std.proofs.Common.{◌≡◌, ℕ, ◌+◌, ◌*◌, ◌/◌, ◌<◌, ◌≤◌, arith, All, List, [], ◌∷◌, length, map, filter, subst, sym}
 use Rattle.std.specs.List.{flat_map}
 use Rattle.std.proofs.lemmas.Nat.{div_below}
 use Rattle.std.proofs.lemmas.List.Elements.{All-nil, All-cons, All-map, All-weaker, All-filter}
@@ -100,3 +100,10 @@ module _ (settings : List Setting) (timely : AreTimely settings) where
         (IsNumberedOne count (length (concept_activities settings events))) with_number activities
         (λ n activity low high is. with_a_number _ n activity low (omega (arith, high, size)) is)
         all_made
+
+    -- the same of activities that are those between the events
+    pub activities_given : (activities : List PeriodicActivity)
+        → activities ≡ concept_activities settings events
+        → All (IsNumberedOne count (length activities)) activities
+    activities_given activities are =
+        subst (λ some. All (IsNumberedOne count (length some)) some) (sym are) activities_numbered
