@@ -40,13 +40,13 @@ use Rattle.ptn_network.specs.Networks.{network_faults}
 module _ (bundle : BundleParts) (own : bundle.stage ≡ stage.Ean) (fits : Fits bundle)
     (none : ean_faults bundle ≡ [])
     (short : too_many (events_in bundle) (activities_in bundle) ≡ []) where
-  rows : List PeriodicEvent
+  abbrev rows : List PeriodicEvent
   rows = rows_of (events_in bundle)
 
-  events_text : List ℕ
+  abbrev events_text : List ℕ
   events_text = file_text periodic_event_header events_p_columns periodic_event_cells rows
 
-  activities_text : List ℕ
+  abbrev activities_text : List ℕ
   activities_text = file_text periodic_activity_header activities_p_columns
       periodic_activity_cells (activities_in bundle)
 
