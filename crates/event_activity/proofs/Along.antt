@@ -1,5 +1,5 @@
 -- The stops of a line's walk, and what stands along a line.
-use Rattle.std.proofs.Common.{◌≡◌, ℕ, pos, ◌-◌, ◌<◌, arith, All, Bool, true, false, cond, eqb, List, [], ◌∷◌, length, get_or, reverse, refl, ap, subst, sym, ◌∙◌, Option, Some, None, option_map, option_and_then, slice_get}
+use Rattle.std.proofs.Common.{◌≡◌, ℕ, pos, ◌-◌, ◌<◌, arith, All, true, false, cond, eqb, List, [], ◌∷◌, length, get_or, refl, subst, sym, ◌∙◌, Option, Some, None, option_map, option_and_then}
 use Rattle.std.specs.List.{cons_option}
 use Rattle.std.proofs.lemmas.List.{get_or-reverse, length-reverse}
 use Rattle.std.proofs.lemmas.List.Elements.{All-nil, All-cons, All-head, All-tail, All-get_or}

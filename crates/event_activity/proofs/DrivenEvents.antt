@@ -1,5 +1,5 @@
 -- What holds of the events of lines.
-use Rattle.std.proofs.Common.{◌≡◌, ℕ, ℤ, pos, negsuc, ◌+◌, ◌*◌, ◌/◌, ◌<◌, ◌≤◌, ◌≤ℤ◌, arith, All, List, length, map, get_or, unsigned_abs, ap, subst, sym, ◌∙◌}
+use Rattle.std.proofs.Common.{◌≡◌, ℕ, ℤ, pos, negsuc, ◌*◌, ◌/◌, ◌<◌, ◌≤◌, ◌≤ℤ◌, arith, All, List, length, get_or, unsigned_abs, subst, sym}
 use Rattle.std.specs.List.{flat_map, range_with_len}
 use Rattle.std.proofs.lemmas.Int.{ints}
 use Rattle.std.proofs.lemmas.List.Elements.{All-append, All-map, All-weaker, All-get_or, All-from_get_or}
@@ -42,9 +42,9 @@ module _ (network : NetworkParts) (lines : List LineParts) (served : AreServed n
   edge_good way place inside =
       let edges = (line_at lines line).edges in
       let there : place / 2 < length (along way edges) =
-          omega (arith, inside, length-along way edges) in
+      omega (arith, inside, length-along way edges) in
       let index = All-get_or (λ index. index < length network.edges) (along way edges) (place / 2) 0
-          there (all_along (λ index. index < length network.edges) way edges line_is.there) in
+      there (all_along (λ index. index < length network.edges) way edges line_is.there) in
       drive_good (length network.stops) _ (All-get_or (IsEdge (length network.stops)) network.edges _
       no_edge index served.network_is.edges)
 

@@ -1,5 +1,5 @@
 -- The files that are made are accepted by the rules of their kinds.
-use Rattle.std.proofs.Common.{◌≡◌, ◌==◌, ◌||◌, ℕ, ◌+◌, ◌≤◌, cond, not, arith, false, All, List, [], ◌∷◌, ◌++◌, length, map, nat_eq, nat_lt, refl, ap, subst, sym, ◌∙◌}
+use Rattle.std.proofs.Common.{◌≡◌, ℕ, ◌+◌, ◌≤◌, cond, not, arith, false, All, List, [], ◌∷◌, ◌++◌, length, map, refl, ap, subst, sym, ◌∙◌}
 use Rattle.std.specs.List.{AllByRecursion, range_with_len}
 use Rattle.std.proofs.lemmas.Bool.{eq-eqb, ne_eqb, le-ltb}
 use Rattle.std.proofs.lemmas.List.{length_push}
@@ -12,7 +12,7 @@ use Rattle.giv_files.proofs.Accepted.{KeepRules, accepted}
 use Rattle.event_tables.specs.declared.periodic_activity.PeriodicActivity.{PeriodicActivity}
 use Rattle.event_tables.specs.declared.periodic_event.PeriodicEvent.{PeriodicEvent}
 use Rattle.event_tables.specs.Cells.{periodic_event_cells, periodic_activity_cells}
-use Rattle.event_tables.specs.PeriodicFiles.{periodic_event_input, periodic_activity_input, periodic_activity_rules, IsPeriodicActivity}
+use Rattle.event_tables.specs.PeriodicFiles.{periodic_event_input, periodic_activity_input, IsPeriodicActivity}
 use Rattle.event_tables.specs.Places.{own_place, known_ends, bounds_in_order, is_none_of, AreNumbered, IsOneOf}
 use Rattle.event_tables.specs.RowsOfTables.{rows_by}
 use Rattle.event_tables.proofs.CellsBack.{periodic_event_same, periodic_activity_same}
@@ -28,7 +28,7 @@ module _ {X : Type 0} (id : X → ℕ) (rules : List (RowRule X)) (Good : X → 
   places_keep before (row ∷ rows) are good =
       let first : id row ≡ length before + 1 = let e = are in cc in
       let rest : map id rows ≡ range_with_len (length before + 1 + 1) (length rows) =
-          let e = are in cc in (
+      let e = are in cc in (
         ap (λ b. cond (not b) (why.OrderGap ∷ []) [] ++ broken_whys rules before row)
             (eq-eqb _ _ first)
             ∙ keeps before row good.0,
@@ -49,8 +49,11 @@ activity_keeps : (count : ℕ) (before : List PeriodicActivity) (row : PeriodicA
     → broken_whys (known_ends (range_with_len 1 count) (λ (at : PeriodicActivity). at.from)
     (λ at. at.to) ∷ bounds_in_order (λ at. at.lower) (λ at. at.upper) ∷ []) before row ≡ []
 activity_keeps count before row is =
-    rw (is_known count row.from is.from, is_known count row.to is.to,
-    le-ltb row.upper row.lower is.in_order) refl
+    rw (
+      is_known count row.from is.from,
+      is_known count row.to is.to,
+      le-ltb row.upper row.lower is.in_order,
+    ) refl
 
 -- what the rows of events and of activities stand for
 pub event_records : (events : List PeriodicEvent)

@@ -1,5 +1,5 @@
 -- The stage of events and activities, from what each of its inputs gives.
-use Rattle.std.proofs.Common.{◌≡◌, ℕ, ◌<◌, ◌≤◌, List, [], ◌∷◌, ◌++◌, length, map, refl, ap, subst, sym, ◌∙◌, Ok, Err, Some, slice_get}
+use Rattle.std.proofs.Common.{◌≡◌, ℕ, ◌<◌, ◌≤◌, List, [], ◌∷◌, ◌++◌, length, ap, subst, sym, ◌∙◌, Ok, Err, slice_get}
 use Rattle.std.proofs.lemmas.List.{append-nil}
 use Rattle.giv_files.specs.declared.counted.Counted.TheVariants as counted
 use Rattle.giv_files.specs.declared.made.Made.{Made}
@@ -75,8 +75,8 @@ module _ (bundle : BundleParts) where
       unfolding ean_stage
       events_refused count told over =
           let first = over_limit counted.PeriodicEvents 4000 (events_in bundle)
-              (limit_faults (row_limit counted.PeriodicActivities 200000 ∷ [])
-              (activities_in bundle)) count (told ∙ ap length events_are) over in
+          (limit_faults (row_limit counted.PeriodicActivities 200000 ∷ [])
+          (activities_in bundle)) count (told ∙ ap length events_are) over in
           stage_refused _ _ (fault.Refused (refusal.TooMany counted.PeriodicEvents count))
           (ap (λ all. slice_get all 0) (left ∙ first))
 
@@ -106,7 +106,7 @@ module _ (bundle : BundleParts) where
         unfolding ean_stage
         activities_refused count told over =
             let first = over_limit counted.PeriodicActivities 200000 (activities_in bundle) []
-                count (told ∙ ap length activities_are) over in
+            count (told ∙ ap length activities_are) over in
             stage_refused _ _ (fault.Refused (refusal.TooMany counted.PeriodicActivities count))
             (ap (λ all. slice_get all 0) (left ∙ only ∙ first))
 
@@ -119,7 +119,7 @@ module _ (bundle : BundleParts) where
         ean_given activities result told short given =
             let same = told ∙ activities_are in
             let within = under_limit counted.PeriodicActivities 200000 (activities_in bundle)
-                (subst (λ some. length some ≤ 200000) same short) in
+            (subst (λ some. length some ≤ 200000) same short) in
             stage_made _ _ result (left ∙ only ∙ ap (λ some. some ++ []) within)
             (given ∙ ap (ean_made (rows_of events)) same
             ∙ ap (λ some. ean_made (rows_of some) (activities_in bundle)) events_told)

@@ -1,5 +1,5 @@
 -- The cells of events and of activities are in their columns.
-use Rattle.std.proofs.Common.{◌≡◌, ℕ, pos, ◌≤◌, ◌≤ℤ◌, lit<, arith, All, List, length, map, refl}
+use Rattle.std.proofs.Common.{ℕ, pos, ◌≤◌, ◌≤ℤ◌, arith, All, List, refl}
 use Rattle.std.proofs.lemmas.Int.{ints}
 use Rattle.std.proofs.lemmas.List.Elements.{All-map, All-weaker}
 use Rattle.giv_files.specs.declared.words.WordTable.TheVariants as table

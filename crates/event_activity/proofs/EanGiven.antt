@@ -1,5 +1,5 @@
 -- What is made of lines fits its columns.
-use Rattle.std.proofs.Common.{◌≡◌, ℕ, ◌≤◌, All, List, length, subst, sym}
+use Rattle.std.proofs.Common.{◌≡◌, ◌≤◌, All, List, length, subst, sym}
 use Rattle.giv_files.specs.declared.setting.Setting.{Setting}
 use Rattle.giv_files.specs.Columns.{events_p_columns, activities_p_columns}
 use Rattle.giv_files.specs.Writing.{InColumns}

@@ -16,7 +16,6 @@ use Rattle.giv_files.specs.Writing.{ReadsBack}
 use Rattle.giv_files.proofs.Inputs.{limits_sound}
 use Rattle.giv_files.proofs.Ranges.{front_none, back_none}
 use Rattle.giv_files.proofs.StageCalls.{made_unless, none_unless}
-use Rattle.event_tables.specs.declared.periodic_activity.PeriodicActivity.{PeriodicActivity}
 use Rattle.event_tables.specs.declared.periodic_event.PeriodicEvent.{PeriodicEvent}
 use Rattle.event_tables.specs.Cells.{periodic_event, periodic_activity, periodic_event_cells, periodic_activity_cells}
 use Rattle.event_tables.specs.Headers.{periodic_event_header, periodic_activity_header}
@@ -34,7 +33,6 @@ use Rattle.event_activity.proofs.ReadAgain.{reads_as, events_back, activities_ba
 use Rattle.event_activity.proofs.Refused.{none_first, none_behind}
 use Rattle.event_activity.proofs.Served.{served}
 use Rattle.event_activity.proofs.Timely.{bundle_timely}
-use Rattle.line_pool.specs.Pools.{concept_faults}
 use Rattle.ptn_network.specs.Networks.{network_faults}
 
 module _ (bundle : BundleParts) (own : bundle.stage ≡ stage.Ean) (fits : Fits bundle)

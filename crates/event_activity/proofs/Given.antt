@@ -1,5 +1,5 @@
 -- What a call gives, said in another way.
-use Rattle.std.proofs.Common.{◌≡◌, Result, Ok, Err, IfOk}
+use Rattle.std.proofs.Common.{Result, Ok, Err, IfOk}
 
 -- what holds of each value that is made holds of what a call makes
 pub if_made : {A E : Type 0} (P Q : A → Type 0) (result : Result A E) → ((made : A) → P made → Q made)

@@ -1,6 +1,6 @@
 -- The events of a line, and how many there are.
-use Rattle.std.proofs.Common.{◌≡◌, ℕ, ◌+◌, ◌*◌, ◌<◌, ◌≤◌, arith, All, List, ◌++◌, length, map, take, refl, ap, sym, ◌∙◌, Some, option_map, slice_get}
-use Rattle.std.specs.List.{flat_map, range_with_len, enumerate_from}
+use Rattle.std.proofs.Common.{◌≡◌, ℕ, ◌+◌, ◌*◌, ◌<◌, ◌≤◌, arith, List, length, map, take, ap, sym, ◌∙◌, Some, option_map, slice_get}
+use Rattle.std.specs.List.{flat_map, enumerate_from}
 use Rattle.std.proofs.lemmas.Option.{slice_get-get_or, same_Some}
 use Rattle.std.proofs.lemmas.List.{length-append, length-map, take_all}
 use Rattle.std.proofs.lemmas.List.Elements.{All-get_or}

@@ -1,8 +1,8 @@
 -- What holds of the activities between events.
-use Rattle.std.proofs.Common.{◌≡◌, ℕ, ◌+◌, ◌*◌, ◌/◌, ◌<◌, ◌≤◌, arith, All, List, [], ◌∷◌, length, map, filter, subst, sym}
+use Rattle.std.proofs.Common.{◌≡◌, ℕ, ◌/◌, ◌<◌, ◌≤◌, arith, All, List, length, filter, subst, sym}
 use Rattle.std.specs.List.{flat_map}
 use Rattle.std.proofs.lemmas.Nat.{div_below}
-use Rattle.std.proofs.lemmas.List.Elements.{All-nil, All-cons, All-map, All-weaker, All-filter}
+use Rattle.std.proofs.lemmas.List.Elements.{All-map, All-weaker, All-filter}
 use Rattle.giv_files.specs.declared.key.Key.TheVariants as key
 use Rattle.giv_files.specs.declared.setting.Setting.{Setting}
 use Rattle.giv_files.specs.Settings.{amount}
@@ -38,8 +38,8 @@ module _ (settings : List Setting) (timely : AreTimely settings) where
   bounds_good activity.Sync event is =
       let period = timely.period in
       let less : amount settings key.PeriodLength / event.frequency < 721 =
-          div_below (amount settings key.PeriodLength) event.frequency 721 is.served
-          (omega (arith, period, is.served)) in
+      div_below (amount settings key.PeriodLength) event.frequency 721 is.served
+      (omega (arith, period, is.served)) in
       record { in_order = omega arith; soon = omega (arith, less) }
 
   module _ (events : List RunEvent) (count : ℕ) (numbered : All (IsNumbered count) events) where

@@ -39,10 +39,10 @@ pub served : (stops edges concept : List ℕ) (network : NetworkParts) (lines : 
     → AreServed network lines
 served stops edges concept network lines none is faultless read =
     let sound : IsNetwork network =
-        subst IsNetwork (sym is) (network_sound stops edges none) in
+    subst IsNetwork (sym is) (network_sound stops edges none) in
     let short = All-weaker (IsModest network.edges) (λ line. length line.edges ≤ 1000)
-        (λ line modest. modest.few) (concept_of network concept)
-        (pool_sound _ network concept sound faultless) in
+    (λ line modest. modest.few) (concept_of network concept)
+    (pool_sound _ network concept sound faultless) in
     record {
       network_is = sound;
       stop_ids = subst (λ (some : NetworkParts). All IsStopId some.stops) (sym is)

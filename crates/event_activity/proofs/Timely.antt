@@ -1,5 +1,5 @@
 -- The settings of a bundle that fits are in order and within their ranges.
-use Rattle.std.proofs.Common.{◌≡◌, ℕ, ℤ, pos, negsuc, ◌≤◌, ◌≤ℤ◌, ◌&&◌, int_le, arith, Bool, eqb-true, true, false, cond, List, [], ◌∷◌, unsigned_abs, refl, ap, subst, sym, ◌∙◌, Option, Some, option_map, unwrap_or}
+use Rattle.std.proofs.Common.{◌≡◌, ℤ, pos, negsuc, ◌≤◌, ◌≤ℤ◌, int_le, arith, Bool, eqb-true, true, false, cond, List, [], ◌∷◌, unsigned_abs, refl, ap, subst, sym, ◌∙◌, Option, Some, option_map, unwrap_or}
 use Rattle.std.specs.Option.{option_map_or}
 use Rattle.std.specs.Int.Signed.{le_z_yes}
 use Rattle.std.specs.List.{find, list_all}
@@ -7,18 +7,17 @@ use Rattle.std.proofs.lemmas.Bool.{and_parts}
 use Rattle.std.proofs.lemmas.Float.{T_from_true}
 use Rattle.std.proofs.lemmas.Int.{ints}
 use Rattle.std.proofs.lemmas.Option.{same_Some}
-use Rattle.giv_files.specs.declared.cross_rule.Bound.TheVariants as bound
 use Rattle.giv_files.specs.declared.key.Key.{Key}
 use Rattle.giv_files.specs.declared.key.Key.TheVariants as key
 use Rattle.giv_files.specs.declared.setting.Setting.{Setting}
 use Rattle.giv_files.specs.declared.stage.Stage.TheVariants as stage
 use Rattle.giv_files.specs.CrossRules.{keeps_rule, keeps, cross_rule, not_below}
 use Rattle.giv_files.specs.KeyKinds.{least, greatest}
-use Rattle.giv_files.specs.Keys.{is_key, key_kind, has_key, allows}
+use Rattle.giv_files.specs.Keys.{is_key, key_kind, has_key}
 use Rattle.giv_files.specs.Settings.{BundleParts, Fits, SettingsFit, value_of, amount, is_uncrossed}
 use Rattle.giv_files.proofs.KeyPlaces.{same_key}
 use Rattle.giv_files.proofs.SettingFacts.{key_there, amount_within}
-use Rattle.event_activity.specs.Fitting.{AreBounds, AreTimely}
+use Rattle.event_activity.specs.Fitting.{AreTimely}
 
 -- the value of a key keeps the rule of the key
 value_uncrossed : (all settings : List Setting) (k : Key) (value : ℤ)
@@ -53,18 +52,22 @@ module _ (settings : List Setting) (fits : SettingsFit stage.Ean settings) where
       let low = key_there stage.Ean settings lower fits first in
       let high = key_there stage.Ean settings upper fits second in
       let kept : keeps (value_of settings) (cross_rule upper) high.0 ≡ true =
-          value_uncrossed settings settings upper high.0 fits.uncrossed high.1 in
+      value_uncrossed settings settings upper high.0 fits.uncrossed high.1 in
       let below : keeps (value_of settings) (not_below lower) high.0 ≡ true =
-          ap (λ some. keeps (value_of settings) some high.0) (sym rule) ∙ kept in
+      ap (λ some. keeps (value_of settings) some high.0) (sym rule) ∙ kept in
       let goes : int_le low.0 high.0 ≡ true =
-          sym (ap (λ found. at_other found high.0) low.1) ∙ below in
+      sym (ap (λ found. at_other found high.0) low.1) ∙ below in
       let within = and_parts (int_le (least (key_kind lower)) low.0)
-          (int_le low.0 (greatest (key_kind lower))) low.2 in
+      (int_le low.0 (greatest (key_kind lower))) low.2 in
       let some : pos 0 ≤ℤ low.0 =
-          subst (λ z. z ≤ℤ low.0) from (le_z_yes (T_from_true _ within.0)) in
+      subst (λ z. z ≤ℤ low.0) from (le_z_yes (T_from_true _ within.0)) in
       let less = order low.0 high.0 some (le_z_yes (T_from_true _ goes)) in
-      omega (arith, less, ap (λ found. unsigned_abs (unwrap_or found (pos 0))) low.1,
-      ap (λ found. unsigned_abs (unwrap_or found (pos 0))) high.1)
+      omega (
+        arith,
+        less,
+        ap (λ found. unsigned_abs (unwrap_or found (pos 0))) low.1,
+        ap (λ found. unsigned_abs (unwrap_or found (pos 0))) high.1,
+      )
     where
       at_other : Option ℤ → ℤ → Bool
       at_other found value = option_map_or (λ other. int_le other value) found true

@@ -47,12 +47,12 @@ two_lines = bundle 20 2 (stops ∷ edges ∷ codes "# c\n1; 1; 1; 1\n1; 2; 2; 1\
 abbrev events : List ℕ
 events =
     codes
-        "# event-id; type; stop-id; line-id; direction; repetition\n1; departure; 1; 1; >; 1\n2; arrival; 2; 1; >; 1\n3; departure; 2; 1; >; 1\n4; arrival; 3; 1; >; 1\n5; departure; 3; 1; <; 1\n6; arrival; 2; 1; <; 1\n7; departure; 2; 1; <; 1\n8; arrival; 1; 1; <; 1\n9; departure; 1; 2; >; 1\n10; arrival; 2; 2; >; 1\n11; departure; 2; 2; <; 1\n12; arrival; 1; 2; <; 1\n"
+    "# event-id; type; stop-id; line-id; direction; repetition\n1; departure; 1; 1; >; 1\n2; arrival; 2; 1; >; 1\n3; departure; 2; 1; >; 1\n4; arrival; 3; 1; >; 1\n5; departure; 3; 1; <; 1\n6; arrival; 2; 1; <; 1\n7; departure; 2; 1; <; 1\n8; arrival; 1; 1; <; 1\n9; departure; 1; 2; >; 1\n10; arrival; 2; 2; >; 1\n11; departure; 2; 2; <; 1\n12; arrival; 1; 2; <; 1\n"
 
 abbrev activities : List ℕ
 activities =
     codes
-        "# activity-id; type; from-event; to-event; lower-bound; upper-bound\n1; drive; 1; 2; 4; 5\n2; wait; 2; 3; 1; 3\n3; drive; 3; 4; 6; 6\n4; drive; 5; 6; 6; 6\n5; wait; 6; 7; 1; 3\n6; drive; 7; 8; 4; 5\n7; drive; 9; 10; 4; 5\n8; drive; 11; 12; 4; 5\n9; change; 2; 11; 2; 62\n10; change; 6; 11; 2; 62\n11; change; 8; 9; 2; 62\n12; change; 10; 3; 2; 62\n13; change; 10; 7; 2; 62\n14; change; 12; 1; 2; 62\n"
+    "# activity-id; type; from-event; to-event; lower-bound; upper-bound\n1; drive; 1; 2; 4; 5\n2; wait; 2; 3; 1; 3\n3; drive; 3; 4; 6; 6\n4; drive; 5; 6; 6; 6\n5; wait; 6; 7; 1; 3\n6; drive; 7; 8; 4; 5\n7; drive; 9; 10; 4; 5\n8; drive; 11; 12; 4; 5\n9; change; 2; 11; 2; 62\n10; change; 6; 11; 2; 62\n11; change; 8; 9; 2; 62\n12; change; 10; 3; 2; 62\n13; change; 10; 7; 2; 62\n14; change; 12; 1; 2; 62\n"
 
 -- what is made where the tables are texts
 abbrev made : List ℕ → List ℕ → List ℕ → Made
@@ -71,7 +71,7 @@ twelve = refl
 abbrev one_line : BundleParts
 one_line =
     bundle 10 2
-        (codes "1; A; A; 0; 0\n2; B; B; 0; 0\n" ∷ codes "7; 1; 2; 1; 4; 5\n" ∷ codes "3; 1; 7; 3\n" ∷ [])
+    (codes "1; A; A; 0; 0\n2; B; B; 0; 0\n" ∷ codes "7; 1; 2; 1; 4; 5\n" ∷ codes "3; 1; 7; 3\n" ∷ [])
 
 thrice : ean_stage one_line ≡ Ok
     (made
@@ -103,4 +103,3 @@ differing : ean_stage
     (refusal.BadRow file.Concept 4 why.FrequencyDiffers)
 unfolding digits ean_stage concept_events concept_activities lines_of line_faults network_of network_faults stops_of input_faults row_faults faults by_id walk_from table_of cells_from cell_of values errors row_whys rows cleaned spelling_of value_of value_at fixed_of whole_of cell_text cell_texts joined table_text
 differing = refl
-

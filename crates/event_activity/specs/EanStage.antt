@@ -67,4 +67,4 @@ too_many events activities = limit_faults (row_limit counted.PeriodicEvents 4000
 unfoldable pub ean_stage : BundleParts → Result Made Refusal
 ean_stage bundle =
     unless_fault (or_else (ean_faults bundle) (too_many (events_in bundle) (activities_in bundle)))
-        (ean_made (rows_of (events_in bundle)) (activities_in bundle))
+    (ean_made (rows_of (events_in bundle)) (activities_in bundle))

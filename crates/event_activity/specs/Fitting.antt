@@ -1,5 +1,5 @@
 -- What keeps events and activities within their columns.
-use Rattle.std.specs.Prelude.{ℕ, ◌≤◌, List, length, unsigned_abs, All}
+use Rattle.std.specs.Prelude.{ℕ, ◌≤◌, List, unsigned_abs}
 use Rattle.giv_files.specs.declared.key.Key.TheVariants as key
 use Rattle.giv_files.specs.declared.setting.Setting.{Setting}
 use Rattle.giv_files.specs.Settings.{amount}

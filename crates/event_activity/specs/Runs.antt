@@ -1,9 +1,8 @@
 -- The events of a line concept, run by run.
-use Rattle.std.specs.Prelude.{ℕ, ℤ, pos, ◌+◌, ◌*◌, ◌/◌, ◌%◌, ◌≤◌, ◌≤ℤ◌, List, [], ◌∷◌, ◌++◌, length, map, reverse, slice_index_or, unsigned_abs, All}
+use Rattle.std.specs.Prelude.{ℕ, pos, ◌+◌, ◌*◌, ◌/◌, ◌%◌, ◌≤◌, ◌≤ℤ◌, List, [], ◌++◌, length, map, reverse, slice_index_or, unsigned_abs, All}
 use Rattle.std.specs.List.{flat_map, range_with_len, enumerate_from}
 use Rattle.event_tables.specs.declared.direction.Direction.{Direction}
 use Rattle.event_tables.specs.declared.direction.Direction.TheVariants as direction
-use Rattle.event_tables.specs.declared.periodic_event.PeriodicEvent.{PeriodicEvent}
 use Rattle.event_tables.specs.Kinds.{event_kind_at}
 use Rattle.event_activity.specs.declared.run_event.RunEvent.{RunEvent}
 use Rattle.line_pool.specs.Pools.{LineParts, AreLines}
@@ -47,7 +46,7 @@ run_event network line direction repetition place = record {
 abbrev pub run : NetworkParts → LineParts → Direction → ℕ → List RunEvent
 run network line direction repetition =
     map (run_event network line direction repetition)
-        (range_with_len 0 (2 * length line.edges))
+    (range_with_len 0 (2 * length line.edges))
 
 -- the runs of a line in a direction: as many as its frequency, counted from 1
 abbrev pub runs : NetworkParts → LineParts → Direction → List RunEvent

@@ -44,8 +44,8 @@ fn count_from(joining: Joining, event: &RunEvent, events: &[RunEvent]) -> usize
     ensures few { result ≤ 4000 }
 {
     let mut count = 0;
-    for next in events {
-        if joining.joins(event, next) {
+    for other in events {
+        if joining.joins(event, other) {
             count += 1;
         }
     }

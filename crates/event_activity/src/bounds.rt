@@ -47,8 +47,8 @@ fn drive_bounds(edge: &Edge) -> Bounds
 fn wait_bounds(settings: &Settings) -> Bounds
     requires { AreTimely settings.now }
     ensures { result ≡ record {
-        lower = amount settings.now keys.EanDefaultMinimalWaitingTime;
-        upper = amount settings.now keys.EanDefaultMaximalWaitingTime;
+      lower = amount settings.now keys.EanDefaultMinimalWaitingTime;
+      upper = amount settings.now keys.EanDefaultMaximalWaitingTime;
     } }
 {
     Bounds {
@@ -61,8 +61,8 @@ fn wait_bounds(settings: &Settings) -> Bounds
 fn change_bounds(settings: &Settings) -> Bounds
     requires { AreTimely settings.now }
     ensures { result ≡ record {
-        lower = amount settings.now keys.EanDefaultMinimalChangeTime;
-        upper = amount settings.now keys.EanDefaultMaximalChangeTime;
+      lower = amount settings.now keys.EanDefaultMinimalChangeTime;
+      upper = amount settings.now keys.EanDefaultMaximalChangeTime;
     } }
 {
     Bounds {
@@ -76,8 +76,8 @@ fn sync_bounds(settings: &Settings, frequency: u32) -> Bounds
     requires settings { AreTimely settings.now }
     requires served { 1 ≤ frequency }
     ensures { result ≡ record {
-        lower = amount settings.now keys.PeriodLength / frequency;
-        upper = div_ceil (amount settings.now keys.PeriodLength) frequency;
+      lower = amount settings.now keys.PeriodLength / frequency;
+      upper = div_ceil (amount settings.now keys.PeriodLength) frequency;
     } }
 {
     let period = settings.amount(Key::PeriodLength) as u32;

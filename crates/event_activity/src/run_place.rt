@@ -51,13 +51,7 @@ fn kind_at(place: usize) -> EventKind
 }
 
 // The id of the stop at a place of a run.
-fn stop_of(
-    network: &Network,
-    pool: &Pool,
-    line: usize,
-    direction: Direction,
-    place: usize,
-) -> u32
+fn stop_of(network: &Network, pool: &Pool, line: usize, direction: Direction, place: usize) -> u32
     requires served { AreServed network.now pool.now }
     requires line { line < length pool.now }
     requires place { place < 2 * length (line_at pool.now line).edges }

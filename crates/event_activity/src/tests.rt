@@ -11,8 +11,7 @@ const EDGES: &[u8] = b"1; 1; 2; 2; 4; 5\n2; 2; 3; 3; 6; 6\n";
 
 const EVENTS: &[u8] = b"# event-id; type; stop-id; line-id; direction; repetition\n";
 
-const ACTIVITIES: &[u8] =
-    b"# activity-id; type; from-event; to-event; lower-bound; upper-bound\n";
+const ACTIVITIES: &[u8] = b"# activity-id; type; from-event; to-event; lower-bound; upper-bound\n";
 
 // What the stage gives for a period and the text of a line concept.
 fn run(
@@ -65,7 +64,13 @@ fn networks_of_concepts(rt: HostRuntime) -> Result<(), Fail> {
             b"ean: 12 events, 10 activities",
         ),
         // Frequencies of 0, and no line.
-        (60, b"1; 1; 1; 0\n2; 1; 2; 0\n", b"", b"", b"ean: 0 events, 0 activities"),
+        (
+            60,
+            b"1; 1; 1; 0\n2; 1; 2; 0\n",
+            b"",
+            b"",
+            b"ean: 0 events, 0 activities",
+        ),
         (60, b"# none\n", b"", b"", b"ean: 0 events, 0 activities"),
     ];
     for (count, (period, concept, events, activities, report)) in cases.iter().enumerate() {

@@ -6,10 +6,13 @@ use Rattle.event_activity.proofs.activities.concept_activities.Goals as goal
 
 pub with_numbers-requires : goal.with_numbers-requires
 with_numbers-requires c =
-    omega (arith, ap length c.deref.ensures.value,
-        activities_few c.args.settings.now c.args.events.now _ _ _ _ c.new-activities.ensures.items
-            c.in_ok-add_joined.ensures c.in_ok-add_joined-2.ensures c.in_ok-add_joined-3.ensures
-            c.requires.few)
+    omega (
+      arith,
+      ap length c.deref.ensures.value,
+      activities_few c.args.settings.now c.args.events.now _ _ _ _ c.new-activities.ensures.items
+          c.in_ok-add_joined.ensures c.in_ok-add_joined-2.ensures c.in_ok-add_joined-3.ensures
+          c.requires.few,
+    )
 
 pub returns : goal.returns
 returns c =

@@ -3,9 +3,9 @@ use Rattle.std.proofs.Common.{◌≡◌, ◌≤◌, filter, length, take}
 use Rattle.event_activity.specs.Activities.{joined}
 use Rattle.event_activity.proofs.activities.count_from.Given as goal
 
-abbrev pub invariant-loop-next : goal.invariant-loop-next
-invariant-loop-next l =
+abbrev pub invariant-loop-other : goal.invariant-loop-other
+invariant-loop-other l =
     record {
-      told : l.count ≡ length (filter (joined l.joining l.event) (take l.next-index l.events));
-      few : l.count ≤ l.next-index;
+      told : l.count ≡ length (filter (joined l.joining l.event) (take l.other-index l.events));
+      few : l.count ≤ l.other-index;
     }

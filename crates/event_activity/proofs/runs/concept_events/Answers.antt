@@ -7,9 +7,12 @@ use Rattle.event_activity.proofs.runs.concept_events.Goals as goal
 
 pub with_ids-requires : goal.with_ids-requires
 with_ids-requires c =
-    omega (arith, ap length c.deref.ensures.value,
-        events_few c.args.network.now c.args.pool.now c.loop-line.events.items c.loop-line.line
-            (omega arith) c.loop-line.invariant c.requires.few)
+    omega (
+      arith,
+      ap length c.deref.ensures.value,
+      events_few c.args.network.now c.args.pool.now c.loop-line.events.items c.loop-line.line
+          (omega arith) c.loop-line.invariant c.requires.few,
+    )
 
 pub returns : goal.returns
 returns c =

@@ -8,8 +8,11 @@ overflow_mul-result-2 c =
     let edges = told_of (λ at. at.edges) lines c.args.line _ c.requires.line c.edges.ensures in
     let often = told_of (λ at. at.frequency) lines c.args.line _ c.requires.line
     c.frequency.ensures in
-    omega (arith, line_few c.args.network.now lines c.args.line _ _ c.requires.served
-    c.requires.line (ap length edges) often)
+    omega (
+      arith,
+      line_few c.args.network.now lines c.args.line _ _ c.requires.served
+          c.requires.line (ap length edges) often,
+    )
 
 pub returns-clause-count : goal.returns-clause-count
 returns-clause-count c =
