@@ -1,0 +1,104 @@
+-- The stops of a line's walk, and what stands along a line.
+use Rattle.std.proofs.Common.{◌≡◌, ℕ, pos, ◌-◌, ◌<◌, arith, All, true, false, cond, eqb, List, [], ◌∷◌, length, get_or, refl, subst, sym, ◌∙◌, Option, Some, None, option_map, option_and_then}
+use Rattle.std.specs.List.{cons_option}
+use Rattle.std.proofs.lemmas.List.{get_or-reverse, length-reverse}
+use Rattle.std.proofs.lemmas.List.Elements.{All-nil, All-cons, All-head, All-tail, All-get_or}
+use Rattle.std.proofs.lemmas.Option.{slice_get-get_or, same_Some}
+use Rattle.event_tables.specs.declared.direction.Direction.{Direction}
+use Rattle.event_tables.specs.declared.direction.Direction.TheVariants as direction
+use Rattle.line_pool.specs.Pools.{LineParts, walk_from, or_walk, walk_of, IsLine}
+use Rattle.ptn_network.specs.declared.edge.Edge.{Edge}
+use Rattle.ptn_network.specs.Networks.{NetworkParts, IsEdge, IsNetwork}
+use Rattle.ptn_network.specs.Paths.{edges_at}
+use Rattle.ptn_network.specs.Walks.{across}
+use Rattle.event_activity.specs.Runs.{along}
+
+-- what holds of all things holds of those along a line, in each direction
+pub all_along : (P : ℕ → Type 0) (way : Direction) (things : List ℕ) → All P things
+    → All P (along way things)
+all_along P direction.Forward things all = all
+all_along P direction.Backward things all = λ k d h.
+    let within : k < length things = omega (arith, h, length-reverse things) in
+    subst P (sym (get_or-reverse things k d within))
+    (all (length things - 1 - k) d (omega (arith, within)))
+
+-- as many things stand along a line in each direction
+pub length-along : (way : Direction) (things : List ℕ) → length (along way things) ≡ length things
+length-along direction.Forward things = refl
+length-along direction.Backward things = length-reverse things
+
+-- the stop across an edge is one of its ends
+across_inside : (count stop next : ℕ) (edge : Edge) → IsEdge count edge
+    → across edge stop ≡ Some next → next < count
+across_inside count stop next edge is goes =
+    elim (eqb edge.left stop) as (λ left. cond left (Some edge.right)
+    (cond (eqb edge.right stop) (Some edge.left) None) ≡ Some next → next < count) [
+      | true ↦ λ e. let same : edge.right ≡ next = same_Some _ _ e in omega (arith, same, is.right)
+      | false ↦ λ e. elim (eqb edge.right stop) as (λ right. cond right (Some edge.left) None
+          ≡ Some next → next < count) [
+            | true ↦ λ f. let same : edge.left ≡ next = same_Some _ _ f in
+                omega (arith, same, is.left)
+            | false ↦ λ f. cc
+          ] e
+    ] goes
+
+module _ (count : ℕ) where
+  abbrev Inside : ℕ → Type 0
+  Inside stop = stop < count
+
+  -- the stops of a walk are stops
+  walk_inside : (edges : List Edge) (stop : ℕ) (stops : List ℕ) → All (IsEdge count) edges
+      → stop < count → walk_from stop edges ≡ Some stops → All Inside stops
+  unfolding walk_from
+  walk_inside [] stop stops all from e =
+      subst (All Inside) (same_Some _ _ e) (All-cons Inside stop [] from (All-nil Inside))
+  walk_inside (edge ∷ edges) stop stops all from e =
+      elim (across edge stop) as (λ to. across edge stop ≡ to → option_and_then
+      (λ next. option_map (λ more. stop ∷ more) (walk_from next edges)) to ≡ Some stops
+      → All Inside stops) [
+        | None ↦ λ a h. cc
+        | Some next ↦ λ a h. elim (walk_from next edges) as (λ walk. walk_from next edges ≡ walk
+            → option_map (λ more. stop ∷ more) walk ≡ Some stops → All Inside stops) [
+              | None ↦ λ w k. cc
+              | Some rest ↦ λ w k. subst (All Inside) (same_Some _ _ k)
+                  (All-cons Inside stop rest from
+                  (walk_inside edges next rest (All-tail (IsEdge count) edge edges all)
+                  (across_inside count stop next edge (All-head (IsEdge count) edge edges all) a) w))
+            ] refl h
+      ] refl e
+
+  walk_of_inside : (edges : List Edge) (stops : List ℕ) → All (IsEdge count) edges
+      → walk_of edges ≡ Some stops → All Inside stops
+  walk_of_inside [] stops all e = subst (All Inside) (same_Some _ _ e) (All-nil Inside)
+  walk_of_inside (edge ∷ edges) stops all e =
+      let is = All-head (IsEdge count) edge edges all in
+      elim (walk_from edge.left (edge ∷ edges)) as (λ left. walk_from edge.left (edge ∷ edges)
+      ≡ left → or_walk left (walk_from edge.right (edge ∷ edges)) ≡ Some stops → All Inside stops) [
+        | None ↦ λ l h. walk_inside (edge ∷ edges) edge.right stops all is.right h
+        | Some found ↦ λ l h. walk_inside (edge ∷ edges) edge.left stops all is.left (l ∙ h)
+      ] refl e
+
+  all_edges : (edges : List Edge) (indexes : List ℕ) → All (IsEdge count) edges
+      → All (λ index. index < length edges) indexes → All (IsEdge count) (edges_at edges indexes)
+  all_edges edges [] all there = All-nil (IsEdge count)
+  all_edges edges (index ∷ indexes) all there =
+      let h = All-head (λ index. index < length edges) index indexes there in
+      let rest = all_edges edges indexes all (All-tail (λ index. index < length edges) index indexes
+      there) in
+      let at = slice_get-get_or edges index none h in
+      subst (λ found. All (IsEdge count) (at_first found)) (sym at)
+      (All-cons (IsEdge count) (get_or edges index none) (edges_at edges indexes)
+      (All-get_or (IsEdge count) edges index none h all) rest)
+    where
+      none : Edge
+      none = record { id = pos 0; left = 0; right = 0; length = pos 0; lower = pos 0; upper = pos 0 }
+
+      at_first : Option Edge → List Edge
+      at_first found = cons_option found (edges_at edges indexes)
+
+-- the stops of a line are stops of the network
+pub stops_inside : (network : NetworkParts) (line : LineParts) → IsNetwork network
+    → IsLine network.edges line → All (λ stop. stop < length network.stops) line.stops
+stops_inside network line sound is =
+    walk_of_inside (length network.stops) (edges_at network.edges line.edges) line.stops
+    (all_edges (length network.stops) network.edges line.edges sound.edges is.there) is.walk

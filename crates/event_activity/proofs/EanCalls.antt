@@ -1,0 +1,125 @@
+-- The stage of events and activities, from what each of its inputs gives.
+use Rattle.std.proofs.Common.{◌≡◌, ℕ, ◌<◌, ◌≤◌, List, [], ◌∷◌, ◌++◌, length, ap, subst, sym, ◌∙◌, Ok, Err, slice_get}
+use Rattle.std.proofs.lemmas.List.{append-nil}
+use Rattle.giv_files.specs.declared.counted.Counted.TheVariants as counted
+use Rattle.giv_files.specs.declared.made.Made.{Made}
+use Rattle.giv_files.specs.declared.refusal.Refusal.{Refusal}
+use Rattle.giv_files.specs.declared.refusal.Refusal.TheVariants as refusal
+use Rattle.giv_files.specs.declared.refusal.StageFault.{StageFault}
+use Rattle.giv_files.specs.declared.refusal.StageFault.TheVariants as fault
+use Rattle.giv_files.specs.Inputs.{Refuses, or_else, limit_faults, row_limit}
+use Rattle.giv_files.specs.Settings.{BundleParts}
+use Rattle.giv_files.specs.StageCalls.{input_text, StageGives}
+use Rattle.giv_files.proofs.Inputs.{refused_append}
+use Rattle.giv_files.proofs.StageCalls.{stage_refused, stage_made}
+use Rattle.event_tables.specs.declared.periodic_activity.PeriodicActivity.{PeriodicActivity}
+use Rattle.event_activity.specs.declared.run_event.RunEvent.{RunEvent}
+use Rattle.event_activity.specs.Activities.{concept_activities}
+use Rattle.event_activity.specs.EanStage.{ean_made, ean_faults, ean_stage, events_in, activities_in, too_many, rows_of}
+use Rattle.event_activity.specs.Runs.{concept_events}
+use Rattle.event_activity.proofs.Refused.{refused_before, behind_none, over_limit, under_limit}
+use Rattle.line_pool.specs.Pools.{LineParts, concept_of, concept_faults}
+use Rattle.ptn_network.specs.Networks.{NetworkParts, network_of, network_faults}
+
+module _ (bundle : BundleParts) where
+  all_faults : List Refusal
+  all_faults = or_else (ean_faults bundle) (too_many (events_in bundle) (activities_in bundle))
+
+  -- texts that give no network
+  pub network_refused : (end : StageFault)
+      → Refuses (network_faults (input_text bundle 0) (input_text bundle 1)) end
+      → StageGives (ean_stage bundle) (Err end)
+  unfolding ean_stage
+  network_refused end h =
+      stage_refused _ _ end (refused_before (ean_faults bundle) _ end
+      (refused_append (network_faults (input_text bundle 0) (input_text bundle 1)) _ end h))
+
+  module _ (network : NetworkParts)
+      (none : network_faults (input_text bundle 0) (input_text bundle 1) ≡ [])
+      (is : network ≡ network_of (input_text bundle 0) (input_text bundle 1)) where
+    later : concept_faults network (input_text bundle 2) ≡ ean_faults bundle
+    later =
+        ap (λ some. concept_faults some (input_text bundle 2)) is
+        ∙ ap (λ first. first ++ concept_faults
+        (network_of (input_text bundle 0) (input_text bundle 1)) (input_text bundle 2)) (sym none)
+
+    -- a text that gives no line concept
+    pub concept_refused : (end : StageFault)
+        → Refuses (concept_faults network (input_text bundle 2)) end
+        → StageGives (ean_stage bundle) (Err end)
+    unfolding ean_stage
+    concept_refused end h =
+        stage_refused _ _ end (refused_before (ean_faults bundle) _ end
+        (subst (λ all. Refuses all end) later h))
+
+    module _ (lines : List LineParts)
+        (faultless : concept_faults network (input_text bundle 2) ≡ [])
+        (read : lines ≡ concept_of network (input_text bundle 2)) where
+      all_none : ean_faults bundle ≡ []
+      all_none = sym later ∙ faultless
+
+      events_are : concept_events network lines ≡ events_in bundle
+      events_are =
+          ap (concept_events network) read
+          ∙ ap (λ some. concept_events some (concept_of some (input_text bundle 2))) is
+
+      left : or_else (ean_faults bundle) (too_many (events_in bundle) (activities_in bundle))
+          ≡ too_many (events_in bundle) (activities_in bundle)
+      left = behind_none (ean_faults bundle) _ all_none
+
+      -- too many events
+      pub events_refused : (count : ℕ) → count ≡ length (concept_events network lines)
+          → 4000 < count
+          → StageGives (ean_stage bundle)
+          (Err (fault.Refused (refusal.TooMany counted.PeriodicEvents count)))
+      unfolding ean_stage
+      events_refused count told over =
+          let first = over_limit counted.PeriodicEvents 4000 (events_in bundle)
+          (limit_faults (row_limit counted.PeriodicActivities 200000 ∷ [])
+          (activities_in bundle)) count (told ∙ ap length events_are) over in
+          stage_refused _ _ (fault.Refused (refusal.TooMany counted.PeriodicEvents count))
+          (ap (λ all. slice_get all 0) (left ∙ first))
+
+      module _ (events : List RunEvent) (made : events ≡ concept_events network lines)
+          (few : length events ≤ 4000) where
+        events_told : events ≡ events_in bundle
+        events_told = made ∙ events_are
+
+        activities_are : concept_activities bundle.settings events ≡ activities_in bundle
+        activities_are = ap (concept_activities bundle.settings) events_told
+
+        only : too_many (events_in bundle) (activities_in bundle)
+            ≡ limit_faults (row_limit counted.PeriodicActivities 200000 ∷ [])
+            (activities_in bundle) ++ []
+        only =
+            ap (λ some. some ++ limit_faults (row_limit counted.PeriodicActivities 200000 ∷ [])
+            (activities_in bundle)) (under_limit counted.PeriodicEvents 4000 (events_in bundle)
+            (subst (λ some. length some ≤ 4000) events_told few))
+            ∙ sym (append-nil (limit_faults (row_limit counted.PeriodicActivities 200000 ∷ [])
+            (activities_in bundle)))
+
+        -- too many activities
+        pub activities_refused : (count : ℕ)
+            → count ≡ length (concept_activities bundle.settings events) → 200000 < count
+            → StageGives (ean_stage bundle)
+            (Err (fault.Refused (refusal.TooMany counted.PeriodicActivities count)))
+        unfolding ean_stage
+        activities_refused count told over =
+            let first = over_limit counted.PeriodicActivities 200000 (activities_in bundle) []
+            count (told ∙ ap length activities_are) over in
+            stage_refused _ _ (fault.Refused (refusal.TooMany counted.PeriodicActivities count))
+            (ap (λ all. slice_get all 0) (left ∙ only ∙ first))
+
+        -- texts without a fault, and lists within their limits
+        pub ean_given : (activities : List PeriodicActivity) (result : Made)
+            → activities ≡ concept_activities bundle.settings events → length activities ≤ 200000
+            → result ≡ ean_made (rows_of events) activities
+            → StageGives (ean_stage bundle) (Ok result)
+        unfolding ean_stage
+        ean_given activities result told short given =
+            let same = told ∙ activities_are in
+            let within = under_limit counted.PeriodicActivities 200000 (activities_in bundle)
+            (subst (λ some. length some ≤ 200000) same short) in
+            stage_made _ _ result (left ∙ only ∙ ap (λ some. some ++ []) within)
+            (given ∙ ap (ean_made (rows_of events)) same
+            ∙ ap (λ some. ean_made (rows_of some) (activities_in bundle)) events_told)

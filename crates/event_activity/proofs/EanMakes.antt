@@ -1,0 +1,15 @@
+-- Which files the stage of events and activities makes.
+use Rattle.std.proofs.Common.{◌≡◌, Ok, ap, lit<}
+use Rattle.giv_files.specs.declared.made.Made.{Made}
+use Rattle.giv_files.specs.declared.stage.Stage.TheVariants as stage
+use Rattle.giv_files.specs.MadeLists.{MakesAs, ids_of}
+use Rattle.giv_files.specs.Settings.{BundleParts}
+use Rattle.giv_files.proofs.StageCalls.{made_unless}
+use Rattle.event_activity.specs.EanStage.{ean_stage}
+
+-- they are those that the stage is to make
+pub ean_stage_makes : (bundle : BundleParts) (made : Made) → ean_stage bundle ≡ Ok made
+    → MakesAs stage.Ean (ids_of made.files)
+unfolding ean_stage
+ean_stage_makes bundle made is =
+    (0, lit< tt, ap (λ (made : Made). ids_of made.files) (made_unless _ _ made is))

@@ -1,0 +1,138 @@
+-- The events and activities that are made, read again, are right.
+use Rattle.std.proofs.Common.{◌≡◌, ℕ, ◌≤◌, All, List, [], ◌∷◌, length, map, refl, ap, subst, sym, ◌∙◌, arith, Ok, Err, Result}
+use Rattle.std.specs.Prelude.{IfOk}
+use Rattle.std.specs.List.{range_with_len}
+use Rattle.std.proofs.lemmas.List.{length-map}
+use Rattle.std.proofs.lemmas.List.Elements.{All-weaker}
+use Rattle.giv_files.specs.declared.counted.Counted.TheVariants as counted
+use Rattle.giv_files.specs.declared.made.Made.{Made}
+use Rattle.giv_files.specs.declared.refusal.StageFault.{StageFault}
+use Rattle.giv_files.specs.declared.stage.Stage.TheVariants as stage
+use Rattle.giv_files.specs.Columns.{events_p_columns, activities_p_columns}
+use Rattle.giv_files.specs.Inputs.{input_faults, records_of, limit_faults, row_limit}
+use Rattle.giv_files.specs.Settings.{BundleParts, Fits}
+use Rattle.giv_files.specs.StageCalls.{input_text, StageGives}
+use Rattle.giv_files.specs.Writing.{ReadsBack}
+use Rattle.giv_files.proofs.Inputs.{limits_sound}
+use Rattle.giv_files.proofs.Ranges.{front_none, back_none}
+use Rattle.giv_files.proofs.StageCalls.{made_unless, none_unless}
+use Rattle.event_tables.specs.declared.periodic_event.PeriodicEvent.{PeriodicEvent}
+use Rattle.event_tables.specs.Cells.{periodic_event, periodic_activity, periodic_event_cells, periodic_activity_cells}
+use Rattle.event_tables.specs.Headers.{periodic_event_header, periodic_activity_header}
+use Rattle.event_tables.specs.PeriodicFiles.{periodic_event_input, periodic_activity_input, periodic_event_ids, IsPeriodicActivity}
+use Rattle.event_tables.specs.RowsOfTables.{ReadsAs, rows_by, file_text}
+use Rattle.event_activity.specs.declared.run_event.RunEvent.{RunEvent}
+use Rattle.event_activity.specs.EanStage.{network_in, lines_in, events_in, activities_in, ean_faults, ean_stage, rows_of, too_many}
+use Rattle.event_activity.specs.Fitting.{IsNumbered}
+use Rattle.event_activity.specs.RightEan.{EanIsAccepted, EanIsRight}
+use Rattle.event_activity.proofs.DrivenEvents.{events_numbered}
+use Rattle.event_activity.proofs.EanAccepted.{event_records, activity_records, events_accepted, activities_accepted}
+use Rattle.event_activity.proofs.EanCells.{events_in_columns, activities_in_columns}
+use Rattle.event_activity.proofs.MadeActivities.{IsNumberedOne, activities_numbered}
+use Rattle.event_activity.proofs.ReadAgain.{reads_as, events_back, activities_back, events_placed, activities_placed}
+use Rattle.event_activity.proofs.Refused.{none_first, none_behind}
+use Rattle.event_activity.proofs.Served.{served}
+use Rattle.event_activity.proofs.Timely.{bundle_timely}
+use Rattle.ptn_network.specs.Networks.{network_faults}
+
+module _ (bundle : BundleParts) (own : bundle.stage ≡ stage.Ean) (fits : Fits bundle)
+    (none : ean_faults bundle ≡ [])
+    (short : too_many (events_in bundle) (activities_in bundle) ≡ []) where
+  abbrev rows : List PeriodicEvent
+  rows = rows_of (events_in bundle)
+
+  abbrev events_text : List ℕ
+  events_text = file_text periodic_event_header events_p_columns periodic_event_cells rows
+
+  abbrev activities_text : List ℕ
+  activities_text = file_text periodic_activity_header activities_p_columns
+      periodic_activity_cells (activities_in bundle)
+
+  few_events : length (events_in bundle) ≤ 4000
+  few_events = (limits_sound (row_limit counted.PeriodicEvents 4000) [] (events_in bundle)
+      (front_none _ _ short)).0
+
+  few_activities : length (activities_in bundle) ≤ 200000
+  few_activities = (limits_sound (row_limit counted.PeriodicActivities 200000) []
+      (activities_in bundle) (back_none
+      (limit_faults (row_limit counted.PeriodicEvents 4000 ∷ []) (events_in bundle)) _ short)).0
+
+  numbered : All (IsNumbered (length (events_in bundle))) (events_in bundle)
+  numbered = events_numbered (network_in bundle) (lines_in bundle)
+      (served (input_text bundle 0) (input_text bundle 1) (input_text bundle 2)
+      (network_in bundle) (lines_in bundle) (front_none _ _ none) refl
+      (back_none (network_faults (input_text bundle 0) (input_text bundle 1)) _ none) refl)
+
+  ones : All (IsNumberedOne (length (events_in bundle)) (length (activities_in bundle)))
+      (activities_in bundle)
+  ones = activities_numbered bundle.settings (bundle_timely bundle own fits) (events_in bundle)
+      (length (events_in bundle)) numbered
+
+  events_read : ReadsBack events_p_columns (rows_by periodic_event_cells rows) events_text
+  events_read = events_back rows
+      (events_in_columns (length (events_in bundle)) (events_in bundle) few_events numbered)
+
+  activities_read : ReadsBack activities_p_columns
+      (rows_by periodic_activity_cells (activities_in bundle)) activities_text
+  activities_read = activities_back (activities_in bundle)
+      (activities_in_columns (length (events_in bundle)) (length (activities_in bundle))
+      (activities_in bundle) few_events few_activities ones)
+
+  events_again : ReadsAs events_p_columns periodic_event rows events_text
+  events_again = reads_as events_p_columns periodic_event rows (rows_by periodic_event_cells rows)
+      events_text (event_records rows) events_read
+
+  same_size : length rows ≡ length (events_in bundle)
+  same_size = length-map (events_in bundle) (λ (event : RunEvent). event.row)
+
+  ids_are : periodic_event_ids (records_of periodic_event_input events_text)
+      ≡ range_with_len 1 (length (events_in bundle))
+  ids_are =
+      ap (map (λ (event : PeriodicEvent). event.id)) events_again.1
+      ∙ events_placed (network_in bundle) (lines_in bundle) ∙ ap (range_with_len 1) same_size
+
+  -- the files that are made are accepted
+  ean_accepted : EanIsAccepted events_text activities_text
+  ean_accepted = record {
+    events_fine = events_accepted rows events_text
+        (events_placed (network_in bundle) (lines_in bundle))
+        (omega (arith, same_size, few_events)) events_read;
+    activities_fine = subst
+        (λ ids. input_faults (periodic_activity_input ids) activities_text ≡ []) (sym ids_are)
+        (activities_accepted (length (events_in bundle)) (activities_in bundle) activities_text
+        (activities_placed bundle.settings (events_in bundle)) few_activities
+        (All-weaker (IsNumberedOne (length (events_in bundle)) (length (activities_in bundle)))
+        (IsPeriodicActivity (length (events_in bundle))) (λ one is. is.made.sound)
+        (activities_in bundle) ones) activities_read);
+  }
+
+  activities_again : ReadsAs activities_p_columns periodic_activity (activities_in bundle)
+      activities_text
+  activities_again = reads_as activities_p_columns periodic_activity (activities_in bundle)
+      (rows_by periodic_activity_cells (activities_in bundle)) activities_text
+      (activity_records [] (activities_in bundle)) activities_read
+
+-- what the stage makes of inputs without a fault
+pub ean_is_right : (bundle : BundleParts) (made : Made) → bundle.stage ≡ stage.Ean → Fits bundle
+    → ean_stage bundle ≡ Ok made → EanIsRight bundle made
+unfolding ean_stage
+ean_is_right bundle made own fits is =
+    let all = none_unless _ _ made is in
+    let none = none_first (ean_faults bundle) _ all in
+    let short = none_behind (ean_faults bundle) _ all in
+    record {
+      inputs = none;
+      events = events_text bundle own fits none short;
+      activities = activities_text bundle own fits none short;
+      both = ap (λ (made : Made). made.files) (sym (made_unless _ _ made is));
+      reads_events = events_again bundle own fits none short;
+      reads_activities = activities_again bundle own fits none short;
+      accepted = ean_accepted bundle own fits none short;
+    }
+
+-- what a call gives that meets the stage
+pub right_given : (bundle : BundleParts) (result : Result Made StageFault)
+    → bundle.stage ≡ stage.Ean → Fits bundle → StageGives (ean_stage bundle) result
+    → IfOk result (λ made. EanIsRight bundle made)
+right_given bundle (Ok made) own fits given = ean_is_right bundle made own fits given
+right_given bundle (Err fault) own fits given = tt

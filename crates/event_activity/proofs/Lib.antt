@@ -1,0 +1,21 @@
+mod Added
+mod Along
+mod DrivenEvents
+mod EanAccepted
+mod EanCalls
+mod EanCells
+mod EanGiven
+pub mod EanMakes
+pub mod EanNames
+pub mod EanReads
+mod Given
+mod Joined
+mod LineEvents
+mod MadeActivities
+mod Numbered
+mod ReadAgain
+mod Refused
+mod Served
+mod StopsOfRuns
+mod Timely
+mod Tried

@@ -1,0 +1,40 @@
+-- What holds of all parts, of numbered things, and of their numbers.
+use Rattle.std.proofs.Common.{◌≡◌, ℕ, ◌+◌, ◌<◌, ◌≤◌, arith, All, List, [], ◌∷◌, length, map, get_or, refl, ap, subst, sym, ◌∙◌}
+use Rattle.std.specs.List.{flat_map, range_with_len, enumerate_from}
+use Rattle.std.proofs.lemmas.List.Elements.{All-nil, All-append, All-head, All-tail, All-map}
+use Rattle.std.proofs.lemmas.List.FromFn.{length-range_with_len, get_or-range_with_len, length-enumerate_from, get_or-enumerate_from}
+
+-- what holds of each number from one on
+pub all_numbers : (P : ℕ → Type 0) (a n : ℕ) → ((j : ℕ) → a ≤ j → j < a + n → P j)
+    → All P (range_with_len a n)
+all_numbers P a n each = λ k d h.
+    let within : k < n = omega (arith, h, length-range_with_len a n) in
+    subst P (sym (get_or-range_with_len a n k d within))
+    (each (a + k) (omega arith) (omega (arith, within)))
+
+-- what holds of all of each part
+pub all_parts : {A X : Type 0} (P : X → Type 0) (f : A → List X) (xs : List A)
+    → All (λ x. All P (f x)) xs → All P (flat_map f xs)
+all_parts P f [] all = All-nil P
+all_parts P f (x ∷ xs) all =
+    All-append P (f x) (flat_map f xs) (All-head (λ x. All P (f x)) x xs all)
+    (all_parts P f xs (All-tail (λ x. All P (f x)) x xs all))
+
+-- what holds of each thing with its number
+pub all_numbered : {X Y : Type 0} (P : X → Type 0) (Q : Y → Type 0) (f : ℕ × X → Y) (xs : List X)
+    → ((n : ℕ) (x : X) → 1 ≤ n → n ≤ length xs → P x → Q (f (n, x))) → All P xs
+    → All Q (map f (enumerate_from 1 xs))
+all_numbered P Q f xs step all =
+    All-map Q f (enumerate_from 1 xs) (λ k d h.
+    let within : k < length xs = omega (arith, h, length-enumerate_from 1 xs) in
+    subst (λ at. Q (f at)) (sym (get_or-enumerate_from 1 xs k d within))
+    (step (1 + k) (get_or xs k d.1) (omega arith) (omega (arith, within)) (all k d.1 within)))
+
+-- the numbers are those in order
+pub numbers_are : {X Y : Type 0} (id : Y → ℕ) (f : ℕ × X → Y)
+    → ((n : ℕ) (x : X) → id (f (n, x)) ≡ n) → (a : ℕ) (xs : List X)
+    → map id (map f (enumerate_from a xs)) ≡ range_with_len a (length xs)
+numbers_are id f same a [] = refl
+numbers_are id f same a (x ∷ xs) =
+    ap (λ n. n ∷ map id (map f (enumerate_from (a + 1) xs))) (same a x)
+    ∙ ap (λ ids. a ∷ ids) (numbers_are id f same (a + 1) xs)

@@ -1,0 +1,25 @@
+use Rattle.std.proofs.Common.{◌≡◌, ◌∙◌, ap, arith, length}
+use Rattle.event_activity.specs.Activities.{with_numbers, concept_activities}
+use Rattle.event_activity.proofs.Given.{if_made}
+use Rattle.event_activity.proofs.Joined.{activities_few, activities_told}
+use Rattle.event_activity.proofs.activities.concept_activities.Goals as goal
+
+pub with_numbers-requires : goal.with_numbers-requires
+with_numbers-requires c =
+    omega (
+      arith,
+      ap length c.deref.ensures.value,
+      activities_few c.args.settings.now c.args.events.now _ _ _ _ c.new-activities.ensures.items
+          c.in_ok-add_joined.ensures c.in_ok-add_joined-2.ensures c.in_ok-add_joined-3.ensures
+          c.requires.few,
+    )
+
+pub returns : goal.returns
+returns c =
+    if_made (λ numbered. numbered.items ≡ with_numbers c.deref.result.now)
+    (λ numbered. numbered.items ≡ concept_activities c.args.settings.now c.args.events.now)
+    c.with_numbers.result
+    (λ numbered is. activities_told c.args.settings.now c.args.events.now _ _ _ _
+    c.new-activities.ensures.items c.in_ok-add_joined.ensures c.in_ok-add_joined-2.ensures
+    c.in_ok-add_joined-3.ensures numbered.items
+    (is ∙ ap with_numbers c.deref.ensures.value)) c.with_numbers.ensures

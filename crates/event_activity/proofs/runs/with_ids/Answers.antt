@@ -1,0 +1,8 @@
+use Rattle.event_activity.specs.Runs.{with_id}
+use Rattle.event_activity.proofs.Added.{added_numbered}
+use Rattle.event_activity.proofs.runs.with_ids.Goals as goal
+
+pub loop-place-preserved : goal.loop-place-preserved
+loop-place-preserved c =
+    added_numbered with_id c.args.events.now c.loop-place.place _ c.loop-place.numbered.items
+    c.push.new.self.items c.loop-place-test.true c.loop-place.invariant c.in_ok-push.ensures.items

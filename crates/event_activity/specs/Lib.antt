@@ -1,0 +1,5 @@
+pub mod Activities
+pub mod EanStage
+pub mod Fitting
+pub mod RightEan
+pub mod Runs

@@ -1,0 +1,16 @@
+//! The periodic event-activity network of a line concept.
+#![tactic(auto)]
+
+mod activities;
+mod bounds;
+mod files;
+mod joining;
+mod run_event;
+mod run_place;
+mod runs;
+mod stage;
+
+pub use stage::make_ean;
+
+#[cfg(test)]
+mod tests;
