@@ -104,10 +104,12 @@ module _ (problem : ProblemParts) where
       let at = middle (range_of region line) in
       let inside = middle_inside (range_of region line).lo (range_of region line).hi is_open.1 in
       let lower = entries_within problem levels (part_up_to region line at) best in
-      let mid = best_after best lower in
-      (tt, both_find lower (entries_within problem levels (part_from region line (at + 1)) mid)
-      (below (part_up_to region line at) best (part_length region line _ ∙ long) (lower_ordered region line at ordered inside.0))
-      (below (part_from region line (at + 1)) mid (part_length region line _ ∙ long) (upper_ordered region line at ordered inside.1)))
+      let mid = best_after best lower in (
+        tt,
+        both_find lower (entries_within problem levels (part_from region line (at + 1)) mid)
+            (below (part_up_to region line at) best (part_length region line _ ∙ long) (lower_ordered region line at ordered inside.0))
+            (below (part_from region line (at + 1)) mid (part_length region line _ ∙ long) (upper_ordered region line at ordered inside.1)),
+      )
 
   entries_find : (levels : ℕ) (region : List LineRange) (best : Option (List ℕ))
       → length region ≡ length problem.lines → AreOrdered region

@@ -154,9 +154,9 @@ ids_apart : (problem : ProblemParts) → IsProblem problem → (i j : ℕ) (a b 
     → slice_get problem.lines i ≡ Some a → slice_get problem.lines j ≡ Some b
     → (a.id <ℤ b.id) ⊎ (b.id <ℤ a.id)
 ids_apart problem sound i j a b apart there other = elim (nat_cases i j apart) [
-    | inl less ↦ inl (ids_rise problem sound i j a b less there other)
-    | inr more ↦ inr (ids_rise problem sound j i b a more other there)
-  ]
+  | inl less ↦ inl (ids_rise problem sound i j a b less there other)
+  | inr more ↦ inr (ids_rise problem sound j i b a more other there)
+]
   where
     nat_cases : (i j : ℕ) → i ≢ j → (i < j) ⊎ (j < i)
     nat_cases i j apart = by (nat_lt i j) refl

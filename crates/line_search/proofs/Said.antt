@@ -198,7 +198,7 @@ module _ (problem : ProblemParts) (region : List LineRange) (best : Option (List
     (bound : (y : List ℕ) → best ≡ Some y → cost_of problem y ≤ dual_bound problem region → P (node.Bound (multipliers_of problem region)))
     (split : (line : ℕ) → first_open problem region ≡ Some line → P (node.Split line (middle (range_of region line))))
     (point : IsOneConcept region → IsFeasible problem (least_in region)
-        → IfSome best (λ y. dual_bound problem region < cost_of problem y) → P node.Point) where
+    → IfSome best (λ y. dual_bound problem region < cost_of problem y) → P node.Point) where
   last : empty_edge problem region ≡ None
       → IfSome best (λ y. dual_bound problem region < cost_of problem y)
       → P (unwrap_or (first_of (as_split problem region ∷ [])) node.Point)

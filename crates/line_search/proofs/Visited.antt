@@ -98,10 +98,14 @@ module _ (problem : ProblemParts) (region : List LineRange) (line at : ℕ) (bes
       by : (o : Option (List ℕ)) → behind ≡ o
           → (last : List ℕ) × (behind ≡ Some last) × ((last ≡ first) ⊎ (cost_of problem last < cost_of problem first))
       by None none = let gone : Some first ≡ None = sym is ∙ above.kept none in absurd (cc)
-      by (Some last) some = (last, some, ⊎_elim
-          (λ same. let equal : Some last ≡ Some first = sym same ∙ is in inl (cc))
-          (λ found. inr (subst (λ o. IfSome o (λ other. cost_of problem last < cost_of problem other)) is found.cheaper))
-          (above.found last some))
+      by (Some last) some = (
+        last,
+        some,
+        ⊎_elim
+            (λ same. let equal : Some last ≡ Some first = sym same ∙ is in inl (cc))
+            (λ found. inr (subst (λ o. IfSome o (λ other. cost_of problem last < cost_of problem other)) is found.cheaper))
+            (above.found last some),
+      )
 
   up_to : (cost : ℤ) (a b : ℕ) → cost ≤ℤ pos a → a ≤ b → cost ≤ℤ pos b
   up_to cost a b h k = omega (arith, ints, h, k)

@@ -177,11 +177,11 @@ module _ (problem : ProblemParts) (sound : IsProblem problem) where
       let mid = best_after best lower in
       let upper = entries_within problem levels (part_from region line (at + 1)) mid in
       let lower_is : Visits levels (part_up_to region line at) best = below (part_up_to region line at) best (part_length region line _ ∙ long) (lower_ordered region line at ordered inside.0) (let less = fewer_below region line at is_open inside.0 inside.1 in omega (arith, less, enough))
-          (λ chosen is concept in_part. first chosen is concept (lower_inside region line at concept (omega (arith, inside.1)) in_part)) in
+      (λ chosen is concept in_part. first chosen is concept (lower_inside region line at concept (omega (arith, inside.1)) in_part)) in
       let upper_first : StandsFirst problem (part_from region line (at + 1)) mid = λ chosen is concept in_part. ⊎_elim
-          (λ old. first chosen old concept (upper_inside region line (at + 1) concept (omega (arith, inside.0)) in_part))
-          (λ new. lower_first problem sound region long line at is_open is_first concept chosen in_part new.inside)
-          (lower_is.found chosen is) in
+      (λ old. first chosen old concept (upper_inside region line (at + 1) concept (omega (arith, inside.0)) in_part))
+      (λ new. lower_first problem sound region long line at is_open is_first concept chosen in_part new.inside)
+      (lower_is.found chosen is) in
       let upper_is : Visits levels (part_from region line (at + 1)) mid = below (part_from region line (at + 1)) mid (part_length region line _ ∙ long) (upper_ordered region line at ordered inside.1) (let less = fewer_above region line at is_open inside.0 inside.1 in omega (arith, less, enough)) upper_first in
       let whole = both_visited problem region line at best mid (best_after mid upper) (nodes_in lower) (nodes_in upper) inside.0 inside.1 lower_is upper_is in
       subst (λ behind. IsVisited problem region best behind (nodes_in (entries_by (entries_within problem levels) region best (node.Split line at)))) (sym (best_append best lower upper))

@@ -78,10 +78,34 @@ fn a_tree_that_proves_nothing_is_told(rt: HostRuntime) -> Result<(), Fail> {
     let outside = b"split; 1; 3; 0\nsplit; 1; 0; 0\nempty; 2; 1; 0\nsplit; 2; 1; 0\n\
         split; 2; 0; 0\nempty; 1; 1; 0\npoint; 0; 0; 0\nbound; 0; 0; 0\nbound; 0; 0; 0\n";
     let broken = Status::Uncertified;
-    judged(&rt, CONCEPT, Some(cut), broken, b"uncertified: concept: tree\n")?;
-    judged(&rt, CONCEPT, Some(b""), broken, b"uncertified: concept: tree\n")?;
-    judged(&rt, CONCEPT, Some(b"leaf\n"), broken, b"uncertified: concept: tree\n")?;
-    judged(&rt, CONCEPT, Some(outside), broken, b"uncertified: concept: split\n")?;
+    judged(
+        &rt,
+        CONCEPT,
+        Some(cut),
+        broken,
+        b"uncertified: concept: tree\n",
+    )?;
+    judged(
+        &rt,
+        CONCEPT,
+        Some(b""),
+        broken,
+        b"uncertified: concept: tree\n",
+    )?;
+    judged(
+        &rt,
+        CONCEPT,
+        Some(b"leaf\n"),
+        broken,
+        b"uncertified: concept: tree\n",
+    )?;
+    judged(
+        &rt,
+        CONCEPT,
+        Some(outside),
+        broken,
+        b"uncertified: concept: split\n",
+    )?;
     Ok(())
 }
 
@@ -92,12 +116,30 @@ fn a_concept_that_is_none_is_told(rt: HostRuntime) -> Result<(), Fail> {
     let dear = b"1; 1; 1; 2\n1; 2; 2; 2\n2; 1; 1; 0\n";
     let other = b"1; 1; 1; 1\n1; 2; 2; 1\n";
     let two = b"1; 1; 1; 1\n1; 2; 2; 2\n2; 1; 1; 1\n";
-    judged(&rt, rare, Some(TREE), broken, b"uncertified: concept: bounds\n")?;
-    judged(&rt, dear, Some(TREE), broken, b"uncertified: concept: point\n")?;
+    judged(
+        &rt,
+        rare,
+        Some(TREE),
+        broken,
+        b"uncertified: concept: bounds\n",
+    )?;
+    judged(
+        &rt,
+        dear,
+        Some(TREE),
+        broken,
+        b"uncertified: concept: point\n",
+    )?;
     judged(&rt, dear, None, Status::Done, b"checked\n")?;
     judged(&rt, other, None, broken, b"uncertified: concept: lines\n")?;
     judged(&rt, two, None, broken, b"uncertified: concept: lines\n")?;
-    judged(&rt, b"1; 1; 1\n", None, broken, b"uncertified: concept: row\n")?;
+    judged(
+        &rt,
+        b"1; 1; 1\n",
+        None,
+        broken,
+        b"uncertified: concept: row\n",
+    )?;
     Ok(())
 }
 
@@ -134,7 +176,12 @@ fn multipliers_are_judged(rt: HostRuntime) -> Result<(), Fail> {
     loose(&rt, fits, Status::Done, b"checked\n")?;
     let broken = Status::Uncertified;
     loose(&rt, raised, broken, b"uncertified: concept: multiplier\n")?;
-    loose(&rt, b"bound; 1000000000; 0; 0\n", broken, b"uncertified: concept: tree\n")?;
+    loose(
+        &rt,
+        b"bound; 1000000000; 0; 0\n",
+        broken,
+        b"uncertified: concept: tree\n",
+    )?;
     Ok(())
 }
 

@@ -286,7 +286,12 @@ fn other_words_are_usage(rt: HostRuntime) -> Result<(), Fail> {
     let alloc = rt.alloc();
     let mut two = words(alloc, "make")?;
     two.push(String::from_str(alloc, "x")?)?;
-    for words in [Vec::new(alloc), words(alloc, "Make")?, words(alloc, "checks")?, two] {
+    for words in [
+        Vec::new(alloc),
+        words(alloc, "Make")?,
+        words(alloc, "checks")?,
+        two,
+    ] {
         let mut files = SteadyFiles::new(alloc);
         let mut out = MemorySink::new(alloc);
         let mut steps = Steps::new(Tally::new());

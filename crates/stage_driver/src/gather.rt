@@ -70,11 +70,7 @@ fn input<F: Files>(
 }
 
 // The text of a made file that stands in the folder.
-fn standing_text<F: Files>(
-    alloc: Global,
-    files: &mut F,
-    file: FileId,
-) -> Result<Text, ChainEnd>
+fn standing_text<F: Files>(alloc: Global, files: &mut F, file: FileId) -> Result<Text, ChainEnd>
     ensures text { IfSome (F.contents files.old) (λ folder.
         Gives (made_in folder file) result) }
     ensures only_reads { OnlyReads F.contents F.writes F.faults files.old files.new

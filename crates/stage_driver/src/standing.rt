@@ -63,11 +63,7 @@ fn is_lacking(file: FileId, text: &Option<Text>) -> bool
 }
 
 // One file more, where it is there.
-fn push_found(
-    there: &mut Vec<MadeFile>,
-    file: FileId,
-    text: Option<Text>,
-) -> Result<(), NoMemory>
+fn push_found(there: &mut Vec<MadeFile>, file: FileId, text: Option<Text>) -> Result<(), NoMemory>
     ensures { OnOk result (there.new.items ≡ there.old.items ++ found_one file text) }
 {
     if let Some(text) = text {

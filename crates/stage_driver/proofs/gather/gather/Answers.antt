@@ -34,7 +34,7 @@ pub returns-in_err-text-clause-bundle : goal.returns-in_err-text-clause-bundle
 returns-in_err-text-clause-bundle g c =
     let p = err_from_is_err_and c.from_residual-in_err-text.result c.from_residual-in_err-text.ensures.1 in
     told_ended (look_over _) c.args.config.now _ _ c.inputs-file-items.result.now _ c.loop-file.file-index Stop c.args.stage c.loop-file.bundle.inputs _ c.in_err-text.field-0.0 _
-        c.loop-file-test.true c.loop-file.invariant.reads.contents c.inputs-file-items.ensures c.chosen.ensures c.in_err-text.ensures.text c.loop-file.invariant.texts (p.1 ∙ ap Err p.2)
+    c.loop-file-test.true c.loop-file.invariant.reads.contents c.inputs-file-items.ensures c.chosen.ensures c.in_err-text.ensures.text c.loop-file.invariant.texts (p.1 ∙ ap Err p.2)
 
 pub returns-clause-stage : goal.returns-clause-stage
 returns-clause-stage g c =

@@ -8,10 +8,10 @@ returns c =
     let rule = c.name-rule.result.now in
     c.in_ok-extend_from_slice.ensures.items
     ∙ ap (λ more. c.args.report.now.items ++ more) (
-      c.as_bytes.ensures.value ∙ c.in_ok-text.ensures.ok
-      ∙ ap (λ more. codes "uncertified: " ++ more) (
-        sym (append_assoc stage (codes ": ") rule)
-        ∙ ap (λ name. name ++ codes ": " ++ rule) c.name-stage.ensures
-        ∙ ap (λ name. stage_name c.args.stage ++ codes ": " ++ name) c.name-rule.ensures
-      )
+    c.as_bytes.ensures.value ∙ c.in_ok-text.ensures.ok
+    ∙ ap (λ more. codes "uncertified: " ++ more) (
+    sym (append_assoc stage (codes ": ") rule)
+    ∙ ap (λ name. name ++ codes ": " ++ rule) c.name-stage.ensures
+    ∙ ap (λ name. stage_name c.args.stage ++ codes ": " ++ name) c.name-rule.ensures
+    )
     )
