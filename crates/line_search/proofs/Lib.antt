@@ -1,6 +1,7 @@
 pub mod ChosenFound
 pub mod ConceptMakes
 pub mod ConceptNames
+pub mod ConceptReads
 mod ConceptRows
 mod ConceptWritten
 mod DearestLines

@@ -1,16 +1,26 @@
--- What is right about the concept that a search finds.
-use Rattle.std.specs.Prelude.{◌≡◌, ℕ, pos, ◌+◌, ◌*◌, ◌≤◌, List, length, take, Option, None, IfSome}
-use Rattle.std.specs.Prelude.{Result, Ok, Err, ⊤}
+-- What is right about the concept that a search finds, and about the files that are made of it.
+use Rattle.std.specs.Prelude.{◌≡◌, ℕ, pos, ◌+◌, ◌*◌, ◌≤◌, List, [], ◌∷◌, length, take, Option, Some, None}
+use Rattle.std.specs.Prelude.{IfSome, Result, Ok, Err, ⊤}
+use Rattle.giv_files.specs.declared.file_id.FileId.TheVariants as file
 use Rattle.giv_files.specs.declared.made.Made.{Made}
+use Rattle.giv_files.specs.declared.made.MadeFile.{MadeFile}
 use Rattle.giv_files.specs.declared.refusal.Refusal.TheVariants as refusal
 use Rattle.giv_files.specs.declared.refusal.StageFault.{StageFault}
 use Rattle.giv_files.specs.declared.refusal.StageFault.TheVariants as fault
+use Rattle.giv_files.specs.Columns.{concept_columns}
+use Rattle.giv_files.specs.Settings.{BundleParts}
+use Rattle.giv_files.specs.Writing.{ReadsBack}
+use Rattle.ptn_network.specs.Networks.{network_in}
+use Rattle.line_pool.specs.Pools.{concept_faults}
 use Rattle.line_cost_model.specs.Chosen.{IsChosen}
 use Rattle.line_cost_model.specs.Concepts.{IsFeasible, cost_of}
 use Rattle.line_cost_model.specs.Problems.{ProblemParts}
 use Rattle.line_cost_model.specs.Regions.{concept_count, root_of}
 use Rattle.branch_certificate.specs.Certified.{Certifies}
 use Rattle.line_search.specs.Budgets.{nodes_in}
+use Rattle.line_search.specs.ConceptTables.{concept_rows}
+use Rattle.line_search.specs.GivenProblems.{problem_faults, problem_of}
+use Rattle.line_search.specs.Judged.{Marks, first_broken}
 use Rattle.line_search.specs.Listings.{best_after, listing}
 
 -- no concept is feasible
@@ -41,3 +51,30 @@ abbrev pub IsWhole : Result Made StageFault → Type 0
 IsWhole (Ok made) = length made.files ≡ 2
 IsWhole (Err (fault.Refused (refusal.Spent entries))) = ⊥
 IsWhole (Err _) = ⊤
+
+-- the file of a mark, where there is one
+abbrev pub mark_files : Option (List ℕ) → List MadeFile
+mark_files None = []
+mark_files (Some text) = record { file = file.Tree; text = text } ∷ []
+
+-- A mark means that frequencies are the chosen ones: no feasible concept costs less, and none of
+-- equal cost comes before it; and the text of the tree certifies what they cost.
+pub record IsMarked (problem : ProblemParts) (frequencies : List ℕ) (text : List ℕ) : Type 0 where
+  pub chosen : IsChosen problem frequencies
+  pub marks : Marks problem frequencies text
+
+-- The files that are made are right: the inputs have no fault, and there is one file, and a second
+-- one where the concept is marked. The first one, read again, has a frequency for each line, and
+-- these are feasible over the inputs. The files break no rule of a concept from any hand, and the
+-- first one has no fault by the rules of its kind.
+pub record ConceptFilesAreRight (bundle : BundleParts) (files : List MadeFile) : Type 0 where
+  pub inputs : problem_faults bundle ≡ []
+  pub text : List ℕ
+  pub tree : Option (List ℕ)
+  pub each : files ≡ record { file = file.Concept; text = text } ∷ mark_files tree
+  pub frequencies : List ℕ
+  pub reads : ReadsBack concept_columns (concept_rows (problem_of bundle) frequencies) text
+  pub feasible : IsFeasible (problem_of bundle) frequencies
+  pub marked : IfSome tree (IsMarked (problem_of bundle) frequencies)
+  pub passes : first_broken (problem_of bundle) text tree ≡ None
+  pub accepted : concept_faults (network_in bundle) text ≡ []
