@@ -1,6 +1,6 @@
 -- Which files the stage of line concepts names where it refuses a row.
 use Rattle.std.proofs.Common.{◌≡◌, ℕ, Bool, true, false, cond, List, [], ◌∷◌, ◌++◌, length, nat_le}
-use Rattle.std.proofs.Common.{Option, Some, None, Result, Err, subst}
+use Rattle.std.proofs.Common.{Option, Some, None, Result, Err, subst, sym}
 use Rattle.std.specs.Prelude.{ok_or}
 use Rattle.giv_files.specs.declared.file_id.FileId.{FileId}
 use Rattle.giv_files.specs.declared.file_id.FileId.TheVariants as file
@@ -56,13 +56,18 @@ pool_names : (test : FileId → Bool) → test file.Pool ≡ true → (network :
 unfolding line_faults
 pool_names test pool network text = input_names test _ text pool
 
--- a refusal by a row names the file of stops, of edges, of the pool, of loads or of costs
+nothing_named : (test : FileId → Bool) (faults : List Refusal) → faults ≡ [] → AllName test faults
+nothing_named test faults none = subst (AllName test) (sym none) tt
+
+-- a refusal by a row names the file of stops, of edges or of the pool, where loads and costs have no
+-- fault
 pub concept_stage_names : (test : FileId → Bool) → test file.Stop ≡ true → test file.Edge ≡ true
-    → test file.Pool ≡ true → test file.Load ≡ true → test file.PoolCost ≡ true
-    → (bundle : BundleParts) (reason : Refusal) → concept_stage bundle ≡ Err reason
-    → NamesOnly test reason
+    → test file.Pool ≡ true → (bundle : BundleParts)
+    → input_faults (load_input file.Load (network_in bundle).edges) (input_text bundle 3) ≡ []
+    → input_faults (pool_cost_input (lines_in bundle)) (input_text bundle 4) ≡ []
+    → (reason : Refusal) → concept_stage bundle ≡ Err reason → NamesOnly test reason
 unfolding concept_stage problem_faults
-concept_stage_names test stop edge pool load cost bundle reason is =
+concept_stage_names test stop edge pool bundle no_load no_cost reason is =
     let network = network_faults (input_text bundle 0) (input_text bundle 1) in
     let lines = pool_faults (network_in bundle) (input_text bundle 2) in
     let loads = input_faults (load_input file.Load (network_in bundle).edges) (input_text bundle 3) in
@@ -73,7 +78,7 @@ concept_stage_names test stop edge pool load cost bundle reason is =
     (names_both test network lines
     (network_names test stop edge (input_text bundle 0) (input_text bundle 1))
     (pool_names test pool (network_in bundle) (input_text bundle 2)))
-    (input_names test (load_input file.Load (network_in bundle).edges) (input_text bundle 3) load))
-    (input_names test (pool_cost_input (lines_in bundle)) (input_text bundle 4) cost) in
+    (nothing_named test loads no_load))
+    (nothing_named test costs no_cost) in
     names_after test (problem_faults bundle) _ reason named
     (search_names test (problem_of bundle) (budget_of bundle) (listing (problem_of bundle)) reason) is

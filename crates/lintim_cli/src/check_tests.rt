@@ -1,17 +1,12 @@
-// Checks of concepts and trees that were put beside what `make` made.
+// Checks of what `make` made, and of concepts and trees that were put in the place of what it made.
 use crate::answers::Status;
-use crate::tests::{CONFIG, EDGES, GIVEN, POOL, STOPS, words};
+use crate::cases::{CONCEPT, CONFIG, EDGES, GIVEN, POOL, STOPS, TREE, words};
 use crate::top::lintim;
 use plan_files::{Files, MemorySink, SteadyFiles};
 use plan_num::{Steps, Tally};
 use std::alloc::Global;
 use std::process::Abort;
 use std::test::Fail;
-
-const CONCEPT: &[u8] = b"# concept\n1; 1; 1; 1\n1; 2; 2; 1\n2; 1; 1; 1\n";
-
-const TREE: &[u8] = b"split; 1; 1; 0\nsplit; 1; 0; 0\nempty; 2; 1; 0\nsplit; 2; 1; 0\n\
-    split; 2; 0; 0\nempty; 1; 1; 0\npoint; 0; 0; 0\nbound; 0; 0; 0\nbound; 0; 0; 0\n";
 
 // Files that were made by a run.
 fn made(alloc: Global) -> Result<SteadyFiles, Fail> {
@@ -58,8 +53,9 @@ fn judged(
 ) -> Result<(), Fail> {
     let mut files = made(rt.alloc())?;
     files.put("line-planning/Line-Concept.lin", concept)?;
-    if let Some(tree) = tree {
-        files.put("line-planning/Line-Concept.cert", tree)?;
+    match tree {
+        Some(tree) => files.put("line-planning/Line-Concept.cert", tree)?,
+        None => files.remove("line-planning/Line-Concept.cert")?,
     }
     tells(rt, &mut files, status, report)
 }
@@ -143,11 +139,11 @@ fn a_concept_that_is_none_is_told(rt: HostRuntime) -> Result<(), Fail> {
     Ok(())
 }
 
-// A second edge that need not be driven: a concept of two drives of the second line, with a tree
-// whose last bound needs a multiplier.
+// A second edge that need not be driven: a run makes a concept of two drives of the second line, and
+// a tree whose last bound needs a multiplier. Another tree may be put in the place of that one.
 fn loose(
     rt: &(impl AllocGlobal + Abort),
-    tree: &[u8],
+    tree: Option<&[u8]>,
     status: Status,
     report: &[u8],
 ) -> Result<(), Fail> {
@@ -159,26 +155,28 @@ fn loose(
     let mut steps = Steps::new(Tally::new());
     let make = words(alloc, "make")?;
     let _status = lintim(alloc, &make, &mut files, &mut out, &mut steps);
-    let concept = b"1; 1; 1; 0\n1; 2; 2; 0\n2; 1; 1; 2\n";
-    files.put("line-planning/Line-Concept.lin", concept)?;
-    files.put("line-planning/Line-Concept.cert", tree)?;
+    if let Some(tree) = tree {
+        files.put("line-planning/Line-Concept.cert", tree)?;
+    }
     tells(rt, &mut files, status, report)
 }
 
 #[test]
 fn multipliers_are_judged(rt: HostRuntime) -> Result<(), Fail> {
-    let fits = b"split; 1; 1; 0\nsplit; 1; 0; 0\nsplit; 2; 1; 0\nempty; 1; 1; 0\n\
-        split; 2; 2; 0\npoint; 0; 0; 0\nbound; 0; 0; 0\nbound; 1; 0; 0\nmult; 1; 0; 12\n\
-        bound; 0; 0; 0\n";
     let raised = b"split; 1; 1; 0\nsplit; 1; 0; 0\nsplit; 2; 1; 0\nempty; 1; 1; 0\n\
         split; 2; 2; 0\npoint; 0; 0; 0\nbound; 0; 0; 0\nbound; 1; 0; 0\n\
         mult; 1; 0; 12.000001\nbound; 0; 0; 0\n";
-    loose(&rt, fits, Status::Done, b"checked\n")?;
+    loose(&rt, None, Status::Done, b"checked\n")?;
     let broken = Status::Uncertified;
-    loose(&rt, raised, broken, b"uncertified: concept: multiplier\n")?;
     loose(
         &rt,
-        b"bound; 1000000000; 0; 0\n",
+        Some(raised),
+        broken,
+        b"uncertified: concept: multiplier\n",
+    )?;
+    loose(
+        &rt,
+        Some(b"bound; 1000000000; 0; 0\n"),
         broken,
         b"uncertified: concept: tree\n",
     )?;
@@ -189,6 +187,7 @@ fn multipliers_are_judged(rt: HostRuntime) -> Result<(), Fail> {
 fn made_files_are_judged(rt: HostRuntime) -> Result<(), Fail> {
     let mut files = made(rt.alloc())?;
     let broken = Status::Uncertified;
+    files.remove("line-planning/Line-Concept.lin")?;
     tells(&rt, &mut files, broken, b"uncertified: concept: missing\n")?;
     files.put("basis/Pool-Cost.giv", b"1; 5; 15\n2; 2; 12\n")?;
     tells(&rt, &mut files, broken, b"uncertified: cost: content\n")?;
@@ -204,11 +203,12 @@ fn made_files_are_judged(rt: HostRuntime) -> Result<(), Fail> {
     Ok(())
 }
 
-// What a run leaves passes where no stage behind the built ones is to run.
+// What a run leaves passes, whatever the last stage is.
 #[test]
 fn a_run_passes(rt: HostRuntime) -> Result<(), Fail> {
     let alloc = rt.alloc();
     let mut files = made(alloc)?;
+    tells(&rt, &mut files, Status::Done, b"checked\n")?;
     files.put("basis/Config.cnf", b"load_source; file\nlast_stage; cost\n")?;
     tells(&rt, &mut files, Status::Done, b"checked\n")?;
     files.put("basis/Config.cnf", b"load_source; od\nlast_stage; load\n")?;

@@ -46,7 +46,11 @@ fn main(rt: HostRuntime) -> ExitCode {
 }
 
 #[cfg(test)]
+mod cases;
+#[cfg(test)]
 mod check_tests;
+#[cfg(test)]
+mod concept_tests;
 #[cfg(test)]
 mod spies;
 #[cfg(test)]

@@ -3,7 +3,7 @@ ghost use Rattle.std.specs.Prelude.{None};
 ghost use Rattle.plan_files.specs.Counts.{last_count};
 
 use crate::answers::Status;
-use crate::tests::{CONFIG, EDGES, GIVEN, POOL, STOPS, words};
+use crate::cases::{CONFIG, EDGES, GIVEN, POOL, STOPS, words};
 use crate::top::lintim;
 use plan_files::{FileFault, Files, Got, MemorySink, Sink, SinkFault, SteadyFiles};
 use plan_num::{Silent, Steps, Text};
@@ -37,7 +37,7 @@ struct SpyFiles {
 }
 
 impl SpyFiles {
-    // The files of a dataset whose two stages are made, and others beside them.
+    // The files of a dataset whose stages are made, and others beside them.
     fn of_dataset(alloc: Global, fails: usize) -> Result<SpyFiles, FileFault> {
         let mut files = SteadyFiles::new(alloc);
         files.put("basis/Config.cnf", CONFIG)?;
@@ -47,7 +47,7 @@ impl SpyFiles {
         files.put("basis/Load.giv", GIVEN)?;
         files.put("basis/OD.giv", b"1; 3; 5\n")?;
         files.put("keep/load.keep", b"kept")?;
-        files.put("line-planning/Line-Concept.lin", b"later")?;
+        files.put("timetabling/Events-periodic.giv", b"later")?;
         files.put("other.txt", b"other")?;
         Ok(SpyFiles {
             alloc,
@@ -127,7 +127,7 @@ impl Sink for SpySink {
 
 // The calls of a run over the dataset: it reads the hand files that its settings and its stages
 // need, and then it puts what they make.
-const CALLS: [(Kind, &str); 9] = [
+const CALLS: [(Kind, &str); 14] = [
     (Kind::Get, "basis/Config.cnf"),
     (Kind::Get, "basis/Stop.giv"),
     (Kind::Get, "basis/Edge.giv"),
@@ -135,8 +135,13 @@ const CALLS: [(Kind, &str); 9] = [
     (Kind::Get, "basis/Stop.giv"),
     (Kind::Get, "basis/Edge.giv"),
     (Kind::Get, "basis/Pool.giv"),
+    (Kind::Get, "basis/Stop.giv"),
+    (Kind::Get, "basis/Edge.giv"),
+    (Kind::Get, "basis/Pool.giv"),
     (Kind::Put, "line-planning/Load.giv"),
     (Kind::Put, "basis/Pool-Cost.giv"),
+    (Kind::Put, "line-planning/Line-Concept.lin"),
+    (Kind::Put, "line-planning/Line-Concept.cert"),
 ];
 
 // The first so many of these calls were made, and no other one.
@@ -167,15 +172,15 @@ fn a_run_names_its_files_alone(rt: HostRuntime) -> Result<(), Fail> {
     let mut out = SpySink::new(rt.alloc(), false);
     let status = run(&rt, "make", &mut files, &mut out)?;
     assert_eq!(rt; status, Status::Done);
-    are_first(&rt, &files, 9);
-    assert_eq!(rt; out.pieces.as_slice(), [33].as_slice());
+    are_first(&rt, &files, 14);
+    assert_eq!(rt; out.pieces.as_slice(), [70].as_slice());
     Ok(())
 }
 
 // After a call that fails no other one is made, and the line that tells of it is one write.
 #[test]
 fn nothing_is_called_after_a_fault(rt: HostRuntime) -> Result<(), Fail> {
-    for fails in 1..10 {
+    for fails in 1..15 {
         let mut files = SpyFiles::of_dataset(rt.alloc(), fails)?;
         let mut out = SpySink::new(rt.alloc(), false);
         let status = run(&rt, "make", &mut files, &mut out)?;
@@ -193,8 +198,8 @@ fn a_report_is_written_once(rt: HostRuntime) -> Result<(), Fail> {
     let mut out = SpySink::new(rt.alloc(), true);
     let status = run(&rt, "make", &mut files, &mut out)?;
     assert_eq!(rt; status, Status::SinkFault);
-    are_first(&rt, &files, 9);
-    assert_eq!(rt; out.pieces.as_slice(), [33].as_slice());
+    are_first(&rt, &files, 14);
+    assert_eq!(rt; out.pieces.as_slice(), [70].as_slice());
     Ok(())
 }
 
@@ -207,8 +212,13 @@ fn a_refused_run_removes_made_files_alone(rt: HostRuntime) -> Result<(), Fail> {
     let mut out = SpySink::new(rt.alloc(), false);
     let status = run(&rt, "make", &mut files, &mut out)?;
     assert_eq!(rt; status, Status::BadInput);
-    assert_eq!(rt; files.calls.len(), 4);
-    let names = ["line-planning/Load.giv", "basis/Pool-Cost.giv"];
+    assert_eq!(rt; files.calls.len(), 6);
+    let names = [
+        "line-planning/Load.giv",
+        "basis/Pool-Cost.giv",
+        "line-planning/Line-Concept.lin",
+        "line-planning/Line-Concept.cert",
+    ];
     for (call, name) in files.calls.iter().skip(2).zip(names.iter()) {
         assert_eq!(rt; call.kind, Kind::Remove);
         assert_eq!(rt; call.name.as_bytes(), name.as_bytes());

@@ -1,79 +1,38 @@
 // Whole runs, over files in memory and over a real folder.
 use crate::answers::Status;
+use crate::cases::{COSTS, CONFIG, Case, EDGES, GIVEN, MADE, POOL, STOPS, run, words};
 use crate::top::lintim;
 use plan_files::{Files, FolderFiles, Got, MemorySink, Sink, StdSink, SteadyFiles};
 use plan_num::{Steps, Tally};
-use std::alloc::{AllocError, Global};
 use std::fs;
-use std::process::Abort;
 use std::test::Fail;
-
-pub(crate) const CONFIG: &[u8] = b"load_source; file\nperiod_length; 20\n";
-
-pub(crate) const STOPS: &[u8] = b"# stops\n1; A; A; 0; 0\n2; B; B; 0; 0\n3; C; C; 0; 0\n";
-
-pub(crate) const EDGES: &[u8] = b"# edges\n1; 1; 2; 2; 4; 5\n2; 2; 3; 3; 6; 6\n";
-
-pub(crate) const POOL: &[u8] = b"# pool\n1; 1; 1\n1; 2; 2\n2; 1; 1\n";
-
-pub(crate) const GIVEN: &[u8] = b"# loads\n1; 100; 2; 3\n2; 40; 1; 3\n";
-
-const LOADS: &[u8] =
-    b"# edge-id; load; minimal-frequency; maximal-frequency\n1; 100; 2; 3\n2; 40; 1; 3\n";
-
-const COSTS: &[u8] = b"# line-id; length; cost\n1; 5; 15\n2; 2; 12\n";
 
 const NO_COSTS: &[u8] = b"# line-id; length; cost\n";
 
-// A run over the files of a dataset, where some of them are others or are not there, and what it
-// has to answer, write, report and count.
-#[derive(Clone, Copy)]
-struct Case {
-    config: Option<&'static [u8]>,
-    stops: Option<&'static [u8]>,
-    edges: Option<&'static [u8]>,
-    pool: Option<&'static [u8]>,
-    given: Option<&'static [u8]>,
-    demand: Option<&'static [u8]>,
-    status: Status,
-    loads: Option<&'static [u8]>,
-    costs: Option<&'static [u8]>,
-    report: &'static [u8],
-    steps: u64,
-}
+const NO_CONCEPT: &[u8] = b"# line-id; edge-order; edge-id; frequency\n";
 
-// The run over the dataset as it is.
-const MADE: Case = Case {
-    config: Some(CONFIG),
-    stops: Some(STOPS),
-    edges: Some(EDGES),
-    pool: Some(POOL),
-    given: Some(GIVEN),
-    demand: None,
-    status: Status::Done,
-    loads: Some(LOADS),
-    costs: Some(COSTS),
-    report: b"load: 2 edges\ncost: 2 lines\ndone\n",
-    steps: 2,
-};
+const POINT: &[u8] = b"# kind; id; value; multiplier\npoint; 0; 0; 0\n";
 
 // A run whose first stage is refused.
 const REFUSED: Case = Case {
     status: Status::BadInput,
     loads: None,
     costs: None,
+    concept: None,
+    tree: None,
     steps: 1,
     ..MADE
 };
 
 // A run whose second stage is refused.
 const REFUSED_LATER: Case = Case {
-    status: Status::BadInput,
-    costs: None,
-    ..MADE
+    loads: Some(crate::cases::LOADS),
+    steps: 2,
+    ..REFUSED
 };
 
-// Four stops in a square: two ways of two edges from the first to the last.
+// Four stops in a square: two ways of two edges from the first to the last. Without a line the
+// edges of one of them cannot be driven as often as they need.
 const SQUARE: Case = Case {
     config: None,
     stops: Some(b"1; A; A; 0; 0\n2; B; B; 0; 0\n3; C; C; 0; 0\n4; D; D; 0; 0\n"),
@@ -81,59 +40,32 @@ const SQUARE: Case = Case {
     pool: Some(b""),
     given: None,
     demand: Some(b"1; 4; 150\n"),
+    status: Status::NoSolution,
     loads: Some(
         b"# edge-id; load; minimal-frequency; maximal-frequency\n1; 150; 3; 6\n2; 150; 3; 6\n3; 0; 0; 3\n4; 0; 0; 3\n",
     ),
     costs: Some(NO_COSTS),
-    report: b"load: 4 edges\ncost: 0 lines\ndone\n",
-    ..MADE
+    concept: None,
+    tree: None,
+    report: b"load: 4 edges\ncost: 0 lines\nno solution: concept\n",
+    steps: 4,
 };
 
-pub(crate) fn words(alloc: Global, word: &str) -> Result<Vec<String>, AllocError> {
-    let mut words = Vec::new(alloc);
-    words.push(String::from_str(alloc, word)?)?;
-    Ok(words)
-}
-
-// Runs over the files of a case.
-fn run(rt: &(impl AllocGlobal + Abort), case: &Case) -> Result<(), Fail> {
-    let alloc = rt.alloc();
-    let mut files = SteadyFiles::new(alloc);
-    files.put("line-planning/Load.giv", b"old")?;
-    files.put("basis/Pool-Cost.giv", b"old")?;
-    files.put("other.txt", b"kept")?;
-    let given = [
-        ("basis/Config.cnf", case.config),
-        ("basis/Stop.giv", case.stops),
-        ("basis/Edge.giv", case.edges),
-        ("basis/Pool.giv", case.pool),
-        ("basis/Load.giv", case.given),
-        ("basis/OD.giv", case.demand),
-    ];
-    for (name, text) in &given {
-        if let Some(text) = text {
-            files.put(name, text)?;
-        }
-    }
-    let mut out = MemorySink::new(alloc);
-    let mut steps = Steps::new(Tally::new());
-    let make = words(alloc, "make")?;
-    let status = lintim(alloc, &make, &mut files, &mut out, &mut steps);
-    assert_eq!(rt; out.bytes(), case.report);
-    assert_eq!(rt; status, case.status);
-    assert_eq!(rt; steps.ledger().seen(), case.steps);
-    holds(rt, &files, "line-planning/Load.giv", case.loads);
-    holds(rt, &files, "basis/Pool-Cost.giv", case.costs);
-    holds(rt, &files, "other.txt", Some(b"kept"));
-    Ok(())
-}
-
-// A file has a text, or is not there.
-fn holds(rt: &impl Abort, files: &SteadyFiles, name: &str, text: Option<&[u8]>) {
-    let found = files.file(name).map(|found| found.as_bytes());
-    assert_eq!(rt; found.is_some(), text.is_some());
-    assert_eq!(rt; found.unwrap_or(b""), text.unwrap_or(b""));
-}
+// A run over no edges and no lines.
+const NOTHING: Case = Case {
+    config: Some(b"load_source; file\n"),
+    stops: Some(b""),
+    edges: Some(b""),
+    pool: Some(b""),
+    given: Some(b""),
+    loads: Some(b"# edge-id; load; minimal-frequency; maximal-frequency\n"),
+    costs: Some(NO_COSTS),
+    concept: Some(NO_CONCEPT),
+    tree: Some(POINT),
+    report: b"load: 0 edges\ncost: 0 lines\nconcept: cost 0, optimal, 1 entries\ndone\n",
+    steps: 4,
+    ..MADE
+};
 
 // Each stage is made under the settings of the dataset, and its old file is replaced or removed.
 #[test]
@@ -143,22 +75,15 @@ fn stages_are_made(rt: HostRuntime) -> Result<(), Fail> {
         Case {
             config: Some(b"load_source; file\nlpool_costs_length; 0.5\nlpool_costs_edges; 2\n"),
             costs: Some(b"# line-id; length; cost\n1; 5; 16.5\n2; 2; 13\n"),
+            report: b"load: 2 edges\ncost: 2 lines\nconcept: cost 29.5, optimal, 9 entries\ndone\n",
             ..MADE
         },
-        Case {
-            config: Some(b"load_source; file\n"),
-            stops: Some(b""),
-            edges: Some(b""),
-            pool: Some(b""),
-            given: Some(b""),
-            loads: Some(b"# edge-id; load; minimal-frequency; maximal-frequency\n"),
-            costs: Some(NO_COSTS),
-            report: b"load: 0 edges\ncost: 0 lines\ndone\n",
-            ..MADE
-        },
+        NOTHING,
         Case {
             config: Some(b"load_source; file\nlast_stage; load\n"),
             costs: None,
+            concept: None,
+            tree: None,
             report: b"load: 2 edges\ndone\n",
             steps: 1,
             ..MADE
@@ -169,6 +94,13 @@ fn stages_are_made(rt: HostRuntime) -> Result<(), Fail> {
             loads: Some(
                 b"# edge-id; load; minimal-frequency; maximal-frequency\n1; 0; 0; 3\n2; 0; 0; 3\n",
             ),
+            concept: Some(
+                b"# line-id; edge-order; edge-id; frequency\n1; 1; 1; 0\n1; 2; 2; 0\n2; 1; 1; 0\n",
+            ),
+            tree: Some(
+                b"# kind; id; value; multiplier\nsplit; 1; 1; 0\nsplit; 1; 0; 0\nsplit; 2; 1; 0\nsplit; 2; 0; 0\npoint; 0; 0; 0\nbound; 0; 0; 0\nbound; 0; 0; 0\nbound; 0; 0; 0\nbound; 0; 0; 0\n",
+            ),
+            report: b"load: 2 edges\ncost: 2 lines\nconcept: cost 0, optimal, 9 entries\ndone\n",
             ..MADE
         },
         SQUARE,
@@ -180,11 +112,10 @@ fn stages_are_made(rt: HostRuntime) -> Result<(), Fail> {
             ..SQUARE
         },
         Case {
-            edges: Some(b""),
+            config: None,
+            stops: SQUARE.stops,
             demand: Some(b"1; 2; 0\n"),
-            loads: Some(b"# edge-id; load; minimal-frequency; maximal-frequency\n"),
-            report: b"load: 0 edges\ncost: 0 lines\ndone\n",
-            ..SQUARE
+            ..NOTHING
         },
     ];
     for case in &cases {
@@ -232,23 +163,20 @@ fn bad_input_is_refused(rt: HostRuntime) -> Result<(), Fail> {
             ..REFUSED
         },
         Case {
+            config: None,
+            stops: SQUARE.stops,
             edges: Some(b""),
             demand: Some(b"1; 2; 1\n"),
             report: b"refused: basis/OD.giv row 1: no path\n",
-            status: Status::BadInput,
-            loads: None,
-            costs: None,
-            steps: 1,
-            ..SQUARE
+            ..REFUSED
         },
         Case {
+            config: None,
+            stops: SQUARE.stops,
+            edges: SQUARE.edges,
             demand: Some(b"1; 4; 70000\n"),
             report: b"refused: too many frequency: 1003\n",
-            status: Status::BadInput,
-            loads: None,
-            costs: None,
-            steps: 1,
-            ..SQUARE
+            ..REFUSED
         },
         Case {
             pool: None,

@@ -20,17 +20,18 @@ use Rattle.giv_files.specs.Stages.{stage_makes}
 use Rattle.config_keys.specs.declared.config_fault.ConfigFault.{ConfigFault}
 use Rattle.config_keys.specs.Items.{look_in}
 use Rattle.config_keys.specs.Values.{effective}
+use Rattle.line_search.specs.RightConcepts.{ConceptFilesAreRight, mark_files}
 use Rattle.stage_driver.specs.declared.cause.Cause.{Cause}
 use Rattle.stage_driver.specs.declared.cause.Cause.TheVariants as cause
 use Rattle.stage_driver.specs.declared.finding.Finding.{Finding}
 use Rattle.stage_driver.specs.declared.outcome.RunEnd.TheVariants as end
 use Rattle.stage_driver.specs.Built.{built, cause_of, files_of, made, run_stage, trace_of, trace_under}
 use Rattle.stage_driver.specs.Chain.{Halt, Trace, Visit, bundle_by, chain_from, go_on, is_to_run, to_run, visit_of}
-use Rattle.stage_driver.specs.Checks.{check_of, content_found, first_found, found_at, found_over, found_under, is_lacking, judge, judged, lacks_file, same_texts, standing, verdict}
+use Rattle.stage_driver.specs.Checks.{check_of, concept_verdict, content_found, first_found, first_text, found_at, found_over, found_under, is_lacking, judge, judged, lacks_file, same_texts, standing, verdict}
 use Rattle.stage_driver.specs.Hand.{hand_of}
-use Rattle.stage_driver.specs.Passing.{JudgesBuilt, RunsPass}
+use Rattle.stage_driver.specs.Passing.{RunsPass}
 use Rattle.stage_driver.specs.Reports.{end_of, end_of_refusal}
-use Rattle.stage_driver.specs.Right.{AllStandRight, StandsRight, files_by, found_file, text_in}
+use Rattle.stage_driver.specs.Right.{AllStandRight, IsRightAs, files_by, found_file, text_in}
 use Rattle.stage_driver.specs.Runs.{after}
 use Rattle.stage_driver.proofs.Differing.{all_filter}
 use Rattle.stage_driver.proofs.Laws.{run_makes}
@@ -59,12 +60,6 @@ module _ (solve : BundleParts → Result Made Refusal) (values : List ℤ) (hand
 
 -- ---- a stage whose files are those that it made
 
--- the files of a stage are judged by their contents alone
-abbrev is_content : Stage → Bool
-is_content stage.Load = true
-is_content stage.Cost = true
-is_content _ = false
-
 is_there : (id : FileId) (found : Option (List ℕ)) (made : List MadeFile)
     → found_file id (ok_or found (cause.Missing id)) [] ≡ made → id ∷ [] ≡ ids_of made
     → (is_lacking id found || false) ≡ false
@@ -74,6 +69,25 @@ is_there id None made is ids = let none : id ∷ [] ≡ [] = ids ∙ ap ids_of (
 content_none : (at : Stage) (told : Result Made Refusal) (made : Made) (there : List MadeFile)
     → told ≡ Ok made → there ≡ made.files → content_found at told there ≡ None
 content_none at told made there is same = rw (is, same, own_texts made.files) refl
+
+concept_there : (concept tree : Option (List ℕ)) (text : List ℕ) (mark : Option (List ℕ))
+    → found_file file.Concept (ok_or concept (cause.Missing file.Concept)) (found_file file.Tree (ok_or tree (cause.Missing file.Tree)) [])
+    ≡ record { file = file.Concept; text = text } ∷ mark_files mark
+    → (is_lacking file.Concept concept || (is_lacking file.Tree tree || false)) ≡ false
+concept_there (Some concept) (Some tree) text mark is = refl
+concept_there (Some concept) None text mark is = refl
+concept_there None None text mark is = absurd (cc)
+concept_there None (Some tree) text mark is =
+    let first : file.Tree ≡ file.Concept = cc in absurd (cc)
+
+-- the first of a mark's files has its text
+first_mark : (mark : Option (List ℕ)) → first_text (mark_files mark) ≡ mark
+first_mark None = refl
+first_mark (Some text) = refl
+
+concept_none : (bundle : BundleParts) (there : List MadeFile) → ConceptFilesAreRight bundle there
+    → concept_verdict bundle there ≡ None
+concept_none bundle there right = rw (right.each, right.inputs, first_mark right.tree, right.passes) refl
 
 module _ (folder : Folder) (values : List ℤ) where
   -- nothing is found of a stage over what it is given, where its files stand there
@@ -86,18 +100,21 @@ module _ (folder : Folder) (values : List ℤ) where
   unfolding judge
   none_by at bundle given lacks none = rw (given, lacks) none
 
-  one_passes : (at : Stage) (visit : Visit) → is_content at ≡ true → visit.bundle.stage ≡ at
-      → bundle_by (text_in folder) values at ≡ Ok visit.bundle
+  one_passes : (at : Stage) (visit : Visit) → bundle_by (text_in folder) values at ≡ Ok visit.bundle
       → files_by (text_in folder) (stage_makes at) ≡ visit.made.files
-      → run_stage visit.bundle ≡ Ok visit.made → MakesAs at (ids_of visit.made.files) → NoneFound at
+      → IsRightAs at visit.bundle visit.made.files → run_stage visit.bundle ≡ Ok visit.made
+      → MakesAs at (ids_of visit.made.files) → NoneFound at
   unfolding verdict
-  one_passes stage.Load visit content own given found solved makes =
+  one_passes stage.Load visit given found right solved makes =
       none_by stage.Load visit.bundle given (is_there file.Load (map.get folder (file_name file.Load)) visit.made.files found (only_one (file.Load ∷ []) (ids_of visit.made.files) makes))
       (content_none stage.Load (run_stage visit.bundle) visit.made (standing folder stage.Load) solved found)
-  one_passes stage.Cost visit content own given found solved makes =
+  one_passes stage.Cost visit given found right solved makes =
       none_by stage.Cost visit.bundle given (is_there file.PoolCost (map.get folder (file_name file.PoolCost)) visit.made.files found (only_one (file.PoolCost ∷ []) (ids_of visit.made.files) makes))
       (content_none stage.Cost (run_stage visit.bundle) visit.made (standing folder stage.Cost) solved found)
-  one_passes _ visit content own given found solved makes = absurd (cc)
+  one_passes stage.Concept visit given found right solved makes =
+      none_by stage.Concept visit.bundle given (concept_there (map.get folder (file_name file.Concept)) (map.get folder (file_name file.Tree)) right.text right.tree (found ∙ right.each))
+      (ap (concept_verdict visit.bundle) found ∙ concept_none visit.bundle visit.made.files right)
+  one_passes _ visit given found right solved makes = absurd right
 
   -- the first that is found of stages, all of which are to run
   abbrev first_judged : List Stage → Option Finding
@@ -116,22 +133,17 @@ module _ (folder : Folder) (values : List ℤ) where
       by false rest = rest
 
   all_pass : (hand : Folder) (all : List MadeFile) (stages : List Stage) (visits : List Visit)
-      → list_all is_content stages ≡ true → length visits ≡ length stages
-      → ArePlaced run_stage run_makes values hand all stages visits
+      → length visits ≡ length stages → ArePlaced run_stage run_makes values hand all stages visits
       → AllStandRight (text_in folder) values visits → first_judged stages ≡ None
-  all_pass hand all [] visits content full placed right = refl
-  all_pass hand all (at ∷ stages) [] content full placed right = absurd (omega (arith, full))
-  all_pass hand all (at ∷ stages) (visit ∷ visits) content full placed right =
-      let parts = and_parts _ _ content in
+  all_pass hand all [] visits full placed right = refl
+  all_pass hand all (at ∷ stages) [] full placed right = absurd (omega (arith, full))
+  all_pass hand all (at ∷ stages) (visit ∷ visits) full placed right =
       let own = placed.0.own in
-      let here = one_passes at visit parts.0 own (subst (λ at. bundle_by (text_in folder) values at ≡ Ok visit.bundle) own right.0.given) (subst (λ at. files_by (text_in folder) (stage_makes at) ≡ visit.made.files) own right.0.found) placed.0.solved (subst (λ at. MakesAs at (ids_of visit.made.files)) own (run_makes visit.bundle visit.made placed.0.solved)) in
+      let here = one_passes at visit (subst (λ at. bundle_by (text_in folder) values at ≡ Ok visit.bundle) own right.0.given) (subst (λ at. files_by (text_in folder) (stage_makes at) ≡ visit.made.files) own right.0.found) (subst (λ at. IsRightAs at visit.bundle visit.made.files) own right.0.right) placed.0.solved (subst (λ at. MakesAs at (ids_of visit.made.files)) own (run_makes visit.bundle visit.made placed.0.solved)) in
       ap (λ found. option_or found (first_judged stages)) here
-      ∙ all_pass hand all stages visits parts.1 (omega (arith, full)) placed.1 right.1
+      ∙ all_pass hand all stages visits (omega (arith, full)) placed.1 right.1
 
 -- ---- the folder that a run leaves
-
-built_content : list_all is_content built ≡ true
-built_content = refl
 
 no_cause : (halt : Option Halt) → end_of (cause_of halt) ≡ end.Done → halt ≡ None
 no_cause None done = refl
@@ -155,14 +167,13 @@ module _ (folder : Folder) (values : List ℤ) where
 
   passes_under : effective (look_in hand) ≡ Ok values
       → (made hand).files ≡ files_of (chain values hand).visits
-      → (chain values hand).halt ≡ None → to_run values judged ≡ to_run values built
-      → check_of (after folder) ≡ None
+      → (chain values hand).halt ≡ None → check_of (after folder) ≡ None
   unfolding check_of
-  passes_under is same none only =
+  passes_under is same none =
       let placed = subst (λ all. ArePlaced run_stage run_makes values hand all (stages_run values) (chain values hand).visits) (sym same) (are_placed values hand) in
       ap (λ settings. found_under settings (after folder)) (settings_after folder ∙ is)
-      ∙ by_run (after folder) values judged ∙ ap (first_judged (after folder) values) only
-      ∙ all_pass (after folder) values hand (made hand).files (stages_run values) (chain values hand).visits (all_filter is_content (is_to_run values) built built_content) (all_visited run_stage values hand [] (stages_run values) none) placed
+      ∙ by_run (after folder) values judged
+      ∙ all_pass (after folder) values hand (made hand).files (stages_run values) (chain values hand).visits (all_visited run_stage values hand [] (stages_run values) none) placed
       (left_by folder values is same)
 
 end_by : (folder : Folder) (trace : Trace) → trace_of folder ≡ trace
@@ -176,7 +187,7 @@ never reason done = absurd (cc)
 pub runs_pass : (folder : Folder) → RunsPass folder
 unfolding RunsPass
 runs_pass folder =
-    traced (hand_of folder) (λ trace. trace_of (hand_of folder) ≡ trace → (made (hand_of folder)).end ≡ end.Done → JudgesBuilt (hand_of folder) → check_of (after folder) ≡ None)
-    (λ reason is same done only. absurd (never reason (sym (end_by (hand_of folder) (trace_under (Err reason) (hand_of folder)) same) ∙ done)))
-    (λ values is same done only. passes_under folder values is (files_are (hand_of folder) (chain values (hand_of folder)) same) (no_cause (chain values (hand_of folder)).halt (sym (end_by (hand_of folder) (chain values (hand_of folder)) same) ∙ done)) (subst (λ settings. IfOk settings (λ values. to_run values judged ≡ to_run values built)) is only))
+    traced (hand_of folder) (λ trace. trace_of (hand_of folder) ≡ trace → (made (hand_of folder)).end ≡ end.Done → check_of (after folder) ≡ None)
+    (λ reason is same done. absurd (never reason (sym (end_by (hand_of folder) (trace_under (Err reason) (hand_of folder)) same) ∙ done)))
+    (λ values is same done. passes_under folder values is (files_are (hand_of folder) (chain values (hand_of folder)) same) (no_cause (chain values (hand_of folder)).halt (sym (end_by (hand_of folder) (chain values (hand_of folder)) same) ∙ done)))
     refl

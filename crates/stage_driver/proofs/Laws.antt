@@ -1,5 +1,5 @@
 -- What each stage that is built owes to the chain: one line a stage.
-use Rattle.std.proofs.Common.{◌≡◌, ℕ, ℤ, ltb, List, [], ◌∷◌, map, filter, Result, Ok, Err, refl}
+use Rattle.std.proofs.Common.{◌≡◌, ℕ, ℤ, ltb, List, filter, Result, Ok, Err, refl}
 use Rattle.std.proofs.Common.{subst}
 use Rattle.giv_files.specs.declared.file_id.FileId.{FileId}
 use Rattle.giv_files.specs.declared.made.Made.{Made}
@@ -10,37 +10,20 @@ use Rattle.giv_files.specs.declared.stage.Stage.TheVariants as stage
 use Rattle.giv_files.specs.MadeLists.{MakesAs, ids_of}
 use Rattle.giv_files.specs.NamedFiles.{NamesOnly}
 use Rattle.giv_files.specs.Settings.{BundleParts, Fits}
-use Rattle.giv_files.specs.Stages.{stage_inputs}
 use Rattle.demand_load.proofs.LoadMakes.{load_stage_makes}
 use Rattle.demand_load.proofs.LoadNames.{load_stage_names}
 use Rattle.demand_load.proofs.LoadReads.{loads_are_right}
 use Rattle.line_pool.proofs.CostMakes.{cost_stage_makes}
 use Rattle.line_pool.proofs.CostNames.{cost_stage_names}
 use Rattle.line_pool.proofs.CostReads.{costs_are_right}
+use Rattle.line_search.proofs.ConceptMakes.{concept_stage_makes}
+use Rattle.line_search.proofs.ConceptNames.{concept_stage_names}
+use Rattle.line_search.proofs.ConceptReads.{concept_is_right}
 use Rattle.stage_driver.specs.Built.{built, stage_function, run_stage}
-use Rattle.stage_driver.specs.Chain.{chosen, bundle_for, stage_place}
+use Rattle.stage_driver.specs.Chain.{stage_place}
 use Rattle.stage_driver.specs.Hand.{is_hand, is_hand_file}
 use Rattle.stage_driver.specs.Right.{IsRightAs}
-
--- what a stage is given over one look of texts, in which each file has one
-abbrev pub bundle_over : List ℤ → (FileId → List ℕ) → Stage → BundleParts
-bundle_over values look stage =
-    bundle_for values stage (map (λ file. look (chosen values file)) (stage_inputs stage))
-
--- files that a stage may make have texts in such a look that are right over it
-pub record IsRightOver (values : List ℤ) (look : FileId → List ℕ) (stage : Stage) : Type 0 where
-  pub ids : List FileId
-  pub makes : MakesAs stage ids
-  pub right : IsRightAs stage (bundle_over values look stage) (map (λ file. record {
-    file =
-        file;
-    text = look file;
-  }) ids)
-
-abbrev pub AreRightOver : List ℤ → (FileId → List ℕ) → List Stage → Type 0
-AreRightOver values look [] = Unit {0}
-AreRightOver values look (stage ∷ stages) =
-    IsRightOver values look stage × AreRightOver values look stages
+use Rattle.stage_driver.proofs.OneLook.{AreRightOver, bundle_over, costs_accepted, loads_accepted}
 
 -- the stages that are built and run before one
 abbrev pub earlier : Stage → List Stage
@@ -68,6 +51,7 @@ pub stage_laws : (stage : Stage) → StageLaws stage
 unfolding stage_function is_hand
 stage_laws stage.Load = record { makes = load_stage_makes; right = loads_are_right; refuses = λ values look reason _. load_stage_names is_hand_file refl refl refl refl (bundle_over values look stage.Load) reason }
 stage_laws stage.Cost = record { makes = cost_stage_makes; right = costs_are_right; refuses = λ values look reason _. cost_stage_names is_hand_file refl refl refl (bundle_over values look stage.Cost) reason }
+stage_laws stage.Concept = record { makes = concept_stage_makes; right = concept_is_right; refuses = λ values look reason right. concept_stage_names is_hand_file refl refl refl (bundle_over values look stage.Concept) (loads_accepted values look right.0) (costs_accepted values look right.1.0) reason }
 stage_laws _ = record { makes = λ bundle made is. absurd (cc); right = λ bundle made same fits is. absurd (cc); refuses = λ values look reason _ is. not_built _ reason refl is }
 
 -- the same of what is made of a bundle

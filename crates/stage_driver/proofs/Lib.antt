@@ -13,6 +13,7 @@ pub mod MadeLists
 pub mod MadeRight
 pub mod MadeTexts
 pub mod MadeThere
+pub mod OneLook
 pub mod Passed
 pub mod Pieces
 pub mod Placed

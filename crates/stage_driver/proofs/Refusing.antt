@@ -38,10 +38,11 @@ use Rattle.stage_driver.specs.Right.{AllStandRight}
 use Rattle.stage_driver.specs.Runs.{name_of}
 use Rattle.stage_driver.proofs.Differing.{all_both, all_parts, all_filter, same_way}
 use Rattle.stage_driver.proofs.HandAlone.{path_is_hand, config_is_hand}
-use Rattle.stage_driver.proofs.Laws.{bundle_over, AreRightOver, earlier, stage_laws, run_makes}
+use Rattle.stage_driver.proofs.Laws.{earlier, stage_laws, run_makes}
 use Rattle.stage_driver.proofs.MadeLists.{always_made, made_list}
 use Rattle.stage_driver.proofs.MadeRight.{visits_right}
 use Rattle.stage_driver.proofs.MadeTexts.{names_of, text_nowhere}
+use Rattle.stage_driver.proofs.OneLook.{AreRightOver, bundle_over, files_over}
 use Rattle.stage_driver.proofs.Placed.{ArePlaced, made_looks}
 use Rattle.stage_driver.proofs.Traces.{traced, chain, stages_run, are_visits, are_placed}
 use Rattle.stage_driver.proofs.Visits.{IsHalt, AreVisits}
@@ -278,19 +279,17 @@ module _ (look : FileId → Result (List ℕ) Cause) where
       → bundle_over values looked stage ≡ bundle
   bundle_looked values stage bundle e = told_looked values stage (texts_by look values (stage_inputs stage)) (map (λ file. looked (chosen values file)) (stage_inputs stage)) bundle (texts_looked values (stage_inputs stage)) e
 
-  abbrev made_over : List FileId → List MadeFile
-  made_over ids = map (λ file. record { file = file; text = looked file }) ids
-
-  files_looked : (some : List FileId) → made_over (ids_of (files_by look some)) ≡ files_by look some
+  files_looked : (some : List FileId)
+      → files_over looked (ids_of (files_by look some)) ≡ files_by look some
   unfolding text_or
   files_looked [] = refl
   files_looked (file ∷ some) = by (look file) refl (files_looked some)
     where
       by : (found : Result (List ℕ) Cause) → look file ≡ found
-          → made_over (ids_of (files_by look some)) ≡ files_by look some
-          → made_over (ids_of (found_file file found (files_by look some))) ≡ found_file file found (files_by look some)
+          → files_over looked (ids_of (files_by look some)) ≡ files_by look some
+          → files_over looked (ids_of (found_file file found (files_by look some))) ≡ found_file file found (files_by look some)
       by (Ok text) is rest =
-          ap (λ t. record { file = file; text = text_or t } ∷ made_over (ids_of (files_by look some))) is
+          ap (λ t. record { file = file; text = text_or t } ∷ files_over looked (ids_of (files_by look some))) is
           ∙ ap (λ more. record { file = file; text = text } ∷ more) rest
       by (Err why) is rest = rest
 
@@ -312,7 +311,7 @@ module _ (values : List ℤ) (hand : Folder) (all : List MadeFile) where
       let own = placed.0 in
       let here : IsRightAs stage visit.bundle visit.made.files = subst (λ own. IsRightAs own visit.bundle visit.made.files) own.own right.0.right in
       let over : IsRightAs stage (bundle_over values (looked look) stage) visit.made.files = subst (λ bundle. IsRightAs stage bundle visit.made.files) (sym (bundle_looked look values stage visit.bundle own.given)) here in
-      let same : visit.made.files ≡ made_over look (ids_of visit.made.files) = sym own.found ∙ sym (files_looked look (stage_makes stage)) ∙ ap (λ some. made_over look (ids_of some)) own.found in (
+      let same : visit.made.files ≡ files_over (looked look) (ids_of visit.made.files) = sym own.found ∙ sym (files_looked look (stage_makes stage)) ∙ ap (λ some. files_over (looked look) (ids_of some)) own.found in (
         record { ids = ids_of visit.made.files; makes = own.made_as; right = subst (IsRightAs stage (bundle_over values (looked look) stage)) same over },
         done_right stages visits placed.1 right.1,
       )

@@ -15,6 +15,7 @@ use Rattle.config_keys.specs.Items.{look_in}
 use Rattle.config_keys.specs.Values.{effective}
 use Rattle.demand_load.specs.LoadStage.{load_stage}
 use Rattle.line_pool.specs.CostStage.{cost_stage}
+use Rattle.line_search.specs.ConceptStage.{concept_stage, concept_work}
 use Rattle.stage_driver.specs.declared.outcome.RunEnd.{RunEnd}
 use Rattle.stage_driver.specs.declared.cause.Cause.{Cause}
 use Rattle.stage_driver.specs.declared.cause.Cause.TheVariants as cause
@@ -23,22 +24,28 @@ use Rattle.stage_driver.specs.Reports.{stage_lines, last_line, end_of}
 
 -- the stages that are built, in the order in which they run
 abbrev pub built : List Stage
-built = stage.Load ∷ stage.Cost ∷ []
+built = stage.Load ∷ stage.Cost ∷ stage.Concept ∷ []
 
 -- what each stage makes of what it is given; one that is not built makes nothing, and no chain has
 -- it
 unfoldable pub stage_function : Stage → BundleParts → Result Made Refusal
 stage_function stage.Load bundle = load_stage bundle
 stage_function stage.Cost bundle = cost_stage bundle
+stage_function stage.Concept bundle = concept_stage bundle
 stage_function _ bundle = Err refusal.NoSolution
 
 -- the same, by the stage of the bundle
 abbrev pub run_stage : BundleParts → Result Made Refusal
 run_stage bundle = stage_function bundle.stage bundle
 
--- how many steps a stage takes over what it is given
-unfoldable pub stage_work : BundleParts → ℕ
-stage_work bundle = 1
+-- how many steps each stage takes over what it is given
+unfoldable pub stage_steps : Stage → BundleParts → ℕ
+stage_steps stage.Concept bundle = concept_work bundle
+stage_steps _ bundle = 1
+
+-- the same, by the stage of the bundle
+abbrev pub stage_work : BundleParts → ℕ
+stage_work bundle = stage_steps bundle.stage bundle
 
 -- what the chain over hand files does, under settings or a fault of them
 abbrev pub trace_under : Result (List ℤ) ConfigFault → Folder → Trace

@@ -1,5 +1,5 @@
 -- What it means that a check passes.
-use Rattle.std.specs.Prelude.{ℕ, ℤ, ◌≡◌, true, List, [], ◌∷◌, Option, Some, None, Ok, ⊤, IfOk}
+use Rattle.std.specs.Prelude.{ℕ, ℤ, ◌≡◌, true, List, [], ◌∷◌, Option, None, Ok, ⊤}
 use Rattle.plan_files.specs.Folder.{Folder}
 use Rattle.giv_files.specs.declared.file_id.FileId.TheVariants as file
 use Rattle.giv_files.specs.declared.made.MadeFile.{MadeFile}
@@ -12,18 +12,14 @@ use Rattle.demand_load.specs.RightLoads.{LoadFilesAreRight}
 use Rattle.line_pool.specs.RightCosts.{CostFilesAreRight}
 use Rattle.line_search.specs.GivenProblems.{problem_faults, problem_of}
 use Rattle.line_search.specs.Judged.{Passes}
+use Rattle.line_search.specs.RightConcepts.{mark_files}
 use Rattle.stage_driver.specs.declared.outcome.RunEnd.TheVariants as end
-use Rattle.stage_driver.specs.Built.{built, made}
-use Rattle.stage_driver.specs.Chain.{bundle_by, is_to_run, to_run}
+use Rattle.stage_driver.specs.Built.{made}
+use Rattle.stage_driver.specs.Chain.{bundle_by, is_to_run}
 use Rattle.stage_driver.specs.Checks.{check_of, judged, standing}
 use Rattle.stage_driver.specs.Hand.{hand_of}
 use Rattle.stage_driver.specs.Right.{text_in}
 use Rattle.stage_driver.specs.Runs.{after}
-
--- the file of a tree, where there is one
-abbrev pub tree_files : Option (List ℕ) → List MadeFile
-tree_files None = []
-tree_files (Some text) = record { file = file.Tree; text = text } ∷ []
 
 -- A concept from any hand passes over its inputs: these have no fault, and its text is the table of
 -- frequencies which keep the bounds of each edge. Where a tree stands beside it, that marks it: no
@@ -32,7 +28,7 @@ pub record ConceptPasses (bundle : BundleParts) (files : List MadeFile) : Type 0
   pub inputs : problem_faults bundle ≡ []
   pub text : List ℕ
   pub tree : Option (List ℕ)
-  pub each : files ≡ record { file = file.Concept; text = text } ∷ tree_files tree
+  pub each : files ≡ record { file = file.Concept; text = text } ∷ mark_files tree
   pub passes : Passes (problem_of bundle) text tree
 
 -- The files of a stage satisfy its model over what it is given.
@@ -64,14 +60,7 @@ pub record PassesIn (folder : Folder) : Type 0 where
   pub settled : effective (look_in folder) ≡ Ok values
   pub stand : AllStand folder values judged
 
--- the stages that are judged and are to run are all built
-abbrev pub JudgesBuilt : Folder → Type 0
-JudgesBuilt folder =
-    IfOk (effective (look_in folder)) (λ values. to_run values judged ≡ to_run values built)
-
--- The folder that a run leaves which made all of its stages passes, where all that is judged is
--- built.
+-- The folder that a run leaves which made all of its stages passes.
 unfoldable pub RunsPass : Folder → Type 0
 RunsPass folder =
-    (made (hand_of folder)).end ≡ end.Done → JudgesBuilt (hand_of folder)
-    → check_of (after folder) ≡ None
+    (made (hand_of folder)).end ≡ end.Done → check_of (after folder) ≡ None

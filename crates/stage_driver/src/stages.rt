@@ -10,6 +10,7 @@ ghost use Rattle.stage_driver.specs.Checks.{judged};
 use demand_load::make_load;
 use giv_files::{Bundle, Made, Refusal, Stage, StageFault};
 use line_pool::make_cost;
+use line_search::make_concept;
 use plan_num::{Ledger, Steps};
 use std::alloc::Global;
 
@@ -17,7 +18,7 @@ use std::alloc::Global;
 pub(crate) fn built() -> &'static [Stage]
     ensures { result.now ≡ built }
 {
-    &[Stage::Load, Stage::Cost]
+    &[Stage::Load, Stage::Cost, Stage::Concept]
 }
 
 /// The stages whose files a check judges, in the order in which they run.
@@ -28,7 +29,7 @@ pub(crate) fn judged() -> &'static [Stage]
 }
 
 /// Makes what the stage of a bundle makes of it.
-#[tactic(auto, unfolding(crate::specs::Built::stage_function, crate::specs::Built::stage_work))]
+#[tactic(auto, unfolding(crate::specs::Built::stage_function, crate::specs::Built::stage_steps))]
 pub(crate) fn make_stage<L: Ledger>(
     alloc: Global,
     bundle: &Bundle,
@@ -41,8 +42,8 @@ pub(crate) fn make_stage<L: Ledger>(
     match bundle.stage() {
         Stage::Load => make_load(alloc, bundle, steps),
         Stage::Cost => make_cost(alloc, bundle, steps),
-        Stage::Concept
-        | Stage::Ean
+        Stage::Concept => make_concept(alloc, bundle, steps),
+        Stage::Ean
         | Stage::Timetable
         | Stage::Rollout
         | Stage::Vehicles

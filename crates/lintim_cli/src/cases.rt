@@ -1,0 +1,119 @@
+// A run over the files of a dataset in memory, and what it has to answer, write, report and count.
+use crate::answers::Status;
+use crate::top::lintim;
+use plan_files::{Files, MemorySink, SteadyFiles};
+use plan_num::{Steps, Tally};
+use std::alloc::{AllocError, Global};
+use std::process::Abort;
+use std::test::Fail;
+
+pub(crate) const CONFIG: &[u8] = b"load_source; file\nperiod_length; 20\n";
+
+pub(crate) const STOPS: &[u8] = b"# stops\n1; A; A; 0; 0\n2; B; B; 0; 0\n3; C; C; 0; 0\n";
+
+pub(crate) const EDGES: &[u8] = b"# edges\n1; 1; 2; 2; 4; 5\n2; 2; 3; 3; 6; 6\n";
+
+pub(crate) const POOL: &[u8] = b"# pool\n1; 1; 1\n1; 2; 2\n2; 1; 1\n";
+
+pub(crate) const GIVEN: &[u8] = b"# loads\n1; 100; 2; 3\n2; 40; 1; 3\n";
+
+pub(crate) const LOADS: &[u8] =
+    b"# edge-id; load; minimal-frequency; maximal-frequency\n1; 100; 2; 3\n2; 40; 1; 3\n";
+
+pub(crate) const COSTS: &[u8] = b"# line-id; length; cost\n1; 5; 15\n2; 2; 12\n";
+
+pub(crate) const CONCEPT: &[u8] =
+    b"# line-id; edge-order; edge-id; frequency\n1; 1; 1; 1\n1; 2; 2; 1\n2; 1; 1; 1\n";
+
+pub(crate) const TREE: &[u8] = b"# kind; id; value; multiplier\nsplit; 1; 1; 0\nsplit; 1; 0; 0\n\
+    empty; 2; 1; 0\nsplit; 2; 1; 0\nsplit; 2; 0; 0\nempty; 1; 1; 0\npoint; 0; 0; 0\n\
+    bound; 0; 0; 0\nbound; 0; 0; 0\n";
+
+// The files that people wrote, those that are to be made, and what is to be told.
+#[derive(Clone, Copy)]
+pub(crate) struct Case {
+    pub(crate) config: Option<&'static [u8]>,
+    pub(crate) stops: Option<&'static [u8]>,
+    pub(crate) edges: Option<&'static [u8]>,
+    pub(crate) pool: Option<&'static [u8]>,
+    pub(crate) given: Option<&'static [u8]>,
+    pub(crate) demand: Option<&'static [u8]>,
+    pub(crate) status: Status,
+    pub(crate) loads: Option<&'static [u8]>,
+    pub(crate) costs: Option<&'static [u8]>,
+    pub(crate) concept: Option<&'static [u8]>,
+    pub(crate) tree: Option<&'static [u8]>,
+    pub(crate) report: &'static [u8],
+    pub(crate) steps: u64,
+}
+
+// The run over the dataset as it is.
+pub(crate) const MADE: Case = Case {
+    config: Some(CONFIG),
+    stops: Some(STOPS),
+    edges: Some(EDGES),
+    pool: Some(POOL),
+    given: Some(GIVEN),
+    demand: None,
+    status: Status::Done,
+    loads: Some(LOADS),
+    costs: Some(COSTS),
+    concept: Some(CONCEPT),
+    tree: Some(TREE),
+    report: b"load: 2 edges\ncost: 2 lines\nconcept: cost 27, optimal, 9 entries\ndone\n",
+    steps: 12,
+};
+
+pub(crate) fn words(alloc: Global, word: &str) -> Result<Vec<String>, AllocError> {
+    let mut words = Vec::new(alloc);
+    words.push(String::from_str(alloc, word)?)?;
+    Ok(words)
+}
+
+// Runs over the files of a case. Old made files are replaced or removed, and no other file changes.
+pub(crate) fn run(rt: &(impl AllocGlobal + Abort), case: &Case) -> Result<(), Fail> {
+    let alloc = rt.alloc();
+    let made = [
+        ("line-planning/Load.giv", case.loads),
+        ("basis/Pool-Cost.giv", case.costs),
+        ("line-planning/Line-Concept.lin", case.concept),
+        ("line-planning/Line-Concept.cert", case.tree),
+    ];
+    let mut files = SteadyFiles::new(alloc);
+    for (name, _) in &made {
+        files.put(name, b"old")?;
+    }
+    files.put("other.txt", b"kept")?;
+    let given = [
+        ("basis/Config.cnf", case.config),
+        ("basis/Stop.giv", case.stops),
+        ("basis/Edge.giv", case.edges),
+        ("basis/Pool.giv", case.pool),
+        ("basis/Load.giv", case.given),
+        ("basis/OD.giv", case.demand),
+    ];
+    for (name, text) in &given {
+        if let Some(text) = text {
+            files.put(name, text)?;
+        }
+    }
+    let mut out = MemorySink::new(alloc);
+    let mut steps = Steps::new(Tally::new());
+    let make = words(alloc, "make")?;
+    let status = lintim(alloc, &make, &mut files, &mut out, &mut steps);
+    assert_eq!(rt; out.bytes(), case.report);
+    assert_eq!(rt; status, case.status);
+    assert_eq!(rt; steps.ledger().seen(), case.steps);
+    for (name, text) in &made {
+        holds(rt, &files, name, *text);
+    }
+    holds(rt, &files, "other.txt", Some(b"kept"));
+    Ok(())
+}
+
+// A file has a text, or is not there.
+fn holds(rt: &impl Abort, files: &SteadyFiles, name: &str, text: Option<&[u8]>) {
+    let found = files.file(name).map(|found| found.as_bytes());
+    assert_eq!(rt; found.is_some(), text.is_some());
+    assert_eq!(rt; found.unwrap_or(b""), text.unwrap_or(b""));
+}
