@@ -1,7 +1,4 @@
-pub mod ChosenFound
-pub mod ConceptMakes
-pub mod ConceptNames
-pub mod ConceptReads
+mod ConceptAccepted
 mod ConceptRows
 mod ConceptWritten
 mod DearestLines
@@ -9,22 +6,28 @@ mod EdgesOfTexts
 mod FirstRows
 mod InputRefusals
 mod Judging
-pub mod Lengths
 mod Levels
-pub mod LineOrder
 mod Lists
-pub mod LowerFirst
 mod NamedNodes
 mod PushedEdges
 mod PushedLines
 mod Refusals
-pub mod Said
 mod SameCells
-pub mod SearchRight
 mod SearchTurns
-pub mod SoundProblems
 mod StageResults
 mod Tried
+mod VisitsInTurn
+pub mod ChosenFound
+pub mod ConceptMakes
+pub mod ConceptNames
+pub mod ConceptReads
+pub mod FrequenciesBack
+pub mod Lengths
+pub mod LineOrder
+pub mod LowerFirst
+pub mod Said
+pub mod SearchRight
+pub mod SoundProblems
 pub mod Visited
 pub mod VisitedRegions
-mod VisitsInTurn
+pub mod WrittenNodes

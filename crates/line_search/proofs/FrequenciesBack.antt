@@ -1,0 +1,129 @@
+-- The rows of a concept give back its frequencies.
+use Rattle.std.proofs.Common.{◌≡◌, ℕ, suc, ℤ, pos, ◌+◌, ◌<◌, Bool, true, false, ◌∙◌, List, [], ◌∷◌, ◌++◌}
+use Rattle.std.proofs.Common.{cond, length, map, find, zip, Option, Some, None, All, refl, ap, sym, arith}
+use Rattle.std.proofs.Common.{append_assoc, unsigned_abs, get_or, option_map, unwrap_or}
+use Rattle.std.specs.List.{AllByRecursion, enumerate_from, flat_map}
+use Rattle.std.specs.List.Sorted.{IsStrictlySortedBy}
+use Rattle.std.specs.Option.{option_or}
+use Rattle.std.specs.Ordering.{int_cmp, int_eq}
+use Rattle.std.specs.declared.cmp.Ordering.TheVariants.{Less}
+use Rattle.std.proofs.lemmas.Bool.Decides.{Decides-int_eq}
+use Rattle.std.proofs.lemmas.Cmp.{int_eq_equiv}
+use Rattle.giv_files.specs.Tables.{TableRow}
+use Rattle.line_cost_model.specs.Problems.{CostedLine, IsCostedLine, IsProblem, ProblemParts}
+use Rattle.line_search.specs.ConceptTables.{concept_rows, frequencies_in, frequency_in, line_rows}
+use Rattle.line_search.specs.ConceptTables.{frequency_of_row, row_at}
+
+-- an id above another one is not that one
+pub above_differs : (x y : ℤ) → int_cmp x y ≡ Less → int_eq y x ≡ false
+above_differs x y less = by (int_eq y x) refl
+  where
+    by : (b : Bool) → int_eq y x ≡ b → b ≡ false
+    by true is =
+        let same : y ≡ x = (Decides-int_eq y x).0 is in
+        absurd (cc)
+    by false is = refl
+
+find_both : {X : Type 0} (p : X → Bool) (xs ys : List X)
+    → find p (xs ++ ys) ≡ option_or (find p xs) (find p ys)
+find_both p [] ys = refl
+find_both p (x ∷ xs) ys = by (p x) (find_both p xs ys)
+  where
+    by : (b : Bool) → find p (xs ++ ys) ≡ option_or (find p xs) (find p ys)
+        → cond b (Some x) (find p (xs ++ ys)) ≡ option_or (cond b (Some x) (find p xs)) (find p ys)
+    by true rest = refl
+    by false rest = rest
+
+-- the row of a line
+abbrev is_of : ℤ → TableRow → Bool
+is_of line row = int_eq line (get_or row.cells 0 (pos 0))
+
+-- no row is of one of some lines
+abbrev NoneOf : List TableRow → List ℤ → Type 0
+NoneOf before ids = AllByRecursion (λ line. find (is_of line) before ≡ None) ids
+
+module _ (problem : ProblemParts) where
+  -- the rows of a line are not of another one
+  none_at : (line id : ℤ) (frequency n : ℕ) (edges : List ℕ) → int_eq line id ≡ false
+      → find (is_of line) (map (row_at problem id frequency) (enumerate_from n edges)) ≡ None
+  none_at line id frequency n [] differs = refl
+  none_at line id frequency n (edge ∷ edges) differs =
+      ap (λ b. cond b (Some (row_at problem id frequency (n, edge)))
+      (find (is_of line) (map (row_at problem id frequency) (enumerate_from (n + 1) edges)))) differs
+      ∙ none_at line id frequency (n + 1) edges differs
+
+  none_more : (before : List TableRow) (line : CostedLine) (frequency : ℕ) (ids : List ℤ)
+      → AllByRecursion (λ other. int_cmp line.id other ≡ Less) ids → NoneOf before ids
+      → NoneOf (before ++ line_rows problem line frequency) ids
+  none_more before line frequency [] above none = tt
+  none_more before line frequency (id ∷ ids) above none = (
+    find_both (is_of id) before (line_rows problem line frequency)
+        ∙ ap (λ found. option_or found (find (is_of id) (line_rows problem line frequency))) none.0
+        ∙ none_at id line.id frequency 1 line.edges (above_differs line.id id above.0),
+    none_more before line frequency ids above.1 none.1,
+  )
+
+  -- the first row of a line
+  first_row : (id : ℤ) (frequency : ℕ) (edges : List ℕ) (behind : List TableRow) → 0 < length edges
+      → option_map frequency_of_row
+      (find (is_of id) (map (row_at problem id frequency) (enumerate_from 1 edges) ++ behind))
+      ≡ Some frequency
+  first_row id frequency [] behind some = absurd (omega (arith, some))
+  first_row id frequency (edge ∷ edges) behind some =
+      ap (λ b. option_map frequency_of_row (cond b (Some (row_at problem id frequency (1, edge)))
+      (find (is_of id) (map (row_at problem id frequency) (enumerate_from 2 edges) ++ behind))))
+      (int_eq_equiv.refl id)
+
+  abbrev rows_for : List CostedLine → List ℕ → List TableRow
+  rows_for lines frequencies =
+      flat_map (λ at. line_rows problem at.0 at.1) (zip lines frequencies)
+
+  first_is : (before : List TableRow) (line : CostedLine) (frequency : ℕ) (behind : List TableRow)
+      → 0 < length line.edges → find (is_of line.id) before ≡ None
+      → frequency_in (before ++ (line_rows problem line frequency ++ behind)) line.id ≡ frequency
+  first_is before line frequency behind some none =
+      let rows = line_rows problem line frequency ++ behind in
+      ap (λ found. unwrap_or (option_map frequency_of_row found) 0)
+      (find_both (is_of line.id) before rows
+      ∙ ap (λ found. option_or found (find (is_of line.id) rows)) none)
+      ∙ ap (λ found. unwrap_or found 0) (first_row line.id frequency line.edges behind some)
+
+  given_back : (before : List TableRow) (lines : List CostedLine) (frequencies : List ℕ)
+      → length frequencies ≡ length lines
+      → IsStrictlySortedBy int_cmp (map (λ line. line.id) lines)
+      → AllByRecursion (λ line. 0 < length line.edges) lines
+      → NoneOf before (map (λ line. line.id) lines)
+      → map (λ line. frequency_in (before ++ rows_for lines frequencies) line.id) lines ≡ frequencies
+  unfolding IsStrictlySortedBy
+  given_back before [] [] each rise some none = refl
+  given_back before [] (frequency ∷ frequencies) each rise some none = absurd (omega (arith, each))
+  given_back before (line ∷ lines) [] each rise some none = absurd (omega (arith, each))
+  given_back before (line ∷ lines) (frequency ∷ frequencies) each rise some none =
+      let behind = rows_for lines frequencies in
+      let now = before ++ line_rows problem line frequency in
+      let first = first_is before line frequency behind some.0 none.0 in
+      let rest = given_back now lines frequencies (omega (arith, each)) rise.1 some.1
+      (none_more before line frequency (map (λ (line : CostedLine). line.id) lines) rise.0 none.1) in
+      let whole = ap (λ all. map (λ (line : CostedLine). frequency_in all line.id) lines)
+      (append_assoc before (line_rows problem line frequency) behind) in
+      (λ i. first i ∷ (sym whole ∙ rest) i)
+
+  none_yet : (ids : List ℤ) → NoneOf [] ids
+  none_yet [] = tt
+  none_yet (id ∷ ids) = (refl, none_yet ids)
+
+  some_edges : (lines : List CostedLine) → All (IsCostedLine (length problem.edges)) lines
+      → AllByRecursion (λ line. 0 < length line.edges) lines
+  some_edges [] own = tt
+  some_edges (line ∷ lines) own = (
+    (own 0 line (omega arith)).some,
+    some_edges lines (λ k d h. own (suc k) d (omega (arith, h))),
+  )
+
+  -- the frequencies of the rows of a concept are the concept
+  pub frequencies_back : IsProblem problem → (frequencies : List ℕ)
+      → length frequencies ≡ length problem.lines
+      → frequencies_in problem (concept_rows problem frequencies) ≡ frequencies
+  frequencies_back sound frequencies each =
+      given_back [] problem.lines frequencies each sound.lines_rise
+      (some_edges problem.lines sound.lines) (none_yet (map (λ line. line.id) problem.lines))
