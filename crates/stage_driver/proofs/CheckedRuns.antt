@@ -27,7 +27,7 @@ use Rattle.stage_driver.specs.declared.finding.Finding.{Finding}
 use Rattle.stage_driver.specs.declared.outcome.RunEnd.TheVariants as end
 use Rattle.stage_driver.specs.Built.{built, cause_of, files_of, made, run_stage, trace_of, trace_under}
 use Rattle.stage_driver.specs.Chain.{Halt, Trace, Visit, bundle_by, chain_from, go_on, is_to_run, to_run, visit_of}
-use Rattle.stage_driver.specs.Checks.{check_of, concept_verdict, content_found, first_found, first_text, found_at, found_over, found_under, is_lacking, judge, judged, lacks_file, same_texts, standing, verdict}
+use Rattle.stage_driver.specs.Checks.{check_of, concept_verdict, content_found, first_found, first_text, found_at, found_over, found_under, is_lacking, judge, lacks_file, same_texts, standing, verdict}
 use Rattle.stage_driver.specs.Hand.{hand_of}
 use Rattle.stage_driver.specs.Passing.{RunsPass}
 use Rattle.stage_driver.specs.Reports.{end_of, end_of_refusal}
@@ -76,9 +76,10 @@ concept_there : (concept tree : Option (List ℕ)) (text : List ℕ) (mark : Opt
     → (is_lacking file.Concept concept || (is_lacking file.Tree tree || false)) ≡ false
 concept_there (Some concept) (Some tree) text mark is = refl
 concept_there (Some concept) None text mark is = refl
-concept_there None None text mark is = absurd (cc)
+concept_there None None text mark is =
+    let none : [] ≡ file.Concept ∷ ids_of (mark_files mark) = ap ids_of is in absurd (cc)
 concept_there None (Some tree) text mark is =
-    let first : file.Tree ≡ file.Concept = cc in absurd (cc)
+    let first : file.Tree ∷ [] ≡ file.Concept ∷ ids_of (mark_files mark) = ap ids_of is in absurd (cc)
 
 -- the first of a mark's files has its text
 first_mark : (mark : Option (List ℕ)) → first_text (mark_files mark) ≡ mark
@@ -172,7 +173,7 @@ module _ (folder : Folder) (values : List ℤ) where
   passes_under is same none =
       let placed = subst (λ all. ArePlaced run_stage run_makes values hand all (stages_run values) (chain values hand).visits) (sym same) (are_placed values hand) in
       ap (λ settings. found_under settings (after folder)) (settings_after folder ∙ is)
-      ∙ by_run (after folder) values judged
+      ∙ by_run (after folder) values built
       ∙ all_pass (after folder) values hand (made hand).files (stages_run values) (chain values hand).visits (all_visited run_stage values hand [] (stages_run values) none) placed
       (left_by folder values is same)
 

@@ -21,8 +21,9 @@ use Rattle.stage_driver.specs.declared.finding.Finding.{Finding}
 use Rattle.stage_driver.specs.declared.finding.Finding.TheVariants.{BadInput, Broken}
 use Rattle.stage_driver.specs.declared.outcome.ChainFault.{ChainFault}
 use Rattle.stage_driver.specs.declared.rule.Rule.TheVariants as rule
+use Rattle.stage_driver.specs.Built.{built}
 use Rattle.stage_driver.specs.Chain.{bundle_by}
-use Rattle.stage_driver.specs.Checks.{EndedAs, UnsettledAs, check_of, first_found, found_at, found_over, found_under, judged, judge, lacks_file, standing, verdict}
+use Rattle.stage_driver.specs.Checks.{EndedAs, UnsettledAs, check_of, first_found, found_at, found_over, found_under, judge, lacks_file, standing, verdict}
 use Rattle.stage_driver.specs.Ends.{Gives, has_failed, is_broken}
 use Rattle.stage_driver.specs.Right.{text_in}
 
@@ -136,12 +137,12 @@ found_is folder settings found is h = h ∙ ap (λ settings. found_under setting
 pub told_settled : (contents now : Option Folder) (values : List ℤ)
     (result : Result (Option Finding) ChainFault) → now ≡ contents
     → IfSome contents (λ folder. ConfigGives (effective (look_in folder)) (Ok values))
-    → IfSome now (λ folder. IfOk result (λ found. found ≡ first_found folder values judged))
+    → IfSome now (λ folder. IfOk result (λ found. found ≡ first_found folder values built))
     → IfSome contents (λ folder. IfOk result (λ found. found ≡ check_of folder))
 told_settled None now values result same told h = tt
 told_settled (Some folder) now values (Err fault) same told h = tt
 told_settled (Some folder) now values (Ok found) same told h =
-    found_is folder (Ok values) found told (subst (λ now. IfSome now (λ folder. found ≡ first_found folder values judged)) same h)
+    found_is folder (Ok values) found told (subst (λ now. IfSome now (λ folder. found ≡ first_found folder values built)) same h)
 
 unsettled_in : (folder : Folder) (end : ConfigEnd) (result : Result (Option Finding) ChainFault)
     → ConfigGives (effective (look_in folder)) (Err end) → UnsettledAs end result

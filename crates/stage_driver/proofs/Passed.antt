@@ -28,10 +28,10 @@ use Rattle.stage_driver.specs.declared.checked.CheckEnd.TheVariants as checks
 use Rattle.stage_driver.specs.declared.finding.Finding.{Finding}
 use Rattle.stage_driver.specs.declared.finding.Finding.TheVariants.{BadInput, Broken}
 use Rattle.stage_driver.specs.declared.outcome.ChainFault.{ChainFault}
-use Rattle.stage_driver.specs.Built.{run_stage}
+use Rattle.stage_driver.specs.Built.{built, run_stage}
 use Rattle.stage_driver.specs.Chain.{bundle_by}
 use Rattle.stage_driver.specs.Checks.{EndedAs, UnsettledAs, check_end, content_found, is_certificate}
-use Rattle.stage_driver.specs.Checks.{is_lacking, judged, lacks_file, same_texts, standing, verdict}
+use Rattle.stage_driver.specs.Checks.{is_lacking, lacks_file, same_texts, standing, verdict}
 use Rattle.stage_driver.specs.Passing.{AllStand, PassesIn, RunsStand, SatisfyModel, StageStands}
 use Rattle.stage_driver.specs.Right.{IsRightAs, found_file, text_in}
 use Rattle.stage_driver.proofs.Laws.{run_makes, stage_laws}
@@ -192,7 +192,7 @@ module _ (values : List ℤ) where
 pub told_passes : (contents now : Option Folder) (values : List ℤ)
     (result : Result (Option Finding) ChainFault) → now ≡ contents
     → IfSome contents (λ folder. ConfigGives (effective (look_in folder)) (Ok values))
-    → IfSome now (λ folder. IfOk result (λ found. IfNone found (AllStand folder values judged)))
+    → IfSome now (λ folder. IfOk result (λ found. IfNone found (AllStand folder values built)))
     → IfSome contents (λ folder. IfOk result (λ found. IfNone found (PassesIn folder)))
 told_passes None now values result same told h = tt
 told_passes (Some folder) now values (Err fault) same told h = tt
@@ -200,7 +200,7 @@ told_passes (Some folder) now values (Ok (Some found)) same told h = tt
 told_passes (Some folder) now values (Ok None) same told h = record {
   values = values;
   settled = told;
-  stand = subst (λ now. IfSome now (λ folder. AllStand folder values judged)) same h;
+  stand = subst (λ now. IfSome now (λ folder. AllStand folder values built)) same h;
 }
 
 pub unsettled_passes : (contents : Option Folder) (end : ConfigEnd)

@@ -38,15 +38,11 @@ use Rattle.stage_driver.specs.declared.outcome.ChainFault.{ChainFault}
 use Rattle.stage_driver.specs.declared.outcome.ChainFault.TheVariants as fault
 use Rattle.stage_driver.specs.declared.rule.Rule.{Rule}
 use Rattle.stage_driver.specs.declared.rule.Rule.TheVariants as rule
-use Rattle.stage_driver.specs.Built.{run_stage}
+use Rattle.stage_driver.specs.Built.{built, run_stage}
 use Rattle.stage_driver.specs.Chain.{bundle_by, is_to_run}
 use Rattle.stage_driver.specs.Findings.{concept_rule, finding_of, rule_name}
 use Rattle.stage_driver.specs.Reports.{cause_text, line_of}
 use Rattle.stage_driver.specs.Right.{files_by, made_in, text_in}
-
--- the stages whose files are judged, in the order in which they run
-abbrev pub judged : List Stage
-judged = stage.Load ∷ stage.Cost ∷ stage.Concept ∷ []
 
 -- a file is a certificate, which may be left out
 abbrev pub is_certificate : FileId → Bool
@@ -106,7 +102,8 @@ concept_verdict bundle (concept ∷ tree) =
     concept_found (problem_faults bundle)
     (first_broken (problem_of bundle) concept.text (first_text tree))
 
--- what is found of the files of a stage over what it is given; a stage that is not judged never passes
+-- what is found of the files of a stage over what it is given; a stage that is not built
+-- never passes
 unfoldable pub verdict : Stage → BundleParts → List MadeFile → Option Finding
 verdict stage.Load bundle others = content_found stage.Load (run_stage bundle) others
 verdict stage.Cost bundle others = content_found stage.Cost (run_stage bundle) others
@@ -142,7 +139,7 @@ first_found folder values (stage ∷ stages) =
 -- the same under settings, or a fault of them
 abbrev pub found_under : Result (List ℤ) ConfigFault → Folder → Option Finding
 found_under (Err reason) folder = Some (BadInput (cause.BadConfig reason))
-found_under (Ok values) folder = first_found folder values judged
+found_under (Ok values) folder = first_found folder values built
 
 -- what is found where settings could not be read; other ends are handed on
 abbrev pub UnsettledAs : ConfigEnd → Result (Option Finding) ChainFault → Type 0

@@ -14,9 +14,9 @@ use Rattle.line_search.specs.GivenProblems.{problem_faults, problem_of}
 use Rattle.line_search.specs.Judged.{Passes}
 use Rattle.line_search.specs.RightConcepts.{mark_files}
 use Rattle.stage_driver.specs.declared.outcome.RunEnd.TheVariants as end
-use Rattle.stage_driver.specs.Built.{made}
+use Rattle.stage_driver.specs.Built.{built, made}
 use Rattle.stage_driver.specs.Chain.{bundle_by, is_to_run}
-use Rattle.stage_driver.specs.Checks.{check_of, judged, standing}
+use Rattle.stage_driver.specs.Checks.{check_of, standing}
 use Rattle.stage_driver.specs.Hand.{hand_of}
 use Rattle.stage_driver.specs.Right.{text_in}
 use Rattle.stage_driver.specs.Runs.{after}
@@ -53,12 +53,12 @@ AllStand folder values [] = ⊤
 AllStand folder values (stage ∷ stages) =
     RunsStand folder values stage × AllStand folder values stages
 
--- The settings of a folder are not refused, and each stage that is judged and is to run has files
+-- The settings of a folder are not refused, and each stage that is built and is to run has files
 -- there which satisfy its model.
 pub record PassesIn (folder : Folder) : Type 0 where
   pub values : List ℤ
   pub settled : effective (look_in folder) ≡ Ok values
-  pub stand : AllStand folder values judged
+  pub stand : AllStand folder values built
 
 -- The folder that a run leaves which made all of its stages passes.
 unfoldable pub RunsPass : Folder → Type 0

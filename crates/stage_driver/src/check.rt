@@ -6,8 +6,9 @@ ghost use Rattle.plan_files.specs.Folder.{Folder};
 ghost use Rattle.plan_files.specs.Reads.{OnlyReads};
 ghost use Rattle.config_keys.specs.Items.{look_in};
 ghost use Rattle.config_keys.specs.Values.{effective};
+ghost use Rattle.stage_driver.specs.Built.{built};
 ghost use Rattle.stage_driver.specs.Checks.{IsCheck, UnsettledAs, check_of, first_found};
-ghost use Rattle.stage_driver.specs.Checks.{found_at, judged};
+ghost use Rattle.stage_driver.specs.Checks.{found_at};
 ghost use Rattle.stage_driver.specs.Ends.{has_failed};
 
 use crate::cause::Cause;
@@ -16,7 +17,7 @@ use crate::finding::Finding;
 use crate::judge::judge;
 use crate::outcome::ChainFault;
 use crate::report::check_outcome;
-use crate::stages::{judged, place_of};
+use crate::stages::{built, place_of};
 use config_keys::{Config, ConfigEnd, read_config};
 use giv_files::Stage;
 use plan_files::Files;
@@ -71,13 +72,13 @@ fn find_under<F: Files>(
     config: &Config,
 ) -> Result<Option<Finding>, ChainFault>
     ensures found { IfSome (F.contents files.old) (λ folder. IfOk result (λ found.
-        found ≡ first_found folder config.now judged)) }
+        found ≡ first_found folder config.now built)) }
     ensures passes { IfSome (F.contents files.old) (λ folder.
-        IfOk result (λ found. IfNone found (AllStand folder config.now judged))) }
+        IfOk result (λ found. IfNone found (AllStand folder config.now built))) }
     ensures only_reads { OnlyReads F.contents F.writes F.faults files.old files.new
         (has_failed result) }
 {
-    for stage in judged() {
+    for stage in built() {
         let found = find_at(alloc, files, config, *stage)?;
         if found.is_some() {
             return Ok(found);

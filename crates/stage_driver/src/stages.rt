@@ -5,7 +5,6 @@ ghost use Rattle.giv_files.specs.StageCalls.{StageGives, TakesSteps};
 ghost use Rattle.config_keys.specs.Config.{last_stage_of};
 ghost use Rattle.stage_driver.specs.Chain.{stage_place};
 ghost use Rattle.stage_driver.specs.Built.{built, run_stage, stage_work};
-ghost use Rattle.stage_driver.specs.Checks.{judged};
 
 use demand_load::make_load;
 use giv_files::{Bundle, Made, Refusal, Stage, StageFault};
@@ -17,13 +16,6 @@ use std::alloc::Global;
 /// The stages that are built, in the order in which they run.
 pub(crate) fn built() -> &'static [Stage]
     ensures { result.now ≡ built }
-{
-    &[Stage::Load, Stage::Cost, Stage::Concept]
-}
-
-/// The stages whose files a check judges, in the order in which they run.
-pub(crate) fn judged() -> &'static [Stage]
-    ensures { result.now ≡ judged }
 {
     &[Stage::Load, Stage::Cost, Stage::Concept]
 }

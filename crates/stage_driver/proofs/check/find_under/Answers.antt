@@ -7,15 +7,15 @@ use Rattle.stage_driver.proofs.check.find_under.Goals as goal
 
 pub returns-then-is_some-clause-found : goal.returns-then-is_some-clause-found
 returns-then-is_some-clause-found g c =
-    told_some c.args.config.now _ _ c.judged-stage-items.result.now _ c.loop-stage.stage-index Load _ c.loop-stage-test.true c.loop-stage.invariant.reads.contents c.judged-stage-items.ensures c.in_ok-found.ensures.found (sym c.is_some.ensures ∙ c.if-is_some.true) c.loop-stage.invariant.left
+    told_some c.args.config.now _ _ c.built-stage-items.result.now _ c.loop-stage.stage-index Load _ c.loop-stage-test.true c.loop-stage.invariant.reads.contents c.built-stage-items.ensures c.in_ok-found.ensures.found (sym c.is_some.ensures ∙ c.if-is_some.true) c.loop-stage.invariant.left
 
 pub loop-stage-preserved : goal.loop-stage-preserved
 loop-stage-preserved g c = record {
   reads = both_read _ _ _ _ _ _ _ c.loop-stage.invariant.reads c.in_ok-found.ensures.only_reads;
-  left = told_none c.args.config.now _ _ c.judged-stage-items.result.now c.loop-stage.stage-index Load _ c.loop-stage-test.true c.loop-stage.invariant.reads.contents c.in_ok-found.ensures.found (sym c.is_some.ensures ∙ c.if-is_some.false) c.loop-stage.invariant.left;
-  rest = rest_next c.args.config.now _ _ c.judged-stage-items.result.now c.loop-stage.stage-index Load _ c.loop-stage-test.true c.loop-stage.invariant.reads.contents c.in_ok-found.ensures.passes (sym c.is_some.ensures ∙ c.if-is_some.false) c.loop-stage.invariant.rest;
+  left = told_none c.args.config.now _ _ c.built-stage-items.result.now c.loop-stage.stage-index Load _ c.loop-stage-test.true c.loop-stage.invariant.reads.contents c.in_ok-found.ensures.found (sym c.is_some.ensures ∙ c.if-is_some.false) c.loop-stage.invariant.left;
+  rest = rest_next c.args.config.now _ _ c.built-stage-items.result.now c.loop-stage.stage-index Load _ c.loop-stage-test.true c.loop-stage.invariant.reads.contents c.in_ok-found.ensures.passes (sym c.is_some.ensures ∙ c.if-is_some.false) c.loop-stage.invariant.rest;
 }
 
 pub returns-clause-passes : goal.returns-clause-passes
 returns-clause-passes g c =
-    rest_end c.args.config.now _ c.judged-stage-items.result.now _ c.loop-stage.stage-index c.loop-stage-test.false c.judged-stage-items.ensures c.loop-stage.invariant.rest
+    rest_end c.args.config.now _ c.built-stage-items.result.now _ c.loop-stage.stage-index c.loop-stage-test.false c.built-stage-items.ensures c.loop-stage.invariant.rest
