@@ -175,7 +175,7 @@ module _ (bundle : BundleParts) (none : problem_faults bundle ≡ []) where
     marked = tt;
     passes = passes_by problem sound frequencies feasible None refl;
     accepted = concept_accepted bundle none frequencies (concept_text problem frequencies)
-        feasible.each (reads problem sound frequencies feasible);
+        (reads problem sound frequencies feasible);
   }
   made_right frequencies (Some nodes) entries feasible marked = record {
     inputs = none;
@@ -192,7 +192,7 @@ module _ (bundle : BundleParts) (none : problem_faults bundle ≡ []) where
     passes = passes_by problem sound frequencies feasible (Some (tree_text problem nodes))
         (tree_kept problem sound frequencies feasible nodes marked.1 marked.2);
     accepted = concept_accepted bundle none frequencies (concept_text problem frequencies)
-        feasible.each (reads problem sound frequencies feasible);
+        (reads problem sound frequencies feasible);
   }
 
   abbrev IsRight : Made → Type 0
