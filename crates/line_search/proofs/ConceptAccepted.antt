@@ -1,7 +1,7 @@
 -- A line concept that is made has no fault by the rules of its kind.
-use Rattle.std.proofs.Common.{◌≡◌, ℕ, zero, suc, ℤ, pos, ◌+◌, ◌≤◌, ◌<◌, Bool, true, false, is_some, List, []}
-use Rattle.std.proofs.Common.{◌∷◌, ◌++◌, length, map, slice_get, append-nil, Some, None, option_map, unwrap_or}
-use Rattle.std.proofs.Common.{zip, All, nat_eq, nat_lt, cond, refl, ap, sym, subst, ◌∙◌, arith, find}
+use Rattle.std.proofs.Common.{◌≡◌, ℕ, zero, suc, ℤ, pos, ◌+◌, ◌≤◌, ◌<◌, true, false, is_some, List, []}
+use Rattle.std.proofs.Common.{◌∷◌, ◌++◌, length, map, slice_get, append-nil, Some, option_map, unwrap_or}
+use Rattle.std.proofs.Common.{zip, All, nat_eq, cond, refl, ap, sym, subst, ◌∙◌, arith}
 use Rattle.std.specs.List.{AllByRecursion, IsDistinct, enumerate_from, flat_map, list_any}
 use Rattle.std.specs.List.Sorted.{IsStrictlySortedBy}
 use Rattle.std.specs.Ordering.{int_cmp, int_eq}
@@ -31,7 +31,7 @@ use Rattle.ptn_network.specs.Paths.{edges_at}
 use Rattle.ptn_network.proofs.Sound.{network_sound, rising_rises}
 use Rattle.line_pool.specs.GivenCosts.{costs_of}
 use Rattle.line_pool.specs.PoolCosts.{pool_cost_input}
-use Rattle.line_pool.specs.Pools.{IsLine, LineParts, concept_faults, edge_with, line_faults, line_input}
+use Rattle.line_pool.specs.Pools.{IsLine, LineParts, concept_faults, edge_with, line_faults}
 use Rattle.line_pool.specs.Pools.{line_rules, pool_faults, pool_of, rows_of, walk_of}
 use Rattle.line_pool.proofs.SoundCosts.{costs_count}
 use Rattle.line_pool.proofs.SoundLines.{all_rising}

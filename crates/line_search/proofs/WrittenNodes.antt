@@ -1,6 +1,6 @@
 -- The nodes of a listing can be written.
-use Rattle.std.proofs.Common.{◌≡◌, ℕ, zero, suc, ◌+◌, ◌*◌, ◌≤◌, ◌<◌, ◌==◌, true, false, cond, nat_lt}
-use Rattle.std.proofs.Common.{List, [], ◌∷◌, ◌++◌, fold, length, map, Option, Some, None, IfSome, All}
+use Rattle.std.proofs.Common.{◌≡◌, ℕ, zero, suc, ◌+◌, ◌≤◌, ◌<◌, ◌==◌, true, false, cond, nat_lt}
+use Rattle.std.proofs.Common.{List, [], ◌∷◌, ◌++◌, fold, length, Option, None, IfSome, All}
 use Rattle.std.proofs.Common.{Bool, arith, refl, sym, subst, ◌∙◌}
 use Rattle.std.specs.List.{AllByRecursion, enumerate_from}
 use Rattle.std.proofs.lemmas.Bool.{eqb-false}
@@ -13,12 +13,11 @@ use Rattle.line_cost_model.specs.declared.range.LineRange.{LineRange}
 use Rattle.line_cost_model.specs.DualBounds.{least_left, multipliers_of, next_multiplier}
 use Rattle.line_cost_model.specs.DualBounds.{shortfall, unless_zero, with_next}
 use Rattle.line_cost_model.specs.Multipliers.{AreMultipliers, IsAfter, IsAmount}
-use Rattle.line_cost_model.specs.Problems.{CostedLine, IsCostedLine, IsProblem, ProblemParts}
+use Rattle.line_cost_model.specs.Problems.{CostedLine, IsProblem, ProblemParts}
 use Rattle.line_cost_model.specs.Regions.{IsRange, most_of, part_from, part_up_to, range_of, root_of}
 use Rattle.line_cost_model.proofs.Pushed.{multipliers_push}
 use Rattle.line_cost_model.proofs.Roots.{one_by_one, root_sound}
 use Rattle.line_cost_model.proofs.Within.{few_left}
-use Rattle.branch_certificate.specs.declared.node.Node.{Node}
 use Rattle.branch_certificate.specs.declared.node.Node.TheVariants as node
 use Rattle.branch_certificate.specs.TreeTexts.{CanBeWritten, NamesWhatIs}
 use Rattle.line_search.specs.Budgets.{nodes_in}
