@@ -2,8 +2,8 @@
 use Rattle.std.proofs.Common.{◌≡◌, ℕ, zero, suc, ℤ, pos, ◌≤◌, Bool, true, false, cond, List, [], ◌∷◌, length, map}
 use Rattle.std.proofs.Common.{All, Option, Some, None, IfSome, Result, Ok, Err, refl, ap, sym, subst}
 use Rattle.std.proofs.Common.{◌∙◌, arith, find, get_or, option_map, take, unsigned_abs, unwrap_or}
-use Rattle.std.proofs.Common.{nat_le, slice_get}
-use Rattle.std.specs.Prelude.{ok_or, ⊤}
+use Rattle.std.proofs.Common.{nat_le}
+use Rattle.std.specs.Prelude.{IfOk, ok_or, ⊤}
 use Rattle.std.specs.List.{AllZip, flat_map}
 use Rattle.std.specs.Ordering.{int_eq}
 use Rattle.std.specs.Cmp.Rules.{signed_items}
@@ -11,10 +11,12 @@ use lib.Pointwise.{pointwise, pointwise_decides}
 use Rattle.giv_files.specs.declared.made.Made.{Made}
 use Rattle.giv_files.specs.declared.refusal.Refusal.{Refusal}
 use Rattle.giv_files.specs.declared.refusal.Refusal.TheVariants as refusal
+use Rattle.giv_files.specs.declared.refusal.StageFault.{StageFault}
 use Rattle.giv_files.specs.declared.stage.Stage.TheVariants as stage
 use Rattle.giv_files.specs.Columns.{concept_columns, tree_columns}
 use Rattle.giv_files.specs.Reading.{table_of}
 use Rattle.giv_files.specs.Settings.{BundleParts, Fits}
+use Rattle.giv_files.specs.StageCalls.{StageGives}
 use Rattle.giv_files.specs.Tables.{TableRow}
 use Rattle.giv_files.specs.Writing.{ReadsBack}
 use Rattle.giv_files.proofs.Headers.{plain_header}
@@ -28,29 +30,27 @@ use Rattle.line_cost_model.proofs.Feasible.{test_means}
 use Rattle.line_cost_model.proofs.Roots.{root_has_each, root_sound}
 use Rattle.branch_certificate.specs.declared.node.Node.{Node}
 use Rattle.branch_certificate.specs.Certified.{Certifies}
-use Rattle.branch_certificate.specs.TreeFaults.{tree_faults}
-use Rattle.branch_certificate.specs.TreeFiles.{tree_of}
 use Rattle.branch_certificate.specs.TreeTexts.{ReadsBackAs, node_rows, tree_header, tree_text}
 use Rattle.branch_certificate.proofs.Certifying.{no_fault_certifies}
 use Rattle.branch_certificate.proofs.Sound.{certified_costs}
 use Rattle.branch_certificate.proofs.WriteInside.{rows_inside, columns_written as tree_written}
 use Rattle.branch_certificate.proofs.WriteTrees.{nodes_back}
-use Rattle.line_search.specs.Budgets.{FoundConcept, nodes_in, result_within, spent_result, whole_result}
+use Rattle.line_search.specs.Budgets.{nodes_in, result_within, spent_result, whole_result}
 use Rattle.line_search.specs.ConceptStage.{after_faults, budget_of, concept_made, concept_stage}
 use Rattle.line_search.specs.ConceptStage.{search_made}
 use Rattle.line_search.specs.ConceptTables.{concept_header, concept_rows, concept_text}
 use Rattle.line_search.specs.ConceptTables.{frequencies_in, frequency_in, frequency_of_row}
 use Rattle.line_search.specs.GivenProblems.{problem_faults, problem_of}
-use Rattle.line_search.specs.Judged.{Marks, first_broken, has_some, rule_of, same_cells, tree_rule}
-use Rattle.line_search.specs.Listings.{Entry, best_after, listing}
-use Rattle.line_search.specs.RightConcepts.{ConceptFilesAreRight, IsMarked, mark_files}
+use Rattle.line_search.specs.Judged.{Marks, first_broken, has_some, same_cells, tree_rule}
+use Rattle.line_search.specs.Listings.{best_after, listing}
+use Rattle.line_search.specs.RightConcepts.{ConceptFilesAreRight}
 use Rattle.line_search.specs.Searches.{AreWritten}
 use Rattle.line_search.proofs.ChosenFound.{best_feasible, found_is_chosen, listing_finds}
 use Rattle.line_search.proofs.ChosenFound.{nodes_certify, some_find}
 use Rattle.line_search.proofs.ConceptAccepted.{concept_accepted}
 use Rattle.line_search.proofs.ConceptWritten.{columns_written, concept_inside}
 use Rattle.line_search.proofs.FrequenciesBack.{frequencies_back}
-use Rattle.line_search.proofs.Judging.{by_tree, read_rows}
+use Rattle.line_search.proofs.Judging.{by_tree}
 use Rattle.line_search.proofs.SoundProblems.{problem_sound}
 use Rattle.line_search.proofs.WrittenNodes.{listing_written}
 
@@ -175,7 +175,7 @@ module _ (bundle : BundleParts) (none : problem_faults bundle ≡ []) where
     marked = tt;
     passes = passes_by problem sound frequencies feasible None refl;
     accepted = concept_accepted bundle none frequencies (concept_text problem frequencies)
-        feasible.each (reads problem sound frequencies feasible);
+        (reads problem sound frequencies feasible);
   }
   made_right frequencies (Some nodes) entries feasible marked = record {
     inputs = none;
@@ -192,7 +192,7 @@ module _ (bundle : BundleParts) (none : problem_faults bundle ≡ []) where
     passes = passes_by problem sound frequencies feasible (Some (tree_text problem nodes))
         (tree_kept problem sound frequencies feasible nodes marked.1 marked.2);
     accepted = concept_accepted bundle none frequencies (concept_text problem frequencies)
-        feasible.each (reads problem sound frequencies feasible);
+        (reads problem sound frequencies feasible);
   }
 
   abbrev IsRight : Made → Type 0
@@ -254,3 +254,10 @@ unfolding concept_stage
 concept_is_right bundle made same fits is =
     let parts = after (problem_faults bundle) _ made is in
     result_right bundle parts.0 (budget_of bundle) made parts.1
+
+-- what a call gives that meets the stage
+pub files_given : (bundle : BundleParts) (result : Result Made StageFault)
+    → bundle.stage ≡ stage.Concept → Fits bundle → StageGives (concept_stage bundle) result
+    → IfOk result (λ made. ConceptFilesAreRight bundle made.files)
+files_given bundle (Ok made) own fits given = concept_is_right bundle made own fits given
+files_given bundle (Err fault) own fits given = tt

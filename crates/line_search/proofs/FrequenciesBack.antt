@@ -1,7 +1,7 @@
 -- The rows of a concept give back its frequencies.
 use Rattle.std.proofs.Common.{◌≡◌, ℕ, suc, ℤ, pos, ◌+◌, ◌<◌, Bool, true, false, ◌∙◌, List, [], ◌∷◌, ◌++◌}
-use Rattle.std.proofs.Common.{cond, length, map, find, zip, Option, Some, None, All, refl, ap, sym, arith}
-use Rattle.std.proofs.Common.{append_assoc, unsigned_abs, get_or, option_map, unwrap_or}
+use Rattle.std.proofs.Common.{cond, length, map, find, zip, Some, None, All, refl, ap, sym, arith}
+use Rattle.std.proofs.Common.{append_assoc, get_or, option_map, unwrap_or}
 use Rattle.std.specs.List.{AllByRecursion, enumerate_from, flat_map}
 use Rattle.std.specs.List.Sorted.{IsStrictlySortedBy}
 use Rattle.std.specs.Option.{option_or}

@@ -1,4 +1,5 @@
 mod ConceptAccepted
+mod ConceptLineRows
 mod ConceptRows
 mod ConceptWritten
 mod DearestLines

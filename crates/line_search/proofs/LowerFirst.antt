@@ -1,19 +1,18 @@
 -- No concept of the upper part of a split at the first open line comes before one of the lower part.
-use Rattle.std.proofs.Common.{◌≡◌, ◌≢◌, ℕ, zero, suc, ℤ, pos, ◌+◌, ◌-◌, ◌<◌, ◌≤◌, ◌<ℤ◌, Bool, true, false, cond, not, nat_lt, List, [], ◌∷◌, length, map, filter, find, get_or, slice_get, zip, Option, Some, None, IfSome, option_map, ◌⊎◌, inl, inr, ⊎_elim, refl, ap, sym, subst, ◌∙◌, arith}
+use Rattle.std.proofs.Common.{◌≡◌, ◌≢◌, ℕ, zero, suc, pos, ◌+◌, ◌-◌, ◌<◌, ◌≤◌, ◌<ℤ◌, Bool, true, false, cond, not, nat_lt, List, [], ◌∷◌, length, map, filter, find, get_or, slice_get, zip, Option, Some, None, IfSome, option_map, ◌⊎◌, inl, inr, refl, ap, sym, subst, ◌∙◌, arith}
 use Rattle.std.specs.List.{enumerate_from, list_all}
-use Rattle.std.specs.List.Sorted.{IsStrictlySortedBy}
 use Rattle.std.specs.Ordering.{int_cmp}
 use Rattle.std.proofs.lemmas.Bool.{ltb-true, ltb-false, lt-ltb}
 use Rattle.std.proofs.lemmas.List.{get_or-map, length-map}
 use Rattle.std.proofs.lemmas.Map.Keys.{Less-from_sorted}
 use Rattle.std.proofs.lemmas.Option.{get_or_from_slice_get, slice_get_within, none-some}
 use Rattle.line_cost_model.specs.declared.range.LineRange.{LineRange}
-use Rattle.line_cost_model.specs.Chosen.{ComesBefore, frequency_at, stands_before}
+use Rattle.line_cost_model.specs.Chosen.{ComesBefore, stands_before}
 use Rattle.line_cost_model.specs.Problems.{CostedLine, IsProblem, ProblemParts}
-use Rattle.line_cost_model.specs.Regions.{LiesIn, has_several, part_from, part_up_to, range_of}
-use Rattle.line_search.specs.Listings.{first_among, first_open, open_at}
-use Rattle.line_search.proofs.Lengths.{IsOpenAt, first_open_is, open_from}
-use Rattle.line_search.proofs.LineOrder.{IsOneOf, all_have, before, found_passes, stands_behind}
+use Rattle.line_cost_model.specs.Regions.{LiesIn, has_several, part_from, part_up_to}
+use Rattle.line_search.specs.Listings.{first_open, open_at}
+use Rattle.line_search.proofs.Lengths.{IsOpenAt, open_from}
+use Rattle.line_search.proofs.LineOrder.{IsOneOf, all_have, found_passes, stands_behind}
 use Rattle.line_search.proofs.Lists.{less_is}
 
 -- ---- frequencies in the parts of a split

@@ -8,7 +8,7 @@ use Rattle.line_cost_model.specs.declared.edge.BoundedEdge.{BoundedEdge}
 use Rattle.line_cost_model.specs.declared.range.LineRange.{LineRange}
 use Rattle.line_cost_model.specs.declared.side.Side.{Side}
 use Rattle.line_cost_model.specs.declared.side.Side.TheVariants as side
-use Rattle.line_cost_model.specs.Concepts.{IsFeasible, KeepsBounds, cost_of, frequency_on}
+use Rattle.line_cost_model.specs.Concepts.{IsFeasible, cost_of, frequency_on}
 use Rattle.line_cost_model.specs.DualBounds.{dual_bound, multipliers_of}
 use Rattle.line_cost_model.specs.Problems.{CostedLine, ProblemParts}
 use Rattle.line_cost_model.specs.Regions.{IsEmptyAt, empty_edge, empty_edges, empty_side, greatest_in, has_several, least_in, range_of}

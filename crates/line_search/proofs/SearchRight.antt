@@ -1,5 +1,5 @@
 -- What a search finds is right.
-use Rattle.std.proofs.Common.{◌≡◌, ℕ, pos, List, [], Option, Some, None, IfSome, refl, take}
+use Rattle.std.proofs.Common.{◌≡◌, pos, [], Option, Some, None, IfSome, refl, take}
 use Rattle.giv_files.specs.Settings.{BundleParts}
 use Rattle.line_cost_model.specs.Chosen.{IsChosen}
 use Rattle.line_cost_model.specs.Concepts.{cost_of}

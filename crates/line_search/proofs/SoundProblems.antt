@@ -1,5 +1,5 @@
 -- The line problem of inputs without a fault is one.
-use Rattle.std.proofs.Common.{◌≡◌, ℕ, zero, suc, ℤ, ◌<◌, ◌≤◌, List, [], ◌∷◌, ◌++◌, length, map, zip, refl, ap, sym, subst, ◌∙◌, arith}
+use Rattle.std.proofs.Common.{◌≡◌, ℕ, ℤ, List, [], ◌∷◌, ◌++◌, length, map, zip, sym, subst}
 use Rattle.std.specs.List.{All}
 use Rattle.std.specs.List.Sorted.{IsStrictlySortedBy}
 use Rattle.std.specs.Ordering.{int_cmp}
@@ -21,7 +21,7 @@ use Rattle.line_pool.specs.PoolCosts.{pool_cost_input}
 use Rattle.line_pool.specs.Pools.{IsLine, LineParts, pool_faults, pool_of}
 use Rattle.line_pool.proofs.SoundCosts.{costs_count, costs_sound}
 use Rattle.line_pool.proofs.WholeLines.{whole_lines}
-use Rattle.line_cost_model.specs.Problems.{CostedLine, IsBoundedEdge, IsCostedLine, IsId, IsProblem}
+use Rattle.line_cost_model.specs.Problems.{IsBoundedEdge, IsCostedLine, IsId, IsProblem}
 use Rattle.line_search.specs.GivenProblems.{bounded_by, costed_by, problem_faults, problem_of}
 use Rattle.line_search.proofs.EdgesOfTexts.{edge_ids}
 use Rattle.line_search.proofs.PushedEdges.{bounded_ids, bounded_length, is_bounded}

@@ -2,7 +2,7 @@
 use Rattle.std.proofs.Common.{◌≡◌, ℕ, ◌+◌, ◌≤◌, ◌∙◌, Bool, true, false, cond, nat_le, List, [], ◌∷◌}
 use Rattle.std.proofs.Common.{length, take, min, slice_get, refl, arith, ap, sym, subst, Option}
 use Rattle.std.proofs.Common.{Some, None, option_map, Result, Ok, Err}
-use Rattle.std.specs.Prelude.{IfSome, OnOk, ok_or}
+use Rattle.std.specs.Prelude.{ok_or}
 use Rattle.std.proofs.lemmas.Bool.{le-leb, leb-true, leb-false}
 use Rattle.std.proofs.lemmas.List.{take_all, length-take-le}
 use Rattle.std.proofs.lemmas.Option.{same_Some}
@@ -15,7 +15,7 @@ use Rattle.giv_files.specs.declared.refusal.StageFault.TheVariants as stage
 use Rattle.giv_files.specs.Inputs.{Refuses}
 use Rattle.giv_files.specs.Settings.{BundleParts}
 use Rattle.giv_files.specs.StageCalls.{StageGives, TakesSteps}
-use Rattle.line_cost_model.specs.Problems.{IsProblem, ProblemParts}
+use Rattle.line_cost_model.specs.Problems.{ProblemParts}
 use Rattle.branch_certificate.specs.declared.node.Node.{Node}
 use Rattle.line_search.specs.declared.best.BestConcept.{BestConcept}
 use Rattle.line_search.specs.declared.search.Searched.{Searched}
@@ -26,7 +26,6 @@ use Rattle.line_search.specs.ConceptStage.{search_made, work_after}
 use Rattle.line_search.specs.GivenProblems.{problem_faults, problem_of}
 use Rattle.line_search.specs.Listings.{Entry, best_after, listing}
 use Rattle.line_search.specs.RightConcepts.{IsEnough, IsWhole}
-use Rattle.line_search.specs.Searches.{AreWritten, IsKnown}
 use Rattle.line_search.specs.Searches.{IsResult, concept_in, result_by, result_of, why_none}
 use Rattle.line_search.proofs.InputRefusals.{input_refused}
 use Rattle.line_search.proofs.Lengths.{listing_bound}
@@ -205,26 +204,3 @@ unfolding concept_stage
 whole_given bundle result gives enough =
     whole_after bundle (problem_faults bundle) _ result refl
     (whole_found (problem_of bundle) (budget_of bundle) result enough) gives
-
--- ---- what the search tells of its problem
-
-known_by : (problem : ProblemParts) (budget : ℕ) (found : Searched) → IsProblem problem
-    → IsResult problem budget found → IsKnown problem budget
-known_by problem budget found sound is = record {
-  sound = sound;
-  written = λ few. subst (λ tree. IfSome tree (AreWritten problem))
-      (is.tree_is ∙ ap (λ b. cond b (Some (nodes_in (listing problem))) None) few) is.written;
-}
-
-where_ok : (result : Result Made StageFault) (Told : Type 0) → Told → OnOk result Told
-where_ok (Ok made) Told told = told
-where_ok (Err fault) Told told = tt
-
-pub known_given : (bundle : BundleParts) (problem : ProblemParts) (budget : ℕ) (found : Searched)
-    (result : Result Made StageFault) → problem ≡ problem_of bundle → budget ≡ budget_of bundle
-    → IsProblem problem → IsResult problem budget found
-    → OnOk result (IsKnown (problem_of bundle) (budget_of bundle))
-known_given bundle problem budget found result problem_is budget_is sound is =
-    where_ok result (IsKnown (problem_of bundle) (budget_of bundle))
-    (subst (λ problem. IsKnown problem (budget_of bundle)) problem_is
-    (subst (IsKnown problem) budget_is (known_by problem budget found sound is)))

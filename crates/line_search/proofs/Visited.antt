@@ -1,27 +1,18 @@
 -- What holds of the entries of a region: their nodes are a tree that certifies each cost which the best
 -- concept behind them has at least, and no feasible concept of the region is better than that one.
-use Rattle.std.proofs.Common.{◌≡◌, ℕ, zero, suc, ℤ, pos, ◌+◌, ◌-◌, ◌<◌, ◌≤◌, ◌≤ℤ◌, Bool, true, false, List, [], ◌∷◌, ◌++◌, length, map, filter_map, Option, Some, None, IfSome, ◌⊎◌, inl, inr, ⊎_elim, refl, ap, sym, subst, ◌∙◌, arith}
-use Rattle.std.specs.List.{All, last_or}
+use Rattle.std.proofs.Common.{◌≡◌, ℕ, zero, suc, ℤ, pos, ◌+◌, ◌<◌, ◌≤◌, ◌≤ℤ◌, List, [], ◌∷◌, ◌++◌, Option, Some, None, IfSome, ◌⊎◌, inl, inr, ⊎_elim, refl, ap, sym, subst, ◌∙◌, arith}
 use Rattle.std.proofs.lemmas.Int.{ints}
-use Rattle.std.proofs.lemmas.List.{map-append}
 use Rattle.line_cost_model.specs.declared.range.LineRange.{LineRange}
-use Rattle.line_cost_model.specs.declared.side.Side.{Side}
 use Rattle.line_cost_model.specs.Chosen.{ComesBefore}
 use Rattle.line_cost_model.specs.Concepts.{IsFeasible, cost_of}
-use Rattle.line_cost_model.specs.DualBounds.{are_within, bound_by, dual_bound, multipliers_of}
-use Rattle.line_cost_model.specs.Problems.{IsProblem, ProblemParts}
+use Rattle.line_cost_model.specs.Problems.{ProblemParts}
 use Rattle.line_cost_model.specs.Regions.{LiesIn, least_in, part_from, part_up_to, range_of}
-use Rattle.line_cost_model.proofs.Duality.{bound_is_least, empty_is_none, one_concept, split_covers}
+use Rattle.line_cost_model.proofs.Duality.{split_covers}
 use Rattle.branch_certificate.specs.declared.node.Node.{Node}
 use Rattle.branch_certificate.specs.declared.node.Node.TheVariants as node
-use Rattle.branch_certificate.specs.Certified.{ShowsEmpty, TreeCertifies}
-use Rattle.branch_certificate.specs.Trees.{NodeTree, fork, leaf, preorder}
-use Rattle.line_search.specs.Budgets.{nodes_in}
-use Rattle.line_search.specs.Listings.{Entry, best_after, entries_by, entries_within, entry, levels_of, middle}
-use Rattle.line_search.proofs.Lengths.{AreOrdered, IsOpenAt, first_open_is, lower_ordered, middle_inside, upper_ordered}
-use Rattle.line_search.proofs.Levels.{fewer_above, fewer_below}
-use Rattle.line_search.proofs.LowerFirst.{first_open_first, lower_first}
-use Rattle.line_search.proofs.Said.{IsOneConcept, said}
+use Rattle.branch_certificate.specs.Certified.{TreeCertifies}
+use Rattle.branch_certificate.specs.Trees.{NodeTree, fork, preorder}
+use Rattle.line_search.proofs.Lengths.{AreOrdered}
 
 -- a concept is no better than the best one: that one costs no more, and of equal cost it comes not before
 pub record IsNoBetter (problem : ProblemParts) (best : Option (List ℕ)) (concept : List ℕ) : Type 0 where

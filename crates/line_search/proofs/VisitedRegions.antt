@@ -1,6 +1,6 @@
 -- What holds of the entries of each region holds of the listing: its nodes certify what the best concept
 -- costs, and that is the chosen one.
-use Rattle.std.proofs.Common.{◌≡◌, ℕ, zero, suc, ℤ, pos, ◌+◌, ◌*◌, ◌<◌, ◌≤◌, ◌≤ℤ◌, Bool, true, false, cond, ◌==◌, nat_lt, List, [], ◌∷◌, ◌++◌, fold, length, map, filter_map, sum_by, Option, Some, None, IfSome, inl, inr, ⊎_elim, nat_le, slice_set, refl, ap, sym, subst, ◌∙◌, arith, append-nil}
+use Rattle.std.proofs.Common.{◌≡◌, ℕ, zero, suc, ℤ, pos, ◌+◌, ◌<◌, ◌≤◌, ◌≤ℤ◌, Bool, true, false, cond, ◌==◌, nat_lt, List, [], ◌∷◌, ◌++◌, fold, length, filter_map, Option, Some, None, IfSome, inl, inr, ⊎_elim, nat_le, slice_set, refl, ap, sym, subst, ◌∙◌, arith, append-nil}
 use Rattle.std.specs.List.{All, AllByRecursion, cons_option, enumerate_from, last_or}
 use Rattle.std.proofs.lemmas.Int.{ints}
 use Rattle.std.proofs.lemmas.Bool.{leb-true}
@@ -14,10 +14,9 @@ use Rattle.line_cost_model.specs.Chosen.{ComesBefore}
 use Rattle.line_cost_model.specs.Concepts.{IsFeasible, cost_of}
 use Rattle.line_cost_model.specs.DualBounds.{are_within, bound_by, dual_bound, least_left, multipliers_of, open_lines, shortfall, taken_off, unless_zero, with_next}
 use Rattle.line_cost_model.specs.Problems.{IsProblem, ProblemParts}
-use Rattle.line_cost_model.specs.Regions.{LiesIn, least_in, part_from, part_up_to, range_of}
+use Rattle.line_cost_model.specs.Regions.{least_in, part_from, part_up_to, range_of}
 use Rattle.line_cost_model.proofs.Duality.{bound_is_least, empty_is_none, one_concept}
 use Rattle.line_cost_model.proofs.Within.{within_more, within_none}
-use Rattle.branch_certificate.specs.declared.node.Node.{Node}
 use Rattle.branch_certificate.specs.declared.node.Node.TheVariants as node
 use Rattle.branch_certificate.specs.Certified.{ShowsEmpty, TreeCertifies}
 use Rattle.branch_certificate.specs.Trees.{leaf, preorder}

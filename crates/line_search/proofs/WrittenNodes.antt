@@ -1,6 +1,6 @@
 -- The nodes of a listing can be written.
-use Rattle.std.proofs.Common.{◌≡◌, ℕ, zero, suc, ◌+◌, ◌*◌, ◌≤◌, ◌<◌, ◌==◌, true, false, cond, nat_lt}
-use Rattle.std.proofs.Common.{List, [], ◌∷◌, ◌++◌, fold, length, map, Option, Some, None, IfSome, All}
+use Rattle.std.proofs.Common.{◌≡◌, ℕ, zero, suc, ◌+◌, ◌≤◌, ◌<◌, ◌==◌, true, false, cond, nat_lt}
+use Rattle.std.proofs.Common.{List, [], ◌∷◌, ◌++◌, fold, length, Option, None, IfSome, All}
 use Rattle.std.proofs.Common.{Bool, arith, refl, sym, subst, ◌∙◌}
 use Rattle.std.specs.List.{AllByRecursion, enumerate_from}
 use Rattle.std.proofs.lemmas.Bool.{eqb-false}
@@ -13,12 +13,11 @@ use Rattle.line_cost_model.specs.declared.range.LineRange.{LineRange}
 use Rattle.line_cost_model.specs.DualBounds.{least_left, multipliers_of, next_multiplier}
 use Rattle.line_cost_model.specs.DualBounds.{shortfall, unless_zero, with_next}
 use Rattle.line_cost_model.specs.Multipliers.{AreMultipliers, IsAfter, IsAmount}
-use Rattle.line_cost_model.specs.Problems.{CostedLine, IsCostedLine, IsProblem, ProblemParts}
+use Rattle.line_cost_model.specs.Problems.{CostedLine, IsProblem, ProblemParts}
 use Rattle.line_cost_model.specs.Regions.{IsRange, most_of, part_from, part_up_to, range_of, root_of}
 use Rattle.line_cost_model.proofs.Pushed.{multipliers_push}
 use Rattle.line_cost_model.proofs.Roots.{one_by_one, root_sound}
 use Rattle.line_cost_model.proofs.Within.{few_left}
-use Rattle.branch_certificate.specs.declared.node.Node.{Node}
 use Rattle.branch_certificate.specs.declared.node.Node.TheVariants as node
 use Rattle.branch_certificate.specs.TreeTexts.{CanBeWritten, NamesWhatIs}
 use Rattle.line_search.specs.Budgets.{nodes_in}
@@ -33,44 +32,44 @@ use Rattle.line_search.proofs.Said.{said}
 
 module _ (problem : ProblemParts) (region : List LineRange)
     (few : (before : List Multiplier) (edge : ℕ) → least_left problem region before edge ≤ 1000000000000000000)
-    where
-  -- those of the edges before one
-  abbrev AreBefore : ℕ → List Multiplier → Type 0
-  AreBefore n multipliers = AreMultipliers multipliers × IsAfter multipliers n
+  where
+    -- those of the edges before one
+    abbrev AreBefore : ℕ → List Multiplier → Type 0
+    AreBefore n multipliers = AreMultipliers multipliers × IsAfter multipliers n
 
-  one_more : (n amount : ℕ) (before : List Multiplier) → amount ≤ 1000000000000000000
-      → AreBefore n before → AreBefore (n + 1) (before ++ unless_zero n amount)
-  one_more n amount before little own = by (amount == 0) refl
-    where
-      one : Multiplier
-      one = record { edge = n; amount = amount }
+    one_more : (n amount : ℕ) (before : List Multiplier) → amount ≤ 1000000000000000000
+        → AreBefore n before → AreBefore (n + 1) (before ++ unless_zero n amount)
+    one_more n amount before little own = by (amount == 0) refl
+      where
+        one : Multiplier
+        one = record { edge = n; amount = amount }
 
-      by : (b : Bool) → (amount == 0) ≡ b
-          → AreBefore (n + 1) (before ++ cond b [] (record { edge = n; amount = amount } ∷ []))
-      by true is =
-          subst (AreBefore (n + 1)) (sym (append-nil before)) (own.0, λ k d h. omega (arith, own.1 k d h))
-      by false is = (
-        multipliers_push before n amount own.0
-            (record { some = omega (arith, eqb-false amount 0 is); few = little }) own.1,
-        All-append (λ (one : Multiplier). one.edge < n + 1) before (one ∷ [])
-            (λ k d h. omega (arith, own.1 k d h))
-            (All-cons (λ (one : Multiplier). one.edge < n + 1) one [] (omega arith)
-            (All-nil (λ (one : Multiplier). one.edge < n + 1))),
-      )
+        by : (b : Bool) → (amount == 0) ≡ b
+            → AreBefore (n + 1) (before ++ cond b [] (record { edge = n; amount = amount } ∷ []))
+        by true is =
+            subst (AreBefore (n + 1)) (sym (append-nil before)) (own.0, λ k d h. omega (arith, own.1 k d h))
+        by false is = (
+          multipliers_push before n amount own.0
+              (record { some = omega (arith, eqb-false amount 0 is); few = little }) own.1,
+          All-append (λ (one : Multiplier). one.edge < n + 1) before (one ∷ [])
+              (λ k d h. omega (arith, own.1 k d h))
+              (All-cons (λ (one : Multiplier). one.edge < n + 1) one [] (omega arith)
+              (All-nil (λ (one : Multiplier). one.edge < n + 1))),
+        )
 
-  next_few : (before : List Multiplier) (at : ℕ × BoundedEdge)
-      → next_multiplier problem region before at ≤ 1000000000000000000
-  next_few before at = elim (nat_lt 0 (shortfall problem.lines region at.0 at.1)) as
-      (λ b. cond b (least_left problem region before at.0) 0 ≤ 1000000000000000000)
-      [ true ↦ few before at.0 | false ↦ omega arith ]
+    next_few : (before : List Multiplier) (at : ℕ × BoundedEdge)
+        → next_multiplier problem region before at ≤ 1000000000000000000
+    next_few before at = elim (nat_lt 0 (shortfall problem.lines region at.0 at.1)) as
+        (λ b. cond b (least_left problem region before at.0) 0 ≤ 1000000000000000000)
+        [ true ↦ few before at.0 | false ↦ omega arith ]
 
-  all_multipliers : (n : ℕ) (edges : List BoundedEdge) (before : List Multiplier) → AreBefore n before
-      → AreMultipliers (fold (with_next problem region) before (enumerate_from n edges))
-  all_multipliers n [] before own = own.0
-  all_multipliers n (edge ∷ edges) before own =
-      all_multipliers (n + 1) edges (with_next problem region before (n, edge))
-      (one_more n (next_multiplier problem region before (n, edge)) before
-      (next_few before (n, edge)) own)
+    all_multipliers : (n : ℕ) (edges : List BoundedEdge) (before : List Multiplier) → AreBefore n before
+        → AreMultipliers (fold (with_next problem region) before (enumerate_from n edges))
+    all_multipliers n [] before own = own.0
+    all_multipliers n (edge ∷ edges) before own =
+        all_multipliers (n + 1) edges (with_next problem region before (n, edge))
+        (one_more n (next_multiplier problem region before (n, edge)) before
+        (next_few before (n, edge)) own)
 
 no_multipliers : AreMultipliers []
 no_multipliers = record {

@@ -7,7 +7,7 @@ use Rattle.giv_files.specs.declared.refusal.Refusal.{Refusal}
 use Rattle.giv_files.specs.declared.refusal.Refusal.TheVariants as refusal
 use Rattle.std.specs.List.{AllByRecursion}
 use Rattle.line_cost_model.specs.declared.range.LineRange.{LineRange}
-use Rattle.line_cost_model.specs.Problems.{IsProblem, ProblemParts}
+use Rattle.line_cost_model.specs.Problems.{ProblemParts}
 use Rattle.line_cost_model.specs.Concepts.{cost_of}
 use Rattle.line_cost_model.specs.Regions.{least_in}
 use Rattle.branch_certificate.specs.declared.node.Node.{Node}
@@ -129,10 +129,3 @@ result_by (Some best) tree entries = Ok (concept_of best tree entries)
 -- the concept that a search found, or why it found none
 abbrev pub result_of : Searched → Result FoundConcept Refusal
 result_of found = result_by found.best found.tree found.entries
-
--- what a search tells of its problem: it is one, and where the listing is within the budget its nodes can be
--- written
-pub record IsKnown (problem : ProblemParts) (budget : ℕ) : Type 0 where
-  pub sound : IsProblem problem
-  pub written : nat_le (length (listing problem)) budget ≡ true
-      → AreWritten problem (nodes_in (listing problem))

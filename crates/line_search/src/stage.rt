@@ -1,12 +1,12 @@
 // The stage that searches a line concept of least cost.
-ghost use Rattle.std.specs.Prelude.{◌≡◌, [], OnOk};
+ghost use Rattle.std.specs.Prelude.{◌≡◌, [], IfOk};
 ghost use Rattle.giv_files.specs.declared.stage.Stage.TheVariants as stages;
 ghost use Rattle.giv_files.specs.Settings.{Fits};
 ghost use Rattle.giv_files.specs.StageCalls.{StageGives, TakesSteps};
 ghost use Rattle.line_search.specs.ConceptStage.{budget_of, concept_stage, concept_work};
 ghost use Rattle.line_search.specs.GivenProblems.{problem_faults, problem_of};
-ghost use Rattle.line_search.specs.Searches.{IsKnown};
-ghost use Rattle.line_search.specs.RightConcepts.{IsEnough, IsWhole, SearchIsRight};
+ghost use Rattle.line_search.specs.RightConcepts.{ConceptFilesAreRight, IsEnough, IsWhole};
+ghost use Rattle.line_search.specs.RightConcepts.{SearchIsRight};
 
 use crate::found::search_made;
 use crate::given::read_problem;
@@ -27,6 +27,7 @@ pub fn make_concept<L: Ledger>(
     requires fits { Fits bundle.now }
     ensures made { StageGives (concept_stage bundle.now) result }
     ensures right { problem_faults bundle.now ≡ [] → SearchIsRight (problem_of bundle.now) }
+    ensures files { IfOk result (λ made. ConceptFilesAreRight bundle.now made.files) }
     ensures whole { IsEnough (problem_of bundle.now) (budget_of bundle.now) → IsWhole result }
     ensures steps { TakesSteps (concept_work bundle.now) steps.old steps.new result }
 {
@@ -42,14 +43,10 @@ fn searched_concept<L: Ledger>(
     requires stage { bundle.now.stage ≡ stages.Concept }
     requires fits { Fits bundle.now }
     ensures made { StageGives (concept_stage bundle.now) result }
-    ensures whole { IsEnough (problem_of bundle.now) (budget_of bundle.now) → IsWhole result }
     ensures steps { TakesSteps (concept_work bundle.now) steps.old steps.new result }
-    ensures known { OnOk result (IsKnown (problem_of bundle.now) (budget_of bundle.now)) }
 {
     steps.tick();
     let problem = read_problem(alloc, bundle)?;
-    // A count tells what always holds of a problem.
-    let _ = problem.line_count();
     let budget = bundle.settings().amount(Key::ConceptBudget);
     let found = search_concept(alloc, &problem, budget, steps)?;
     search_made(alloc, &problem, found)

@@ -1,10 +1,10 @@
-use Rattle.std.proofs.Common.{◌≡◌, ◌∙◌, ap, arith, Err}
+use Rattle.std.proofs.Common.{◌≡◌, ◌∙◌, ap, arith}
 use Rattle.std.proofs.lemmas.Result.{err_from_is_err_and}
 use Rattle.giv_files.specs.declared.key.Key.TheVariants as key
 use Rattle.giv_files.specs.Settings.{amount}
 use Rattle.line_search.specs.ConceptStage.{budget_of}
-use Rattle.line_search.proofs.StageResults.{known_given, stage_found, stage_refused, steps_listed, steps_refused}
-use Rattle.line_search.proofs.StageResults.{steps_stopped, whole_given}
+use Rattle.line_search.proofs.StageResults.{stage_found, stage_refused, steps_listed, steps_refused}
+use Rattle.line_search.proofs.StageResults.{steps_stopped}
 use Rattle.line_search.proofs.stage.searched_concept.Goals as goal
 
 pub returns-in_err-problem-clause-made : goal.returns-in_err-problem-clause-made
@@ -46,22 +46,3 @@ returns-clause-steps g c =
     steps_listed c.args.bundle.now c.args.steps.now c.search_concept.new.steps c.in_ok-problem.problem
     c.amount-budget.result read.0 read.1 budget_is c.search_made.result
     (omega (arith, c.tick.ensures, c.in_ok-found.ensures.steps))
-
-pub returns-in_err-problem-clause-whole : goal.returns-in_err-problem-clause-whole
-returns-in_err-problem-clause-whole g c =
-    let p = err_from_is_err_and c.from_residual.result c.from_residual.ensures.1 in
-    rw (p.1, p.2) (whole_given c.args.bundle.now (Err c.in_err-problem.field-0.0)
-    (stage_refused c.args.bundle.now c.in_err-problem.field-0.0 c.in_err-problem.ensures))
-
-pub returns-clause-whole : goal.returns-clause-whole
-returns-clause-whole g c =
-    whole_given c.args.bundle.now c.search_made.result (returns-clause-made g c)
-
-pub returns-clause-known : goal.returns-clause-known
-returns-clause-known g c =
-    let budget_is : c.amount-budget.result ≡ budget_of c.args.bundle.now =
-    c.amount-budget.ensures.amount
-    ∙ ap (λ settings. amount settings key.ConceptBudget) c.settings.ensures in
-    known_given c.args.bundle.now c.in_ok-problem.problem c.amount-budget.result c.in_ok-found.found
-    c.search_made.result c.in_ok-problem.ensures.1 budget_is c.line_count.ensures.sound
-    c.in_ok-found.ensures.found
