@@ -1,6 +1,6 @@
 // Whole runs, over files in memory and over a real folder.
 use crate::answers::Status;
-use crate::cases::{COSTS, CONFIG, Case, EDGES, GIVEN, MADE, POOL, STOPS, run, words};
+use crate::cases::{CONFIG, COSTS, Case, EDGES, GIVEN, MADE, POOL, STOPS, run, words};
 use crate::top::lintim;
 use plan_files::{Files, FolderFiles, Got, MemorySink, Sink, StdSink, SteadyFiles};
 use plan_num::{Steps, Tally};
