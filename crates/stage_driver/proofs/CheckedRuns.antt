@@ -1,9 +1,7 @@
 -- The folder that a finished run leaves passes a check.
-use Rattle.std.proofs.Common.{◌≡◌, ℕ, ℤ, suc, Bool, true, false, cond, ◌||◌, List, [], ◌∷◌, ◌++◌, length, Option, Some, None, IfOk, Result, Ok, Err, refl, ap, subst, sym, ◌∙◌, arith}
-use Rattle.std.specs.List.{list_all}
+use Rattle.std.proofs.Common.{◌≡◌, ℕ, ℤ, suc, Bool, true, false, cond, ◌||◌, List, [], ◌∷◌, ◌++◌, length, Option, Some, None, Result, Ok, Err, refl, ap, subst, sym, ◌∙◌, arith}
 use Rattle.std.specs.Option.{ok_or, option_or}
 use Rattle.std.specs.FinMap as map
-use Rattle.std.proofs.lemmas.Bool.{and_parts}
 use Rattle.plan_files.specs.Folder.{Folder}
 use Rattle.giv_files.specs.declared.file_id.FileId.{FileId}
 use Rattle.giv_files.specs.declared.file_id.FileId.TheVariants as file
@@ -33,7 +31,6 @@ use Rattle.stage_driver.specs.Passing.{RunsPass}
 use Rattle.stage_driver.specs.Reports.{end_of, end_of_refusal}
 use Rattle.stage_driver.specs.Right.{AllStandRight, IsRightAs, files_by, found_file, text_in}
 use Rattle.stage_driver.specs.Runs.{after}
-use Rattle.stage_driver.proofs.Differing.{all_filter}
 use Rattle.stage_driver.proofs.Laws.{run_makes}
 use Rattle.stage_driver.proofs.LeftRight.{files_are, left_by, settings_after}
 use Rattle.stage_driver.proofs.MadeLists.{only_one}
