@@ -1,5 +1,6 @@
 mod Added
 mod Along
+mod Crossings
 mod DrivenEvents
 mod EanAccepted
 mod EanCalls
@@ -9,10 +10,12 @@ pub mod EanMakes
 pub mod EanNames
 pub mod EanReads
 mod Given
+mod InTurn
 mod Joined
 mod LineEvents
 mod MadeActivities
 mod Numbered
+mod Picked
 mod ReadAgain
 mod Refused
 mod Served
