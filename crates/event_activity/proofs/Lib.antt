@@ -13,11 +13,14 @@ mod Given
 mod InTurn
 mod Joined
 mod LineEvents
+mod LinesInTurn
 mod MadeActivities
 mod Numbered
+mod OneWay
 mod Picked
 mod ReadAgain
 mod Refused
+mod RunsWhole
 mod Served
 mod StopsOfRuns
 mod Timely
