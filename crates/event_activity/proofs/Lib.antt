@@ -15,9 +15,11 @@ mod Joined
 mod LineEvents
 mod LinesInTurn
 mod MadeActivities
+mod Members
 mod Numbered
 mod OneWay
 mod Picked
+mod PlainEvents
 mod ReadAgain
 mod Refused
 mod RunsWhole

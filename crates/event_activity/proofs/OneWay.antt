@@ -1,5 +1,5 @@
 -- Exactly one activity leads from an event to the next one of its run.
-use Rattle.std.proofs.Common.{◌≡◌, ℕ, ◌+◌, ◌==◌, ◌<◌, arith, Bool, ◌&&◌, true, false, cond, List, [], ◌∷◌, ◌++◌, length, map, filter, get_or, refl, ap, subst, sym, ◌∙◌}
+use Rattle.std.proofs.Common.{◌≡◌, ℕ, suc, ◌+◌, ◌==◌, ◌<◌, arith, Bool, ◌&&◌, true, false, cond, List, [], ◌∷◌, ◌++◌, length, map, filter, get_or, refl, ap, subst, sym, ◌∙◌}
 use Rattle.std.specs.List.{flat_map, range_with_len, enumerate_from, count_by}
 use Rattle.std.proofs.lemmas.Bool.{eq-eqb, ne_eqb}
 use Rattle.std.proofs.lemmas.List.{get_or-map, append-nil}
@@ -47,13 +47,13 @@ module _ (settings : List Setting) (events : List RunEvent)
       sym (get_or-map (λ (event : RunEvent). event.row.id) events i d 0 h)
       ∙ ap (λ ids. get_or ids i 0) numbered ∙ get_or-range_with_len 1 (length events) i 0 h
 
-  module _ (i : ℕ) (inside : i + 1 < length events)
-      (same : same_run (get_or events i d).row (get_or events (i + 1) d).row ≡ true) where
+  module _ (i : ℕ) (inside : suc i < length events)
+      (same : same_run (get_or events i d).row (get_or events (suc i) d).row ≡ true) where
     abbrev event : RunEvent
     event = get_or events i d
 
     abbrev next : RunEvent
-    next = get_or events (i + 1) d
+    next = get_or events (suc i) d
 
     abbrev test : PeriodicActivity → Bool
     test = leads (event.row, next.row)
@@ -61,8 +61,8 @@ module _ (settings : List Setting) (events : List RunEvent)
     event_id : event.row.id ≡ 1 + i
     event_id = id_at i (omega (arith, inside))
 
-    next_id : next.row.id ≡ 1 + (i + 1)
-    next_id = id_at (i + 1) inside
+    next_id : next.row.id ≡ 1 + suc i
+    next_id = id_at (suc i) inside
 
     comes : is_next event.row next.row ≡ true
     comes = rw (same, eq-eqb next.row.id (event.row.id + 1) (omega (arith, event_id, next_id))) refl
@@ -90,7 +90,7 @@ module _ (settings : List Setting) (events : List RunEvent)
         (ne_eqb from.row.id event.row.id (λ e. other (e ∙ event_id))))
         (filter (joined joining.Run from) events)
 
-    to_others : (to : RunEvent) → (to.row.id ≡ 1 + (i + 1) → ⊥) → given to ≡ []
+    to_others : (to : RunEvent) → (to.row.id ≡ 1 + suc i → ⊥) → given to ≡ []
     to_others to other = rw (ne_eqb to.row.id (event.row.id + 1)
         (λ e. other (omega (arith, e, event_id)))) (by_test (same_run event.row to.row))
       where
@@ -113,7 +113,7 @@ module _ (settings : List Setting) (events : List RunEvent)
         (omega (arith, inside)) from_others
         ∙ both_tests test (joined joining.Run event)
         (activity_of settings (kind_from joining.Run event) event) events
-        ∙ picked (λ (to : RunEvent). to.row.id) given 1 (i + 1) events d numbered inside to_others
+        ∙ picked (λ (to : RunEvent). to.row.id) given 1 (suc i) events d numbered inside to_others
         ∙ one_given
 
     all_one : filter test (flat_map (joined_events settings events) joinings)
