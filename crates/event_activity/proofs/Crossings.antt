@@ -1,7 +1,7 @@
 -- Each drive of a run goes over its edge, from the one of its ends to the other.
-use Rattle.std.proofs.Common.{◌≡◌, ℕ, zero, suc, ◌+◌, ◌*◌, ◌-◌, ◌/◌, ◌%◌, ◌<◌, arith, Bool, true, false, cond, eqb, eqb-true, ◌⊎◌, inl, inr, All, List, [], ◌∷◌, length, get_or, refl, ap, subst, sym, ◌∙◌, Option, Some, None, option_map, option_and_then}
+use Rattle.std.proofs.Common.{◌≡◌, ℕ, zero, suc, ◌+◌, ◌*◌, ◌-◌, ◌/◌, ◌%◌, ◌<◌, arith, true, false, cond, eqb, eqb-true, ◌⊎◌, inl, inr, All, List, [], ◌∷◌, length, get_or, refl, ap, subst, sym, ◌∙◌, Some, None, option_map, option_and_then}
 use Rattle.std.specs.List.{cons_option}
-use Rattle.std.proofs.lemmas.List.{get_or-reverse, length-reverse}
+use Rattle.std.proofs.lemmas.List.{get_or-reverse}
 use Rattle.std.proofs.lemmas.List.Elements.{All-head, All-tail}
 use Rattle.std.proofs.lemmas.Option.{slice_get-get_or, same_Some}
 use Rattle.event_tables.specs.declared.direction.Direction.{Direction}
@@ -54,12 +54,12 @@ step_of edge edges stop stops e =
           → option_map (λ more. stop ∷ more) walk ≡ Some stops → IsStep edge edges stop stops) [
             | None ↦ λ w k. cc
             | Some rest ↦ λ w k. record {
-                next = next;
-                rest = rest;
-                goes = a;
-                walk = w;
-                are = same_Some _ _ k;
-              }
+              next = next;
+              rest = rest;
+              goes = a;
+              walk = w;
+              are = same_Some _ _ k;
+            }
           ] refl h
     ] refl e
 

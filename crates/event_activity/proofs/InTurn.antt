@@ -1,6 +1,6 @@
 -- Events that stand in turn: neighbours of one run are at places one after the other, and a new run
 -- begins behind a whole one.
-use Rattle.std.proofs.Common.{◌≡◌, ℕ, zero, suc, ◌+◌, ◌*◌, ◌%◌, ◌==◌, ◌<◌, ◌≤◌, arith, Bool, ◌&&◌, true, false, All, MatchBool, List, [], ◌∷◌, ◌++◌, length, map, unsigned_abs, refl, subst, sym, ap}
+use Rattle.std.proofs.Common.{◌≡◌, ℕ, zero, suc, ◌+◌, ◌*◌, ◌%◌, ◌==◌, ◌<◌, ◌≤◌, arith, Bool, ◌&&◌, true, false, All, MatchBool, List, [], ◌∷◌, ◌++◌, length, map, unsigned_abs, refl, subst, sym}
 use Rattle.std.specs.List.{flat_map, range_with_len, enumerate_from}
 use Rattle.std.proofs.lemmas.Bool.{eq-eqb, ne_eqb}
 use Rattle.std.proofs.lemmas.List.{append_assoc}
@@ -169,9 +169,11 @@ module _ (network : NetworkParts) (line : LineParts) where
       run_turn a zero rest ends first turn = turn
       run_turn a (suc zero) rest ends first turn =
           (refl, last_goes a rest (omega (arith, ends)) first, turn)
-      run_turn a (suc (suc n)) rest ends first turn =
-          (refl, next_follows a (omega (arith, ends)),
-          run_turn (a + 1) (suc n) rest (omega (arith, ends)) first turn)
+      run_turn a (suc (suc n)) rest ends first turn = (
+        refl,
+        next_follows a (omega (arith, ends)),
+        run_turn (a + 1) (suc n) rest (omega (arith, ends)) first turn,
+      )
 
     -- the runs in a direction before others
     runs_turn : (way : Direction) (a n : ℕ) (rest : List RunEvent) → Starts (Elsewhere way) rest
@@ -183,12 +185,17 @@ module _ (network : NetworkParts) (line : LineParts) where
         subst (InTurn network) (sym (append_assoc (run network line way a) more rest))
         (run_turn way a 0 (2 * length line.edges) (more ++ rest) (omega arith)
         (starts_append (Another way a) more rest
-        (runs_start (Another way a) way (a + 1) n (λ repetition low.
-        (refl, last_false (unsigned_abs line.id == unsigned_abs line.id) (same_direction way way)
-        (a == repetition) (ne_eqb a repetition (λ e. omega (arith, e, low))))))
+        (runs_start (Another way a) way (a + 1) n (λ repetition low. (
+          refl,
+          last_false (unsigned_abs line.id == unsigned_abs line.id) (same_direction way way)
+              (a == repetition) (ne_eqb a repetition (λ e. omega (arith, e, low))),
+        )))
         (starts_weaker (Elsewhere way) (Another way a) rest
-        (λ event other. (other.0, first_false (unsigned_abs line.id == event.row.line)
-        (same_direction way event.row.direction) (a == event.row.repetition) other.1)) first))
+        (λ event other. (
+          other.0,
+          first_false (unsigned_abs line.id == event.row.line)
+              (same_direction way event.row.direction) (a == event.row.repetition) other.1,
+        )) first))
         (runs_turn way (a + 1) n rest first turn))
 
     -- the runs of a line before those of others
@@ -203,9 +210,15 @@ module _ (network : NetworkParts) (line : LineParts) where
         (runs_start (Elsewhere direction.Forward) direction.Backward 1 line.frequency
         (λ repetition low. (refl, way_false (unsigned_abs line.id == unsigned_abs line.id))))
         (starts_weaker OnOther (Elsewhere direction.Forward) rest
-        (λ event other. (other.0, line_false (unsigned_abs line.id == event.row.line)
-        (same_direction direction.Forward event.row.direction) other.1)) first))
+        (λ event other. (
+          other.0,
+          line_false (unsigned_abs line.id == event.row.line)
+              (same_direction direction.Forward event.row.direction) other.1,
+        )) first))
         (runs_turn direction.Backward 1 line.frequency rest
         (starts_weaker OnOther (Elsewhere direction.Backward) rest
-        (λ event other. (other.0, line_false (unsigned_abs line.id == event.row.line)
-        (same_direction direction.Backward event.row.direction) other.1)) first) turn))
+        (λ event other. (
+          other.0,
+          line_false (unsigned_abs line.id == event.row.line)
+              (same_direction direction.Backward event.row.direction) other.1,
+        )) first) turn))

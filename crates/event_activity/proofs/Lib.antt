@@ -12,6 +12,7 @@ pub mod EanReads
 mod Given
 mod InTurn
 mod Joined
+mod KeepsRules
 mod LineEvents
 mod LinesInTurn
 mod MadeActivities
@@ -19,6 +20,7 @@ mod Members
 mod Numbered
 mod OneWay
 mod Picked
+mod PlainActivities
 mod PlainEvents
 mod ReadAgain
 mod Refused

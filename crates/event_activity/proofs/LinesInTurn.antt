@@ -1,16 +1,15 @@
 -- The events of a line concept stand in turn.
-use Rattle.std.proofs.Common.{◌≡◌, ℕ, ℤ, pos, negsuc, ◌==◌, ◌≤ℤ◌, arith, All, true, false, List, [], ◌∷◌, ◌++◌, map, unsigned_abs, refl, ap, subst, sym}
+use Rattle.std.proofs.Common.{◌≡◌, ℤ, pos, negsuc, ◌==◌, ◌≤ℤ◌, arith, All, false, List, [], ◌∷◌, map, unsigned_abs, refl, subst, sym}
 use Rattle.std.specs.List.{flat_map, AllByRecursion}
 use Rattle.std.specs.List.Sorted.{IsStrictlySortedBy}
 use Rattle.std.specs.Ordering.{int_cmp}
-use Rattle.std.specs.declared.cmp.Ordering.TheVariants.{Less, Equal}
+use Rattle.std.specs.declared.cmp.Ordering.TheVariants.{Less}
 use Rattle.std.proofs.lemmas.Bool.{ne_eqb}
 use Rattle.std.proofs.lemmas.Cmp.{int_cmp_total, tied_itself}
 use Rattle.std.proofs.lemmas.Int.{ints}
 use Rattle.std.proofs.lemmas.List.Elements.{All-head, All-tail}
 use Rattle.line_pool.specs.Pools.{LineParts, IsLine}
 use Rattle.ptn_network.specs.Networks.{NetworkParts}
-use Rattle.event_activity.specs.declared.run_event.RunEvent.{RunEvent}
 use Rattle.event_activity.specs.Runs.{AreServed, line_events, concept_events}
 use Rattle.event_activity.proofs.Crossings.{drive_crosses}
 use Rattle.event_activity.proofs.InTurn.{InTurn, Starts, BeginsRun, OnOther, starts_append, line_starts, line_turn, numbered_turn, numbered_starts}

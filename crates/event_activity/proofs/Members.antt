@@ -1,5 +1,5 @@
 -- What is one of a list is one of the lists that are made of it.
-use Rattle.std.proofs.Common.{◌≡◌, ℕ, zero, suc, ◌+◌, ◌-◌, ◌<◌, ◌≤◌, arith, Bool, true, false, cond, Contains, All, List, [], ◌∷◌, ◌++◌, length, map, filter, get_or, refl, ap, subst, sym, ◌∙◌}
+use Rattle.std.proofs.Common.{◌≡◌, ℕ, zero, suc, ◌+◌, ◌-◌, ◌<◌, ◌≤◌, arith, Bool, true, false, cond, Contains, All, List, [], ◌∷◌, map, filter, refl, ap, subst, sym, ◌∙◌}
 use Rattle.std.specs.List.{flat_map, range_with_len, enumerate_from, list_any}
 use Rattle.std.proofs.lemmas.List.{get_or-map, length-map}
 use Rattle.std.proofs.lemmas.List.Elements.{All-head, All-tail, Contains-append_left, Contains-append_right}

@@ -1,8 +1,8 @@
 -- Exactly one activity leads from an event to the next one of its run.
-use Rattle.std.proofs.Common.{◌≡◌, ℕ, suc, ◌+◌, ◌==◌, ◌<◌, arith, Bool, ◌&&◌, true, false, cond, List, [], ◌∷◌, ◌++◌, length, map, filter, get_or, refl, ap, subst, sym, ◌∙◌}
-use Rattle.std.specs.List.{flat_map, range_with_len, enumerate_from, count_by}
+use Rattle.std.proofs.Common.{◌≡◌, ℕ, suc, ◌+◌, ◌==◌, ◌<◌, arith, Bool, ◌&&◌, true, false, cond, List, [], ◌∷◌, length, map, filter, get_or, refl, ap, sym, ◌∙◌}
+use Rattle.std.specs.List.{flat_map, enumerate_from, count_by}
 use Rattle.std.proofs.lemmas.Bool.{eq-eqb, ne_eqb}
-use Rattle.std.proofs.lemmas.List.{get_or-map, append-nil}
+use Rattle.std.proofs.lemmas.List.{get_or-map}
 use Rattle.std.proofs.lemmas.List.FromFn.{get_or-range_with_len}
 use Rattle.std.proofs.lemmas.List.Sums.{length-filter}
 use Rattle.giv_files.specs.declared.setting.Setting.{Setting}
@@ -10,8 +10,7 @@ use Rattle.event_tables.specs.declared.activity_kind.ActivityKind.TheVariants as
 use Rattle.event_tables.specs.declared.event_kind.EventKind.{EventKind}
 use Rattle.event_tables.specs.declared.event_kind.EventKind.TheVariants as kinds
 use Rattle.event_tables.specs.declared.periodic_activity.PeriodicActivity.{PeriodicActivity}
-use Rattle.event_tables.specs.declared.periodic_event.PeriodicEvent.{PeriodicEvent}
-use Rattle.event_tables.specs.Kinds.{is_arrival, activity_kind_place}
+use Rattle.event_tables.specs.Kinds.{is_arrival}
 use Rattle.event_tables.specs.PeriodicRuns.{same_run, is_next}
 use Rattle.event_tables.specs.Places.{AreNumbered}
 use Rattle.event_tables.specs.RunRules.{way_on, same_kind, leads, lacks_way}
@@ -101,8 +100,12 @@ module _ (settings : List Setting) (events : List RunEvent)
         by_test false = refl
 
     one_given : given next ≡ activity_of settings (kind_from joining.Run event) event next ∷ []
-    one_given = rw (comes, way_kind event.row.kind, eq-eqb event.row.id event.row.id refl,
-        eq-eqb next.row.id next.row.id refl) refl
+    one_given = rw (
+      comes,
+      way_kind event.row.kind,
+      eq-eqb event.row.id event.row.id refl,
+      eq-eqb next.row.id next.row.id refl,
+    ) refl
 
     runs_one : filter test (joined_events settings events joining.Run)
         ≡ activity_of settings (kind_from joining.Run event) event next ∷ []
@@ -120,8 +123,11 @@ module _ (settings : List Setting) (events : List RunEvent)
         ≡ activity_of settings (kind_from joining.Run event) event next ∷ []
     all_one =
         filter_parts test (joined_events settings events) joinings
-        ∙ rw (runs_one, others_none joining.Sync (λ from. no_sync event.row.kind),
-        others_none joining.Change (λ from. no_change event.row.kind)) refl
+        ∙ rw (
+          runs_one,
+          others_none joining.Sync (λ from. no_sync event.row.kind),
+          others_none joining.Change (λ from. no_change event.row.kind),
+        ) refl
 
     -- so exactly one leads from the event to the next
     pub one_way : lacks_way (concept_activities settings events) (event.row, next.row) ≡ false

@@ -1,5 +1,5 @@
 -- The events of lines are those of all their runs and no others.
-use Rattle.std.proofs.Common.{◌≡◌, ℕ, ℤ, pos, ◌+◌, ◌*◌, ◌/◌, ◌<◌, ◌≤◌, arith, All, Contains, List, length, map, get_or, unsigned_abs, refl, ap, subst, sym, ◌∙◌}
+use Rattle.std.proofs.Common.{ℕ, pos, ◌+◌, ◌*◌, ◌/◌, ◌<◌, ◌≤◌, arith, All, Contains, List, length, map, unsigned_abs, refl, ap, subst, sym, ◌∙◌}
 use Rattle.std.specs.List.{flat_map, range_with_len, enumerate_from}
 use Rattle.std.proofs.lemmas.List.Elements.{All-append, All-map, All-weaker, All-contains, All-contains_itself, All-get_or, Contains-append_left, Contains-append_right, Contains-get_or}
 use Rattle.event_tables.specs.declared.direction.Direction.{Direction}
@@ -98,9 +98,11 @@ module _ (network : NetworkParts) (lines : List LineParts) where
             let found = contains_numbered with_id 1 events bare
             (contains_part (line_events network) lines is.line bare is.there
             (line_has is.line is.direction bare (runs_have is.line is.direction is.repetition is.place
-            is.first is.often is.within))) in
-            (found.0, subst (Contains (map with_id (enumerate_from 1 events)))
-            (sym (ap (λ (some : RunEvent). with_id (found.0, some)) is.same)) found.1);
+            is.first is.often is.within))) in (
+              found.0,
+              subst (Contains (map with_id (enumerate_from 1 events)))
+                  (sym (ap (λ (some : RunEvent). with_id (found.0, some)) is.same)) found.1,
+            );
       }
 
   module _ (served : AreServed network lines) (event : RunEvent) (is : IsEventOf network lines event) where

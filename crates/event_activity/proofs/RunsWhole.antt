@@ -1,6 +1,6 @@
 -- The runs of events that stand in turn are whole, and what holds of neighbours in the list holds of
 -- those in each run.
-use Rattle.std.proofs.Common.{◌≡◌, ℕ, zero, suc, ◌+◌, ◌%◌, ◌==◌, ◌<◌, arith, Bool, ◌&&◌, ◌||◌, true, false, not, cond, MatchBool, List, [], ◌∷◌, ◌++◌, length, map, filter, refl, ap, subst, sym, ◌∙◌}
+use Rattle.std.proofs.Common.{◌≡◌, ℕ, zero, suc, ◌+◌, ◌%◌, ◌==◌, ◌<◌, arith, Bool, true, false, cond, MatchBool, List, [], ◌∷◌, ◌++◌, length, map, filter, refl, ap, subst, ◌∙◌}
 use Rattle.std.specs.List.{flat_map, enumerate_from}
 use Rattle.std.proofs.lemmas.Bool.{eq-eqb, and_right}
 use Rattle.event_tables.specs.declared.periodic_event.PeriodicEvent.{PeriodicEvent}
@@ -83,30 +83,30 @@ module _ (network : NetworkParts) (test : PeriodicEvent × PeriodicEvent → Boo
       → MatchBool b (Onward network event next) (EndsRun event × BeginsRun next)
       → AreRuns event (next ∷ events)) [
         | true ↦ λ same onward. record {
-            run = next.row ∷ rest.run;
-            runs = rest.runs;
-            are = cut ∙ ap (λ b. cond b ((event.row ∷ next.row ∷ rest.run) ∷ rest.runs)
-                ((event.row ∷ []) ∷ (next.row ∷ rest.run) ∷ rest.runs)) same;
-            turn = (turn.0, subst (λ place. Alternates place (next.row ∷ rest.run)) onward.0 rest.turn);
-            joined = rw (agree.0 same) rest.joined;
-            others_whole = rest.others_whole;
-            others_joined = rest.others_joined;
-          }
+          run = next.row ∷ rest.run;
+          runs = rest.runs;
+          are = cut ∙ ap (λ b. cond b ((event.row ∷ next.row ∷ rest.run) ∷ rest.runs)
+              ((event.row ∷ []) ∷ (next.row ∷ rest.run) ∷ rest.runs)) same;
+          turn = (turn.0, subst (λ place. Alternates place (next.row ∷ rest.run)) onward.0 rest.turn);
+          joined = rw (agree.0 same) rest.joined;
+          others_whole = rest.others_whole;
+          others_joined = rest.others_joined;
+        }
         | false ↦ λ other anew. record {
-            run = [];
-            runs = (next.row ∷ rest.run) ∷ rest.runs;
-            are = cut ∙ ap (λ b. cond b ((event.row ∷ next.row ∷ rest.run) ∷ rest.runs)
-                ((event.row ∷ []) ∷ (next.row ∷ rest.run) ∷ rest.runs)) other;
-            turn = (turn.0, anew.0);
-            joined = refl;
-            others_whole = ap (λ all. all ++ flat_map broken_in rest.runs)
-                (whole_run (next.row ∷ rest.run)
-                (subst (λ place. Alternates place (next.row ∷ rest.run)) anew.1 rest.turn))
-                ∙ rest.others_whole;
-            others_joined = ap (λ (all : List (PeriodicEvent × PeriodicEvent)).
-                map (λ pair. pair.0) all ++ flat_map failing rest.runs) rest.joined
-                ∙ rest.others_joined;
-          }
+          run = [];
+          runs = (next.row ∷ rest.run) ∷ rest.runs;
+          are = cut ∙ ap (λ b. cond b ((event.row ∷ next.row ∷ rest.run) ∷ rest.runs)
+              ((event.row ∷ []) ∷ (next.row ∷ rest.run) ∷ rest.runs)) other;
+          turn = (turn.0, anew.0);
+          joined = refl;
+          others_whole = ap (λ all. all ++ flat_map broken_in rest.runs)
+              (whole_run (next.row ∷ rest.run)
+              (subst (λ place. Alternates place (next.row ∷ rest.run)) anew.1 rest.turn))
+              ∙ rest.others_whole;
+          others_joined = ap (λ (all : List (PeriodicEvent × PeriodicEvent)).
+              map (λ pair. pair.0) all ++ flat_map failing rest.runs) rest.joined
+              ∙ rest.others_joined;
+        }
       ] refl turn.1
 
   -- no run of the events is broken, and in none of them does one fail with the next
