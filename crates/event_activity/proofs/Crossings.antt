@@ -16,7 +16,8 @@ use Rattle.event_activity.specs.Runs.{along, no_edge, edge_at, stop_id, run_even
 
 -- two stops are the two ends of an edge, either way
 abbrev AreEnds : Edge → ℕ → ℕ → Type 0
-AreEnds edge from to = ((from ≡ edge.left) × (to ≡ edge.right)) ⊎ ((from ≡ edge.right) × (to ≡ edge.left))
+AreEnds edge from to = ((from ≡ edge.left) × (to ≡ edge.right)) ⊎ ((from ≡ edge.right) × (to
+    ≡ edge.left))
 
 turned : (edge : Edge) (from to : ℕ) → AreEnds edge from to → AreEnds edge to from
 turned edge from to (inl ends) = inr (ends.1, ends.0)
@@ -133,7 +134,8 @@ module _ (network : NetworkParts) (line : LineParts) (is : IsLine network.edges 
       (get_or line.stops j 0) (get_or line.stops (suc j) 0)
   line_ends j h =
       let at = are_at network.edges line.edges is.there in
-      subst (λ edge. AreEnds edge (get_or line.stops j 0) (get_or line.stops (suc j) 0)) (at.each j h)
+      subst (λ edge. AreEnds edge (get_or line.stops j 0) (get_or line.stops (suc j) 0))
+      (at.each j h)
       (walk_of_ends (edges_at network.edges line.edges) line.stops j no_edge 0 is.walk
       (omega (arith, h, at.size)))
 
@@ -160,11 +162,13 @@ module _ (network : NetworkParts) (line : LineParts) (is : IsLine network.edges 
   -- so a drive of a run goes over its edge
   pub drive_crosses : (way : Direction) (repetition place : ℕ) → place + 1 < 2 * length line.edges
       → place % 2 ≡ 0 → Crosses network (run_event network line way repetition place).edge
-      (run_event network line way repetition place) (run_event network line way repetition (place + 1))
+      (run_event network line way repetition place) (run_event network line way repetition
+      (place + 1))
   drive_crosses way repetition place inside even =
       let first : (place + 1) / 2 ≡ place / 2 = omega (arith, even) in
       let second : (place + 1 + 1) / 2 ≡ suc (place / 2) = omega (arith, even) in
-      rw (first, second) (crossed (edge_at network (get_or (along way line.edges) (place / 2) 0)) _ _
+      rw (first, second) (crossed (edge_at network (get_or (along way line.edges)
+      (place / 2) 0)) _ _
       (along_ends way (place / 2) (omega (arith, inside, even))))
     where
       crossed : (edge : Edge) (from to : ℕ) → AreEnds edge from to
@@ -172,5 +176,13 @@ module _ (network : NetworkParts) (line : LineParts) (is : IsLine network.edges 
           × (stop_id network to ≡ stop_id network edge.right))
           ⊎ ((stop_id network from ≡ stop_id network edge.right)
           × (stop_id network to ≡ stop_id network edge.left))
-      crossed edge from to (inl ends) = inl (ap (stop_id network) ends.0, ap (stop_id network) ends.1)
-      crossed edge from to (inr ends) = inr (ap (stop_id network) ends.0, ap (stop_id network) ends.1)
+      crossed edge from to (inl ends) = inl (
+        ap (stop_id network) ends.0,
+        ap
+            (stop_id network) ends.1,
+      )
+      crossed edge from to (inr ends) = inr (
+        ap (stop_id network) ends.0,
+        ap
+            (stop_id network) ends.1,
+      )

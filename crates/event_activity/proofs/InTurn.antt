@@ -71,12 +71,14 @@ numbered_starts P a [] keeps first = tt
 numbered_starts P a (event ∷ events) keeps first = keeps a event first
 
 -- the first event of one list before another
-pub starts_append : (P : RunEvent → Type 0) (front back : List RunEvent) → Starts P front → Starts P back
+pub starts_append : (P : RunEvent → Type 0) (front back : List RunEvent) → Starts P front
+    → Starts P back
     → Starts P (front ++ back)
 starts_append P [] back first second = second
 starts_append P (event ∷ front) back first second = first
 
-starts_weaker : (P Q : RunEvent → Type 0) (events : List RunEvent) → ((event : RunEvent) → P event → Q event)
+starts_weaker : (P Q : RunEvent → Type 0) (events : List RunEvent) → ((event : RunEvent)
+    → P event → Q event)
     → Starts P events → Starts Q events
 starts_weaker P Q [] gives first = tt
 starts_weaker P Q (event ∷ events) gives first = gives event first
@@ -90,8 +92,10 @@ starts_map P f a (suc n) first = first
 
 one_run : (line repetition : ℕ) (way : Direction)
     → (line == line && same_direction way way && repetition == repetition) ≡ true
-one_run line repetition direction.Forward = rw (eq-eqb line line refl, eq-eqb repetition repetition refl) refl
-one_run line repetition direction.Backward = rw (eq-eqb line line refl, eq-eqb repetition repetition refl) refl
+one_run line repetition direction.Forward = rw
+    (eq-eqb line line refl, eq-eqb repetition repetition refl) refl
+one_run line repetition direction.Backward = rw
+    (eq-eqb line line refl, eq-eqb repetition repetition refl) refl
 
 last_false : (a b c : Bool) → c ≡ false → (a && b && c) ≡ false
 last_false true true c none = none
@@ -112,7 +116,8 @@ way_false true = refl
 way_false false = refl
 
 module _ (network : NetworkParts) (line : LineParts) where
-  -- an event that begins a run of another direction or line, and one that begins a run of another line
+  -- an event that begins a run of another direction or line, and one that begins a run of another
+  -- line
   abbrev Elsewhere : Direction → RunEvent → Type 0
   Elsewhere way event = BeginsRun event
       × ((unsigned_abs line.id == event.row.line && same_direction way event.row.direction) ≡ false)
@@ -135,12 +140,15 @@ module _ (network : NetworkParts) (line : LineParts) where
       → Starts P (line_events network line)
   line_starts P each =
       starts_append P (runs network line direction.Forward) (runs network line direction.Backward)
-      (runs_start P direction.Forward 1 line.frequency (λ repetition low. each direction.Forward repetition))
-      (runs_start P direction.Backward 1 line.frequency (λ repetition low. each direction.Backward repetition))
+      (runs_start P direction.Forward 1 line.frequency
+      (λ repetition low. each direction.Forward repetition))
+      (runs_start P direction.Backward 1 line.frequency
+      (λ repetition low. each direction.Backward repetition))
 
   module _ (crosses : (way : Direction) (repetition place : ℕ) → place + 1 < 2 * length line.edges
       → place % 2 ≡ 0 → Crosses network (run_event network line way repetition place).edge
-      (run_event network line way repetition place) (run_event network line way repetition (place + 1))) where
+      (run_event network line way repetition place) (run_event network line way repetition
+      (place + 1))) where
     module _ (way : Direction) (repetition : ℕ) where
       abbrev at : ℕ → RunEvent
       at place = run_event network line way repetition place
@@ -153,7 +161,8 @@ module _ (network : NetworkParts) (line : LineParts) where
       next_follows place inside =
           subst (λ b. MatchBool b (Onward network (at place) (at (place + 1)))
           (EndsRun (at place) × BeginsRun (at (place + 1))))
-          (sym (one_run (unsigned_abs line.id) repetition way)) (refl, crosses way repetition place inside)
+          (sym (one_run (unsigned_abs line.id) repetition way))
+          (refl, crosses way repetition place inside)
 
       last_goes : (place : ℕ) (rest : List RunEvent) → place + 1 ≡ 2 * length line.edges
           → Starts Another rest → GoesOn network (at place) rest
@@ -164,7 +173,8 @@ module _ (network : NetworkParts) (line : LineParts) where
           (EndsRun (at place) × BeginsRun event)) (sym first.1) (over, first.0)
 
       -- a run before others
-      run_turn : (a n : ℕ) (rest : List RunEvent) → a + n ≡ 2 * length line.edges → Starts Another rest
+      run_turn : (a n : ℕ) (rest : List RunEvent) → a + n ≡ 2 * length line.edges
+          → Starts Another rest
           → InTurn network rest → InTurn network (map at (range_with_len a n) ++ rest)
       run_turn a zero rest ends first turn = turn
       run_turn a (suc zero) rest ends first turn =

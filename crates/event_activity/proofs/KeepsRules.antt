@@ -19,6 +19,7 @@ use Rattle.event_activity.specs.Activities.{bounds_from, concept_activities}
 use Rattle.event_activity.specs.ActivitiesOfRuns.{joins_events, bounds_of, IsActivityOf, IsDriveOver}
 use Rattle.event_activity.specs.EanStage.{rows_of}
 use Rattle.event_activity.specs.EventsOfRuns.{IsEventOf}
+use Rattle.event_activity.specs.Fitting.{drive_bounds}
 use Rattle.event_activity.specs.Runs.{AreServed, no_edge, concept_events}
 use Rattle.event_activity.proofs.InTurn.{InTurn, BeginsRun, IsOfPlace, Onward, Follows, EndsRun, kinds_of}
 use Rattle.event_activity.proofs.LinesInTurn.{events_turn, events_begin}
@@ -105,7 +106,8 @@ module _ (network : NetworkParts) (lines : List LineParts) (served : AreServed n
 
   of_place : (event : RunEvent) → Contains events event → IsOfPlace event
   of_place event there =
-      All-contains IsOfPlace events event (kinds_of network events (events_turn network lines served)) there
+      All-contains IsOfPlace events event (kinds_of network events
+      (events_turn network lines served)) there
 
   placed_one : (activity : PeriodicActivity) → IsActivityOf settings events activity
       → is_placed (rows_of events) activity ≡ true
@@ -121,11 +123,19 @@ module _ (network : NetworkParts) (lines : List LineParts) (served : AreServed n
             (of_place is.next is.also) is.joins,
       ) refl))
 
+  -- a drive has the bounds of the edge of the event from which it goes
+  drive_has : (activity : PeriodicActivity) (is : IsActivityOf settings events activity)
+      → activity.kind ≡ kinds.Drive → bounds_of activity ≡ drive_bounds is.event.edge
+  drive_has activity is drives =
+      subst (λ kind. bounds_of activity ≡ bounds_from settings kind is.event) drives is.bounds
+
   takes_time : (kind : ActivityKind) (activity : PeriodicActivity)
-      → IsActivityOf settings events activity → activity.kind ≡ kind → drives_at_once activity ≡ false
+      → IsActivityOf settings events activity → activity.kind ≡ kind
+      → drives_at_once activity ≡ false
   takes_time kinds.Drive activity is drives =
-      let bounds = subst (λ kind. bounds_of activity ≡ bounds_from settings kind is.event) drives is.bounds in
-      let lower : activity.lower ≡ unsigned_abs is.event.edge.lower = ap (λ some. some.lower) bounds in
+      let bounds = drive_has activity is drives in
+      let lower : activity.lower ≡ unsigned_abs is.event.edge.lower =
+      ap (λ some. some.lower) bounds in
       let edge = All-contains (IsEdge (length network.stops)) network.edges is.event.edge
       served.network_is.edges (edge_of is.event is.there) in
       let some = unsigned_some is.event.edge.lower edge.some_time in
@@ -141,12 +151,14 @@ module _ (network : NetworkParts) (lines : List LineParts) (served : AreServed n
       let agree = agree_at network (lacks_way activities) none events
       (one_way settings events (events_are network lines).numbered none) in
       record {
-        whole = runs_whole network (lacks_way activities) events turn (events_begin network lines) agree;
+        whole = runs_whole network (lacks_way activities) events turn
+            (events_begin network lines) agree;
         joined = runs_joined network (lacks_way activities) events turn agree;
         placed = none_pass (is_stray (rows_of events)) activities
             (All-weaker (IsActivityOf settings events)
             (λ activity. is_stray (rows_of events) activity ≡ false)
-            (λ activity is. rw (placed_one activity is, takes_time activity.kind activity is refl) refl)
+            (λ activity is.
+            rw (placed_one activity is, takes_time activity.kind activity is refl) refl)
             activities (activities_sound settings events));
       }
 
@@ -164,9 +176,11 @@ module _ (network : NetworkParts) (lines : List LineParts) (served : AreServed n
       let behind : next.row.id ≡ event.row.id + 1 = eqb-true _ _ one.1 in
       let at = is.there.0 in
       let first : event.row.id ≡ 1 + at =
-      ap (λ (some : RunEvent). some.row.id) (sym is.there.2) ∙ id_at settings events numbered event at is.there.1 in
+      ap (λ (some : RunEvent). some.row.id) (sym is.there.2)
+      ∙ id_at settings events numbered event at is.there.1 in
       let second : next.row.id ≡ 1 + is.also.0 =
-      ap (λ (some : RunEvent). some.row.id) (sym is.also.2) ∙ id_at settings events numbered next is.also.0 is.also.1 in
+      ap (λ (some : RunEvent). some.row.id) (sym is.also.2)
+      ∙ id_at settings events numbered next is.also.0 is.also.1 in
       let place : is.also.0 ≡ suc at = omega (arith, behind, first, second) in
       let inside : suc at < length events = subst (λ k. k < length events) place is.also.1 in
       let follows : Follows network event next =
@@ -177,7 +191,8 @@ module _ (network : NetworkParts) (lines : List LineParts) (served : AreServed n
       let onward = MatchBool-at_true (Onward network event next) (EndsRun event × BeginsRun next)
       one.0 follows in
       let departs : is_arrival (event_kind_at (event.place % 2)) ≡ false =
-      ap is_arrival (sym (of_place event is.there)) ∙ not-true (is_arrival event.row.kind) parts.0 in
+      ap is_arrival (sym (of_place event is.there))
+      ∙ not-true (is_arrival event.row.kind) parts.0 in
       record {
         edge = event.edge;
         event = event;
@@ -186,5 +201,5 @@ module _ (network : NetworkParts) (lines : List LineParts) (served : AreServed n
         leaves = (is.there, is.from);
         comes = (is.also, is.to);
         crosses = onward.1 (departs_even (event.place % 2) (omega arith) departs);
-        bounds = subst (λ kind. bounds_of activity ≡ bounds_from settings kind event) drives is.bounds;
+        bounds = drive_has activity is drives;
       }

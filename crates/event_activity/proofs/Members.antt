@@ -41,8 +41,12 @@ contains_filter p (first ∷ xs) x (suc k, h, is) passes =
 pub contains_range : (a n j : ℕ) → a ≤ j → j < a + n → Contains (range_with_len a n) j
 contains_range a n j low high =
     let inside : j - a < n = omega (arith, low, high) in
-    let back : a + (j - a) ≡ j = omega (arith, low) in
-    (j - a, omega (arith, inside, length-range_with_len a n), get_or-range_with_len a n (j - a) j inside ∙ back)
+    let back : a + (j - a) ≡ j = omega (arith, low) in (
+      j - a,
+      omega (arith, inside, length-range_with_len a n),
+      get_or-range_with_len a n
+          (j - a) j inside ∙ back,
+    )
 
 -- one with a number
 pub contains_numbered : {X Y : Type 0} (f : ℕ × X → Y) (a : ℕ) (xs : List X) (x : X) → Contains xs x

@@ -67,7 +67,8 @@ module _ (settings : List Setting) (events : List RunEvent)
     comes = rw (same, eq-eqb next.row.id (event.row.id + 1) (omega (arith, event_id, next_id))) refl
 
     -- no sync and no change leads there
-    others_none : (by : Joining) → ((from : RunEvent) → same_kind (kind_from by from) (way_on event.row.kind) ≡ false)
+    others_none : (by : Joining) → ((from : RunEvent) → same_kind (kind_from by from)
+        (way_on event.row.kind) ≡ false)
         → filter test (joined_events settings events by) ≡ []
     others_none by other =
         filter_parts test (from_event settings by events) events

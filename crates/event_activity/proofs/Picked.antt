@@ -65,14 +65,17 @@ module _ {X Y : Type 0} (id : X → ℕ) (g : X → List Y) where
 
   -- where the thing of one number alone gives something, all things together give that
   pub picked : (a j : ℕ) (xs : List X) (d : X) → map id xs ≡ range_with_len a (length xs)
-      → j < length xs → ((x : X) → (id x ≡ a + j → ⊥) → g x ≡ []) → flat_map g xs ≡ g (get_or xs j d)
+      → j < length xs → ((x : X) → (id x ≡ a + j → ⊥) → g x ≡ []) → flat_map g xs ≡ g
+      (get_or xs j d)
   picked a j [] d are h none = absurd (omega (arith, h))
   picked a zero (x ∷ xs) d are h none =
       let rest : map id xs ≡ range_with_len (a + 1) (length xs) = let e = are in cc in
-      ap (λ ys. g x ++ ys) (later_none (a + 1) xs rest (λ y low. none y (λ e. omega (arith, e, low))))
+      ap (λ ys. g x ++ ys) (later_none (a + 1) xs rest (λ y low. none y (λ e. omega
+      (arith, e, low))))
       ∙ append-nil (g x)
   picked a (suc j) (x ∷ xs) d are h none =
       let first : id x ≡ a = let e = are in cc in
       let rest : map id xs ≡ range_with_len (a + 1) (length xs) = let e = are in cc in
       ap (λ ys. ys ++ flat_map g xs) (none x (λ e. omega (arith, e, first)))
-      ∙ picked (a + 1) j xs d rest (omega (arith, h)) (λ y other. none y (λ e. other (omega (arith, e))))
+      ∙ picked (a + 1) j xs d rest (omega (arith, h)) (λ y other. none y (λ e. other (omega
+      (arith, e))))

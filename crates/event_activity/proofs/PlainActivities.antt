@@ -69,7 +69,8 @@ module _ (settings : List Setting) (events : List RunEvent) where
       → All IsOne (from_event settings by events event)
   from_are by event there =
       let ends = filter (joined by event) events in
-      let also = All-filter (joined by event) (Contains events) events (All-contains_itself events) in
+      let also = All-filter (joined by event) (Contains events) events
+      (All-contains_itself events) in
       let passes = filter_passes (joined by event) events in
       All-map IsOne (activity_of settings (kind_from by event) event) ends
       (λ k d h. record {

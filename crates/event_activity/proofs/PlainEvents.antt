@@ -41,7 +41,8 @@ module _ (network : NetworkParts) (lines : List LineParts) where
 
     line_are : All IsOne (line_events network line)
     line_are =
-        All-append IsOne (runs network line direction.Forward) (runs network line direction.Backward)
+        All-append IsOne (runs network line direction.Forward)
+        (runs network line direction.Backward)
         (runs_are direction.Forward) (runs_are direction.Backward)
 
   all_are : All IsOne (flat_map (line_events network) lines)
@@ -89,7 +90,8 @@ module _ (network : NetworkParts) (lines : List LineParts) where
   events_are =
       let events = flat_map (line_events network) lines in
       record {
-        numbered = numbers_are (λ (event : RunEvent). event.row.id) with_id (λ n event. refl) 1 events
+        numbered = numbers_are (λ (event : RunEvent). event.row.id) with_id
+            (λ n event. refl) 1 events
             ∙ ap (range_with_len 1) (sym (numbered_size with_id events));
         sound = all_numbered IsOne IsOne with_id events
             (λ n event low high is. numbered_one n event is) all_are;
@@ -97,7 +99,8 @@ module _ (network : NetworkParts) (lines : List LineParts) where
             let bare = run_event network is.line is.direction is.repetition is.place in
             let found = contains_numbered with_id 1 events bare
             (contains_part (line_events network) lines is.line bare is.there
-            (line_has is.line is.direction bare (runs_have is.line is.direction is.repetition is.place
+            (line_has is.line is.direction bare
+            (runs_have is.line is.direction is.repetition is.place
             is.first is.often is.within))) in (
               found.0,
               subst (Contains (map with_id (enumerate_from 1 events)))
@@ -105,7 +108,8 @@ module _ (network : NetworkParts) (lines : List LineParts) where
             );
       }
 
-  module _ (served : AreServed network lines) (event : RunEvent) (is : IsEventOf network lines event) where
+  module _ (served : AreServed network lines) (event : RunEvent)
+      (is : IsEventOf network lines event) where
     line_is : IsLine network.edges is.line
     line_is = All-contains (IsLine network.edges) lines is.line served.lines_are.each is.there
 

@@ -1,4 +1,5 @@
--- The runs of events that stand in turn are whole, and what holds of neighbours in the list holds of
+-- The runs of events that stand in turn are whole, and what holds of neighbours in the list holds
+-- of
 -- those in each run.
 use Rattle.std.proofs.Common.{◌≡◌, ℕ, zero, suc, ◌+◌, ◌%◌, ◌==◌, ◌<◌, arith, Bool, true, false, cond, MatchBool, List, [], ◌∷◌, ◌++◌, length, map, filter, refl, ap, subst, ◌∙◌}
 use Rattle.std.specs.List.{flat_map, enumerate_from}
@@ -15,7 +16,8 @@ use Rattle.event_activity.proofs.InTurn.{InTurn, Starts, Onward, EndsRun, Begins
 -- events from a place on that alternate up to the end of their run
 abbrev Alternates : ℕ → List PeriodicEvent → Type 0
 Alternates place [] = place % 2 ≡ 0
-Alternates place (event ∷ run) = (event.kind ≡ event_kind_at (place % 2)) × Alternates (place + 1) run
+Alternates place (event ∷ run) = (event.kind ≡ event_kind_at (place % 2)) × Alternates
+    (place + 1) run
 
 their_place : (n : ℕ) → n < 2 → event_kind_place (event_kind_at n) ≡ n
 their_place zero h = refl
@@ -29,7 +31,12 @@ none_breaks size place [] even turn = refl
 none_breaks size place (event ∷ run) even turn =
     let kind : event_kind_place event.kind ≡ place % 2 =
     ap event_kind_place turn.0 ∙ their_place (place % 2) (omega arith) in
-    rw (eq-eqb (event_kind_place event.kind) (place % 2) kind, even, and_right (place + 1 == size) false refl)
+    rw (
+      eq-eqb (event_kind_place event.kind) (place % 2) kind,
+      even,
+      and_right
+          (place + 1 == size) false refl,
+    )
     (none_breaks size (place + 1) run even turn.1)
 
 even_size : (place : ℕ) (run : List PeriodicEvent) → Alternates place run
@@ -52,7 +59,8 @@ module _ (network : NetworkParts) (test : PeriodicEvent × PeriodicEvent → Boo
   Agree [] = Unit {0}
   Agree (event ∷ []) = Unit {0}
   Agree (event ∷ next ∷ events) =
-      (same_run event.row next.row ≡ true → test (event.row, next.row) ≡ false) × Agree (next ∷ events)
+      (same_run event.row next.row ≡ true → test (event.row, next.row) ≡ false) × Agree (next
+      ∷ events)
 
   -- the first run of some events from its place on, and the runs behind it
   record AreRuns (event : RunEvent) (events : List RunEvent) : Type 0 where
@@ -87,7 +95,11 @@ module _ (network : NetworkParts) (test : PeriodicEvent × PeriodicEvent → Boo
           runs = rest.runs;
           are = cut ∙ ap (λ b. cond b ((event.row ∷ next.row ∷ rest.run) ∷ rest.runs)
               ((event.row ∷ []) ∷ (next.row ∷ rest.run) ∷ rest.runs)) same;
-          turn = (turn.0, subst (λ place. Alternates place (next.row ∷ rest.run)) onward.0 rest.turn);
+          turn = (
+            turn.0,
+            subst (λ place. Alternates place (next.row
+                ∷ rest.run)) onward.0 rest.turn,
+          );
           joined = rw (agree.0 same) rest.joined;
           others_whole = rest.others_whole;
           others_joined = rest.others_joined;

@@ -27,7 +27,8 @@ joins_events activity.Sync event next = repeats event next
 
 -- An activity goes from one of some events to another, and joins them as its kind does, with the
 -- bounds of its kind.
-pub record IsActivityOf (settings : List Setting) (events : List RunEvent) (activity : PeriodicActivity) : Type 0 where
+pub record IsActivityOf (settings : List Setting) (events : List RunEvent)
+    (activity : PeriodicActivity) : Type 0 where
   pub event : RunEvent
   pub next : RunEvent
   pub there : Contains events event
@@ -38,7 +39,8 @@ pub record IsActivityOf (settings : List Setting) (events : List RunEvent) (acti
   pub bounds : bounds_of activity ≡ bounds_from settings activity.kind event
 
 -- The activities are those between events and no others, and are numbered in their order.
-pub record AreActivitiesOf (settings : List Setting) (events : List RunEvent) (activities : List PeriodicActivity) : Type 0 where
+pub record AreActivitiesOf (settings : List Setting) (events : List RunEvent)
+    (activities : List PeriodicActivity) : Type 0 where
   pub numbered : AreNumbered (λ activity. activity.id) activities
   pub sound : (activity : PeriodicActivity) → Contains activities activity
       → IsActivityOf settings events activity
@@ -52,7 +54,8 @@ Crosses network edge event next =
     ⊎ ((event.row.stop ≡ stop_id network edge.right) × (next.row.stop ≡ stop_id network edge.left))
 
 -- A drive goes over an edge of the network, from the one of its ends to the other, with its bounds.
-pub record IsDriveOver (network : NetworkParts) (events : List RunEvent) (activity : PeriodicActivity) : Type 0 where
+pub record IsDriveOver (network : NetworkParts) (events : List RunEvent)
+    (activity : PeriodicActivity) : Type 0 where
   pub edge : Edge
   pub event : RunEvent
   pub next : RunEvent

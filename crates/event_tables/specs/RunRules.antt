@@ -81,7 +81,8 @@ abbrev pub stray_activities : List PeriodicEvent → List PeriodicActivity → L
 stray_activities events activities = filter (is_stray events) activities
 
 -- events and activities break none of these rules
-pub record KeepRunRules (events : List PeriodicEvent) (activities : List PeriodicActivity) : Type 0 where
+pub record KeepRunRules (events : List PeriodicEvent)
+    (activities : List PeriodicActivity) : Type 0 where
   pub whole : broken_events events ≡ []
   pub joined : unjoined_events events activities ≡ []
   pub placed : stray_activities events activities ≡ []
