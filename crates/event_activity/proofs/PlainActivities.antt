@@ -1,6 +1,6 @@
 -- The activities between events are those that the kinds join and no others.
 use Rattle.std.proofs.Common.{◌≡◌, ℕ, arith, true, false, not, cond, All, Contains, List, map, filter, refl, ap, subst, sym, ◌∙◌}
-use Rattle.std.specs.List.{flat_map, range_with_len, enumerate_from}
+use Rattle.std.specs.List.{flat_map, enumerate_from}
 use Rattle.std.proofs.lemmas.Bool.{and_parts, not-true}
 use Rattle.std.proofs.lemmas.List.Elements.{All-map, All-weaker, All-filter, All-contains, All-contains_itself, filter_passes}
 use Rattle.giv_files.specs.declared.setting.Setting.{Setting}
@@ -15,9 +15,9 @@ use Rattle.event_activity.specs.declared.joining.Joining.TheVariants as joining
 use Rattle.event_activity.specs.declared.run_event.RunEvent.{RunEvent}
 use Rattle.event_activity.specs.Activities.{joined, kind_from, bounds_from, activity_of, from_event, joined_events, joinings, with_number, concept_activities}
 use Rattle.event_activity.specs.ActivitiesOfRuns.{joins_events, IsActivityOf, AreActivitiesOf}
-use Rattle.event_activity.proofs.LineEvents.{numbered_size}
 use Rattle.event_activity.proofs.Members.{contains_part, contains_map, contains_filter, contains_numbered}
-use Rattle.event_activity.proofs.Numbered.{all_parts, all_numbered, numbers_are}
+use Rattle.event_activity.proofs.Numbered.{all_parts, all_numbered}
+use Rattle.event_activity.proofs.ReadAgain.{activities_placed}
 
 -- what a joining joins, the kind of it joins
 joins_as : (by : Joining) (event next : RunEvent) → joined by event next ≡ true
@@ -136,8 +136,7 @@ module _ (settings : List Setting) (events : List RunEvent) where
   activities_are =
       let activities = flat_map (joined_events settings events) joinings in
       record {
-        numbered = numbers_are (λ (row : PeriodicActivity). row.id) with_number (λ n row. refl) 1
-            activities ∙ ap (range_with_len 1) (sym (numbered_size with_number activities));
+        numbered = activities_placed settings events;
         sound = λ activity there. All-contains IsOne (concept_activities settings events) activity
             activities_sound there;
         whole = λ activity is.
