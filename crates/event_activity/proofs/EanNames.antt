@@ -1,5 +1,5 @@
 -- Which files the stage of events and activities names where it refuses a row.
-use Rattle.std.proofs.Common.{◌≡◌, ℕ, Bool, true, List, [], ◌∷◌, Err, nat_lt}
+use Rattle.std.proofs.Common.{◌≡◌, ℕ, Bool, true, List, [], ◌∷◌, Err, nat_lt, subst, sym}
 use Rattle.giv_files.specs.declared.counted.Counted.{Counted}
 use Rattle.giv_files.specs.declared.counted.Counted.TheVariants as counted
 use Rattle.giv_files.specs.declared.file_id.FileId.{FileId}
@@ -29,22 +29,40 @@ length_names {X} test what most rows =
     names_where {X = Limit X} test (λ limit. nat_lt limit.most (limit.count rows))
     (λ limit. refusal.TooMany limit.what (limit.count rows)) (λ _. tt) (row_limit what most ∷ [])
 
+module _ (test : FileId → Bool) (stop : test file.Stop ≡ true) (edge : test file.Edge ≡ true)
+    (bundle : BundleParts) (reason : Refusal) where
+  abbrev ConceptNames : Type 0
+  ConceptNames = AllName test (concept_faults (network_in bundle) (input_text bundle 2))
+
+  -- a refusal by a row names the file of stops, of edges, or what the faults of the concept name
+  stage_names : ConceptNames → ean_stage bundle ≡ Err reason → NamesOnly test reason
+  unfolding ean_stage
+  stage_names concept e =
+      let rows : AllName test (ean_faults bundle) =
+      names_both test (network_faults (input_text bundle 0) (input_text bundle 1))
+      (concept_faults (network_in bundle) (input_text bundle 2))
+      (network_names test stop edge (input_text bundle 0) (input_text bundle 1)) concept in
+      let lengths : AllName test (too_many (events_in bundle) (activities_in bundle)) =
+      names_both test
+      (limit_faults (row_limit counted.PeriodicEvents 4000 ∷ []) (events_in bundle))
+      (limit_faults (row_limit counted.PeriodicActivities 200000 ∷ []) (activities_in bundle))
+      (length_names test counted.PeriodicEvents 4000 (events_in bundle))
+      (length_names test counted.PeriodicActivities 200000 (activities_in bundle)) in
+      refused_names test _ _ reason (names_or_else test (ean_faults bundle)
+      (too_many (events_in bundle) (activities_in bundle)) rows lengths) e
+
 -- a refusal by a row names the file of stops, of edges or of the line concept
 pub ean_stage_names : (test : FileId → Bool) → test file.Stop ≡ true → test file.Edge ≡ true
     → test file.Concept ≡ true → (bundle : BundleParts) (reason : Refusal)
     → ean_stage bundle ≡ Err reason → NamesOnly test reason
-unfolding ean_stage
-ean_stage_names test stop edge concept bundle reason e =
-    let rows : AllName test (ean_faults bundle) =
-    names_both test (network_faults (input_text bundle 0) (input_text bundle 1))
-    (concept_faults (network_in bundle) (input_text bundle 2))
-    (network_names test stop edge (input_text bundle 0) (input_text bundle 1))
-    (concept_names test concept (network_in bundle) (input_text bundle 2)) in
-    let lengths : AllName test (too_many (events_in bundle) (activities_in bundle)) =
-    names_both test
-    (limit_faults (row_limit counted.PeriodicEvents 4000 ∷ []) (events_in bundle))
-    (limit_faults (row_limit counted.PeriodicActivities 200000 ∷ []) (activities_in bundle))
-    (length_names test counted.PeriodicEvents 4000 (events_in bundle))
-    (length_names test counted.PeriodicActivities 200000 (activities_in bundle)) in
-    refused_names test _ _ reason (names_or_else test (ean_faults bundle)
-    (too_many (events_in bundle) (activities_in bundle)) rows lengths) e
+ean_stage_names test stop edge concept bundle reason =
+    stage_names test stop edge bundle reason
+    (concept_names test concept (network_in bundle) (input_text bundle 2))
+
+-- and where the concept has no fault, that of stops or of edges
+pub ean_names_network : (test : FileId → Bool) → test file.Stop ≡ true → test file.Edge ≡ true
+    → (bundle : BundleParts) (reason : Refusal)
+    → concept_faults (network_in bundle) (input_text bundle 2) ≡ []
+    → ean_stage bundle ≡ Err reason → NamesOnly test reason
+ean_names_network test stop edge bundle reason none =
+    stage_names test stop edge bundle reason (subst (AllName test) (sym none) tt)

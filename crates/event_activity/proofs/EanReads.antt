@@ -1,5 +1,5 @@
 -- The events and activities that are made, read again, are right.
-use Rattle.std.proofs.Common.{◌≡◌, ℕ, ◌≤◌, All, List, [], ◌∷◌, length, map, refl, ap, subst, sym, ◌∙◌, arith, Ok, Err, Result}
+use Rattle.std.proofs.Common.{◌≡◌, ℕ, ◌≤◌, All, Contains, unsigned_abs, List, [], ◌∷◌, length, map, refl, ap, subst, sym, ◌∙◌, arith, Ok, Err, Result}
 use Rattle.std.specs.Prelude.{IfOk}
 use Rattle.std.specs.List.{range_with_len}
 use Rattle.std.proofs.lemmas.List.{length-map}
@@ -21,14 +21,20 @@ use Rattle.event_tables.specs.Cells.{periodic_event, periodic_activity, periodic
 use Rattle.event_tables.specs.Headers.{periodic_event_header, periodic_activity_header}
 use Rattle.event_tables.specs.PeriodicFiles.{periodic_event_input, periodic_activity_input, periodic_event_ids, IsPeriodicActivity}
 use Rattle.event_tables.specs.RowsOfTables.{ReadsAs, rows_by, file_text}
+use Rattle.event_tables.specs.RunRules.{KeepRunRules}
 use Rattle.event_activity.specs.declared.run_event.RunEvent.{RunEvent}
 use Rattle.event_activity.specs.EanStage.{network_in, lines_in, events_in, activities_in, ean_faults, ean_stage, rows_of, too_many}
 use Rattle.event_activity.specs.Fitting.{IsNumbered}
-use Rattle.event_activity.specs.RightEan.{EanIsAccepted, EanIsRight}
+use Rattle.event_activity.specs.EventsOfRuns.{IsEventOf}
+use Rattle.event_activity.specs.RightEan.{activities_of, EanIsAccepted, IsPeriodicNetwork, EanIsRight}
+use Rattle.event_activity.specs.Runs.{AreServed}
 use Rattle.event_activity.proofs.DrivenEvents.{events_numbered}
 use Rattle.event_activity.proofs.EanAccepted.{event_records, activity_records, events_accepted, activities_accepted}
 use Rattle.event_activity.proofs.EanCells.{events_in_columns, activities_in_columns}
+use Rattle.event_activity.proofs.KeepsRules.{rules_kept, drive_over}
 use Rattle.event_activity.proofs.MadeActivities.{IsNumberedOne, activities_numbered}
+use Rattle.event_activity.proofs.PlainActivities.{activities_are}
+use Rattle.event_activity.proofs.PlainEvents.{events_are, stop_there}
 use Rattle.event_activity.proofs.ReadAgain.{reads_as, events_back, activities_back, events_placed, activities_placed}
 use Rattle.event_activity.proofs.Refused.{none_first, none_behind}
 use Rattle.event_activity.proofs.Served.{served}
@@ -57,11 +63,13 @@ module _ (bundle : BundleParts) (own : bundle.stage ≡ stage.Ean) (fits : Fits 
       (activities_in bundle) (back_none
       (limit_faults (row_limit counted.PeriodicEvents 4000 ∷ []) (events_in bundle)) _ short)).0
 
-  numbered : All (IsNumbered (length (events_in bundle))) (events_in bundle)
-  numbered = events_numbered (network_in bundle) (lines_in bundle)
-      (served (input_text bundle 0) (input_text bundle 1) (input_text bundle 2)
+  lines_served : AreServed (network_in bundle) (lines_in bundle)
+  lines_served = served (input_text bundle 0) (input_text bundle 1) (input_text bundle 2)
       (network_in bundle) (lines_in bundle) (front_none _ _ none) refl
-      (back_none (network_faults (input_text bundle 0) (input_text bundle 1)) _ none) refl)
+      (back_none (network_faults (input_text bundle 0) (input_text bundle 1)) _ none) refl
+
+  numbered : All (IsNumbered (length (events_in bundle))) (events_in bundle)
+  numbered = events_numbered (network_in bundle) (lines_in bundle) lines_served
 
   ones : All (IsNumberedOne (length (events_in bundle)) (length (activities_in bundle)))
       (activities_in bundle)
@@ -81,6 +89,12 @@ module _ (bundle : BundleParts) (own : bundle.stage ≡ stage.Ean) (fits : Fits 
   events_again : ReadsAs events_p_columns periodic_event rows events_text
   events_again = reads_as events_p_columns periodic_event rows (rows_by periodic_event_cells rows)
       events_text (event_records rows) events_read
+
+  activities_again : ReadsAs activities_p_columns periodic_activity (activities_in bundle)
+      activities_text
+  activities_again = reads_as activities_p_columns periodic_activity (activities_in bundle)
+      (rows_by periodic_activity_cells (activities_in bundle)) activities_text
+      (activity_records [] (activities_in bundle)) activities_read
 
   same_size : length rows ≡ length (events_in bundle)
   same_size = length-map (events_in bundle) (λ (event : RunEvent). event.row)
@@ -104,13 +118,27 @@ module _ (bundle : BundleParts) (own : bundle.stage ≡ stage.Ean) (fits : Fits 
         (All-weaker (IsNumberedOne (length (events_in bundle)) (length (activities_in bundle)))
         (IsPeriodicActivity (length (events_in bundle))) (λ one is. is.made.sound)
         (activities_in bundle) ones) activities_read);
+    runs_fine = subst (λ some. KeepRunRules some (activities_of events_text activities_text))
+        (sym events_again.1) (subst (KeepRunRules rows) (sym activities_again.1)
+        (rules_kept (network_in bundle) (lines_in bundle) lines_served bundle.settings));
   }
 
-  activities_again : ReadsAs activities_p_columns periodic_activity (activities_in bundle)
-      activities_text
-  activities_again = reads_as activities_p_columns periodic_activity (activities_in bundle)
-      (rows_by periodic_activity_cells (activities_in bundle)) activities_text
-      (activity_records [] (activities_in bundle)) activities_read
+  -- the events and activities are those of a periodic network
+  is_network : IsPeriodicNetwork bundle
+  is_network =
+      let network = network_in bundle in
+      let lines = lines_in bundle in
+      let are = events_are network lines in
+      let between = activities_are bundle.settings (events_in bundle) in
+      record {
+        all_events = are;
+        at_stops = All-weaker (IsEventOf network lines)
+            (λ event. Contains (map unsigned_abs network.stops) event.row.stop)
+            (stop_there network lines lines_served) (events_in bundle) are.sound;
+        all_activities = between;
+        over_edges = λ row there drives. drive_over network lines lines_served bundle.settings row
+            (between.sound row there) drives;
+      }
 
 -- what the stage makes of inputs without a fault
 pub ean_is_right : (bundle : BundleParts) (made : Made) → bundle.stage ≡ stage.Ean → Fits bundle
@@ -127,6 +155,7 @@ ean_is_right bundle made own fits is =
       both = ap (λ (made : Made). made.files) (sym (made_unless _ _ made is));
       reads_events = events_again bundle own fits none short;
       reads_activities = activities_again bundle own fits none short;
+      network = is_network bundle own fits none short;
       accepted = ean_accepted bundle own fits none short;
     }
 

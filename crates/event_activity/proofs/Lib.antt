@@ -1,5 +1,6 @@
 mod Added
 mod Along
+mod Crossings
 mod DrivenEvents
 mod EanAccepted
 mod EanCalls
@@ -9,12 +10,21 @@ pub mod EanMakes
 pub mod EanNames
 pub mod EanReads
 mod Given
+mod InTurn
 mod Joined
+mod KeepsRules
 mod LineEvents
+mod LinesInTurn
 mod MadeActivities
+mod Members
 mod Numbered
+mod OneWay
+mod Picked
+mod PlainActivities
+mod PlainEvents
 mod ReadAgain
 mod Refused
+mod RunsWhole
 mod Served
 mod StopsOfRuns
 mod Timely

@@ -22,9 +22,10 @@ use Rattle.event_tables.proofs.CellFacts.{columns_written}
 use Rattle.event_activity.specs.declared.run_event.RunEvent.{RunEvent}
 use Rattle.event_activity.specs.Activities.{joined_events, joinings, with_number, concept_activities}
 use Rattle.event_activity.specs.EanStage.{rows_of}
-use Rattle.event_activity.specs.Runs.{line_events, with_id, concept_events}
+use Rattle.event_activity.specs.Runs.{concept_events}
 use Rattle.event_activity.proofs.LineEvents.{numbered_size}
 use Rattle.event_activity.proofs.Numbered.{numbers_are}
+use Rattle.event_activity.proofs.PlainEvents.{events_are}
 use Rattle.line_pool.specs.Pools.{LineParts}
 use Rattle.ptn_network.specs.Networks.{NetworkParts}
 
@@ -64,14 +65,12 @@ activities_back rows fit =
 -- the ids of events are their places
 pub events_placed : (network : NetworkParts) (lines : List LineParts)
     → AreNumbered (λ event. event.id) (rows_of (concept_events network lines))
-unfolding concept_events
 events_placed network lines =
-    let events = flat_map (line_events network) lines in
     map-map (λ (row : PeriodicEvent). row.id) (λ (event : RunEvent). event.row)
     (concept_events network lines)
-    ∙ numbers_are (λ (event : RunEvent). event.row.id) with_id (λ n event. refl) 1 events
+    ∙ (events_are network lines).numbered
     ∙ ap (range_with_len 1) (sym (length-map (concept_events network lines)
-    (λ (event : RunEvent). event.row) ∙ numbered_size with_id events))
+    (λ (event : RunEvent). event.row)))
 
 -- and those of activities
 pub activities_placed : (settings : List Setting) (events : List RunEvent)

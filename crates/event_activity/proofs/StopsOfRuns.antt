@@ -11,7 +11,8 @@ use Rattle.event_activity.specs.Fitting.{IsId}
 use Rattle.event_activity.specs.Runs.{AreServed, along, no_line, line_at, stop_id}
 use Rattle.event_activity.proofs.Along.{all_along, length-along, stops_inside}
 
-unsigned_some : (z : ℤ) → pos 1 ≤ℤ z → 1 ≤ unsigned_abs z
+-- a number from 1 on without its sign
+pub unsigned_some : (z : ℤ) → pos 1 ≤ℤ z → 1 ≤ unsigned_abs z
 unsigned_some (pos n) low = omega (arith, ints)
 unsigned_some (negsuc n) low = absurd (omega (arith, ints))
 

@@ -1,5 +1,7 @@
 pub mod Activities
+pub mod ActivitiesOfRuns
 pub mod EanStage
+pub mod EventsOfRuns
 pub mod Fitting
 pub mod RightEan
 pub mod Runs

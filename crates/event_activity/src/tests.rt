@@ -9,14 +9,17 @@ const STOPS: &[u8] = b"1; A; A; 0; 0\n2; B; B; 0; 0\n3; C; C; 0; 0\n";
 
 const EDGES: &[u8] = b"1; 1; 2; 2; 4; 5\n2; 2; 3; 3; 6; 6\n";
 
+const TWO_BESIDE: &[u8] = b"1; 1; 2; 2; 4; 5\n2; 2; 3; 3; 6; 6\n3; 1; 2; 2; 4; 5\n";
+
 const EVENTS: &[u8] = b"# event-id; type; stop-id; line-id; direction; repetition\n";
 
 const ACTIVITIES: &[u8] = b"# activity-id; type; from-event; to-event; lower-bound; upper-bound\n";
 
-// What the stage gives for a period and the text of a line concept.
+// What the stage gives for a period and the texts of edges and of a line concept.
 fn run(
     alloc: Global,
     period: i64,
+    edges: &[u8],
     concept: &[u8],
     steps: &mut Steps<Tally>,
 ) -> Result<Result<Made, StageFault>, Fail> {
@@ -28,7 +31,7 @@ fn run(
     settings.push(Key::EanDefaultMaximalChangeTime, 62)?;
     let mut bundle = Bundle::new(alloc, Stage::Ean, settings);
     bundle.push_input(STOPS)?;
-    bundle.push_input(EDGES)?;
+    bundle.push_input(edges)?;
     bundle.push_input(concept)?;
     if !bundle.fits() {
         return Err(Fail::from("the bundle does not fit"));
@@ -74,7 +77,7 @@ fn networks_of_concepts(rt: HostRuntime) -> Result<(), Fail> {
         (60, b"# none\n", b"", b"", b"ean: 0 events, 0 activities"),
     ];
     for (count, (period, concept, events, activities, report)) in cases.iter().enumerate() {
-        let made = match run(rt.alloc(), *period, concept, &mut steps)? {
+        let made = match run(rt.alloc(), *period, EDGES, concept, &mut steps)? {
             Ok(made) => made,
             Err(_) => return Err(Fail::from("refused")),
         };
@@ -94,7 +97,7 @@ fn networks_of_concepts(rt: HostRuntime) -> Result<(), Fail> {
 #[test]
 fn the_first_fault_refuses(rt: HostRuntime) -> Result<(), Fail> {
     let mut steps = Steps::new(Tally::new());
-    let cases: [(&[u8], Refusal); 3] = [
+    let cases: [(&[u8], Refusal); 6] = [
         (
             b"1; 1; 1; 501\n1; 2; 2; 501\n",
             Refusal::TooMany {
@@ -118,11 +121,49 @@ fn the_first_fault_refuses(rt: HostRuntime) -> Result<(), Fail> {
                 why: RowWhy::FrequencyDiffers,
             },
         ),
+        // Edges that do not join end to end, and an edge twice.
+        (
+            b"1; 1; 1; 1\n1; 2; 2; 1\n1; 3; 3; 1\n",
+            Refusal::BadRow {
+                file: FileId::Concept,
+                row: 3,
+                why: RowWhy::BrokenLine,
+            },
+        ),
+        (
+            b"1; 1; 1; 1\n1; 2; 1; 1\n",
+            Refusal::BadRow {
+                file: FileId::Concept,
+                row: 2,
+                why: RowWhy::RepeatedEdge,
+            },
+        ),
+        (
+            b"# concept\n1; 1; 1; 1001\n",
+            Refusal::BadRow {
+                file: FileId::Concept,
+                row: 2,
+                why: RowWhy::OutOfRange { column: 4 },
+            },
+        ),
     ];
     for (concept, want) in &cases {
-        let refused = run(rt.alloc(), 60, concept, &mut steps)?.err();
+        let refused = run(rt.alloc(), 60, TWO_BESIDE, concept, &mut steps)?.err();
         assert_eq!(rt; refused, Some(StageFault::Refused(*want)));
     }
     assert_eq!(rt; steps.ledger().seen(), cases.len() as u64);
+    Ok(())
+}
+
+#[test]
+fn as_many_events_as_there_may_be(rt: HostRuntime) -> Result<(), Fail> {
+    let mut steps = Steps::new(Tally::new());
+    match run(rt.alloc(), 60, EDGES, b"1; 1; 1; 1000\n", &mut steps)? {
+        Ok(made) => {
+            let told: &[u8] = b"ean: 4000 events, 3998 activities";
+            assert_eq!(rt; made.report.as_bytes(), told);
+        }
+        Err(_) => return Err(Fail::from("refused")),
+    }
     Ok(())
 }

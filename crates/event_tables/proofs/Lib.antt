@@ -10,5 +10,6 @@ pub mod SoundFiles
 pub mod SoundTimes
 pub mod SoundTrips
 mod Tried
+mod TriedRuns
 mod WholeFiles
 mod WrittenRecords

@@ -1,0 +1,188 @@
+-- Each drive of a run goes over its edge, from the one of its ends to the other.
+use Rattle.std.proofs.Common.{◌≡◌, ℕ, zero, suc, ◌+◌, ◌*◌, ◌-◌, ◌/◌, ◌%◌, ◌<◌, arith, true, false, cond, eqb, eqb-true, ◌⊎◌, inl, inr, All, List, [], ◌∷◌, length, get_or, refl, ap, subst, sym, ◌∙◌, Some, None, option_map, option_and_then}
+use Rattle.std.specs.List.{cons_option}
+use Rattle.std.proofs.lemmas.List.{get_or-reverse}
+use Rattle.std.proofs.lemmas.List.Elements.{All-head, All-tail}
+use Rattle.std.proofs.lemmas.Option.{slice_get-get_or, same_Some}
+use Rattle.event_tables.specs.declared.direction.Direction.{Direction}
+use Rattle.event_tables.specs.declared.direction.Direction.TheVariants as direction
+use Rattle.line_pool.specs.Pools.{LineParts, walk_from, or_walk, walk_of, IsLine}
+use Rattle.ptn_network.specs.declared.edge.Edge.{Edge}
+use Rattle.ptn_network.specs.Networks.{NetworkParts}
+use Rattle.ptn_network.specs.Paths.{edges_at}
+use Rattle.ptn_network.specs.Walks.{across}
+use Rattle.event_activity.specs.ActivitiesOfRuns.{Crosses}
+use Rattle.event_activity.specs.Runs.{along, no_edge, edge_at, stop_id, run_event}
+
+-- two stops are the two ends of an edge, either way
+abbrev AreEnds : Edge → ℕ → ℕ → Type 0
+AreEnds edge from to = ((from ≡ edge.left) × (to ≡ edge.right)) ⊎ ((from ≡ edge.right) × (to
+    ≡ edge.left))
+
+turned : (edge : Edge) (from to : ℕ) → AreEnds edge from to → AreEnds edge to from
+turned edge from to (inl ends) = inr (ends.1, ends.0)
+turned edge from to (inr ends) = inl (ends.1, ends.0)
+
+across_ends : (edge : Edge) (stop next : ℕ) → across edge stop ≡ Some next → AreEnds edge stop next
+across_ends edge stop next goes =
+    elim (eqb edge.left stop) as (λ left. eqb edge.left stop ≡ left → cond left (Some edge.right)
+    (cond (eqb edge.right stop) (Some edge.left) None) ≡ Some next → AreEnds edge stop next) [
+      | true ↦ λ is e. inl (sym (eqb-true edge.left stop is), sym (same_Some _ _ e))
+      | false ↦ λ other e. elim (eqb edge.right stop) as (λ right. eqb edge.right stop ≡ right
+          → cond right (Some edge.left) None ≡ Some next → AreEnds edge stop next) [
+            | true ↦ λ is f. inr (sym (eqb-true edge.right stop is), sym (same_Some _ _ f))
+            | false ↦ λ none f. cc
+          ] refl e
+    ] refl goes
+
+-- a walk over an edge and others
+record IsStep (edge : Edge) (edges : List Edge) (stop : ℕ) (stops : List ℕ) : Type 0 where
+  next : ℕ
+  rest : List ℕ
+  goes : across edge stop ≡ Some next
+  walk : walk_from next edges ≡ Some rest
+  are : stop ∷ rest ≡ stops
+
+step_of : (edge : Edge) (edges : List Edge) (stop : ℕ) (stops : List ℕ)
+    → walk_from stop (edge ∷ edges) ≡ Some stops → IsStep edge edges stop stops
+unfolding walk_from
+step_of edge edges stop stops e =
+    elim (across edge stop) as (λ to. across edge stop ≡ to → option_and_then
+    (λ next. option_map (λ more. stop ∷ more) (walk_from next edges)) to ≡ Some stops
+    → IsStep edge edges stop stops) [
+      | None ↦ λ a h. cc
+      | Some next ↦ λ a h. elim (walk_from next edges) as (λ walk. walk_from next edges ≡ walk
+          → option_map (λ more. stop ∷ more) walk ≡ Some stops → IsStep edge edges stop stops) [
+            | None ↦ λ w k. cc
+            | Some rest ↦ λ w k. record {
+              next = next;
+              rest = rest;
+              goes = a;
+              walk = w;
+              are = same_Some _ _ k;
+            }
+          ] refl h
+    ] refl e
+
+-- it begins at its stop
+begins : (edges : List Edge) (stop : ℕ) (stops : List ℕ) (d : ℕ) → walk_from stop edges ≡ Some stops
+    → get_or stops 0 d ≡ stop
+unfolding walk_from
+begins [] stop stops d e = let same : stop ∷ [] ≡ stops = same_Some _ _ e in
+    ap (λ all. get_or all 0 d) (sym same)
+begins (edge ∷ edges) stop stops d e =
+    ap (λ all. get_or all 0 d) (sym (step_of edge edges stop stops e).are)
+
+-- and goes over each edge
+walk_ends : (edges : List Edge) (stop : ℕ) (stops : List ℕ) (j : ℕ) (none : Edge) (d : ℕ)
+    → walk_from stop edges ≡ Some stops → j < length edges
+    → AreEnds (get_or edges j none) (get_or stops j d) (get_or stops (suc j) d)
+walk_ends [] stop stops j none d e h = absurd (omega (arith, h))
+walk_ends (edge ∷ edges) stop stops zero none d e h =
+    let step = step_of edge edges stop stops e in
+    subst (λ all. AreEnds edge (get_or all 0 d) (get_or all 1 d)) step.are
+    (subst (λ next. AreEnds edge stop next) (sym (begins edges step.next step.rest d step.walk))
+    (across_ends edge stop step.next step.goes))
+walk_ends (edge ∷ edges) stop stops (suc j) none d e h =
+    let step = step_of edge edges stop stops e in
+    subst (λ all. AreEnds (get_or edges j none) (get_or all (suc j) d) (get_or all (suc (suc j)) d))
+    step.are (walk_ends edges step.next step.rest j none d step.walk (omega (arith, h)))
+
+walk_of_ends : (edges : List Edge) (stops : List ℕ) (j : ℕ) (none : Edge) (d : ℕ)
+    → walk_of edges ≡ Some stops → j < length edges
+    → AreEnds (get_or edges j none) (get_or stops j d) (get_or stops (suc j) d)
+walk_of_ends [] stops j none d e h = absurd (omega (arith, h))
+walk_of_ends (edge ∷ edges) stops j none d e h =
+    elim (walk_from edge.left (edge ∷ edges)) as (λ left. walk_from edge.left (edge ∷ edges) ≡ left
+    → or_walk left (walk_from edge.right (edge ∷ edges)) ≡ Some stops
+    → AreEnds (get_or (edge ∷ edges) j none) (get_or stops j d) (get_or stops (suc j) d)) [
+      | None ↦ λ l k. walk_ends (edge ∷ edges) edge.right stops j none d k h
+      | Some found ↦ λ l k. walk_ends (edge ∷ edges) edge.left stops j none d (l ∙ k) h
+    ] refl e
+
+module _ (edges : List Edge) where
+  -- the edges of some indexes are as many, and each is that of its index
+  record AreAt (indexes : List ℕ) : Type 0 where
+    size : length (edges_at edges indexes) ≡ length indexes
+    each : (j : ℕ) → j < length indexes
+        → get_or (edges_at edges indexes) j no_edge ≡ get_or edges (get_or indexes j 0) no_edge
+
+  are_at : (indexes : List ℕ) → All (λ index. index < length edges) indexes → AreAt indexes
+  are_at [] there = record { size = refl; each = λ j h. absurd (omega (arith, h)) }
+  are_at (index ∷ indexes) there =
+      let h = All-head (λ index. index < length edges) index indexes there in
+      let rest = are_at indexes (All-tail (λ index. index < length edges) index indexes there) in
+      let is : edges_at edges (index ∷ indexes)
+      ≡ get_or edges index no_edge ∷ edges_at edges indexes =
+      ap (λ found. cons_option found (edges_at edges indexes))
+      (slice_get-get_or edges index no_edge h) in
+      record {
+        size = ap length is ∙ ap suc rest.size;
+        each = λ j within. ap (λ all. get_or all j no_edge) is ∙ at_one index indexes rest j within;
+      }
+    where
+      at_one : (index : ℕ) (indexes : List ℕ) → AreAt indexes → (j : ℕ)
+          → j < length (index ∷ indexes)
+          → get_or (get_or edges index no_edge ∷ edges_at edges indexes) j no_edge
+          ≡ get_or edges (get_or (index ∷ indexes) j 0) no_edge
+      at_one index indexes rest zero within = refl
+      at_one index indexes rest (suc j) within = rest.each j (omega (arith, within))
+
+module _ (network : NetworkParts) (line : LineParts) (is : IsLine network.edges line) where
+  -- the stops beside an edge of a line are its ends
+  line_ends : (j : ℕ) → j < length line.edges → AreEnds (edge_at network (get_or line.edges j 0))
+      (get_or line.stops j 0) (get_or line.stops (suc j) 0)
+  line_ends j h =
+      let at = are_at network.edges line.edges is.there in
+      subst (λ edge. AreEnds edge (get_or line.stops j 0) (get_or line.stops (suc j) 0))
+      (at.each j h)
+      (walk_of_ends (edges_at network.edges line.edges) line.stops j no_edge 0 is.walk
+      (omega (arith, h, at.size)))
+
+  along_ends : (way : Direction) (j : ℕ) → j < length line.edges
+      → AreEnds (edge_at network (get_or (along way line.edges) j 0))
+      (get_or (along way line.stops) j 0) (get_or (along way line.stops) (suc j) 0)
+  along_ends direction.Forward j h = line_ends j h
+  along_ends direction.Backward j h =
+      let edges = line.edges in
+      let stops = line.stops in
+      let k = length edges - 1 - j in
+      let size = is.stops in
+      let here : length stops - 1 - j ≡ suc k = omega (arith, size, h) in
+      let there : length stops - 1 - suc j ≡ k = omega (arith, size, h) in
+      rw (
+        get_or-reverse edges j 0 h,
+        get_or-reverse stops j 0 (omega (arith, size, h)),
+        get_or-reverse stops (suc j) 0 (omega (arith, size, h)),
+        here,
+        there,
+      ) (turned (edge_at network (get_or edges k 0)) (get_or stops k 0) (get_or stops (suc k) 0)
+      (line_ends k (omega (arith, h))))
+
+  -- so a drive of a run goes over its edge
+  pub drive_crosses : (way : Direction) (repetition place : ℕ) → place + 1 < 2 * length line.edges
+      → place % 2 ≡ 0 → Crosses network (run_event network line way repetition place).edge
+      (run_event network line way repetition place) (run_event network line way repetition
+      (place + 1))
+  drive_crosses way repetition place inside even =
+      let first : (place + 1) / 2 ≡ place / 2 = omega (arith, even) in
+      let second : (place + 1 + 1) / 2 ≡ suc (place / 2) = omega (arith, even) in
+      rw (first, second) (crossed (edge_at network (get_or (along way line.edges)
+      (place / 2) 0)) _ _
+      (along_ends way (place / 2) (omega (arith, inside, even))))
+    where
+      crossed : (edge : Edge) (from to : ℕ) → AreEnds edge from to
+          → ((stop_id network from ≡ stop_id network edge.left)
+          × (stop_id network to ≡ stop_id network edge.right))
+          ⊎ ((stop_id network from ≡ stop_id network edge.right)
+          × (stop_id network to ≡ stop_id network edge.left))
+      crossed edge from to (inl ends) = inl (
+        ap (stop_id network) ends.0,
+        ap
+            (stop_id network) ends.1,
+      )
+      crossed edge from to (inr ends) = inr (
+        ap (stop_id network) ends.0,
+        ap
+            (stop_id network) ends.1,
+      )

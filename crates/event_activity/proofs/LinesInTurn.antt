@@ -1,0 +1,73 @@
+-- The events of a line concept stand in turn.
+use Rattle.std.proofs.Common.{◌≡◌, ℤ, pos, negsuc, ◌==◌, ◌≤ℤ◌, arith, All, false, List, [], ◌∷◌, map, unsigned_abs, refl, subst, sym}
+use Rattle.std.specs.List.{flat_map, AllByRecursion}
+use Rattle.std.specs.List.Sorted.{IsStrictlySortedBy}
+use Rattle.std.specs.Ordering.{int_cmp}
+use Rattle.std.specs.declared.cmp.Ordering.TheVariants.{Less}
+use Rattle.std.proofs.lemmas.Bool.{ne_eqb}
+use Rattle.std.proofs.lemmas.Cmp.{int_cmp_total, tied_itself}
+use Rattle.std.proofs.lemmas.Int.{ints}
+use Rattle.std.proofs.lemmas.List.Elements.{All-head, All-tail}
+use Rattle.line_pool.specs.Pools.{LineParts, IsLine}
+use Rattle.ptn_network.specs.Networks.{NetworkParts}
+use Rattle.event_activity.specs.Runs.{AreServed, line_events, concept_events}
+use Rattle.event_activity.proofs.Crossings.{drive_crosses}
+use Rattle.event_activity.proofs.InTurn.{InTurn, Starts, BeginsRun, OnOther, starts_append, line_starts, line_turn, numbered_turn, numbered_starts}
+
+-- ids that differ do so without their signs
+unsigned_differ : (low high : ℤ) → pos 1 ≤ℤ low → pos 1 ≤ℤ high → int_cmp low high ≡ Less
+    → (unsigned_abs low == unsigned_abs high) ≡ false
+unsigned_differ (pos m) (pos n) some more less =
+    ne_eqb m n (λ e. let tied = tied_itself int_cmp_total (pos m) in
+    let same : int_cmp (pos m) (pos m) ≡ Less =
+    subst (λ k. int_cmp (pos m) (pos k) ≡ Less) (sym e) less in cc)
+unsigned_differ (pos m) (negsuc n) some more less = absurd (omega (arith, ints, more))
+unsigned_differ (negsuc m) high some more less = absurd (omega (arith, ints, some))
+
+module _ (network : NetworkParts) where
+  abbrev IsHere : LineParts → Type 0
+  IsHere line = IsLine network.edges line
+
+  -- behind a line stand runs of other lines
+  others_start : (line : LineParts) (lines : List LineParts) → IsHere line → All IsHere lines
+      → AllByRecursion (λ id. int_cmp line.id id ≡ Less) (map (λ other. other.id) lines)
+      → Starts (OnOther network line) (flat_map (line_events network) lines)
+  others_start line [] is are less = tt
+  others_start line (other ∷ lines) is are less =
+      let also : IsHere other = All-head IsHere other lines are in
+      starts_append (OnOther network line) (line_events network other)
+      (flat_map (line_events network) lines)
+      (line_starts network other (OnOther network line) (λ way repetition.
+      (refl, unsigned_differ line.id other.id is.id_least also.id_least less.0)))
+      (others_start line lines is (All-tail IsHere other lines are) less.1)
+
+  lines_turn : (lines : List LineParts) → All IsHere lines
+      → IsStrictlySortedBy int_cmp (map (λ line. line.id) lines)
+      → InTurn network (flat_map (line_events network) lines)
+  unfolding IsStrictlySortedBy
+  lines_turn [] are rise = tt
+  lines_turn (line ∷ lines) are rise =
+      let is : IsHere line = All-head IsHere line lines are in
+      let rest = All-tail IsHere line lines are in
+      line_turn network line (drive_crosses network line is) (flat_map (line_events network) lines)
+      (others_start line lines is rest rise.0) (lines_turn lines rest rise.1)
+
+  -- the first event of all begins a run
+  lines_begin : (lines : List LineParts) → Starts BeginsRun (flat_map (line_events network) lines)
+  lines_begin [] = tt
+  lines_begin (line ∷ lines) =
+      starts_append BeginsRun (line_events network line) (flat_map (line_events network) lines)
+      (line_starts network line BeginsRun (λ way repetition. refl)) (lines_begin lines)
+
+module _ (network : NetworkParts) (lines : List LineParts) where
+  pub events_turn : AreServed network lines → InTurn network (concept_events network lines)
+  unfolding concept_events
+  events_turn served =
+      numbered_turn network 1 (flat_map (line_events network) lines)
+      (lines_turn network lines served.lines_are.each served.lines_are.rise)
+
+  pub events_begin : Starts BeginsRun (concept_events network lines)
+  unfolding concept_events
+  events_begin =
+      numbered_starts BeginsRun 1 (flat_map (line_events network) lines) (λ n event first. first)
+      (lines_begin network lines)
