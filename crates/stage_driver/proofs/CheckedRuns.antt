@@ -3,7 +3,6 @@ use Rattle.std.proofs.Common.{◌≡◌, ℕ, ℤ, suc, Bool, true, false, cond,
 use Rattle.std.specs.Option.{ok_or, option_or}
 use Rattle.std.specs.FinMap as map
 use Rattle.plan_files.specs.Folder.{Folder}
-use Rattle.giv_files.specs.declared.file_id.FileId.{FileId}
 use Rattle.giv_files.specs.declared.file_id.FileId.TheVariants as file
 use Rattle.giv_files.specs.declared.made.Made.{Made}
 use Rattle.giv_files.specs.declared.made.MadeFile.{MadeFile}
@@ -25,17 +24,16 @@ use Rattle.stage_driver.specs.declared.finding.Finding.{Finding}
 use Rattle.stage_driver.specs.declared.outcome.RunEnd.TheVariants as end
 use Rattle.stage_driver.specs.Built.{built, cause_of, files_of, made, run_stage, trace_of, trace_under}
 use Rattle.stage_driver.specs.Chain.{Halt, Trace, Visit, bundle_by, chain_from, go_on, is_to_run, to_run, visit_of}
-use Rattle.stage_driver.specs.Checks.{check_of, concept_verdict, content_found, first_found, first_text, found_at, found_over, found_under, is_lacking, judge, lacks_file, same_texts, standing, verdict}
+use Rattle.stage_driver.specs.Checks.{check_of, concept_verdict, first_found, first_text, found_under, is_lacking, judge, lacks_file, standing, verdict}
 use Rattle.stage_driver.specs.Hand.{hand_of}
 use Rattle.stage_driver.specs.Passing.{RunsPass}
 use Rattle.stage_driver.specs.Reports.{end_of, end_of_refusal}
 use Rattle.stage_driver.specs.Right.{AllStandRight, IsRightAs, files_by, found_file, text_in}
 use Rattle.stage_driver.specs.Runs.{after}
+use Rattle.stage_driver.proofs.ContentFiles.{by_contents, content_passes, is_content}
 use Rattle.stage_driver.proofs.Laws.{run_makes}
 use Rattle.stage_driver.proofs.LeftRight.{files_are, left_by, settings_after}
-use Rattle.stage_driver.proofs.MadeLists.{only_one}
 use Rattle.stage_driver.proofs.Placed.{ArePlaced}
-use Rattle.stage_driver.proofs.SameTexts.{own_texts}
 use Rattle.stage_driver.proofs.Traces.{are_placed, chain, stages_run, traced}
 
 -- ---- a chain that does not end early makes all its stages
@@ -55,17 +53,7 @@ module _ (solve : BundleParts → Result Made Refusal) (values : List ℤ) (hand
       by (Err halt) rest none = absurd (cc)
       by (Ok visit) rest none = ap suc (rest visit none)
 
--- ---- a stage whose files are those that it made
-
-is_there : (id : FileId) (found : Option (List ℕ)) (made : List MadeFile)
-    → found_file id (ok_or found (cause.Missing id)) [] ≡ made → id ∷ [] ≡ ids_of made
-    → (is_lacking id found || false) ≡ false
-is_there id (Some text) made is ids = refl
-is_there id None made is ids = let none : id ∷ [] ≡ [] = ids ∙ ap ids_of (sym is) in absurd (cc)
-
-content_none : (at : Stage) (told : Result Made Refusal) (made : Made) (there : List MadeFile)
-    → told ≡ Ok made → there ≡ made.files → content_found at told there ≡ None
-content_none at told made there is same = rw (is, same, own_texts made.files) refl
+-- ---- a concept that was made
 
 concept_there : (concept tree : Option (List ℕ)) (text : List ℕ) (mark : Option (List ℕ))
     → found_file file.Concept (ok_or concept (cause.Missing file.Concept)) (found_file file.Tree (ok_or tree (cause.Missing file.Tree)) [])
@@ -98,17 +86,25 @@ module _ (folder : Folder) (values : List ℤ) where
   unfolding judge
   none_by at bundle given lacks none = rw (given, lacks) none
 
+  by_content : (at : Stage) → is_content at ≡ true → (visit : Visit)
+      → bundle_by (text_in folder) values at ≡ Ok visit.bundle
+      → standing folder at ≡ visit.made.files → run_stage visit.bundle ≡ Ok visit.made
+      → MakesAs at (ids_of visit.made.files) → NoneFound at
+  by_content at goes visit given found solved makes =
+      let passes = content_passes at (by_contents at goes) folder visit.bundle visit.made solved makes found in
+      none_by at visit.bundle given passes.0 passes.1
+
   one_passes : (at : Stage) (visit : Visit) → bundle_by (text_in folder) values at ≡ Ok visit.bundle
       → files_by (text_in folder) (stage_makes at) ≡ visit.made.files
       → IsRightAs at visit.bundle visit.made.files → run_stage visit.bundle ≡ Ok visit.made
       → MakesAs at (ids_of visit.made.files) → NoneFound at
   unfolding verdict
   one_passes stage.Load visit given found right solved makes =
-      none_by stage.Load visit.bundle given (is_there file.Load (map.get folder (file_name file.Load)) visit.made.files found (only_one (file.Load ∷ []) (ids_of visit.made.files) makes))
-      (content_none stage.Load (run_stage visit.bundle) visit.made (standing folder stage.Load) solved found)
+      by_content stage.Load refl visit given found solved makes
   one_passes stage.Cost visit given found right solved makes =
-      none_by stage.Cost visit.bundle given (is_there file.PoolCost (map.get folder (file_name file.PoolCost)) visit.made.files found (only_one (file.PoolCost ∷ []) (ids_of visit.made.files) makes))
-      (content_none stage.Cost (run_stage visit.bundle) visit.made (standing folder stage.Cost) solved found)
+      by_content stage.Cost refl visit given found solved makes
+  one_passes stage.Ean visit given found right solved makes =
+      by_content stage.Ean refl visit given found solved makes
   one_passes stage.Concept visit given found right solved makes =
       none_by stage.Concept visit.bundle given (concept_there (map.get folder (file_name file.Concept)) (map.get folder (file_name file.Tree)) right.text right.tree (found ∙ right.each))
       (ap (concept_verdict visit.bundle) found ∙ concept_none visit.bundle visit.made.files right)

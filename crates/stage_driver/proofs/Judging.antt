@@ -1,5 +1,5 @@
 -- What is found of a stage whose files stand in a folder.
-use Rattle.std.proofs.Common.{◌≡◌, ℕ, ℤ, Bool, true, false, cond, is_some, List, Option, Some, None, IfSome, IfOk, Result, Ok, Err, refl, ap, subst, sym, ◌∙◌, [], ◌∷◌, ◌+◌, ◌<◌, ◌≤◌, length, get_or, drop}
+use Rattle.std.proofs.Common.{◌≡◌, ℕ, ℤ, Bool, true, false, cond, is_some, List, Option, Some, None, IfSome, IfOk, Result, Ok, Err, refl, ap, subst, sym, ◌∙◌, ◌+◌, ◌<◌, ◌≤◌, length, get_or, drop}
 use Rattle.std.specs.Option.{option_or}
 use Rattle.std.proofs.lemmas.List.{at_drop_more, at_drop_all}
 use Rattle.plan_files.specs.Folder.{Folder}
@@ -13,7 +13,6 @@ use Rattle.config_keys.specs.Effective.{ConfigGives}
 use Rattle.config_keys.specs.Ends.{is_broken as config_broken}
 use Rattle.config_keys.specs.Items.{look_in}
 use Rattle.config_keys.specs.Values.{effective}
-use Rattle.stage_driver.specs.declared.cause.Cause.{Cause}
 use Rattle.stage_driver.specs.declared.cause.Cause.TheVariants as cause
 use Rattle.stage_driver.specs.declared.chain_end.ChainEnd.{ChainEnd}
 use Rattle.stage_driver.specs.declared.chain_end.ChainEnd.TheVariants as end

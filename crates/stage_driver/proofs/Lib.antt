@@ -1,4 +1,5 @@
 pub mod CheckedRuns
+pub mod ContentFiles
 pub mod Differing
 pub mod Gathering
 pub mod Going

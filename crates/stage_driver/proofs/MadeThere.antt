@@ -1,5 +1,5 @@
 -- The files of a stage that stand in a folder, one after the other.
-use Rattle.std.proofs.Common.{◌≡◌, ℕ, ◌+◌, ◌<◌, ◌≤◌, Bool, true, false, cond, ◌&&◌, ◌||◌, not, is_some, List, [], ◌∷◌, ◌++◌, length, get_or, drop, Option, Some, None, IfSome, option_map, refl, ap, sym, subst, ◌∙◌, append-nil, append_assoc}
+use Rattle.std.proofs.Common.{◌≡◌, ℕ, ◌+◌, ◌<◌, ◌≤◌, Bool, true, false, cond, ◌||◌, List, [], ◌∷◌, ◌++◌, length, get_or, drop, Option, Some, None, IfSome, refl, ap, sym, ◌∙◌, append-nil, append_assoc}
 use Rattle.std.specs.List.{list_any}
 use Rattle.std.specs.Option.{ok_or}
 use Rattle.std.specs.FinMap as map
@@ -11,7 +11,7 @@ use Rattle.giv_files.specs.declared.stage.Stage.{Stage}
 use Rattle.giv_files.specs.FileNames.{file_name}
 use Rattle.giv_files.specs.Stages.{stage_makes}
 use Rattle.stage_driver.specs.declared.cause.Cause.TheVariants as cause
-use Rattle.stage_driver.specs.Checks.{found_one, is_lacking, is_certificate, lacks_file, standing}
+use Rattle.stage_driver.specs.Checks.{found_one, is_lacking}
 use Rattle.stage_driver.specs.Right.{files_by, found_file, made_in}
 
 -- those of some files that are there; none where one is lacking

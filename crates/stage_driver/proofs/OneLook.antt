@@ -1,24 +1,24 @@
 -- Stages over one look of texts, in which each file has one.
-use Rattle.std.proofs.Common.{◌≡◌, ℕ, ℤ, List, [], ◌∷◌, map, Some, ap, subst, ◌∙◌}
+use Rattle.std.proofs.Common.{◌≡◌, ℕ, ℤ, List, [], ◌∷◌, map, Some, ap, subst, sym, ◌∙◌}
 use Rattle.giv_files.specs.declared.file_id.FileId.{FileId}
 use Rattle.giv_files.specs.declared.file_id.FileId.TheVariants as file
 use Rattle.giv_files.specs.declared.made.MadeFile.{MadeFile}
 use Rattle.giv_files.specs.declared.stage.Stage.{Stage}
 use Rattle.giv_files.specs.declared.stage.Stage.TheVariants as stage
 use Rattle.giv_files.specs.Inputs.{input_faults}
-use Rattle.giv_files.specs.MadeLists.{MakesAs}
+use Rattle.giv_files.specs.MadeLists.{MakesAs, ids_of}
 use Rattle.giv_files.specs.Settings.{BundleParts}
 use Rattle.giv_files.specs.Stages.{stage_inputs}
 use Rattle.demand_load.specs.RightLoads.{LoadFilesAreRight}
 use Rattle.ptn_network.specs.Loads.{load_input}
 use Rattle.ptn_network.specs.Networks.{NetworkParts, network_of}
 use Rattle.line_pool.specs.PoolCosts.{pool_cost_input}
-use Rattle.line_pool.specs.Pools.{pool_of}
+use Rattle.line_pool.specs.Pools.{concept_faults, pool_of}
 use Rattle.line_pool.specs.RightCosts.{CostFilesAreRight}
+use Rattle.line_search.specs.RightConcepts.{ConceptFilesAreRight, mark_files}
 use Rattle.stage_driver.specs.Chain.{bundle_for, chosen}
 use Rattle.stage_driver.specs.Checks.{first_text}
 use Rattle.stage_driver.specs.Right.{IsRightAs}
-use Rattle.stage_driver.proofs.MadeLists.{only_one}
 
 -- what a stage is given over one look of texts
 abbrev pub bundle_over : List ℤ → (FileId → List ℕ) → Stage → BundleParts
@@ -40,12 +40,18 @@ AreRightOver values look [] = Unit {0}
 AreRightOver values look (stage ∷ stages) =
     IsRightOver values look stage × AreRightOver values look stages
 
--- the text of the one file that a stage makes
-the_text : (look : FileId → List ℕ) (file : FileId) (ids : List FileId) (text : List ℕ)
-    → file ∷ [] ≡ ids → files_over look ids ≡ record { file = file; text = text } ∷ []
+-- the first of files with their texts there has its own
+first_own : (look : FileId → List ℕ) (file : FileId) (ids : List FileId) (text : List ℕ)
+    (more : List MadeFile) → files_over look ids ≡ record { file = file; text = text } ∷ more
     → text ≡ look file
-the_text look file ids text one is =
-    let same : Some (look file) ≡ Some text = ap first_text (ap (files_over look) one ∙ is) in cc
+first_own look file [] text more is =
+    let none : [] ≡ file ∷ ids_of more = ap ids_of is in absurd (cc)
+first_own look file (id ∷ ids) text more is =
+    let named : id ∷ ids_of (files_over look ids) ≡ file ∷ ids_of more = ap ids_of is in
+    let same : id ≡ file = cc in
+    let first : Some (look id) ≡ Some text = ap first_text is in
+    let own : look id ≡ text = cc in
+    sym own ∙ ap look same
 
 -- ---- what an earlier stage made has no fault by the rules of its kind
 
@@ -57,12 +63,19 @@ module _ (values : List ℤ) (look : FileId → List ℕ) where
       → input_faults (load_input file.Load network.edges) (look file.Load) ≡ []
   loads_accepted loads =
       let right : LoadFilesAreRight (bundle_over values look stage.Load) (files_over look loads.ids) = loads.right in
-      let text : right.text ≡ look file.Load = the_text look file.Load loads.ids right.text (only_one (file.Load ∷ []) loads.ids loads.makes) right.one in
-      subst (λ text. input_faults (load_input file.Load network.edges) text ≡ []) text right.accepted
+      subst (λ text. input_faults (load_input file.Load network.edges) text ≡ [])
+      (first_own look file.Load loads.ids right.text [] right.one) right.accepted
 
   pub costs_accepted : IsRightOver values look stage.Cost
       → input_faults (pool_cost_input (pool_of network (look file.Pool))) (look file.PoolCost) ≡ []
   costs_accepted costs =
       let right : CostFilesAreRight (bundle_over values look stage.Cost) (files_over look costs.ids) = costs.right in
-      let text : right.text ≡ look file.PoolCost = the_text look file.PoolCost costs.ids right.text (only_one (file.PoolCost ∷ []) costs.ids costs.makes) right.one in
-      subst (λ text. input_faults (pool_cost_input (pool_of network (look file.Pool))) text ≡ []) text right.accepted
+      subst (λ text. input_faults (pool_cost_input (pool_of network (look file.Pool))) text ≡ [])
+      (first_own look file.PoolCost costs.ids right.text [] right.one) right.accepted
+
+  pub concept_accepted : IsRightOver values look stage.Concept
+      → concept_faults network (look file.Concept) ≡ []
+  concept_accepted concept =
+      let right : ConceptFilesAreRight (bundle_over values look stage.Concept) (files_over look concept.ids) = concept.right in
+      subst (λ text. concept_faults network text ≡ [])
+      (first_own look file.Concept concept.ids right.text (mark_files right.tree) right.each) right.accepted

@@ -1,15 +1,12 @@
 -- Files of which a check finds nothing satisfy the models of their stages.
-use Rattle.std.proofs.Common.{◌≡◌, ℕ, ℤ, Bool, true, false, cond, is_some, not, ◌||◌, ◌+◌, ◌<◌, ◌≤◌, List, [], ◌∷◌, length, get_or, drop, Option, Some, None, IfSome, IfOk, IfNone, Result, Ok, Err, refl, ap, subst, sym, ◌∙◌, arith, ◌⊎◌, ⊎_elim}
-use Rattle.std.proofs.lemmas.Bool.{true≢false}
+use Rattle.std.proofs.Common.{◌≡◌, ℕ, ℤ, Bool, true, false, cond, is_some, ◌||◌, ◌+◌, ◌<◌, ◌≤◌, List, [], length, get_or, drop, Option, Some, None, IfSome, IfOk, IfNone, Result, Ok, Err, refl, ap, subst, sym, ◌∙◌, arith}
 use Rattle.std.proofs.lemmas.List.{at_drop_more, at_drop_all}
 use Rattle.std.specs.Option.{ok_or}
 use Rattle.std.specs.FinMap as map
 use Rattle.plan_files.specs.Folder.{Folder}
 use Rattle.giv_files.specs.declared.file_id.FileId.{FileId}
 use Rattle.giv_files.specs.declared.file_id.FileId.TheVariants as file
-use Rattle.giv_files.specs.declared.made.Made.{Made}
 use Rattle.giv_files.specs.declared.made.MadeFile.{MadeFile}
-use Rattle.giv_files.specs.declared.refusal.Refusal.{Refusal}
 use Rattle.giv_files.specs.declared.stage.Stage.{Stage}
 use Rattle.giv_files.specs.declared.stage.Stage.TheVariants as stage
 use Rattle.giv_files.specs.FileNames.{file_name}
@@ -30,72 +27,27 @@ use Rattle.stage_driver.specs.declared.finding.Finding.TheVariants.{BadInput, Br
 use Rattle.stage_driver.specs.declared.outcome.ChainFault.{ChainFault}
 use Rattle.stage_driver.specs.Built.{built, run_stage}
 use Rattle.stage_driver.specs.Chain.{bundle_by}
-use Rattle.stage_driver.specs.Checks.{EndedAs, UnsettledAs, check_end, content_found, is_certificate}
-use Rattle.stage_driver.specs.Checks.{is_lacking, lacks_file, same_texts, standing, verdict}
+use Rattle.stage_driver.specs.Checks.{EndedAs, UnsettledAs, check_end, content_found}
+use Rattle.stage_driver.specs.Checks.{is_lacking, lacks_file, standing, verdict}
 use Rattle.stage_driver.specs.Passing.{AllStand, PassesIn, RunsStand, SatisfyModel, StageStands}
-use Rattle.stage_driver.specs.Right.{IsRightAs, found_file, text_in}
-use Rattle.stage_driver.proofs.Laws.{run_makes, stage_laws}
-use Rattle.stage_driver.proofs.MadeLists.{only_one}
-use Rattle.stage_driver.proofs.SameTexts.{same_files}
+use Rattle.stage_driver.specs.Right.{found_file, text_in}
+use Rattle.stage_driver.proofs.ContentFiles.{by_contents, content_right, content_stands, is_content}
 
-none_of : (same : Bool) (found : Finding) → cond same None (Some found) ≡ None → same ≡ true
-none_of true found is = refl
-none_of false found is = absurd (cc)
-
--- files that are what their stage makes are right
-module _ (bundle : BundleParts) (there : List MadeFile) (fits : Fits bundle) where
-  content_right : (told : Result Made Refusal) (list : List FileId) (stage : Stage)
-      → bundle.stage ≡ stage → run_stage bundle ≡ told
-      → ((made : Made) → run_stage bundle ≡ Ok made → list ≡ ids_of made.files)
-      → list ≡ ids_of there → content_found stage told there ≡ None
-      → IsRightAs bundle.stage bundle there
-  content_right (Err reason) list stage own is ids here none = absurd (cc)
-  content_right (Ok made) list stage own is ids here none =
-      let same : made.files ≡ there = same_files made.files there (none_of (same_texts made.files there) _ none) (sym (ids made is) ∙ here) in
-      subst (IsRightAs bundle.stage bundle) same ((stage_laws bundle.stage).right bundle made refl fits is)
-
-  pub verdict_right : (at : Stage) → bundle.stage ≡ at → MakesAs at (ids_of there)
-      → (at ≡ stage.Concept → SatisfyModel at bundle there)
-      → verdict at bundle there ≡ None → SatisfyModel at bundle there
-  unfolding verdict
-  verdict_right stage.Load own makes concept none =
-      subst (λ stage. IsRightAs stage bundle there) own (content_right (run_stage bundle) (file.Load ∷ []) stage.Load own refl (λ made is. only_one (file.Load ∷ []) (ids_of made.files) (subst (λ stage. MakesAs stage (ids_of made.files)) own (run_makes bundle made is))) (only_one (file.Load ∷ []) (ids_of there) makes) none)
-  verdict_right stage.Cost own makes concept none =
-      subst (λ stage. IsRightAs stage bundle there) own (content_right (run_stage bundle) (file.PoolCost ∷ []) stage.Cost own refl (λ made is. only_one (file.PoolCost ∷ []) (ids_of made.files) (subst (λ stage. MakesAs stage (ids_of made.files)) own (run_makes bundle made is))) (only_one (file.PoolCost ∷ []) (ids_of there) makes) none)
-  verdict_right stage.Concept own makes concept none = concept refl
-  verdict_right _ own makes concept none = absurd (cc)
-
--- the same as a clause
+-- nothing is found of files that are judged by their contents: they satisfy the model
 pub content_clause : {E : Type 0} (bundle : BundleParts) (there : List MadeFile) (at : Stage)
-    (result : Result (Option Finding) E) → Fits bundle → bundle.stage ≡ at
-    → (at ≡ stage.Load) ⊎ (at ≡ stage.Cost)
+    (result : Result (Option Finding) E) → Fits bundle → bundle.stage ≡ at → is_content at ≡ true
     → IfOk result (λ found. found ≡ content_found at (run_stage bundle) there)
     → MakesAs at (ids_of there) → IfOk result (λ found. IfNone found (SatisfyModel at bundle there))
-unfolding verdict
 content_clause bundle there at (Err fault) fits own which is makes = tt
 content_clause bundle there at (Ok (Some found)) fits own which is makes = tt
-content_clause bundle there stage.Load (Ok None) fits own which is makes =
-    verdict_right bundle there fits stage.Load own makes (λ other. absurd (cc)) (sym is)
-content_clause bundle there stage.Cost (Ok None) fits own which is makes =
-    verdict_right bundle there fits stage.Cost own makes (λ other. absurd (cc)) (sym is)
-content_clause bundle there _ (Ok None) fits own which is makes =
-    absurd (⊎_elim (λ load. (cc)) (λ cost. (cc)) which)
+content_clause bundle there at (Ok None) fits own which is makes =
+    content_right at (by_contents at which) bundle there fits own makes (sym is)
 
 -- ---- the files that stand in a folder are some that their stage may make, where none lacks
 
-abbrev ids_from : FileId → Option (List ℕ) → List MadeFile → List FileId
-ids_from file found more = ids_of (found_file file (ok_or found (cause.Missing file)) more)
-
-one_stands : (stage : Stage) (file : FileId) (found : Option (List ℕ))
-    → is_certificate file ≡ false → (is_lacking file found || false) ≡ false
-    → MakesAs stage (file ∷ []) → MakesAs stage (ids_from file found [])
-one_stands stage file (Some text) needed lacks makes = makes
-one_stands stage file None needed lacks makes =
-    absurd (true≢false (sym (ap (λ b. not b || false) needed) ∙ lacks))
-
 concept_stands : (concept tree : Option (List ℕ))
     → (is_lacking file.Concept concept || (is_lacking file.Tree tree || false)) ≡ false
-    → MakesAs stage.Concept (ids_from file.Concept concept (found_file file.Tree (ok_or tree (cause.Missing file.Tree)) []))
+    → MakesAs stage.Concept (ids_of (found_file file.Concept (ok_or concept (cause.Missing file.Concept)) (found_file file.Tree (ok_or tree (cause.Missing file.Tree)) [])))
 concept_stands None tree lacks = absurd (cc)
 concept_stands (Some text) None lacks = (1, omega arith, refl)
 concept_stands (Some text) (Some tree) lacks = (0, omega arith, refl)
@@ -111,9 +63,11 @@ module _ (folder : Folder) (bundle : BundleParts) (found : Option Finding) where
       → IfNone found (SatisfyModel stage bundle (standing folder stage))
   unfolding verdict
   stands_right stage.Load lacks is right =
-      right (one_stands stage.Load file.Load (text file.Load) refl lacks (0, omega arith, refl))
+      right (content_stands stage.Load (by_contents stage.Load refl) folder lacks)
   stands_right stage.Cost lacks is right =
-      right (one_stands stage.Cost file.PoolCost (text file.PoolCost) refl lacks (0, omega arith, refl))
+      right (content_stands stage.Cost (by_contents stage.Cost refl) folder lacks)
+  stands_right stage.Ean lacks is right =
+      right (content_stands stage.Ean (by_contents stage.Ean refl) folder lacks)
   stands_right stage.Concept lacks is right =
       right (concept_stands (text file.Concept) (text file.Tree) lacks)
   stands_right _ lacks is right = rw is tt

@@ -1,5 +1,5 @@
 -- Files with the same texts.
-use Rattle.std.proofs.Common.{◌≡◌, ℕ, true, List, [], ◌∷◌, length, zip, refl, arith}
+use Rattle.std.proofs.Common.{◌≡◌, true, List, [], ◌∷◌, length, zip, refl, arith}
 use Rattle.std.specs.List.{list_all}
 use Rattle.std.specs.Str.{bytes_eq}
 use Rattle.std.proofs.lemmas.Bool.{and_parts, and_from}

@@ -14,6 +14,7 @@ use Rattle.config_keys.specs.declared.config_fault.ConfigFault.{ConfigFault}
 use Rattle.config_keys.specs.Items.{look_in}
 use Rattle.config_keys.specs.Values.{effective}
 use Rattle.demand_load.specs.LoadStage.{load_stage}
+use Rattle.event_activity.specs.EanStage.{ean_stage}
 use Rattle.line_pool.specs.CostStage.{cost_stage}
 use Rattle.line_search.specs.ConceptStage.{concept_stage, concept_work}
 use Rattle.stage_driver.specs.declared.outcome.RunEnd.{RunEnd}
@@ -24,7 +25,7 @@ use Rattle.stage_driver.specs.Reports.{stage_lines, last_line, end_of}
 
 -- the stages that are built, in the order in which they run
 abbrev pub built : List Stage
-built = stage.Load ∷ stage.Cost ∷ stage.Concept ∷ []
+built = stage.Load ∷ stage.Cost ∷ stage.Concept ∷ stage.Ean ∷ []
 
 -- what each stage makes of what it is given; one that is not built makes nothing, and no chain has
 -- it
@@ -32,6 +33,7 @@ unfoldable pub stage_function : Stage → BundleParts → Result Made Refusal
 stage_function stage.Load bundle = load_stage bundle
 stage_function stage.Cost bundle = cost_stage bundle
 stage_function stage.Concept bundle = concept_stage bundle
+stage_function stage.Ean bundle = ean_stage bundle
 stage_function _ bundle = Err refusal.NoSolution
 
 -- the same, by the stage of the bundle

@@ -108,6 +108,7 @@ unfoldable pub verdict : Stage → BundleParts → List MadeFile → Option Find
 verdict stage.Load bundle others = content_found stage.Load (run_stage bundle) others
 verdict stage.Cost bundle others = content_found stage.Cost (run_stage bundle) others
 verdict stage.Concept bundle others = concept_verdict bundle others
+verdict stage.Ean bundle others = content_found stage.Ean (run_stage bundle) others
 verdict stage bundle others = Some (Broken stage rule.Content)
 
 -- what is found of a stage: first of its inputs, then of the files that it makes

@@ -13,6 +13,7 @@ use Rattle.line_pool.specs.RightCosts.{CostFilesAreRight}
 use Rattle.line_search.specs.GivenProblems.{problem_faults, problem_of}
 use Rattle.line_search.specs.Judged.{Passes}
 use Rattle.line_search.specs.RightConcepts.{mark_files}
+use Rattle.event_activity.specs.RightEan.{EanFilesAreRight}
 use Rattle.stage_driver.specs.declared.outcome.RunEnd.TheVariants as end
 use Rattle.stage_driver.specs.Built.{built, made}
 use Rattle.stage_driver.specs.Chain.{bundle_by, is_to_run}
@@ -36,6 +37,7 @@ abbrev pub SatisfyModel : Stage → BundleParts → List MadeFile → Type 0
 SatisfyModel stage.Load bundle files = LoadFilesAreRight bundle files
 SatisfyModel stage.Cost bundle files = CostFilesAreRight bundle files
 SatisfyModel stage.Concept bundle files = ConceptPasses bundle files
+SatisfyModel stage.Ean bundle files = EanFilesAreRight bundle files
 SatisfyModel _ bundle files = ⊥
 
 -- The files of a stage that stand in a folder satisfy its model over the files that stand there.

@@ -101,8 +101,8 @@ fn verdict(
         Stage::Load => content_found(alloc, bundle, stage, there),
         Stage::Cost => content_found(alloc, bundle, stage, there),
         Stage::Concept => concept_verdict(alloc, bundle, there),
-        Stage::Ean
-        | Stage::Timetable
+        Stage::Ean => content_found(alloc, bundle, stage, there),
+        Stage::Timetable
         | Stage::Rollout
         | Stage::Vehicles
         | Stage::Disposition

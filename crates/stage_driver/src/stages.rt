@@ -7,6 +7,7 @@ ghost use Rattle.stage_driver.specs.Chain.{stage_place};
 ghost use Rattle.stage_driver.specs.Built.{built, run_stage, stage_work};
 
 use demand_load::make_load;
+use event_activity::make_ean;
 use giv_files::{Bundle, Made, Refusal, Stage, StageFault};
 use line_pool::make_cost;
 use line_search::make_concept;
@@ -17,7 +18,7 @@ use std::alloc::Global;
 pub(crate) fn built() -> &'static [Stage]
     ensures { result.now ≡ built }
 {
-    &[Stage::Load, Stage::Cost, Stage::Concept]
+    &[Stage::Load, Stage::Cost, Stage::Concept, Stage::Ean]
 }
 
 /// Makes what the stage of a bundle makes of it.
@@ -35,8 +36,8 @@ pub(crate) fn make_stage<L: Ledger>(
         Stage::Load => make_load(alloc, bundle, steps),
         Stage::Cost => make_cost(alloc, bundle, steps),
         Stage::Concept => make_concept(alloc, bundle, steps),
-        Stage::Ean
-        | Stage::Timetable
+        Stage::Ean => make_ean(alloc, bundle, steps),
+        Stage::Timetable
         | Stage::Rollout
         | Stage::Vehicles
         | Stage::Disposition

@@ -1,7 +1,7 @@
 use Rattle.std.proofs.Common.{sym, ◌∙◌}
 use Rattle.plan_files.proofs.Reading.{both_read}
 use Rattle.giv_files.specs.declared.stage.Stage.TheVariants.{Load}
-use Rattle.stage_driver.proofs.Judging.{told_some, told_none, told_end}
+use Rattle.stage_driver.proofs.Judging.{told_some, told_none}
 use Rattle.stage_driver.proofs.Passed.{rest_next, rest_end}
 use Rattle.stage_driver.proofs.check.find_under.Goals as goal
 
