@@ -29,6 +29,20 @@ pub(crate) const TREE: &[u8] = b"# kind; id; value; multiplier\nsplit; 1; 1; 0\n
     empty; 2; 1; 0\nsplit; 2; 1; 0\nsplit; 2; 0; 0\nempty; 1; 1; 0\npoint; 0; 0; 0\n\
     bound; 0; 0; 0\nbound; 0; 0; 0\n";
 
+pub(crate) const EVENTS: &[u8] =
+    b"# event-id; type; stop-id; line-id; direction; repetition\n1; departure; 1; 1; >; 1\n\
+    2; arrival; 2; 1; >; 1\n3; departure; 2; 1; >; 1\n4; arrival; 3; 1; >; 1\n\
+    5; departure; 3; 1; <; 1\n6; arrival; 2; 1; <; 1\n7; departure; 2; 1; <; 1\n\
+    8; arrival; 1; 1; <; 1\n9; departure; 1; 2; >; 1\n10; arrival; 2; 2; >; 1\n\
+    11; departure; 2; 2; <; 1\n12; arrival; 1; 2; <; 1\n";
+
+pub(crate) const ACTIVITIES: &[u8] =
+    b"# activity-id; type; from-event; to-event; lower-bound; upper-bound\n\
+    1; drive; 1; 2; 4; 5\n2; wait; 2; 3; 1; 3\n3; drive; 3; 4; 6; 6\n4; drive; 5; 6; 6; 6\n\
+    5; wait; 6; 7; 1; 3\n6; drive; 7; 8; 4; 5\n7; drive; 9; 10; 4; 5\n8; drive; 11; 12; 4; 5\n\
+    9; change; 2; 11; 3; 62\n10; change; 6; 11; 3; 62\n11; change; 8; 9; 3; 62\n\
+    12; change; 10; 3; 3; 62\n13; change; 10; 7; 3; 62\n14; change; 12; 1; 3; 62\n";
+
 // The files that people wrote, those that are to be made, and what is to be told.
 #[derive(Clone, Copy)]
 pub(crate) struct Case {
@@ -43,6 +57,8 @@ pub(crate) struct Case {
     pub(crate) costs: Option<&'static [u8]>,
     pub(crate) concept: Option<&'static [u8]>,
     pub(crate) tree: Option<&'static [u8]>,
+    pub(crate) events: Option<&'static [u8]>,
+    pub(crate) activities: Option<&'static [u8]>,
     pub(crate) report: &'static [u8],
     pub(crate) steps: u64,
 }
@@ -60,8 +76,11 @@ pub(crate) const MADE: Case = Case {
     costs: Some(COSTS),
     concept: Some(CONCEPT),
     tree: Some(TREE),
-    report: b"load: 2 edges\ncost: 2 lines\nconcept: cost 27, optimal, 9 entries\ndone\n",
-    steps: 12,
+    events: Some(EVENTS),
+    activities: Some(ACTIVITIES),
+    report: b"load: 2 edges\ncost: 2 lines\nconcept: cost 27, optimal, 9 entries\n\
+        ean: 12 events, 14 activities\ndone\n",
+    steps: 13,
 };
 
 pub(crate) fn words(alloc: Global, word: &str) -> Result<Vec<String>, AllocError> {
@@ -78,6 +97,8 @@ pub(crate) fn run(rt: &(impl AllocGlobal + Abort), case: &Case) -> Result<(), Fa
         ("basis/Pool-Cost.giv", case.costs),
         ("line-planning/Line-Concept.lin", case.concept),
         ("line-planning/Line-Concept.cert", case.tree),
+        ("timetabling/Events-periodic.giv", case.events),
+        ("timetabling/Activities-periodic.giv", case.activities),
     ];
     let mut files = SteadyFiles::new(alloc);
     for (name, _) in &made {

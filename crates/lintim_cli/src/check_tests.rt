@@ -1,6 +1,6 @@
 // Checks of what `make` made, and of concepts and trees that were put in the place of what it made.
 use crate::answers::Status;
-use crate::cases::{CONCEPT, CONFIG, EDGES, GIVEN, POOL, STOPS, TREE, words};
+use crate::cases::{ACTIVITIES, CONCEPT, CONFIG, EDGES, EVENTS, GIVEN, POOL, STOPS, TREE, words};
 use crate::top::lintim;
 use plan_files::{Files, MemorySink, SteadyFiles};
 use plan_num::{Steps, Tally};
@@ -43,7 +43,7 @@ fn tells(
     Ok(())
 }
 
-// The same of a concept and a tree.
+// The same of a concept and a tree, where no later stage is judged.
 fn judged(
     rt: &(impl AllocGlobal + Abort),
     concept: &[u8],
@@ -52,6 +52,7 @@ fn judged(
     report: &[u8],
 ) -> Result<(), Fail> {
     let mut files = made(rt.alloc())?;
+    files.put("basis/Config.cnf", b"load_source; file\nlast_stage; concept\n")?;
     files.put("line-planning/Line-Concept.lin", concept)?;
     match tree {
         Some(tree) => files.put("line-planning/Line-Concept.cert", tree)?,
@@ -187,6 +188,16 @@ fn multipliers_are_judged(rt: HostRuntime) -> Result<(), Fail> {
 fn made_files_are_judged(rt: HostRuntime) -> Result<(), Fail> {
     let mut files = made(rt.alloc())?;
     let broken = Status::Uncertified;
+    files.remove("timetabling/Activities-periodic.giv")?;
+    tells(&rt, &mut files, broken, b"uncertified: ean: missing\n")?;
+    files.put("timetabling/Activities-periodic.giv", ACTIVITIES)?;
+    tells(&rt, &mut files, Status::Done, b"checked\n")?;
+    files.put("timetabling/Events-periodic.giv", ACTIVITIES)?;
+    tells(&rt, &mut files, broken, b"uncertified: ean: content\n")?;
+    files.put("timetabling/Events-periodic.giv", EVENTS)?;
+    files.remove("line-planning/Line-Concept.cert")?;
+    files.put("line-planning/Line-Concept.lin", b"1; 1; 1; 2\n1; 2; 2; 2\n2; 1; 1; 0\n")?;
+    tells(&rt, &mut files, broken, b"uncertified: ean: content\n")?;
     files.remove("line-planning/Line-Concept.lin")?;
     tells(&rt, &mut files, broken, b"uncertified: concept: missing\n")?;
     files.put("basis/Pool-Cost.giv", b"1; 5; 15\n2; 2; 12\n")?;

@@ -7,8 +7,9 @@ use std::test::Fail;
 const UNMARKED: Case = Case {
     config: Some(b"load_source; file\nconcept_budget; 8\n"),
     tree: None,
-    report: b"load: 2 edges\ncost: 2 lines\nconcept: cost 27, not proved optimal, 8 entries\ndone\n",
-    steps: 11,
+    report: b"load: 2 edges\ncost: 2 lines\nconcept: cost 27, not proved optimal, 8 entries\n\
+        ean: 12 events, 14 activities\ndone\n",
+    steps: 12,
     ..MADE
 };
 
@@ -17,6 +18,8 @@ const NONE: Case = Case {
     status: Status::NoSolution,
     concept: None,
     tree: None,
+    events: None,
+    activities: None,
     report: b"load: 2 edges\ncost: 2 lines\nno solution: concept\n",
     steps: 4,
     ..MADE
@@ -35,8 +38,17 @@ const EQUAL: Case = Case {
     tree: Some(
         b"# kind; id; value; multiplier\nsplit; 1; 0; 0\nsplit; 2; 0; 0\nempty; 1; 1; 0\npoint; 0; 0; 0\nbound; 0; 0; 0\n",
     ),
-    report: b"load: 1 edges\ncost: 2 lines\nconcept: cost 12, optimal, 5 entries\ndone\n",
-    steps: 8,
+    events: Some(
+        b"# event-id; type; stop-id; line-id; direction; repetition\n1; departure; 1; 2; >; 1\n\
+        2; arrival; 2; 2; >; 1\n3; departure; 2; 2; <; 1\n4; arrival; 1; 2; <; 1\n",
+    ),
+    activities: Some(
+        b"# activity-id; type; from-event; to-event; lower-bound; upper-bound\n\
+        1; drive; 1; 2; 4; 5\n2; drive; 3; 4; 4; 5\n",
+    ),
+    report: b"load: 1 edges\ncost: 2 lines\nconcept: cost 12, optimal, 5 entries\n\
+        ean: 4 events, 2 activities\ndone\n",
+    steps: 9,
     ..MADE
 };
 
@@ -91,8 +103,9 @@ fn of_equal_concepts_the_first_is_made(rt: HostRuntime) -> Result<(), Fail> {
         &Case {
             config: Some(b"load_source; file\nconcept_budget; 4\n"),
             tree: None,
-            report: b"load: 1 edges\ncost: 2 lines\nconcept: cost 12, not proved optimal, 4 entries\ndone\n",
-            steps: 7,
+            report: b"load: 1 edges\ncost: 2 lines\nconcept: cost 12, not proved optimal, 4 entries\n\
+                ean: 4 events, 2 activities\ndone\n",
+            steps: 8,
             ..EQUAL
         },
     )
@@ -115,7 +128,19 @@ fn a_bound_may_have_multipliers(rt: HostRuntime) -> Result<(), Fail> {
             tree: Some(
                 b"# kind; id; value; multiplier\nsplit; 1; 1; 0\nsplit; 1; 0; 0\nsplit; 2; 1; 0\nempty; 1; 1; 0\nsplit; 2; 2; 0\npoint; 0; 0; 0\nbound; 0; 0; 0\nbound; 1; 0; 0\nmult; 1; 0; 12\nbound; 0; 0; 0\n",
             ),
-            report: b"load: 2 edges\ncost: 2 lines\nconcept: cost 24, optimal, 9 entries\ndone\n",
+            events: Some(
+                b"# event-id; type; stop-id; line-id; direction; repetition\n\
+                1; departure; 1; 2; >; 1\n2; arrival; 2; 2; >; 1\n3; departure; 1; 2; >; 2\n\
+                4; arrival; 2; 2; >; 2\n5; departure; 2; 2; <; 1\n6; arrival; 1; 2; <; 1\n\
+                7; departure; 2; 2; <; 2\n8; arrival; 1; 2; <; 2\n",
+            ),
+            activities: Some(
+                b"# activity-id; type; from-event; to-event; lower-bound; upper-bound\n\
+                1; drive; 1; 2; 4; 5\n2; drive; 3; 4; 4; 5\n3; drive; 5; 6; 4; 5\n\
+                4; drive; 7; 8; 4; 5\n5; sync; 1; 3; 10; 10\n6; sync; 5; 7; 10; 10\n",
+            ),
+            report: b"load: 2 edges\ncost: 2 lines\nconcept: cost 24, optimal, 9 entries\n\
+                ean: 8 events, 6 activities\ndone\n",
             ..MADE
         },
     )

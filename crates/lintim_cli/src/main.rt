@@ -52,6 +52,8 @@ mod check_tests;
 #[cfg(test)]
 mod concept_tests;
 #[cfg(test)]
+mod ean_tests;
+#[cfg(test)]
 mod spies;
 #[cfg(test)]
 mod tests;

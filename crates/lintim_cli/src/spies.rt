@@ -47,7 +47,7 @@ impl SpyFiles {
         files.put("basis/Load.giv", GIVEN)?;
         files.put("basis/OD.giv", b"1; 3; 5\n")?;
         files.put("keep/load.keep", b"kept")?;
-        files.put("timetabling/Events-periodic.giv", b"later")?;
+        files.put("timetabling/Timetable-periodic.tim", b"later")?;
         files.put("other.txt", b"other")?;
         Ok(SpyFiles {
             alloc,
@@ -127,7 +127,7 @@ impl Sink for SpySink {
 
 // The calls of a run over the dataset: it reads the hand files that its settings and its stages
 // need, and then it puts what they make.
-const CALLS: [(Kind, &str); 14] = [
+const CALLS: [(Kind, &str); 18] = [
     (Kind::Get, "basis/Config.cnf"),
     (Kind::Get, "basis/Stop.giv"),
     (Kind::Get, "basis/Edge.giv"),
@@ -138,10 +138,14 @@ const CALLS: [(Kind, &str); 14] = [
     (Kind::Get, "basis/Stop.giv"),
     (Kind::Get, "basis/Edge.giv"),
     (Kind::Get, "basis/Pool.giv"),
+    (Kind::Get, "basis/Stop.giv"),
+    (Kind::Get, "basis/Edge.giv"),
     (Kind::Put, "line-planning/Load.giv"),
     (Kind::Put, "basis/Pool-Cost.giv"),
     (Kind::Put, "line-planning/Line-Concept.lin"),
     (Kind::Put, "line-planning/Line-Concept.cert"),
+    (Kind::Put, "timetabling/Events-periodic.giv"),
+    (Kind::Put, "timetabling/Activities-periodic.giv"),
 ];
 
 // The first so many of these calls were made, and no other one.
@@ -172,15 +176,15 @@ fn a_run_names_its_files_alone(rt: HostRuntime) -> Result<(), Fail> {
     let mut out = SpySink::new(rt.alloc(), false);
     let status = run(&rt, "make", &mut files, &mut out)?;
     assert_eq!(rt; status, Status::Done);
-    are_first(&rt, &files, 14);
-    assert_eq!(rt; out.pieces.as_slice(), [70].as_slice());
+    are_first(&rt, &files, 18);
+    assert_eq!(rt; out.pieces.as_slice(), [100].as_slice());
     Ok(())
 }
 
 // After a call that fails no other one is made, and the line that tells of it is one write.
 #[test]
 fn nothing_is_called_after_a_fault(rt: HostRuntime) -> Result<(), Fail> {
-    for fails in 1..15 {
+    for fails in 1..19 {
         let mut files = SpyFiles::of_dataset(rt.alloc(), fails)?;
         let mut out = SpySink::new(rt.alloc(), false);
         let status = run(&rt, "make", &mut files, &mut out)?;
@@ -198,8 +202,8 @@ fn a_report_is_written_once(rt: HostRuntime) -> Result<(), Fail> {
     let mut out = SpySink::new(rt.alloc(), true);
     let status = run(&rt, "make", &mut files, &mut out)?;
     assert_eq!(rt; status, Status::SinkFault);
-    are_first(&rt, &files, 14);
-    assert_eq!(rt; out.pieces.as_slice(), [70].as_slice());
+    are_first(&rt, &files, 18);
+    assert_eq!(rt; out.pieces.as_slice(), [100].as_slice());
     Ok(())
 }
 
@@ -212,12 +216,14 @@ fn a_refused_run_removes_made_files_alone(rt: HostRuntime) -> Result<(), Fail> {
     let mut out = SpySink::new(rt.alloc(), false);
     let status = run(&rt, "make", &mut files, &mut out)?;
     assert_eq!(rt; status, Status::BadInput);
-    assert_eq!(rt; files.calls.len(), 6);
+    assert_eq!(rt; files.calls.len(), 8);
     let names = [
         "line-planning/Load.giv",
         "basis/Pool-Cost.giv",
         "line-planning/Line-Concept.lin",
         "line-planning/Line-Concept.cert",
+        "timetabling/Events-periodic.giv",
+        "timetabling/Activities-periodic.giv",
     ];
     for (call, name) in files.calls.iter().skip(2).zip(names.iter()) {
         assert_eq!(rt; call.kind, Kind::Remove);
