@@ -1,0 +1,12 @@
+//! Periodic timetables: the search of one by constraint propagation, and the test of one from any
+//! hand.
+#![tactic(auto)]
+
+mod check;
+mod fault;
+mod search;
+mod stage;
+
+pub use check::check_timetable;
+pub use fault::TimetableFault;
+pub use stage::make_timetable;
