@@ -1,5 +1,6 @@
 pub mod Judged
 pub mod Listings
+pub mod Marks
 pub mod RightTimetables
 pub mod Searches
 pub mod TimeSets

@@ -4,8 +4,10 @@
 
 mod check;
 mod fault;
+mod marks;
 mod search;
 mod stage;
+mod time_sets;
 
 pub use check::check_timetable;
 pub use fault::TimetableFault;
