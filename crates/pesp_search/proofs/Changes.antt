@@ -30,7 +30,10 @@ unfolding saved_by
 saved_removed sets changes event time left =
     ap (saved_by (with_mark sets event time false)) (last_first changes (change.Removed event time))
     ∙ ap (λ marks. saved_by (record {
-      period = sets.period; events = sets.events; marks = marks; }) (reverse changes))
+      period = sets.period;
+      events = sets.events;
+      marks = marks;
+    }) (reverse changes))
     (set_again sets.marks _ (and_right (nat_lt time sets.period) _ left))
 
 pub saved_branched : (sets : Marks) (changes : List Change) (branch : Branch)
@@ -43,6 +46,7 @@ saved_branched sets changes branch =
 pub none_saved : (sets : Marks) → saved_by sets [] ≡ []
 unfolding saved_by
 none_saved sets = refl
+
 -- ---- what is left of the changes behind the last one
 
 pub popped_removed : (sets now : Marks) (all rest : List Change) (last : Change) (event time : ℕ)
@@ -53,7 +57,7 @@ unfolding saved_by
 popped_removed sets now all rest last event time is removed same =
     ap (λ now. saved_by now (reverse rest)) same
     ∙ sym (ap (λ all. saved_by sets (reverse all)) is ∙ ap (saved_by sets) (last_first rest last)
-        ∙ ap (λ last. saved_by sets (last ∷ reverse rest)) removed)
+    ∙ ap (λ last. saved_by sets (last ∷ reverse rest)) removed)
 
 pub popped_branched : (sets : Marks) (all rest : List Change) (last : Change) (branch : Branch)
     → all ≡ rest ++ last ∷ [] → last ≡ change.Branched branch

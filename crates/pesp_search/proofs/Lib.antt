@@ -1,3 +1,6 @@
 mod Changes
 mod NextTimes
+mod Partners
+mod Pruned
 mod Tried
+mod WindowSums

@@ -108,3 +108,4 @@ pub record Prunes (before after : Tracked) (keeps : ℕ → ℕ → Bool) (chang
   pub left : is_left after.sets ≡ (λ event time. is_left before.sets event time && keeps event time)
   pub same : changes ≡ false → after ≡ before
   pub fewer : changes ≡ true → marks_left after.sets < marks_left before.sets
+  pub no_more : marks_left after.sets ≤ marks_left before.sets

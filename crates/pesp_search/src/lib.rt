@@ -5,9 +5,12 @@
 mod check;
 mod fault;
 mod marks;
+mod prune;
+mod revise;
 mod search;
 mod stage;
 mod time_sets;
+mod windows;
 
 pub use check::check_timetable;
 pub use fault::TimetableFault;

@@ -19,14 +19,14 @@ loop-change-preserved c = record {
 pub returns-in-Branched : goal.returns-in-Branched
 returns-in-Branched c = (
   sym c.loop-change.invariant.saved
-  ∙ popped_branched c.loop-change.self-inside.sets c.loop-change.self-inside.changes.items
-  c.pop.new.self.items c.in-Some.change c.in-Branched.branch c.in-Some.ensures.items
-  c.in-Branched.is,
+      ∙ popped_branched c.loop-change.self-inside.sets c.loop-change.self-inside.changes.items
+      c.pop.new.self.items c.in-Some.change c.in-Branched.branch c.in-Some.ensures.items
+      c.in-Branched.is,
   subst (IsChange c.loop-change.self-inside.sets.period c.loop-change.self-inside.sets.events)
-  c.in-Branched.is
-  (last_holds (IsChange c.loop-change.self-inside.sets.period c.loop-change.self-inside.sets.events)
-  c.loop-change.self-inside.changes.items c.pop.new.self.items c.in-Some.change
-  c.in-Some.ensures.items c.loop-change.invariant.changes),
+      c.in-Branched.is
+      (last_holds (IsChange c.loop-change.self-inside.sets.period c.loop-change.self-inside.sets.events)
+      c.loop-change.self-inside.changes.items c.pop.new.self.items c.in-Some.change
+      c.in-Some.ensures.items c.loop-change.invariant.changes),
 )
 
 pub returns : goal.returns
