@@ -1,6 +1,10 @@
 mod Changes
+mod FoundTimes
+mod ListedTimes
 mod NextTimes
 mod Partners
 mod Pruned
+mod RoundsKeep
+mod ShrinkingSets
 mod Tried
 mod WindowSums
