@@ -5,6 +5,8 @@ mod NextTimes
 mod Partners
 mod Pruned
 mod RoundsKeep
+mod ShortListings
 mod ShrinkingSets
 mod Tried
+mod TurnedTimes
 mod WindowSums

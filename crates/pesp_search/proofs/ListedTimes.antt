@@ -61,7 +61,7 @@ settled_holds (set ∷ sets) (time ∷ times) (suc event) h inside =
     (h.0, settled_holds sets times event h.1 (omega (arith, inside)))
 
 -- then one event less has several times
-fewer_settled : (sets : List (List ℕ)) (event time : ℕ) → event < length sets
+pub fewer_settled : (sets : List (List ℕ)) (event time : ℕ) → event < length sets
     → has_several (left_to sets event) ≡ true → several_in (with_time sets event time) < several_in sets
 fewer_settled [] event time inside several = absurd (omega (arith, inside))
 fewer_settled (set ∷ sets) zero time inside several =

@@ -9,7 +9,7 @@ use Rattle.pesp_model.specs.Timetables.{Problem}
 use Rattle.pesp_search.specs.Listings.{has_several, several_in}
 use Rattle.pesp_search.specs.TimeSets.{has_partners, left_to, reduced, round, rounds, times_left}
 
-filter_short : (test : ℕ → Bool) (xs : List ℕ) → length (filter test xs) ≤ length xs
+pub filter_short : (test : ℕ → Bool) (xs : List ℕ) → length (filter test xs) ≤ length xs
 filter_short test [] = omega arith
 filter_short test (x ∷ xs) =
     let rest = filter_short test xs in
