@@ -10,3 +10,4 @@ mod ShrinkingSets
 mod Tried
 mod TurnedTimes
 mod WindowSums
+pub mod ListingRight
