@@ -7,7 +7,9 @@ mod Pruned
 mod RoundsKeep
 mod ShortListings
 mod ShrinkingSets
+mod TimesAccepted
 mod Tried
 mod TurnedTimes
 mod WindowSums
 pub mod ListingRight
+pub mod TimetableReads
