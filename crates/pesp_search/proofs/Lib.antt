@@ -12,4 +12,6 @@ mod Tried
 mod TurnedTimes
 mod WindowSums
 pub mod ListingRight
+pub mod TimetableEnds
+pub mod TimetableMakes
 pub mod TimetableReads

@@ -1,10 +1,11 @@
 // The stage that searches a timetable.
-ghost use Rattle.std.specs.Prelude.{◌≡◌, IfOk};
+ghost use Rattle.std.specs.Prelude.{◌≡◌, [], IfOk};
 ghost use Rattle.giv_files.specs.declared.stage.Stage.TheVariants as stages;
 ghost use Rattle.giv_files.specs.Settings.{Fits};
 ghost use Rattle.giv_files.specs.StageCalls.{StageGives, TakesSteps};
 ghost use Rattle.pesp_search.specs.RightTimetables.{IsNeverSpent, SaysNone, TimetableIsRight};
-ghost use Rattle.pesp_search.specs.TimetableStage.{timetable_stage, timetable_work};
+ghost use Rattle.pesp_search.specs.TimetableStage.{timetable_faults, timetable_stage};
+ghost use Rattle.pesp_search.specs.TimetableStage.{timetable_work};
 
 use giv_files::{Bundle, Made, StageFault};
 use plan_num::{Ledger, Steps};
@@ -21,8 +22,8 @@ pub fn make_timetable<L: Ledger>(
     requires fits { Fits bundle.now }
     ensures made { StageGives (timetable_stage bundle.now) result }
     ensures right { IfOk result (TimetableIsRight bundle.now) }
-    ensures none { SaysNone bundle.now result }
-    ensures never_spent { IsNeverSpent bundle.now result }
+    ensures none { timetable_faults bundle.now ≡ [] → SaysNone bundle.now result }
+    ensures never_spent { timetable_faults bundle.now ≡ [] → IsNeverSpent bundle.now result }
     ensures steps { TakesSteps (timetable_work bundle.now) steps.old steps.new result }
 {
     Err(StageFault::NoMemory)
