@@ -117,8 +117,8 @@ module _ (problem : Problem) (sound : IsProblem problem) (times : List ℕ)
       filter_keeps (has_partners problem sets n) time set h.0
           (subst (λ m. has_partners problem sets m time ≡ true) (omega arith) (partners 0 (omega arith))),
       round_from (n + 1) rest left h.1 (λ k inside.
-      subst (λ m. has_partners problem sets m (get_or rest k 0) ≡ true) (omega arith)
-      (partners (suc k) (omega (arith, inside)))),
+          subst (λ m. has_partners problem sets m (get_or rest k 0) ≡ true) (omega arith)
+          (partners (suc k) (omega (arith, inside)))),
     )
 
     round_keeps : Holds (round problem sets) times

@@ -31,13 +31,21 @@ are_in_order problem rows =
 abbrev pub broken_where : Bool → TimetableFault → List TimetableFault
 broken_where is_broken rule = if is_broken then rule ∷ [] else []
 
--- the rules that a text breaks as a timetable of a problem, in order: it is no table, its rows are not the
--- events, an activity breaks its bounds
+-- a text is a table of times
+abbrev pub is_table : List ℕ → Bool
+is_table text = length (faults times_p_columns text) == 0
+
+-- the rules that rows break: they are not the events, an activity breaks its bounds
+abbrev pub broken_rows : Problem → List PeriodicTime → List TimetableFault
+broken_rows problem rows =
+    broken_where (not (are_in_order problem rows)) fault.Events
+    ++ broken_where (is_some (first_broken problem (map (λ row. row.time) rows))) fault.Tension
+
+-- the rules that a text breaks as a timetable of a problem, in order: it is no table, or else those that its
+-- rows break
 abbrev pub broken_rules : Problem → List ℕ → List TimetableFault
 broken_rules problem text =
-    broken_where (not (length (faults times_p_columns text) == 0)) fault.Row
-    ++ broken_where (not (are_in_order problem (rows_in text))) fault.Events
-    ++ broken_where (is_some (first_broken problem (times_in text))) fault.Tension
+    broken_where (not (is_table text)) fault.Row ++ broken_rows problem (rows_in text)
 
 -- the first of them, or none
 unfoldable pub first_broken_rule : Problem → List ℕ → Option TimetableFault

@@ -7,6 +7,8 @@ ghost use Rattle.pesp_search.specs.Judged.{Passes, first_broken_rule};
 ghost use Rattle.pesp_search.specs.TimetableStage.{problem_in, timetable_faults};
 
 use crate::fault::TimetableFault;
+use crate::judge::first_fault;
+use crate::stage::{period_of, read_pesp};
 use giv_files::{Bundle, StageFault};
 use std::alloc::Global;
 
@@ -24,5 +26,6 @@ pub fn check_timetable(
     ensures passes { IfOk result
         (λ answer. IfNone answer (Passes (problem_in bundle.now) times.now)) }
 {
-    Err(StageFault::NoMemory)
+    let pesp = read_pesp(alloc, bundle)?;
+    Ok(first_fault(alloc, &pesp, period_of(bundle), times)?)
 }

@@ -4,6 +4,8 @@
 
 mod check;
 mod fault;
+mod files;
+mod judge;
 mod marks;
 mod prune;
 mod revise;
