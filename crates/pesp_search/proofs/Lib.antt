@@ -1,6 +1,10 @@
 mod Changes
+mod Families
 mod NextTimes
 mod Partners
 mod Pruned
+mod ReducedSets
+mod Revised
+mod Sweeping
 mod Tried
 mod WindowSums

@@ -6,6 +6,7 @@ mod check;
 mod fault;
 mod marks;
 mod prune;
+mod reduce;
 mod revise;
 mod search;
 mod stage;
