@@ -1,5 +1,7 @@
 mod Changes
 mod Families
+mod FirstMarks
+mod NextSets
 mod NextTimes
 mod Partners
 mod Pruned
@@ -7,4 +9,5 @@ mod ReducedSets
 mod Revised
 mod Sweeping
 mod Tried
+mod Waiting
 mod WindowSums

@@ -3,6 +3,7 @@
 #![tactic(auto)]
 
 mod check;
+mod children;
 mod fault;
 mod marks;
 mod prune;
@@ -10,6 +11,7 @@ mod reduce;
 mod revise;
 mod search;
 mod stage;
+mod standing;
 mod time_sets;
 mod windows;
 
