@@ -1,4 +1,5 @@
 mod Changes
+mod Entries
 mod Families
 mod FirstMarks
 mod NextSets
@@ -9,5 +10,6 @@ mod ReducedSets
 mod Revised
 mod Sweeping
 mod Tried
+mod Unrolled
 mod Waiting
 mod WindowSums
