@@ -1,6 +1,6 @@
 -- A time has a partner where a time is left in a window.
-use Rattle.std.proofs.Common.{◌≡◌, ◌∙◌, ◌⊎◌, inl, inr, ℕ, zero, suc, ℤ, pos, negsuc, ◌+◌, ◌-◌, ◌*◌, ◌/◌, ◌%◌, ◌<◌, ◌≤◌, ◌≤ℤ◌, ◌-ℤ◌, min}
-use Rattle.std.proofs.Common.{Bool, true, false, cond, ◌||◌, List, [], ◌∷◌, map, filter, Decides, refl, ap, sym, subst, arith, unsigned_abs}
+use Rattle.std.proofs.Common.{◌≡◌, ◌∙◌, inl, inr, ℕ, zero, suc, ℤ, pos, negsuc, ◌+◌, ◌-◌, ◌*◌, ◌/◌, ◌%◌, ◌<◌, ◌≤◌, ◌≤ℤ◌, ◌-ℤ◌, min}
+use Rattle.std.proofs.Common.{Bool, true, false, cond, List, [], ◌∷◌, map, filter, Decides, refl, ap, sym, arith, unsigned_abs}
 use Rattle.std.specs.List.{list_any, range_with_len}
 use Rattle.std.proofs.Math.Nat.{add-mod-mod, mod-add-mod, mod-add-div', add-mul-mod_self_right, add-mod_right, mod-eq_of_lt, mod-lt}
 use Rattle.std.proofs.lemmas.Bool.{cases_Bool, cases_eq, or_cases, or_left, or_right, false≢true}
@@ -39,10 +39,10 @@ module _ (test : ℕ → Bool) where
       ]
 
 module _ (left test : ℕ → Bool) where
-  kept_first : (x : ℕ) (xs : List ℕ) → left x ≡ true → filter left (x ∷ xs) ≡ x ∷ filter left xs
+  pub kept_first : (x : ℕ) (xs : List ℕ) → left x ≡ true → filter left (x ∷ xs) ≡ x ∷ filter left xs
   kept_first x xs is = ap (λ b. cond b (x ∷ filter left xs) (filter left xs)) is
 
-  left_out : (x : ℕ) (xs : List ℕ) → left x ≡ false → filter left (x ∷ xs) ≡ filter left xs
+  pub left_out : (x : ℕ) (xs : List ℕ) → left x ≡ false → filter left (x ∷ xs) ≡ filter left xs
   left_out x xs is = ap (λ b. cond b (x ∷ filter left xs) (filter left xs)) is
 
   pub range_holds : (from n x : ℕ) → from ≤ x → x < from + n → left x ≡ true → test x ≡ true

@@ -1,5 +1,5 @@
 -- Inner words: marks of the times that are left to events, and sets of times that are changed and restored.
-use Rattle.std.specs.Prelude.{◌≡◌, ℕ, ◌+◌, ◌*◌, ◌-◌, ◌<◌, ◌≤◌, ◌==◌, nat_lt, not, Bool, true, false, ◌&&◌, ◌||◌, List, [], ◌∷◌, ◌++◌, length, map, filter, get_or, slice_set, Option, Some, None, ⊤}
+use Rattle.std.specs.Prelude.{◌≡◌, ℕ, ◌+◌, ◌*◌, ◌-◌, ◌<◌, ◌≤◌, nat_lt, Bool, true, false, ◌&&◌, List, [], ◌∷◌, ◌++◌, length, map, filter, get_or, slice_set, Option, Some, None}
 use Rattle.std.specs.List.{range_with_len}
 use Rattle.pesp_search.specs.declared.time_sets.Branch.{Branch}
 use Rattle.pesp_search.specs.declared.time_sets.Change.{Change}
@@ -77,6 +77,8 @@ Restores before after None = before.saved ≡ []
 Restores before after (Some branch) =
     (before.saved ≡ record { sets = after.sets; branch = branch } ∷ after.saved)
     × (branch.event < after.sets.events)
+    × (after.sets.period ≡ before.sets.period)
+    × (after.sets.events ≡ before.sets.events)
 
 -- the times of an event that are still left from one on: none, or a first one and those behind it
 abbrev pub IsNext : Marks → ℕ → ℕ → Option ℕ → Type 0
@@ -109,3 +111,18 @@ pub record Prunes (before after : Tracked) (keeps : ℕ → ℕ → Bool) (chang
   pub same : changes ≡ false → after ≡ before
   pub fewer : changes ≡ true → marks_left after.sets < marks_left before.sets
   pub no_more : marks_left after.sets ≤ marks_left before.sets
+
+-- the next child that waits, if one does: its sets, and those that wait behind it
+abbrev pub IsNextChild : Tracked → Tracked → Bool → Type 0
+IsNextChild before after false = waiting before.saved ≡ []
+IsNextChild before after true =
+    (waiting before.saved ≡ sets_of after.sets ∷ waiting after.saved)
+    × (after.sets.period ≡ before.sets.period)
+    × (after.sets.events ≡ before.sets.events)
+
+-- one of its times is left to an event
+pub record KeepsTime (before after : Tracked) (event time : ℕ) : Type 0 where
+  pub period : after.sets.period ≡ before.sets.period
+  pub events : after.sets.events ≡ before.sets.events
+  pub saved : after.saved ≡ before.saved
+  pub sets : sets_of after.sets ≡ with_time (sets_of before.sets) event time

@@ -1,10 +1,11 @@
 -- Inner words: sets of times by a test of events and times, and what revising them by activities does.
-use Rattle.std.specs.Prelude.{◌≡◌, ℕ, zero, suc, ◌+◌, ◌-◌, ◌%◌, ◌<◌, ◌≤◌, min, ◌==◌, nat_lt, not, Bool, true, false, ◌&&◌, ◌||◌}
-use Rattle.std.specs.Prelude.{if◌then◌else◌, List, length, map, filter, get_or, slice_get, Some, All, unsigned_abs, ◌-ℤ◌}
+use Rattle.std.specs.Prelude.{◌≡◌, ◌⊎◌, ℕ, zero, suc, ◌+◌, ◌-◌, ◌%◌, ◌<◌, ◌≤◌, min, ◌==◌, not, Bool, true, false, ◌||◌}
+use Rattle.std.specs.Prelude.{if◌then◌else◌, List, length, filter, get_or, slice_get, slice_set, Some, All, unsigned_abs, ◌-ℤ◌}
 use Rattle.std.specs.List.{list_any, range_with_len}
 use Rattle.pesp_model.specs.declared.activity.PespActivity.{PespActivity}
 use Rattle.pesp_model.specs.Timetables.{Problem, keeps}
-use Rattle.pesp_search.specs.Marks.{Marks, Tracked, is_left, marks_left}
+use Rattle.pesp_search.specs.Marks.{Tracked, is_left, marks_left, sets_of}
+use Rattle.pesp_search.specs.TimeSets.{reduced}
 
 -- which times are left to which events
 abbrev pub Left : Type 0
@@ -81,9 +82,16 @@ pub record Propagates (problem : Problem) (before after : Tracked) : Type 0 wher
   pub keeps : (left : Left) → All (IsRevised problem.period left) problem.activities
       → IsWithin left (is_left before.sets) → IsWithin left (is_left after.sets)
 
--- whether the set of an event has changed
+-- whether the set of an event has changed, and whether that of some event has
 abbrev pub has_changed : List Bool → ℕ → Bool
 has_changed changed event = get_or changed event false
+
+abbrev pub some_changed : List Bool → Bool
+some_changed changed = list_any (λ is. is) changed
+
+-- the flags where that of an event is set if its set has changed
+abbrev pub noted : List Bool → ℕ → Bool → List Bool
+noted flags event is_changed = slice_set flags event (has_changed flags event || is_changed)
 
 -- an activity is revised unless the set of one of its events has changed
 abbrev pub RevisedUnless : ℕ → Left → (ℕ → Bool) → PespActivity → Type 0
@@ -91,19 +99,49 @@ RevisedUnless period left changed activity =
     changed activity.from ≡ false → changed activity.to ≡ false → IsRevised period left activity
 
 -- the same of all activities from an index on, and of all before it
-abbrev pub AllFrom : Problem → (PespActivity → Type 0) → ℕ → Type 0
-AllFrom problem Holds from = (index : ℕ) (activity : PespActivity)
-    → slice_get problem.activities index ≡ Some activity → from ≤ index → Holds activity
+abbrev pub AllFrom : List PespActivity → (PespActivity → Type 0) → ℕ → Type 0
+AllFrom activities Holds from = (index : ℕ) (activity : PespActivity)
+    → slice_get activities index ≡ Some activity → from ≤ index → Holds activity
 
-abbrev pub AllBefore : Problem → (PespActivity → Type 0) → ℕ → Type 0
-AllBefore problem Holds end = (index : ℕ) (activity : PespActivity)
-    → slice_get problem.activities index ≡ Some activity → index < end → Holds activity
+abbrev pub AllBefore : List PespActivity → (PespActivity → Type 0) → ℕ → Type 0
+AllBefore activities Holds end = (index : ℕ) (activity : PespActivity)
+    → slice_get activities index ≡ Some activity → index < end → Holds activity
+
+-- whether one of two sets of flags has that of an event
+abbrev pub either : List Bool → List Bool → ℕ → Bool
+either changed flags event = has_changed changed event || has_changed flags event
+
+-- An activity revises sets, if one of its events has a flag: where it has not it was revised before. Where the
+-- set of an event is not said to have changed it has not.
+pub record Revises (activity : PespActivity) (changed : List Bool) (before after : Tracked)
+    (flags more : List Bool) : Type 0 where
+  pub period : after.sets.period ≡ before.sets.period
+  pub events : after.sets.events ≡ before.sets.events
+  pub saved : after.saved ≡ before.saved
+  pub within : IsWithin (is_left after.sets) (is_left before.sets)
+  pub keeps : (left : Left) → IsRevised before.sets.period left activity
+      → IsWithin left (is_left before.sets) → IsWithin left (is_left after.sets)
+  pub each : length more ≡ length flags
+  pub here : RevisedUnless before.sets.period (is_left before.sets) (either changed flags) activity
+      → RevisedUnless before.sets.period (is_left after.sets) (has_changed more) activity
+  pub untouched : (event : ℕ) → has_changed more event ≡ false
+      → (has_changed flags event ≡ false) × (is_left after.sets event ≡ is_left before.sets event)
+  pub fewer : some_changed more ≡ true
+      → (some_changed flags ≡ true) ⊎ (marks_left after.sets < marks_left before.sets)
+  pub no_more : marks_left after.sets ≤ marks_left before.sets
 
 -- what a sweep leaves: smaller sets, of which it tells where they changed, and fewer marks where they did
 pub record Sweeps (problem : Problem) (before after : Tracked) (changed : List Bool) : Type 0 where
   pub propagates : Propagates problem before after
   pub each : length changed ≡ problem.events
-  pub revised : AllFrom problem
+  pub revised : AllFrom problem.activities
       (RevisedUnless problem.period (is_left after.sets) (has_changed changed)) 0
-  pub fewer : list_any (λ is. is) changed ≡ true → marks_left after.sets < marks_left before.sets
+  pub fewer : some_changed changed ≡ true → marks_left after.sets < marks_left before.sets
   pub no_more : marks_left after.sets ≤ marks_left before.sets
+
+-- sets are reduced
+pub record Reduces (problem : Problem) (before after : Tracked) : Type 0 where
+  pub period : after.sets.period ≡ before.sets.period
+  pub events : after.sets.events ≡ before.sets.events
+  pub saved : after.saved ≡ before.saved
+  pub sets : sets_of after.sets ≡ reduced problem (sets_of before.sets)

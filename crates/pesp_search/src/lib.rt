@@ -3,14 +3,17 @@
 #![tactic(auto)]
 
 mod check;
+mod children;
 mod fault;
 mod files;
 mod judge;
 mod marks;
 mod prune;
+mod reduce;
 mod revise;
 mod search;
 mod stage;
+mod standing;
 mod time_sets;
 mod windows;
 

@@ -1,7 +1,8 @@
 // Marks of the times that are left to events.
-ghost use Rattle.std.specs.Prelude.{◌≡◌, ◌<◌, ◌≤◌, ◌==◌, ◌||◌, length, IfOk};
+ghost use Rattle.std.specs.Prelude.{◌≡◌, ◌<◌, ◌≤◌, ◌==◌, ◌||◌, nat_le, length, map, IfOk, IfSome};
+ghost use Rattle.std.specs.List.{range_with_len};
 ghost use Rattle.pesp_search.specs.Listings.{times_at_first};
-ghost use Rattle.pesp_search.specs.Marks.{AreMarks, IsNext, is_left, times_from, with_mark};
+ghost use Rattle.pesp_search.specs.Marks.{AreMarks, IsNext, is_left, sets_of, times_from, with_mark};
 
 use plan_num::NoMemory;
 use std::alloc::Global;
@@ -34,6 +35,31 @@ impl Model for TimeMarks {
 }
 
 impl TimeMarks {
+    /// Time 0 is left to the first event, and all times of the period to every other one.
+    pub(crate) fn at_first(
+        alloc: Global,
+        period: usize,
+        events: usize,
+    ) -> Result<TimeMarks, NoMemory>
+        requires some { 1 ≤ period }
+        requires few { period ≤ 720 }
+        requires few_events { events ≤ 4000 }
+        ensures period { IfOk result (λ sets. sets.period ≡ period) }
+        ensures events { IfOk result (λ sets. sets.events ≡ events) }
+        ensures first { IfOk result
+            (λ sets. sets_of sets ≡ map (times_at_first period) (range_with_len 0 events)) }
+    {
+        let mut marks = Vec::new(alloc);
+        for place in 0..events * period {
+            marks.push(is_first(place, period))?;
+        }
+        Ok(TimeMarks {
+            period,
+            events,
+            marks,
+        })
+    }
+
     /// The length of the period.
     pub(crate) fn period(&self) -> usize
         ensures value { result ≡ self.now.period }
@@ -72,7 +98,8 @@ impl TimeMarks {
     /// The first time from one on that is left to an event.
     pub(crate) fn next_left(&self, event: usize, from: usize) -> Option<usize>
         requires event { event < self.now.events }
-        ensures { IsNext self.now event from result }
+        ensures next { IsNext self.now event from result }
+        ensures few { IfSome result (λ time. time < 720) }
     {
         for time in from..self.period() {
             if self.is_left(event, time) {
@@ -95,4 +122,11 @@ impl TimeMarks {
         }
         count
     }
+}
+
+// Whether the mark at a place is set at first.
+fn is_first(place: usize, period: usize) -> bool
+    ensures { result ≡ (place == 0 || nat_le period place) }
+{
+    place == 0 || period <= place
 }

@@ -1,4 +1,4 @@
-use Rattle.std.proofs.Common.{◌≡◌, ◌∙◌, ◌<◌, inl, inr, true, false, arith, sym}
+use Rattle.std.proofs.Common.{◌∙◌, ◌<◌, inl, inr, true, false, arith, sym}
 use Rattle.pesp_search.proofs.Pruned.{left_now, prune_ended, prune_kept, prune_removed}
 use Rattle.pesp_search.proofs.prune.prune.Goals as goal
 use Rattle.pesp_search.proofs.prune.prune.Goals.{then-not-flags-time+then-is_left+in_ok-remove, else-not-flags-time, else-not-flags-time-via-then-not-flags-time+else-is_left, else-not-flags-time-via-else-not-flags-time}

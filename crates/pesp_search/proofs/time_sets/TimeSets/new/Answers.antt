@@ -1,5 +1,5 @@
 use Rattle.std.proofs.Common.{◌∙◌, ap, reverse}
-use Rattle.pesp_search.specs.Marks.{Tracked, saved_by}
+use Rattle.pesp_search.specs.Marks.{saved_by}
 use Rattle.pesp_search.proofs.Changes.{none_saved, tracked}
 use Rattle.pesp_search.proofs.time_sets.TimeSets.new.Goals as goal
 

@@ -1,10 +1,12 @@
-use Rattle.std.proofs.Common.{◌∙◌, All, arith, subst, sym}
+use Rattle.std.proofs.Common.{◌∙◌, All, ap, arith, subst, sym}
 use Rattle.pesp_search.specs.Marks.{IsChange, Marks}
 use Rattle.pesp_search.proofs.Changes.{last_holds, none_left, others_hold, popped_branched, popped_removed}
 use Rattle.pesp_search.proofs.time_sets.TimeSets.restore.Goals as goal
 
 pub loop-change-preserved : goal.loop-change-preserved
 loop-change-preserved c = record {
+  period = ap (λ (sets : Marks). sets.period) c.mark.ensures ∙ c.loop-change.invariant.period;
+  events = ap (λ (sets : Marks). sets.events) c.mark.ensures ∙ c.loop-change.invariant.events;
   saved = popped_removed c.loop-change.self-inside.sets c.mark.new.self
       c.loop-change.self-inside.changes.items c.pop.new.self.items c.in-Some.change c.in-Removed.event
       c.in-Removed.time c.in-Some.ensures.items c.in-Removed.is c.mark.ensures
@@ -27,6 +29,8 @@ returns-in-Branched c = (
       (last_holds (IsChange c.loop-change.self-inside.sets.period c.loop-change.self-inside.sets.events)
       c.loop-change.self-inside.changes.items c.pop.new.self.items c.in-Some.change
       c.in-Some.ensures.items c.loop-change.invariant.changes),
+  c.loop-change.invariant.period,
+  c.loop-change.invariant.events,
 )
 
 pub returns : goal.returns

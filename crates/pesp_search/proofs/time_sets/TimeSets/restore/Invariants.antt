@@ -5,6 +5,8 @@ use Rattle.pesp_search.proofs.time_sets.TimeSets.restore.Given as goal
 
 abbrev pub invariant-loop-change : goal.invariant-loop-change
 invariant-loop-change l = record {
+  period : l.self-inside.sets.period ≡ l.fn.self.sets.period;
+  events : l.self-inside.sets.events ≡ l.fn.self.sets.events;
   saved : saved_by l.self-inside.sets (reverse l.self-inside.changes.items) ≡ l.fn.self.saved;
   changes : All (IsChange l.self-inside.sets.period l.self-inside.sets.events)
       l.self-inside.changes.items;
