@@ -1,0 +1,113 @@
+-- Changes of sets of times, and what they say of the sets before them.
+use Rattle.std.proofs.Common.{◌≡◌, ◌∙◌, ℕ, zero, suc, ◌<◌, Bool, true, false, ◌&&◌, nat_lt, List, [], ◌∷◌, ◌++◌}
+use Rattle.std.proofs.Common.{get_or, slice_set, length, reverse, refl, ap, sym, subst, arith, All}
+use Rattle.std.proofs.Math.Seq.{get_or-append_seam}
+use Rattle.std.proofs.lemmas.List.{get_or_append_left, length_push, reverse-append}
+use Rattle.pesp_search.specs.declared.time_sets.Branch.{Branch}
+use Rattle.pesp_search.specs.declared.time_sets.Change.{Change}
+use Rattle.pesp_search.specs.declared.time_sets.Change.TheVariants as change
+use Rattle.pesp_search.specs.Marks.{Marks, Saved, Tracked, is_left, saved_by, with_mark}
+
+pub last_first : {X : Type 0} (xs : List X) (x : X) → reverse (xs ++ x ∷ []) ≡ x ∷ reverse xs
+last_first xs x = reverse-append xs (x ∷ [])
+
+-- a mark that was set, taken away and set again
+set_again : (marks : List Bool) (i : ℕ) → get_or marks i false ≡ true
+    → slice_set (slice_set marks i false) i true ≡ marks
+set_again [] i is = refl
+set_again (mark ∷ marks) zero is = ap (λ first. first ∷ marks) (sym is)
+set_again (mark ∷ marks) (suc i) is = ap (λ rest. mark ∷ rest) (set_again marks i is)
+
+and_right : (b c : Bool) → (b && c) ≡ true → c ≡ true
+and_right true c is = is
+and_right false c is = absurd (cc)
+
+pub saved_removed : (sets : Marks) (changes : List Change) (event time : ℕ)
+    → is_left sets event time ≡ true
+    → saved_by (with_mark sets event time false) (reverse (changes ++ change.Removed event time ∷ []))
+    ≡ saved_by sets (reverse changes)
+unfolding saved_by
+saved_removed sets changes event time left =
+    ap (saved_by (with_mark sets event time false)) (last_first changes (change.Removed event time))
+    ∙ ap (λ marks. saved_by (record {
+      period = sets.period;
+      events = sets.events;
+      marks = marks;
+    }) (reverse changes))
+    (set_again sets.marks _ (and_right (nat_lt time sets.period) _ left))
+
+pub saved_branched : (sets : Marks) (changes : List Change) (branch : Branch)
+    → saved_by sets (reverse (changes ++ change.Branched branch ∷ []))
+    ≡ record { sets = sets; branch = branch } ∷ saved_by sets (reverse changes)
+unfolding saved_by
+saved_branched sets changes branch =
+    ap (saved_by sets) (last_first changes (change.Branched branch))
+
+pub none_saved : (sets : Marks) → saved_by sets [] ≡ []
+unfolding saved_by
+none_saved sets = refl
+
+-- ---- what is left of the changes behind the last one
+
+pub popped_removed : (sets now : Marks) (all rest : List Change) (last : Change) (event time : ℕ)
+    → all ≡ rest ++ last ∷ [] → last ≡ change.Removed event time
+    → now ≡ with_mark sets event time true
+    → saved_by now (reverse rest) ≡ saved_by sets (reverse all)
+unfolding saved_by
+popped_removed sets now all rest last event time is removed same =
+    ap (λ now. saved_by now (reverse rest)) same
+    ∙ sym (ap (λ all. saved_by sets (reverse all)) is ∙ ap (saved_by sets) (last_first rest last)
+    ∙ ap (λ last. saved_by sets (last ∷ reverse rest)) removed)
+
+pub popped_branched : (sets : Marks) (all rest : List Change) (last : Change) (branch : Branch)
+    → all ≡ rest ++ last ∷ [] → last ≡ change.Branched branch
+    → saved_by sets (reverse all)
+    ≡ record { sets = sets; branch = branch } ∷ saved_by sets (reverse rest)
+unfolding saved_by
+popped_branched sets all rest last branch is branched =
+    ap (λ all. saved_by sets (reverse all)) is ∙ ap (saved_by sets) (last_first rest last)
+    ∙ ap (λ last. saved_by sets (last ∷ reverse rest)) branched
+
+-- where nothing is left, nothing was saved
+pub none_left : (sets : Marks) (all : List Change) → length all ≡ 0 → saved_by sets (reverse all) ≡ []
+unfolding saved_by
+none_left sets [] none = refl
+none_left sets (change ∷ all) none = absurd (omega (arith, none))
+
+-- what holds of all holds of the last one and of the others
+pub others_hold : {X : Type 0} (P : X → Type 0) (all rest : List X) (last : X)
+    → all ≡ rest ++ last ∷ [] → All P all → All P rest
+others_hold P all rest last is holds = λ k d h.
+    let both = subst (All P) is holds in
+    let within : k < length (rest ++ last ∷ []) = omega (arith, h, length_push rest last) in
+    subst P (get_or_append_left rest (last ∷ []) d k h) (both k d within)
+
+pub last_holds : {X : Type 0} (P : X → Type 0) (all rest : List X) (last : X)
+    → all ≡ rest ++ last ∷ [] → All P all → P last
+last_holds P all rest last is holds =
+    let both = subst (All P) is holds in
+    let within : length rest < length (rest ++ last ∷ []) = omega (arith, length_push rest last) in
+    subst P (get_or-append_seam rest last [] last) (both (length rest) last within)
+
+-- ---- the views of sets behind a change
+
+abbrev pub tracked : Marks → List Saved → Tracked
+tracked sets saved = record { sets = sets; saved = saved }
+
+pub removed_view : (sets now : Marks) (changes more : List Change) (event time : ℕ)
+    → is_left sets event time ≡ true → more ≡ changes ++ change.Removed event time ∷ []
+    → now ≡ with_mark sets event time false
+    → tracked now (saved_by now (reverse more))
+    ≡ tracked (with_mark sets event time false) (saved_by sets (reverse changes))
+removed_view sets now changes more event time left is same =
+    (λ i. tracked (same i) (saved_by (same i) (reverse (is i))))
+    ∙ ap (tracked (with_mark sets event time false))
+    (saved_removed sets changes event time left)
+
+pub branched_view : (sets : Marks) (changes more : List Change) (branch : Branch)
+    → more ≡ changes ++ change.Branched branch ∷ []
+    → tracked sets (saved_by sets (reverse more))
+    ≡ tracked sets (record { sets = sets; branch = branch } ∷ saved_by sets (reverse changes))
+branched_view sets changes more branch is =
+    ap (tracked sets)
+    (ap (λ more. saved_by sets (reverse more)) is ∙ saved_branched sets changes branch)

@@ -1,0 +1,280 @@
+-- A search entry by entry, and what it comes to.
+use Rattle.std.proofs.Common.{◌≡◌, ◌∙◌, ℕ, ◌+◌, ◌<◌, ◌≤◌, true, false, if◌then◌else◌}
+use Rattle.std.proofs.Common.{List, [], ◌∷◌, ◌++◌, map, position, Option, Some, None, is_some, Vec, Global}
+use Rattle.std.proofs.Common.{Err, refl, ap, sym, subst, arith}
+use Rattle.std.specs.List.{list_any}
+use Rattle.std.proofs.Math.Nat.{le-min, min-eq_left, min-eq_right}
+use Rattle.std.proofs.lemmas.Bool.{lt-ltb, le-ltb}
+use Rattle.std.proofs.lemmas.List.FromFn.{get_or-map-range_with_len, length-map-range_with_len}
+use Rattle.std.proofs.lemmas.List.Quantifiers.{position-Some}
+use Rattle.giv_files.specs.declared.refusal.Refusal.TheVariants as refusal
+use Rattle.pesp_model.specs.Timetables.{Problem}
+use Rattle.pesp_search.specs.Listings.{Listing, branches, entries_listed, entry, first_sets, has_several, in_turn, is_empty}
+use Rattle.pesp_search.specs.Listings.{listing, listing_of, one_more, result_within, unless_found, whole_result, with_time}
+use Rattle.pesp_search.specs.Marks.{IsNextChild, Marks, Tracked, sets_of, times_from, waiting}
+use Rattle.pesp_search.specs.Revising.{Reduces}
+use Rattle.pesp_search.specs.Searches.{Branches, IsSearched, behind, entry_here, listed_on}
+use Rattle.pesp_search.specs.TimeSets.{left_to, reduced}
+use Rattle.pesp_search.proofs.Unrolled.{unrolls}
+
+-- ---- listings one behind the other
+
+abbrev nothing : Listing
+nothing = record { entries = 0; found = None }
+
+abbrev listed : ℕ → Option (List ℕ) → Listing
+listed count found = record { entries = count; found = found }
+
+unless_one : (first rest : Listing) → unless_found (one_more first) rest ≡ one_more (unless_found first rest)
+unless_one first rest = at first.entries first.found
+  where
+    at : (count : ℕ) (found : Option (List ℕ))
+        → unless_found (one_more (listed count found)) rest ≡ one_more (unless_found (listed count found) rest)
+    at count (Some times) = refl
+    at count None =
+        let sum : 1 + count + rest.entries ≡ 1 + (count + rest.entries) = omega arith in
+        ap (λ n. listed n rest.found) sum
+
+unless_again : (first more rest : Listing)
+    → unless_found (unless_found first more) rest ≡ unless_found first (unless_found more rest)
+unless_again first more rest = at first.entries first.found more.entries more.found
+  where
+    at : (count : ℕ) (found : Option (List ℕ)) (others : ℕ) (other : Option (List ℕ))
+        → unless_found (unless_found (listed count found) (listed others other)) rest
+        ≡ unless_found (listed count found) (unless_found (listed others other) rest)
+    at count (Some times) others other = refl
+    at count None others (Some times) = refl
+    at count None others None =
+        let sum : count + others + rest.entries ≡ count + (others + rest.entries) = omega arith in
+        ap (λ n. listed n rest.found) sum
+
+none_before : (rest : Listing) → unless_found nothing rest ≡ rest
+none_before rest =
+    let sum : 0 + rest.entries ≡ rest.entries = omega arith in ap (λ n. listed n rest.found) sum
+
+none_behind : (first : Listing) → unless_found first nothing ≡ first
+none_behind first = at first.entries first.found
+  where
+    at : (count : ℕ) (found : Option (List ℕ)) → unless_found (listed count found) nothing ≡ listed count found
+    at count (Some times) = refl
+    at count None = let sum : count + 0 ≡ count = omega arith in ap (λ n. listed n None) sum
+
+turns_append : {X : Type 0} (visit : X → Listing) (xs ys : List X)
+    → unless_found (in_turn visit xs) (in_turn visit ys) ≡ in_turn visit (xs ++ ys)
+unfolding in_turn
+turns_append visit [] ys = none_before (in_turn visit ys)
+turns_append visit (x ∷ xs) ys =
+    unless_again (visit x) (in_turn visit xs) (in_turn visit ys)
+    ∙ ap (unless_found (visit x)) (turns_append visit xs ys)
+
+turns_map : {X Y : Type 0} (visit : Y → Listing) (child : X → Y) (xs : List X)
+    → in_turn (λ x. visit (child x)) xs ≡ in_turn visit (map child xs)
+unfolding in_turn
+turns_map visit child [] = refl
+turns_map visit child (x ∷ xs) = ap (unless_found (visit (child x))) (turns_map visit child xs)
+
+first_turn : {X : Type 0} (visit : X → Listing) (x : X) (xs : List X)
+    → in_turn visit (x ∷ xs) ≡ unless_found (visit x) (in_turn visit xs)
+unfolding in_turn
+first_turn visit x xs = refl
+
+no_turn : {X : Type 0} (visit : X → Listing) → in_turn visit [] ≡ nothing
+unfolding in_turn
+no_turn visit = refl
+
+-- ---- a branch
+
+abbrev visit_child : Tracked → (List (List ℕ) → Listing) → ℕ → ℕ → Listing
+visit_child sets visit event time = visit (with_time (sets_of sets.sets) event time)
+
+pub event_within : (sets : Marks) (event : ℕ) → position has_several (sets_of sets) ≡ Some event
+    → event < sets.events
+event_within sets event is =
+    let at = position-Some has_several (sets_of sets) event [] is in
+    let long = length-map-range_with_len (λ event. times_from sets event 0) 0 sets.events in
+    omega (arith, at.0, long)
+
+pub branched : (before after : Tracked) (event : ℕ)
+    → list_any is_empty (sets_of before.sets) ≡ false
+    → position has_several (sets_of before.sets) ≡ Some event
+    → after ≡ record {
+      sets = before.sets;
+      saved = record { sets = before.sets; branch = record { event = event; from = 0 } } ∷ before.saved;
+    }
+    → Branches before after None
+unfolding waiting
+branched before after event none is same = (
+  (λ visit.
+      let branch = visit_child before visit in
+      let times = times_from before.sets event 0 in
+      let left : left_to (sets_of before.sets) event ≡ times =
+      get_or-map-range_with_len (λ event. times_from before.sets event 0) 0 before.sets.events event event []
+      (event_within before.sets event is) (omega arith) in
+      let children = map (with_time (sets_of before.sets) event) times in
+      ap (λ first. unless_found first (in_turn visit (waiting before.saved)))
+      (ap (λ b. elim b as (λ _. Listing) [
+        | true ↦ record { entries = 1; found = None }
+        | false ↦ branches (sets_of before.sets) branch (position has_several (sets_of before.sets))
+      ]) none
+      ∙ ap (branches (sets_of before.sets) branch) is
+      ∙ ap (λ times. one_more (in_turn (branch event) times)) left)
+      ∙ unless_one (in_turn (branch event) times) (in_turn visit (waiting before.saved))
+      ∙ ap one_more
+      (ap (λ first. unless_found first (in_turn visit (waiting before.saved)))
+      (turns_map visit (with_time (sets_of before.sets) event) times)
+      ∙ turns_append visit children (waiting before.saved)
+      ∙ ap (λ (tracked : Tracked). in_turn visit (waiting tracked.saved)) (sym same))),
+  ap (λ (tracked : Tracked). tracked.sets) same,
+)
+
+-- ---- an entry
+
+module _ (problem : Problem) (before reduced : Tracked) (so : Reduces problem before reduced) where
+  visit : List (List ℕ) → Listing
+  visit = listing_of problem
+
+  abbrev children_of : List (List ℕ) → Listing
+  children_of sets = entry sets (λ event time. listing_of problem (with_time sets event time))
+
+  entry_is : listed_on problem before ≡ entry_here (listing_of problem) reduced
+  entry_is =
+      first_turn (listing_of problem) (sets_of before.sets) (waiting before.saved)
+      ∙ (λ i. unless_found ((unrolls problem (sets_of before.sets) ∙ ap children_of (sym so.sets)) i)
+      (in_turn (listing_of problem) (waiting (sym so.saved i))))
+
+  pub entry_found : (after : Tracked) (times : Vec ℕ Global) → Branches reduced after (Some times)
+      → listed_on problem before ≡ record { entries = 1; found = Some times.items }
+  entry_found after times found = entry_is ∙ found (listing_of problem)
+
+  pub entry_last : (after : Tracked) (last : Tracked) → Branches reduced after None
+      → IsNextChild after last false → listed_on problem before ≡ record { entries = 1; found = None }
+  entry_last after last branch none =
+      entry_is ∙ branch.0 (listing_of problem)
+      ∙ ap (λ sets. one_more (in_turn (listing_of problem) sets)) none
+      ∙ ap one_more (no_turn (listing_of problem))
+
+  pub entry_next : (after : Tracked) (next : Tracked) → Branches reduced after None
+      → IsNextChild after next true
+      → (listed_on problem before ≡ one_more (listed_on problem next))
+      × (next.sets.period ≡ before.sets.period)
+      × (next.sets.events ≡ before.sets.events)
+  entry_next after next branch child = (
+    entry_is ∙ branch.0 (listing_of problem)
+        ∙ ap (λ sets. one_more (in_turn (listing_of problem) sets)) child.0,
+    child.1 ∙ ap (λ (sets : Marks). sets.period) branch.1 ∙ so.period,
+    child.2 ∙ ap (λ (sets : Marks). sets.events) branch.1 ∙ so.events,
+  )
+
+-- ---- the first entry, and one more
+
+pub search_begun : (problem : Problem) (sets : Marks) (tracked : Tracked)
+    → tracked ≡ record { sets = sets; saved = [] } → sets.period ≡ problem.period
+    → sets.events ≡ problem.events → sets_of sets ≡ first_sets problem
+    → IsSearched problem tracked 0
+unfolding listing waiting
+search_begun problem sets tracked same period events first = record {
+  period = ap (λ (tracked : Tracked). tracked.sets.period) same ∙ period;
+  events = ap (λ (tracked : Tracked). tracked.sets.events) same ∙ events;
+  listed = sym (behind_none (listed_on problem tracked)
+      ∙ ap (listed_on problem) same
+      ∙ ap (λ sets. in_turn (listing_of problem) (sets ∷ [])) first
+      ∙ first_turn (listing_of problem) (first_sets problem) []
+      ∙ ap (unless_found (listing_of problem (first_sets problem))) (no_turn (listing_of problem))
+      ∙ none_behind (listing_of problem (first_sets problem)));
+}
+  where
+    behind_none : (rest : Listing) → behind 0 rest ≡ rest
+    behind_none rest =
+        let sum : 0 + rest.entries ≡ rest.entries = omega arith in ap (λ n. listed n rest.found) sum
+
+pub search_turn : (problem : Problem) (before after : Tracked) (count : ℕ)
+    → IsSearched problem before count
+    → listed_on problem before ≡ one_more (listed_on problem after)
+    → after.sets.period ≡ before.sets.period → after.sets.events ≡ before.sets.events
+    → IsSearched problem after (count + 1)
+search_turn problem before after count so next period events = record {
+  period = period ∙ so.period;
+  events = events ∙ so.events;
+  listed = so.listed ∙ ap (behind count) next ∙ again (listed_on problem after);
+}
+  where
+    again : (rest : Listing) → behind count (one_more rest) ≡ behind (count + 1) rest
+    again rest =
+        let sum : count + (1 + rest.entries) ≡ count + 1 + rest.entries = omega arith in
+        ap (λ n. listed n rest.found) sum
+
+-- ---- how many entries
+
+entry_some : (sets : List (List ℕ)) (visit : ℕ → ℕ → Listing) → 1 ≤ (entry sets visit).entries
+entry_some sets visit =
+    elim (list_any is_empty sets) as (λ b. 1 ≤ (elim b as (λ _. Listing) [
+      | true ↦ record { entries = 1; found = None }
+      | false ↦ branches sets visit (position has_several sets)
+    ]).entries) [
+      | true ↦ omega arith
+      | false ↦ some (position has_several sets)
+    ]
+  where
+    some : (found : Option ℕ) → 1 ≤ (branches sets visit found).entries
+    some None = omega arith
+    some (Some event) = omega arith
+
+listing_some : (problem : Problem) (sets : List (List ℕ)) → 1 ≤ (listing_of problem sets).entries
+listing_some problem sets =
+    subst (λ (listed : Listing). 1 ≤ listed.entries) (sym (unrolls problem sets))
+    (entry_some (reduced problem sets) _)
+
+first_some : (first rest : Listing) → first.entries ≤ (unless_found first rest).entries
+first_some first rest = elim (is_some first.found) as (λ b. first.entries ≤ (elim b as (λ _. Listing) [
+  | true ↦ first
+  | false ↦ record { entries = first.entries + rest.entries; found = rest.found }
+]).entries) [
+  | true ↦ omega arith
+  | false ↦ omega arith
+]
+
+-- another entry is within the listing
+pub one_within : (problem : Problem) (sets : Tracked) (count : ℕ) → IsSearched problem sets count
+    → count + 1 ≤ (listing problem).entries
+one_within problem sets count so =
+    let here = listing_some problem (sets_of sets.sets) in
+    let all = first_some (listing_of problem (sets_of sets.sets)) (in_turn (listing_of problem) (waiting sets.saved)) in
+    let listed = ap (λ (listed : Listing). listed.entries)
+    (first_turn (listing_of problem) (sets_of sets.sets) (waiting sets.saved)) in
+    let sum = ap (λ (listed : Listing). listed.entries) so.listed in
+    omega (arith, here, all, listed, sum)
+
+-- ---- what a search comes to
+
+pub search_ended : (problem : Problem) (sets : Tracked) (count budget : ℕ)
+    (found : Option (List ℕ)) → IsSearched problem sets count → count < budget
+    → listed_on problem sets ≡ record { entries = 1; found = found }
+    → (result_within budget (listing problem) ≡ whole_result (count + 1) found)
+    × (entries_listed budget (listing problem) ≡ count + 1)
+unfolding result_within
+search_ended problem sets count budget found so few is =
+    let all = so.listed ∙ ap (behind count) is in (
+      ap (result_within budget) all
+          ∙ ap (λ b. if b then Err (refusal.Spent budget) else whole_result (count + 1) found)
+          (le-ltb budget (count + 1) (omega (arith, few))),
+      ap (entries_listed budget) all ∙ min-eq_right (omega (arith, few)),
+    )
+
+pub search_spent : (problem : Problem) (sets : Tracked) (budget : ℕ) → IsSearched problem sets budget
+    → (result_within budget (listing problem) ≡ Err (refusal.Spent budget))
+    × (entries_listed budget (listing problem) ≡ budget)
+unfolding result_within
+search_spent problem sets budget so =
+    let over = one_within problem sets budget so in (
+      ap (λ b. if b then Err (refusal.Spent budget)
+          else whole_result (listing problem).entries (listing problem).found)
+          (lt-ltb budget (listing problem).entries (omega (arith, over))),
+      min-eq_left (omega (arith, over)),
+    )
+
+-- another step is within the budget and the listing
+pub step_within : (problem : Problem) (sets : Tracked) (count budget : ℕ)
+    → IsSearched problem sets count → count < budget
+    → count + 1 ≤ entries_listed budget (listing problem)
+step_within problem sets count budget so few =
+    le-min (omega (arith, few)) (one_within problem sets count so)

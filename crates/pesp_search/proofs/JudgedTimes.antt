@@ -1,0 +1,134 @@
+-- A text that breaks no rule of a timetable is one.
+use Rattle.std.proofs.Common.{◌≡◌, ◌∙◌, ℕ, zero, suc, ◌+◌, ◌<◌, ◌&&◌, ◌==◌, not, Bool, true, false, cond, nat_eq}
+use Rattle.std.proofs.Common.{nat_lt, List, [], ◌∷◌, ◌++◌, length, map, slice_get, All, Option, Some, None, is_some}
+use Rattle.std.proofs.Common.{is_none, IfNone, IfOk, Result, Ok, Err, refl, ap, sym, subst, arith}
+use Rattle.std.specs.List.{enumerate_from, list_all}
+use Rattle.std.proofs.lemmas.Bool.{and_parts, eqb-true, ltb-true, not-false}
+use Rattle.std.proofs.lemmas.List.{length-map}
+use Rattle.std.proofs.lemmas.Option.{same_Some}
+use Rattle.std.proofs.lemmas.List.Elements.{All-cons, All-nil}
+use Rattle.giv_files.specs.Columns.{times_p_columns}
+use Rattle.giv_files.specs.Reading.{faults, table_of}
+use Rattle.giv_files.specs.Tables.{TableRow}
+use Rattle.event_tables.specs.declared.periodic_time.PeriodicTime.{PeriodicTime}
+use Rattle.event_tables.specs.Cells.{periodic_time}
+use Rattle.event_tables.specs.RowsOfTables.{records_by}
+use Rattle.pesp_model.specs.Timetables.{IsProblem, IsTimetable, Problem, first_broken}
+use Rattle.pesp_model.proofs.FirstBroken.{first_is, none_is}
+use Rattle.pesp_search.specs.declared.fault.TimetableFault.{TimetableFault}
+use Rattle.pesp_search.specs.declared.fault.TimetableFault.TheVariants as fault
+use Rattle.pesp_search.specs.Judged.{Passes, are_in_order, broken_rows, first_broken_rule, is_table, is_time_of}
+use Rattle.pesp_search.specs.Judged.{rows_in, times_in}
+
+abbrev times_of : List PeriodicTime → List ℕ
+times_of rows = map (λ row. row.time) rows
+
+-- rows in order are those of their times
+rows_are : (period n : ℕ) (rows : List PeriodicTime)
+    → list_all (is_time_of period) (enumerate_from n rows) ≡ true
+    → rows ≡ map (λ at. record { event = at.0; time = at.1 }) (enumerate_from n (times_of rows))
+rows_are period n [] order = refl
+rows_are period n (row ∷ rows) order =
+    let parts = and_parts (is_time_of period (n, row)) _ order in
+    let own = and_parts (nat_eq row.event n) (nat_lt row.time period) parts.0 in
+    let rest = rows_are period (n + 1) rows parts.1 in
+    let event = eqb-true row.event n own.0 in
+    λ i. record { event = event i; time = row.time } ∷ rest i
+
+pub rows_below : (period n : ℕ) (rows : List PeriodicTime)
+    → list_all (is_time_of period) (enumerate_from n rows) ≡ true
+    → All (λ time. time < period) (times_of rows)
+rows_below period n [] order = All-nil (λ time. time < period)
+rows_below period n (row ∷ rows) order =
+    let parts = and_parts (is_time_of period (n, row)) _ order in
+    let own = and_parts (nat_eq row.event n) (nat_lt row.time period) parts.0 in
+    All-cons (λ time. time < period) row.time (times_of rows) (ltb-true row.time period own.1)
+    (rows_below period (n + 1) rows parts.1)
+
+-- what rows in order tell of their times
+pub record TimesInOrder (problem : Problem) (rows : List PeriodicTime) : Type 0 where
+  pub each : length (times_of rows) ≡ problem.events
+  pub within : All (λ time. time < problem.period) (times_of rows)
+
+pub in_order : (problem : Problem) (rows : List PeriodicTime) → are_in_order problem rows ≡ true
+    → TimesInOrder problem rows
+in_order problem rows order =
+    let parts = and_parts (length rows == problem.events) _ order in
+    record {
+      each = length-map rows (λ (row : PeriodicTime). row.time) ∙ eqb-true (length rows) problem.events parts.0;
+      within = rows_below problem.period 1 rows parts.1;
+    }
+
+-- where none of three rules is broken
+none_broken : (a b c : Bool)
+    → slice_get (cond a (fault.Row ∷ []) [] ++ (cond b (fault.Events ∷ []) [] ++ cond c (fault.Tension ∷ []) [])) 0 ≡ None
+    → (a ≡ false) × (b ≡ false) × (c ≡ false)
+none_broken true b c none = absurd (cc)
+none_broken false true c none = absurd (cc)
+none_broken false false true none = absurd (cc)
+none_broken false false false none = (refl, refl, refl)
+
+no_fault : {X : Type 0} (list : List X) → (length list == 0) ≡ true → list ≡ []
+no_fault [] is = refl
+no_fault (x ∷ list) is = absurd (omega (arith, eqb-true (length (x ∷ list)) 0 is))
+
+not_some : {X : Type 0} (option : Option X) → is_some option ≡ false → is_none option ≡ true
+not_some None is = refl
+not_some (Some x) is = absurd (cc)
+
+module _ (problem : Problem) (sound : IsProblem problem) (text : List ℕ) where
+  pub passes_of : first_broken_rule problem text ≡ None → Passes problem text
+  unfolding first_broken_rule
+  passes_of none =
+      let rows = rows_in text in
+      let times = times_in text in
+      let parts = none_broken (not (is_table text)) (not (are_in_order problem rows)) (is_some (first_broken problem times)) none in
+      let order = not-false (are_in_order problem rows) parts.1 in
+      let told = in_order problem rows order in
+      let all = (and_parts (length rows == problem.events) _ order).1 in
+      let first = first_is problem times sound told.each told.within (first_broken problem times) refl in
+      record {
+        times = times;
+        reads = (no_fault (faults times_p_columns text) (not-false (is_table text) parts.0), rows_are problem.period 1 rows all);
+        timetable = (none_is problem times sound told.each told.within (first_broken problem times) first).0
+            (not_some (first_broken problem times) parts.2);
+      }
+
+  pub passes_by : (answer : Option TimetableFault) → answer ≡ first_broken_rule problem text
+      → IfNone answer (Passes problem text)
+  passes_by None is = passes_of (sym is)
+  passes_by (Some rule) is = tt
+
+-- ---- what the reading of a text tells
+
+abbrev read_as : List ℕ → Option (List TableRow)
+read_as text = cond (is_table text) (Some (table_of times_p_columns text)) None
+
+module _ (problem : Problem) (text : List ℕ) where
+  abbrev by_table : Bool → Option TimetableFault
+  by_table b = slice_get (cond (not b) (fault.Row ∷ []) [] ++ broken_rows problem (rows_in text)) 0
+
+  pub not_table : None ≡ read_as text → Some fault.Row ≡ first_broken_rule problem text
+  unfolding first_broken_rule
+  not_table is = ap by_table (none_read (is_table text) is)
+    where
+      none_read : (b : Bool) → None ≡ cond b (Some (table_of times_p_columns text)) None → false ≡ b
+      none_read true is = absurd (cc)
+      none_read false is = refl
+
+  module _ (table : List TableRow) (is : Some table ≡ read_as text) where
+    some_read : (b : Bool) → Some table ≡ cond b (Some (table_of times_p_columns text)) None
+        → (true ≡ b) × (table ≡ table_of times_p_columns text)
+    some_read true is = (refl, same_Some _ _ is)
+    some_read false is = absurd (cc)
+
+    pub as_rows_told : {E : Type 0} (result : Result (Option TimetableFault) E)
+        → IfOk result (λ answer. answer ≡ slice_get (broken_rows problem (records_by periodic_time table)) 0)
+        → IfOk result (λ answer. answer ≡ first_broken_rule problem text)
+    unfolding first_broken_rule
+    as_rows_told (Err error) told = tt
+    as_rows_told (Ok answer) told =
+        let read = some_read (is_table text) is in
+        told
+        ∙ ap (λ table. slice_get (broken_rows problem (records_by periodic_time table)) 0) read.1
+        ∙ ap by_table read.0

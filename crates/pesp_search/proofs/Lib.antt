@@ -1,0 +1,29 @@
+mod Changes
+mod Entries
+mod Families
+mod FirstMarks
+mod FoundTimes
+mod JudgedTimes
+mod ListedTimes
+mod NextSets
+mod NextTimes
+mod Partners
+mod Pruned
+mod ReducedSets
+mod Revised
+mod RoundsKeep
+mod RowsOfTimes
+mod ShortListings
+mod ShrinkingSets
+mod StageResults
+mod Sweeping
+mod TimesAccepted
+mod Tried
+mod TurnedTimes
+mod Unrolled
+mod Waiting
+mod WindowSums
+pub mod ListingRight
+pub mod TimetableEnds
+pub mod TimetableMakes
+pub mod TimetableReads

@@ -1,0 +1,91 @@
+-- The sets of events, one after the other.
+use Rattle.std.proofs.Common.{◌≡◌, ◌∙◌, ℕ, zero, suc, ◌+◌, ◌-◌, ◌<◌, ◌≤◌, Bool, true, false, ◌||◌, cond}
+use Rattle.std.proofs.Common.{List, [], ◌∷◌, ◌++◌, map, slice_index_or, Some, None, refl, ap, sym, arith}
+use Rattle.std.specs.List.{list_any, position_from, range_with_len}
+use Rattle.std.proofs.lemmas.Bool.{or_left}
+use Rattle.std.proofs.lemmas.List.FromFn.{map-range_with_len_more}
+use Rattle.pesp_search.specs.Listings.{first_times}
+use Rattle.pesp_search.specs.Marks.{Marks, sets_of, times_from}
+
+abbrev pub sets_from : Marks → ℕ → List (List ℕ)
+sets_from sets event =
+    map (λ event. times_from sets event 0) (range_with_len event (sets.events - event))
+
+pub sets_all : (sets : Marks) → sets_of sets ≡ sets_from sets 0
+sets_all sets =
+    let all : sets.events ≡ sets.events - 0 = omega arith in
+    ap (λ n. map (λ event. times_from sets event 0) (range_with_len 0 n)) all
+
+pub sets_more : (sets : Marks) (event : ℕ) → event < sets.events
+    → sets_from sets event ≡ times_from sets event 0 ∷ sets_from sets (event + 1)
+sets_more sets event some =
+    let more : sets.events - event ≡ suc (sets.events - (event + 1)) = omega (arith, some) in
+    ap (λ n. map (λ event. times_from sets event 0) (range_with_len event n)) more
+
+pub sets_none : (sets : Marks) (event : ℕ) → sets.events ≤ event → sets_from sets event ≡ []
+sets_none sets event none =
+    let over : sets.events - event ≡ 0 = omega (arith, none) in
+    ap (λ n. map (λ event. times_from sets event 0) (range_with_len event n)) over
+
+-- whether a set is empty
+pub here_empty : (sets : Marks) (event : ℕ) (test : List ℕ → Bool) → event < sets.events
+    → test (times_from sets event 0) ≡ true → list_any test (sets_from sets event) ≡ true
+here_empty sets event test some is =
+    ap (list_any test) (sets_more sets event some)
+    ∙ or_left (test (times_from sets event 0)) _ is
+
+pub not_here : (sets : Marks) (event : ℕ) (test : List ℕ → Bool) → event < sets.events
+    → test (times_from sets event 0) ≡ false
+    → list_any test (sets_from sets event) ≡ list_any test (sets_from sets (event + 1))
+not_here sets event test some is =
+    ap (list_any test) (sets_more sets event some)
+    ∙ ap (λ b. b || list_any test (sets_from sets (event + 1))) is
+
+pub nowhere : (sets : Marks) (event : ℕ) (test : List ℕ → Bool) → sets.events ≤ event
+    → list_any test (sets_from sets event) ≡ false
+nowhere sets event test none = ap (list_any test) (sets_none sets event none)
+
+-- where a set passes
+pub place_here : (sets : Marks) (event : ℕ) (test : List ℕ → Bool) → event < sets.events
+    → test (times_from sets event 0) ≡ true
+    → position_from test event (sets_from sets event) ≡ Some event
+place_here sets event test some is =
+    ap (position_from test event) (sets_more sets event some)
+    ∙ ap (λ b. cond b (Some event) (position_from test (event + 1) (sets_from sets (event + 1)))) is
+
+pub place_later : (sets : Marks) (event : ℕ) (test : List ℕ → Bool) → event < sets.events
+    → test (times_from sets event 0) ≡ false
+    → position_from test event (sets_from sets event)
+    ≡ position_from test (event + 1) (sets_from sets (event + 1))
+place_later sets event test some is =
+    ap (position_from test event) (sets_more sets event some)
+    ∙ ap (λ b. cond b (Some event) (position_from test (event + 1) (sets_from sets (event + 1)))) is
+
+pub no_place : (sets : Marks) (event : ℕ) (test : List ℕ → Bool) → sets.events ≤ event
+    → position_from test event (sets_from sets event) ≡ None
+no_place sets event test none = ap (position_from test event) (sets_none sets event none)
+
+-- ---- the first time of each
+
+pub one_time_more : (sets : Marks) (event : ℕ) (times more : List ℕ) (time : ℕ)
+    → times ≡ map (λ event. slice_index_or (times_from sets event 0) 0 0) (range_with_len 0 event)
+    → time ≡ slice_index_or (times_from sets event 0) 0 0 → more ≡ times ++ time ∷ []
+    → more ≡ map (λ event. slice_index_or (times_from sets event 0) 0 0) (range_with_len 0 (event + 1))
+one_time_more sets event times more time so last is =
+    is ∙ (λ i. so i ++ last i ∷ [])
+    ∙ sym (map-range_with_len_more (λ event. slice_index_or (times_from sets event 0) 0 0) 0 event event
+    (omega arith))
+
+first_of_each : (sets : Marks) (from n : ℕ)
+    → map (λ event. slice_index_or (times_from sets event 0) 0 0) (range_with_len from n)
+    ≡ first_times (map (λ event. times_from sets event 0) (range_with_len from n))
+first_of_each sets from zero = refl
+first_of_each sets from (suc n) =
+    ap (λ times. slice_index_or (times_from sets from 0) 0 0 ∷ times) (first_of_each sets (from + 1) n)
+
+pub times_are_first : (sets : Marks) (event : ℕ) (times : List ℕ)
+    → times ≡ map (λ event. slice_index_or (times_from sets event 0) 0 0) (range_with_len 0 event)
+    → event ≡ sets.events → times ≡ first_times (sets_of sets)
+times_are_first sets event times so all =
+    so ∙ ap (λ n. map (λ event. slice_index_or (times_from sets event 0) 0 0) (range_with_len 0 n)) all
+    ∙ first_of_each sets 0 sets.events

@@ -1,0 +1,56 @@
+-- The times that are left to an event, one after the other.
+use Rattle.std.proofs.Common.{◌≡◌, ◌∙◌, ℕ, suc, ◌+◌, ◌-◌, ◌<◌, ◌≤◌, Bool, true, false, List, [], ◌∷◌, length}
+use Rattle.std.proofs.Common.{cond, filter, ap, arith}
+use Rattle.std.specs.List.{range_with_len}
+use Rattle.pesp_search.specs.Marks.{Marks, is_left, times_from}
+
+range_more : (from end : ℕ) → from < end
+    → range_with_len from (end - from) ≡ from ∷ range_with_len (from + 1) (end - (from + 1))
+range_more from end some =
+    let more : end - from ≡ suc (end - (from + 1)) = omega (arith, some) in
+    ap (range_with_len from) more
+
+range_none : (from end : ℕ) → end ≤ from → range_with_len from (end - from) ≡ []
+range_none from end none =
+    let zero_is : end - from ≡ 0 = omega (arith, none) in ap (range_with_len from) zero_is
+
+kept_first : (test : ℕ → Bool) (x : ℕ) (xs : List ℕ) → test x ≡ true
+    → filter test (x ∷ xs) ≡ x ∷ filter test xs
+kept_first test x xs is = ap (λ b. cond b (x ∷ filter test xs) (filter test xs)) is
+
+left_out : (test : ℕ → Bool) (x : ℕ) (xs : List ℕ) → test x ≡ false
+    → filter test (x ∷ xs) ≡ filter test xs
+left_out test x xs is = ap (λ b. cond b (x ∷ filter test xs) (filter test xs)) is
+
+pub next_one : (sets : Marks) (event time : ℕ) → time < sets.period
+    → is_left sets event time ≡ true
+    → times_from sets event time ≡ time ∷ times_from sets event (time + 1)
+next_one sets event time some left =
+    ap (filter (is_left sets event)) (range_more time sets.period some)
+    ∙ kept_first (is_left sets event) time _ left
+
+pub not_this : (sets : Marks) (event time : ℕ) → time < sets.period
+    → is_left sets event time ≡ false
+    → times_from sets event time ≡ times_from sets event (time + 1)
+not_this sets event time some left =
+    ap (filter (is_left sets event)) (range_more time sets.period some)
+    ∙ left_out (is_left sets event) time _ left
+
+pub no_more : (sets : Marks) (event time : ℕ) → sets.period ≤ time
+    → times_from sets event time ≡ []
+no_more sets event time none =
+    ap (filter (is_left sets event)) (range_none time sets.period none)
+
+pub count_one : (sets : Marks) (event time count all : ℕ) → time < sets.period
+    → is_left sets event time ≡ true → count + length (times_from sets event time) ≡ all
+    → count + 1 + length (times_from sets event (time + 1)) ≡ all
+count_one sets event time count all some left counted =
+    let more = ap length (next_one sets event time some left) in
+    omega (arith, more, counted)
+
+pub count_none : (sets : Marks) (event time count all : ℕ) → time < sets.period
+    → is_left sets event time ≡ false → count + length (times_from sets event time) ≡ all
+    → count + length (times_from sets event (time + 1)) ≡ all
+count_none sets event time count all some out counted =
+    let same = ap length (not_this sets event time some out) in
+    omega (arith, same, counted)

@@ -1,0 +1,230 @@
+-- Rounds and any other way to take out times without a partner leave the same sets.
+use Rattle.std.proofs.Common.{◌≡◌, ◌∙◌, inl, inr, ℕ, zero, suc, ◌<◌, ◌≤◌, ◌==◌, nat_eq, nat_lt, Bool, true, false, not, ◌&&◌, ◌||◌}
+use Rattle.std.proofs.Common.{List, [], ◌∷◌, get_or, pos, slice_get, Some, All, refl, ap, sym, subst, arith}
+use Rattle.std.specs.List.{list_all, list_any}
+use Rattle.std.proofs.lemmas.Bool.{and_from, and_parts, cases_Bool, cases_eq, eq-eqb, ne_eqb, eqb-true, eqb-false, lt-ltb, ltb-true}
+use Rattle.std.proofs.lemmas.List.Elements.{All-from_get_or}
+use Rattle.std.proofs.lemmas.Option.{none-some, slice_get-get_or}
+use Rattle.pesp_model.specs.declared.activity.PespActivity.{PespActivity}
+use Rattle.pesp_model.specs.Timetables.{IsActivity, IsProblem, Problem, keeps}
+use Rattle.pesp_search.specs.Marks.{Tracked, family, is_left}
+use Rattle.pesp_search.specs.Revising.{AllFrom, IsRevised, IsWithin, Left, Propagates, Reduces, first_left, second_left}
+use Rattle.pesp_search.specs.TimeSets.{has_partner, has_partners, reduced, round, rounds, times_left}
+use Rattle.pesp_search.proofs.Families.{all_times, both_of, fewer_times, left_to_family, round_family, same_family, sets_family}
+use Rattle.pesp_search.proofs.Partners.{holds_in_range, range_holds, same_tests}
+use Rattle.pesp_search.proofs.Revised.{firsts_more, seconds_more}
+use Rattle.pesp_search.proofs.Sweeping.{held}
+
+-- ---- tests of all activities
+
+all_hold : {X : Type 0} (test : X → Bool) (xs : List X)
+    → ((i : ℕ) (x : X) → slice_get xs i ≡ Some x → test x ≡ true) → list_all test xs ≡ true
+all_hold test [] holds = refl
+all_hold test (x ∷ xs) holds =
+    and_from (test x) (list_all test xs) (holds 0 x refl) (all_hold test xs (λ i. holds (suc i)))
+
+holds_at : {X : Type 0} (test : X → Bool) (xs : List X) → list_all test xs ≡ true
+    → (i : ℕ) (x : X) → slice_get xs i ≡ Some x → test x ≡ true
+holds_at test [] all i x at = absurd (none-some x at)
+holds_at test (first ∷ xs) all zero x at =
+    let own : first ≡ x = cc in ap test (sym own) ∙ (and_parts (test first) _ all).0
+holds_at test (first ∷ xs) all (suc i) x at = holds_at test xs (and_parts (test first) _ all).1 i x at
+
+-- ---- partners in a family
+
+module _ (problem : Problem) (sound : IsProblem problem) where
+  abbrev period : ℕ
+  period = problem.period
+
+  abbrev events : ℕ
+  events = problem.events
+
+  abbrev sets : Left → List (List ℕ)
+  sets left = family period events left
+
+  abbrev partners : Left → Left
+  partners left = has_partners problem (sets left)
+
+  -- where an activity is there, a partner is one among the times that are left
+  partner_is : (left : Left) (activity : PespActivity) → IsActivity events activity → (e t : ℕ)
+      → has_partner period (sets left) e t activity
+      ≡ ((not (activity.from == e) || second_left period left activity t)
+      && (not (activity.to == e) || first_left period left activity t))
+  partner_is left activity is e t = λ i.
+      (not (activity.from == e) || list_any (keeps period activity t) (left_to_family period events left activity.to is.to i))
+      && (not (activity.to == e) || list_any (λ other. keeps period activity other t)
+      (left_to_family period events left activity.from is.from i))
+
+  activity_at : (i : ℕ) (activity : PespActivity) → slice_get problem.activities i ≡ Some activity
+      → IsActivity events activity
+  activity_at i activity at = held (IsActivity events) problem.activities i activity sound.sound at
+
+  or_here : (a e : ℕ) (b : Bool) → (a ≡ e → b ≡ true) → (not (a == e) || b) ≡ true
+  or_here a e b holds = elim (cases_eq a e) [
+    | inl own ↦ ap (λ c. not c || b) (eq-eqb a e own) ∙ holds own
+    | inr other ↦ ap (λ c. not c || b) (ne_eqb a e other)
+  ]
+
+  here_or : (a : ℕ) (b : Bool) → (not (a == a) || b) ≡ true → b ≡ true
+  here_or a b is = sym (ap (λ c. not c || b) (eq-eqb a a refl)) ∙ is
+
+  -- times of sets in which all is revised have their partners among more times
+  pub held_partners : (left others : Left)
+      → AllFrom problem.activities (IsRevised period left) 0 → IsWithin left others
+      → (e t : ℕ) → left e t ≡ true → partners others e t ≡ true
+  held_partners left others revised within e t is =
+      all_hold (has_partner period (sets others) e t) problem.activities (λ i activity at.
+      let so = revised i activity at (omega arith) in
+      partner_is others activity (activity_at i activity at) e t
+      ∙ and_from _ _
+      (or_here activity.from e _ (λ own. seconds_more period left others activity t within
+      (so.seconds t (ap (λ e. left e t) own ∙ is))))
+      (or_here activity.to e _ (λ own. firsts_more period left others activity t within
+      (so.firsts t (ap (λ e. left e t) own ∙ is)))))
+
+  abbrev no_activity : PespActivity
+  no_activity = record { from = 0; to = 0; lower = pos 0; upper = pos 0 }
+
+  -- ---- the times of events and of the period alone
+
+  abbrev inside : Left → Left
+  inside left event time = nat_lt event events && (nat_lt time period && left event time)
+
+  inside_parts : (left : Left) (e t : ℕ) → inside left e t ≡ true
+      → (e < events) × (t < period) × (left e t ≡ true)
+  inside_parts left e t is =
+      let one = and_parts (nat_lt e events) _ is in
+      let two = and_parts (nat_lt t period) _ one.1 in
+      (ltb-true _ _ one.0, ltb-true _ _ two.0, two.1)
+
+  inside_from : (left : Left) (e t : ℕ) → e < events → t < period → left e t ≡ true
+      → inside left e t ≡ true
+  inside_from left e t within small is =
+      and_from _ _ (lt-ltb e events within) (and_from _ _ (lt-ltb t period small) is)
+
+  -- where no round takes a time out, all activities are revised
+  stable_revised : (left : Left)
+      → ((e t : ℕ) → e < events → t < period → left e t ≡ true → partners left e t ≡ true)
+      → All (IsRevised period (inside left)) problem.activities
+  stable_revised left stable = All-from_get_or (IsRevised period (inside left)) problem.activities no_activity
+      (λ i within. revised i (get_or problem.activities i no_activity)
+      (slice_get-get_or problem.activities i no_activity within))
+    where
+      told : (i : ℕ) (activity : PespActivity) → slice_get problem.activities i ≡ Some activity → (e t : ℕ)
+          → inside left e t ≡ true
+          → ((not (activity.from == e) || second_left period left activity t) ≡ true)
+          × ((not (activity.to == e) || first_left period left activity t) ≡ true)
+      told i activity at e t is =
+          let parts = inside_parts left e t is in
+          and_parts _ _ (sym (partner_is left activity (activity_at i activity at) e t)
+          ∙ holds_at (has_partner period (sets left) e t) problem.activities
+          (stable e t parts.0 parts.1 parts.2) i activity at)
+
+      revised : (i : ℕ) (activity : PespActivity) → slice_get problem.activities i ≡ Some activity
+          → IsRevised period (inside left) activity
+      revised i activity at = record {
+        seconds = λ t is.
+            let second = here_or activity.from _ (told i activity at activity.from t is).0 in
+            let found = holds_in_range (left activity.to) (keeps period activity t) 0 period second in
+            range_holds (inside left activity.to) (keeps period activity t) 0 period found.0 found.1 found.2
+            (inside_from left activity.to found.0 (activity_at i activity at).to (omega (arith, found.2)) found.3)
+            found.4;
+        firsts = λ t is.
+            let first = here_or activity.to _ (told i activity at activity.to t is).1 in
+            let found = holds_in_range (left activity.from) (λ other. keeps period activity other t) 0 period first in
+            range_holds (inside left activity.from) (λ other. keeps period activity other t) 0 period found.0
+            found.1 found.2
+            (inside_from left activity.from found.0 (activity_at i activity at).from (omega (arith, found.2)) found.3)
+            found.4;
+      }
+
+  -- ---- rounds
+
+  rounds_none : (left : List (List ℕ)) → rounds 0 problem left ≡ left
+  unfolding rounds
+  rounds_none left = refl
+
+  rounds_stop : (n : ℕ) (left : List (List ℕ))
+      → nat_eq (times_left (round problem left)) (times_left left) ≡ true
+      → rounds (suc n) problem left ≡ left
+  unfolding rounds
+  rounds_stop n left is =
+      ap (λ b. elim b as (λ _. List (List ℕ)) [
+        | true ↦ left
+        | false ↦ rounds n problem (round problem left)
+      ]) is
+
+  rounds_on : (n : ℕ) (left : List (List ℕ))
+      → nat_eq (times_left (round problem left)) (times_left left) ≡ false
+      → rounds (suc n) problem left ≡ rounds n problem (round problem left)
+  unfolding rounds
+  rounds_on n left is =
+      ap (λ b. elim b as (λ _. List (List ℕ)) [
+        | true ↦ left
+        | false ↦ rounds n problem (round problem left)
+      ]) is
+
+  module _ (first last : Left)
+      (revised : AllFrom problem.activities (IsRevised period last) 0)
+      (keeps_all : (left : Left) → All (IsRevised period left) problem.activities
+      → IsWithin left first → IsWithin left last) where
+    -- where no round takes a time out of more sets, they are these
+    stopped : (left : Left) → IsWithin last left → IsWithin left first
+        → times_left (sets left) ≤ times_left (round problem (sets left)) → sets left ≡ sets last
+    stopped left low high as_many =
+        let stable = all_times period events left (partners left)
+        (subst (λ next. times_left (sets left) ≤ times_left next) (round_family period problem events left) as_many) in
+        let inner = keeps_all (inside left) (stable_revised left stable)
+        (λ e t is. high e t (inside_parts left e t is).2) in
+        same_family period events left last (λ e t within small.
+        same_tests (left e t) (last e t)
+        (λ is. inner e t (inside_from left e t within small is)) (low e t))
+
+    -- a round keeps them inside
+    kept_low : (left : Left) → IsWithin last left → IsWithin last (both_of left (partners left))
+    kept_low left low e t is =
+        and_from (left e t) _ (low e t is) (held_partners last left revised low e t is)
+
+    kept_high : (left : Left) → IsWithin left first → IsWithin (both_of left (partners left)) first
+    kept_high left high e t is = high e t (and_parts (left e t) _ is).0
+
+    all_rounds : (n : ℕ) (left : Left) → times_left (sets left) ≤ n → IsWithin last left
+        → IsWithin left first → rounds n problem (sets left) ≡ sets last
+    all_rounds zero left few low high =
+        rounds_none (sets left) ∙ stopped left low high (omega (arith, few))
+    all_rounds (suc n) left few low high =
+        let next = round_family period problem events left in
+        elim (cases_Bool (nat_eq (times_left (round problem (sets left))) (times_left (sets left)))) [
+          | inl same ↦
+              rounds_stop n (sets left) same
+              ∙ stopped left low high (omega (arith, eqb-true _ _ same))
+          | inr other ↦
+              let apart = eqb-false _ _ other in
+              let fewer = fewer_times period events left (partners left) in
+              let less = ap times_left next in
+              rounds_on n (sets left) other ∙ ap (rounds n problem) next
+              ∙ all_rounds n (both_of left (partners left))
+              (omega (arith, few, fewer, less, apart)) (kept_low left low) (kept_high left high)
+        ]
+
+    pub family_reduced : IsWithin last first → reduced problem (sets first) ≡ sets last
+    unfolding reduced
+    family_reduced low =
+        all_rounds (times_left (sets first)) first (omega arith) low (λ e t is. is)
+
+  -- ---- marks
+
+  pub sets_reduced : (before after : Tracked) → before.sets.period ≡ period → before.sets.events ≡ events
+      → Propagates problem before after
+      → AllFrom problem.activities (IsRevised period (is_left after.sets)) 0
+      → Reduces problem before after
+  sets_reduced before after period_is events_is so revised = record {
+    period = so.period;
+    events = so.events;
+    saved = so.saved;
+    sets = sets_family after.sets
+        ∙ (λ i. family ((so.period ∙ period_is) i) ((so.events ∙ events_is) i) (is_left after.sets))
+        ∙ sym (family_reduced (is_left before.sets) (is_left after.sets) revised so.keeps so.within)
+        ∙ sym (ap (reduced problem) (sets_family before.sets
+        ∙ (λ i. family (period_is i) (events_is i) (is_left before.sets))));
+  }

@@ -1,0 +1,76 @@
+-- The rows of times, one after the other.
+use Rattle.std.proofs.Common.{◌≡◌, ◌∙◌, ℕ, ◌+◌, ◌<◌, ◌≤◌, ◌&&◌, Bool, List, [], ◌∷◌, ◌++◌, drop, get_or, length}
+use Rattle.std.proofs.Common.{map, take, true, refl, ap, sym, arith}
+use Rattle.std.specs.List.{enumerate_from, list_all}
+use Rattle.std.proofs.lemmas.List.{drop_all, drop_more, get_or-map, length-map, take_all, take_more}
+use Rattle.std.proofs.lemmas.List.FromFn.{get_or-enumerate_from, length-enumerate_from}
+use Rattle.giv_files.specs.Tables.{TableRow, no_row}
+use Rattle.event_tables.specs.declared.periodic_time.PeriodicTime.{PeriodicTime}
+use Rattle.event_tables.specs.Cells.{number_in, periodic_time}
+use Rattle.event_tables.specs.RowsOfTables.{records_by}
+use Rattle.pesp_search.specs.Judged.{is_time_of}
+use Rattle.pesp_search.specs.TimetableStage.{time_rows}
+
+no_time : PeriodicTime
+no_time = record { event = 0; time = 0 }
+
+module _ (times : List ℕ) (i : ℕ) where
+  size : length (time_rows times) ≡ length times
+  size = length-map (enumerate_from 1 times) (λ at. record { event = at.0; time = at.1 })
+      ∙ length-enumerate_from 1 times
+
+  -- one row more
+  pub row_more : i < length times
+      → take (i + 1) (time_rows times)
+      ≡ take i (time_rows times) ++ record { event = i + 1; time = get_or times i 0 } ∷ []
+  row_more inside =
+      let place : 1 + i ≡ i + 1 = omega arith in
+      take_more (time_rows times) i no_time (omega (arith, inside, size))
+      ∙ ap (λ row. take i (time_rows times) ++ row ∷ [])
+      (get_or-map (λ at. record { event = at.0; time = at.1 }) (enumerate_from 1 times) i (0, 0) no_time
+      (omega (arith, inside, length-enumerate_from 1 times))
+      ∙ ap (λ (at : ℕ × ℕ). record { event = at.0; time = at.1 })
+      (get_or-enumerate_from 1 times i (0, 0) inside)
+      ∙ ap (λ event. record { event = event; time = get_or times i 0 }) place)
+
+  -- all of them
+  pub rows_whole : length times ≤ i → take i (time_rows times) ≡ time_rows times
+  rows_whole past = take_all i (time_rows times) (omega (arith, past, size))
+
+module _ (table : List TableRow) (i : ℕ) where
+  abbrev times_in : List ℕ
+  times_in = map (λ row. row.time) (records_by periodic_time table)
+
+  times_size : length times_in ≡ length table
+  times_size = length-map (records_by periodic_time table) (λ row. row.time)
+      ∙ length-map table (λ row. periodic_time row.cells)
+
+  -- the time of one row more
+  pub time_more : i < length table
+      → take (i + 1) times_in ≡ take i times_in ++ number_in (get_or table i no_row).cells 1 ∷ []
+  time_more inside =
+      take_more times_in i 0 (omega (arith, inside, times_size))
+      ∙ ap (λ time. take i times_in ++ time ∷ [])
+      (get_or-map (λ (row : PeriodicTime). row.time) (records_by periodic_time table) i no_time 0
+      (omega (arith, inside, length-map table (λ row. periodic_time row.cells)))
+      ∙ ap (λ (row : PeriodicTime). row.time)
+      (get_or-map (λ (row : TableRow). periodic_time row.cells) table i no_row no_time inside))
+
+  pub times_whole : length table ≤ i → take i times_in ≡ times_in
+  times_whole past = take_all i times_in (omega (arith, past, times_size))
+
+  module _ (period : ℕ) where
+    -- the rows from one on are in order
+    abbrev order_from : ℕ → Bool
+    order_from i = list_all (is_time_of period) (enumerate_from (i + 1) (records_by periodic_time (drop i table)))
+
+    pub order_more : i < length table
+        → order_from i ≡ (is_time_of period (i + 1, periodic_time (get_or table i no_row).cells) && order_from (i + 1))
+    order_more inside =
+        ap (λ rows. list_all (is_time_of period) (enumerate_from (i + 1) (records_by periodic_time rows)))
+        (drop_more table i no_row inside)
+
+    pub order_end : length table ≤ i → order_from i ≡ true
+    order_end past =
+        ap (λ rows. list_all (is_time_of period) (enumerate_from (i + 1) (records_by periodic_time rows)))
+        (drop_all i table past)

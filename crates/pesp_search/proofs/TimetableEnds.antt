@@ -1,0 +1,107 @@
+-- When a search says that there is no timetable, and when its budget is never spent.
+use Rattle.std.proofs.Common.{◌≡◌, ◌≢◌, ◌∙◌, ◌⊎◌, inl, inr, ℕ, ◌≤◌, Bool, true, false, cond, nat_lt, List, []}
+use Rattle.std.proofs.Common.{◌∷◌, Option, Some, None, Result, Ok, Err, refl, ap, sym, subst, arith}
+use Rattle.std.proofs.lemmas.Bool.{le-ltb, ltb-false}
+use Rattle.giv_files.specs.declared.made.Made.{Made}
+use Rattle.giv_files.specs.declared.refusal.Refusal.{Refusal}
+use Rattle.giv_files.specs.declared.refusal.Refusal.TheVariants as refusal
+use Rattle.giv_files.specs.declared.refusal.StageFault.{StageFault}
+use Rattle.giv_files.specs.declared.refusal.StageFault.TheVariants as fault
+use Rattle.giv_files.specs.declared.stage.Stage.TheVariants as stage
+use Rattle.giv_files.specs.Settings.{BundleParts, Fits}
+use Rattle.giv_files.specs.StageCalls.{StageGives}
+use Rattle.pesp_model.specs.Timetables.{IsTimetable, Problem}
+use Rattle.pesp_search.specs.Listings.{Listing, ListingIsRight, Tells, listing, most_entries, result_within}
+use Rattle.pesp_search.specs.Listings.{whole_result}
+use Rattle.pesp_search.specs.RightTimetables.{HasNone, IsNeverSpent, SaysNone}
+use Rattle.pesp_search.specs.TimetableStage.{after_faults, budget_in, problem_in, search_made, timetable_faults}
+use Rattle.pesp_search.specs.TimetableStage.{timetable_stage}
+use Rattle.pesp_search.proofs.ListingRight.{listing_right}
+use Rattle.pesp_search.proofs.TimetableReads.{is_problem}
+
+-- what a listing comes to within a budget
+abbrev outcome : ℕ → Listing → Result Made Refusal
+outcome budget all = search_made (result_within budget all)
+
+module _ (budget : ℕ) (problem : Problem) (all : Listing) (tells : Tells problem all.found) where
+  none_by : (found : Option (List ℕ)) → Tells problem found
+      → search_made (whole_result all.entries found) ≡ Err refusal.NoSolution
+      → (times : List ℕ) → ¬ IsTimetable problem times
+  none_by None tells is = tells
+  none_by (Some times) tells is = absurd (cc)
+
+  none_within : outcome budget all ≡ Err refusal.NoSolution
+      → ((times : List ℕ) → ¬ IsTimetable problem times) × (all.entries ≤ budget)
+  unfolding result_within
+  none_within is = by (nat_lt budget all.entries) refl is
+    where
+      by : (b : Bool) → nat_lt budget all.entries ≡ b
+          → search_made (cond b (Err (refusal.Spent budget)) (whole_result all.entries all.found)) ≡ Err refusal.NoSolution
+          → ((times : List ℕ) → ¬ IsTimetable problem times) × (all.entries ≤ budget)
+      by true over is = absurd (cc)
+      by false within is = (none_by all.found tells is, ltb-false budget all.entries within)
+
+  whole_within : all.entries ≤ budget → outcome budget all ≡ search_made (whole_result all.entries all.found)
+  unfolding result_within
+  whole_within few = ap (λ b. search_made (cond b (Err (refusal.Spent budget)) (whole_result all.entries all.found)))
+      (le-ltb budget all.entries few)
+
+  nothing_found : ((times : List ℕ) → ¬ IsTimetable problem times) → all.found ≡ None
+  nothing_found none = by all.found tells
+    where
+      by : (found : Option (List ℕ)) → Tells problem found → found ≡ None
+      by None tells = refl
+      by (Some times) tells = absurd (none times tells)
+
+  says_none : ((times : List ℕ) → ¬ IsTimetable problem times) → all.entries ≤ budget
+      → outcome budget all ≡ Err refusal.NoSolution
+  says_none none few =
+      whole_within few ∙ ap (λ found. search_made (whole_result all.entries found)) (nothing_found none)
+
+never_spent_by : (entries : ℕ) (found : Option (List ℕ)) (spent : ℕ)
+    → search_made (whole_result entries found) ≢ Err (refusal.Spent spent)
+never_spent_by entries None spent is = absurd (cc)
+never_spent_by entries (Some times) spent is = absurd (cc)
+
+gives_only : (function : Result Made Refusal) (result : Result Made StageFault) (why : Refusal)
+    → StageGives function result → result ≡ Err (fault.Refused why) → function ≡ Err why
+gives_only function result why gives is = subst (StageGives function) is gives
+
+gives_always : (function : Result Made Refusal) (result : Result Made StageFault) (why : Refusal)
+    → StageGives function result → function ≡ Err why
+    → (result ≡ Err (fault.Refused why)) ⊎ (result ≡ Err fault.NoMemory)
+gives_always function (Ok made) why gives is = absurd (let both = sym gives ∙ is in cc)
+gives_always function (Err fault.NoMemory) why gives is = inr refl
+gives_always function (Err (fault.Refused other)) why gives is =
+    let same : other ≡ why = (let both = sym gives ∙ is in cc) in
+    inl (ap (λ why. Err (fault.Refused why)) same)
+
+module _ (bundle : BundleParts) (own : bundle.stage ≡ stage.Timetable) (fits : Fits bundle)
+    (result : Result Made StageFault) (gives : StageGives (timetable_stage bundle) result)
+    (none : timetable_faults bundle ≡ []) where
+  abbrev all : Listing
+  all = listing (problem_in bundle)
+
+  right : ListingIsRight (problem_in bundle)
+  right = listing_right (problem_in bundle) (is_problem bundle own fits none)
+
+  stage_is : timetable_stage bundle ≡ outcome (budget_in bundle) all
+  unfolding timetable_stage
+  stage_is = ap (λ faults. after_faults faults (outcome (budget_in bundle) all)) none
+
+  pub none_told : SaysNone bundle result
+  none_told = record {
+    only = λ is.
+        let told = none_within (budget_in bundle) (problem_in bundle) all right.tells
+        (sym stage_is ∙ gives_only (timetable_stage bundle) result refusal.NoSolution gives is) in
+        record { none = told.0; within = told.1 };
+    always = λ has.
+        gives_always (timetable_stage bundle) result refusal.NoSolution gives
+        (stage_is ∙ says_none (budget_in bundle) (problem_in bundle) all right.tells has.none has.within);
+  }
+
+  pub spent_never : IsNeverSpent bundle result
+  spent_never enough spent is =
+      let whole = whole_within (budget_in bundle) (problem_in bundle) all right.tells (omega (arith, right.short, enough)) in
+      never_spent_by all.entries all.found spent
+      (sym whole ∙ sym stage_is ∙ gives_only (timetable_stage bundle) result (refusal.Spent spent) gives is)

@@ -1,0 +1,82 @@
+-- Which files the stage of timetables makes, and which it names where it refuses a row.
+use Rattle.std.proofs.Common.{◌≡◌, ℕ, Bool, true, false, cond, nat_lt, List, [], ◌∷◌, Option, Some, None, Result}
+use Rattle.std.proofs.Common.{Ok, Err, ap, lit<, subst}
+use Rattle.giv_files.specs.declared.file_id.FileId.{FileId}
+use Rattle.giv_files.specs.declared.file_id.FileId.TheVariants as file
+use Rattle.giv_files.specs.declared.made.Made.{Made}
+use Rattle.giv_files.specs.declared.refusal.Refusal.{Refusal}
+use Rattle.giv_files.specs.declared.refusal.Refusal.TheVariants as refusal
+use Rattle.giv_files.specs.declared.stage.Stage.TheVariants as stage
+use Rattle.giv_files.specs.Inputs.{input_faults}
+use Rattle.giv_files.specs.MadeLists.{MakesAs, ids_of}
+use Rattle.giv_files.specs.NamedFiles.{NamesOnly}
+use Rattle.giv_files.specs.Settings.{BundleParts}
+use Rattle.giv_files.specs.StageCalls.{input_text}
+use Rattle.giv_files.proofs.Named.{AllName, input_names, names_both}
+use Rattle.event_tables.specs.PeriodicFiles.{periodic_activity_input, periodic_event_ids, periodic_event_input}
+use Rattle.pesp_model.specs.PespTexts.{events_of, problem_faults}
+use Rattle.pesp_search.specs.Listings.{Listing, TimesFound, listing, result_within, whole_result}
+use Rattle.pesp_search.specs.TimetableStage.{after_faults, budget_in, problem_in, search_made, timetable_faults}
+use Rattle.pesp_search.specs.TimetableStage.{timetable_stage}
+
+-- the files that are made, where some are
+abbrev ids_in : Result Made Refusal → List FileId
+ids_in (Ok made) = ids_of made.files
+ids_in (Err why) = []
+
+search_makes : (result : Result TimesFound Refusal) (made : Made) → search_made result ≡ Ok made
+    → MakesAs stage.Timetable (ids_of made.files)
+search_makes (Ok found) made is = (0, lit< tt, ap ids_in is)
+search_makes (Err why) made is = absurd (cc)
+
+makes_after : (faults : List Refusal) (result : Result TimesFound Refusal) (made : Made)
+    → after_faults faults (search_made result) ≡ Ok made → MakesAs stage.Timetable (ids_of made.files)
+makes_after [] result made is = search_makes result made is
+makes_after (first ∷ more) result made is = absurd (cc)
+
+-- they are those that the stage is to make
+pub timetable_stage_makes : (bundle : BundleParts) (made : Made) → timetable_stage bundle ≡ Ok made
+    → MakesAs stage.Timetable (ids_of made.files)
+unfolding timetable_stage
+timetable_stage_makes bundle made is =
+    makes_after (timetable_faults bundle) (result_within (budget_in bundle) (listing (problem_in bundle))) made is
+
+-- a search names no file
+found_names : (test : FileId → Bool) (entries : ℕ) (found : Option (List ℕ)) (reason : Refusal)
+    → search_made (whole_result entries found) ≡ Err reason → NamesOnly test reason
+found_names test entries (Some times) reason is = absurd (cc)
+found_names test entries None reason is =
+    let same : refusal.NoSolution ≡ reason = cc in subst (NamesOnly test) same tt
+
+search_names : (test : FileId → Bool) (budget : ℕ) (all : Listing) (reason : Refusal)
+    → search_made (result_within budget all) ≡ Err reason → NamesOnly test reason
+unfolding result_within
+search_names test budget all reason is =
+    elim (nat_lt budget all.entries) as
+    (λ b. search_made (cond b (Err (refusal.Spent budget)) (whole_result all.entries all.found)) ≡ Err reason
+    → NamesOnly test reason) [
+      | true ↦ λ is. let same : refusal.Spent budget ≡ reason = cc in subst (NamesOnly test) same tt
+      | false ↦ found_names test all.entries all.found reason
+    ] is
+
+names_after : (test : FileId → Bool) (faults : List Refusal) (outcome : Result Made Refusal)
+    (reason : Refusal) → AllName test faults → (outcome ≡ Err reason → NamesOnly test reason)
+    → after_faults faults outcome ≡ Err reason → NamesOnly test reason
+names_after test [] outcome reason named so is = so is
+names_after test (first ∷ more) outcome reason named so is =
+    let same : first ≡ reason = cc in subst (NamesOnly test) same named.0
+
+-- a refusal by a row names the file of events or of activities
+pub timetable_stage_names : (test : FileId → Bool) → test file.EventsP ≡ true
+    → test file.ActivitiesP ≡ true → (bundle : BundleParts) (reason : Refusal)
+    → timetable_stage bundle ≡ Err reason → NamesOnly test reason
+unfolding timetable_stage problem_faults
+timetable_stage_names test events activities bundle reason is =
+    let ids = periodic_event_ids (events_of (input_text bundle 0)) in
+    let named : AllName test (timetable_faults bundle) =
+    names_both test (input_faults periodic_event_input (input_text bundle 0))
+    (input_faults (periodic_activity_input ids) (input_text bundle 1))
+    (input_names test periodic_event_input (input_text bundle 0) events)
+    (input_names test (periodic_activity_input ids) (input_text bundle 1) activities) in
+    names_after test (timetable_faults bundle) _ reason named
+    (search_names test (budget_in bundle) (listing (problem_in bundle)) reason) is

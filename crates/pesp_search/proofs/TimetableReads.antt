@@ -1,0 +1,128 @@
+-- The timetable that is made is right over what the stage was given.
+use Rattle.std.proofs.Common.{◌≡◌, ◌∙◌, ℕ, ◌+◌, ◌<◌, ◌≤◌, Bool, true, false, cond, nat_lt, List, [], ◌∷◌, length}
+use Rattle.std.proofs.Common.{map, All, Option, Some, None, Result, Ok, Err, refl, ap, sym, subst, arith}
+use Rattle.std.specs.Prelude.{IfOk}
+use Rattle.std.specs.List.{range_with_len}
+use Rattle.std.proofs.lemmas.List.{length-map}
+use Rattle.giv_files.specs.declared.file_id.FileId.TheVariants as file
+use Rattle.giv_files.specs.declared.key.Key.TheVariants as key
+use Rattle.giv_files.specs.declared.made.Made.{Made}
+use Rattle.giv_files.specs.declared.refusal.Refusal.{Refusal}
+use Rattle.giv_files.specs.declared.refusal.Refusal.TheVariants as refusal
+use Rattle.giv_files.specs.declared.refusal.StageFault.{StageFault}
+use Rattle.giv_files.specs.declared.stage.Stage.TheVariants as stage
+use Rattle.giv_files.specs.Inputs.{input_faults}
+use Rattle.giv_files.specs.Settings.{BundleParts, Fits, SettingsFit}
+use Rattle.giv_files.specs.StageCalls.{StageGives, input_text}
+use Rattle.giv_files.proofs.Ranges.{front_none, back_none}
+use Rattle.giv_files.proofs.SettingFacts.{amount_within}
+use Rattle.event_tables.specs.declared.periodic_event.PeriodicEvent.{PeriodicEvent}
+use Rattle.event_tables.specs.PeriodicFiles.{periodic_activity_input, periodic_event_ids, periodic_event_input}
+use Rattle.event_tables.specs.PeriodicFiles.{periodic_time_input}
+use Rattle.event_tables.proofs.SoundFiles.{periodic_activities_sound, periodic_events_sound}
+use Rattle.pesp_model.specs.PespTexts.{activities_of, activity_of, events_of, problem_faults, problem_of}
+use Rattle.pesp_model.specs.Timetables.{IsProblem, IsTimetable}
+use Rattle.pesp_model.proofs.Texts.{problem_sound}
+use Rattle.pesp_search.specs.Listings.{ListingIsRight, Tells, TimesFound, listing, result_within, whole_result}
+use Rattle.pesp_search.specs.RightTimetables.{TimetableFilesAreRight, TimetableIsRight, event_ids}
+use Rattle.pesp_search.specs.TimetableStage.{after_faults, budget_in, period_in, problem_in, search_made}
+use Rattle.pesp_search.specs.TimetableStage.{timetable_faults, timetable_stage, times_made, times_text}
+use Rattle.pesp_search.proofs.ListingRight.{listing_right}
+use Rattle.pesp_search.proofs.TimesAccepted.{times_accepted, times_fit, times_read}
+
+module _ (bundle : BundleParts) (own : bundle.stage ≡ stage.Timetable) (fits : Fits bundle) where
+  pub period_within : (1 ≤ period_in bundle) × (period_in bundle ≤ 720)
+  period_within =
+      amount_within stage.Timetable bundle.settings key.PeriodLength _ _
+      (subst (λ of. SettingsFit of bundle.settings) own fits.settings) refl refl refl
+
+  module _ (none : timetable_faults bundle ≡ []) where
+    abbrev events : List PeriodicEvent
+    events = events_of (input_text bundle 0)
+
+    events_none : input_faults periodic_event_input (input_text bundle 0) ≡ []
+    unfolding problem_faults
+    events_none = front_none _ _ none
+
+    activities_none : input_faults (periodic_activity_input (periodic_event_ids events)) (input_text bundle 1) ≡ []
+    unfolding problem_faults
+    activities_none = back_none (input_faults periodic_event_input (input_text bundle 0)) _ none
+
+    ids_are : event_ids bundle ≡ range_with_len 1 (length events)
+    unfolding events_of
+    ids_are = (periodic_events_sound (input_text bundle 0) events_none).numbered
+
+    pub is_problem : IsProblem (problem_in bundle)
+    unfolding problem_of activities_of events_of
+    is_problem =
+        let are = periodic_events_sound (input_text bundle 0) events_none in
+        let fine = subst (λ ids. input_faults (periodic_activity_input ids) (input_text bundle 1) ≡ []) ids_are activities_none in
+        let rows = periodic_activities_sound (length events) (input_text bundle 1) fine in
+        problem_sound (length events) (activities_of events (input_text bundle 1)) rows (period_in bundle)
+        period_within.0 period_within.1 (length events) refl are.few
+        (map activity_of (activities_of events (input_text bundle 1))) refl
+
+    -- times that are a timetable of the problem
+    module _ (times : List ℕ) (is : IsTimetable (problem_in bundle) times) where
+      few : length times ≤ 4000
+      few = omega (arith, is_problem.few_events, is.each)
+
+      below : All (λ time. time < 720) times
+      below k d h = omega (arith, is.within k d h, is_problem.few)
+
+      made_right : (entries : ℕ)
+          → TimetableFilesAreRight bundle (times_made (record { times = times; entries = entries })).files
+      unfolding problem_of
+      made_right entries =
+          let fit = times_fit times few below in
+          record {
+            inputs = none;
+            times = times;
+            text = times_text times;
+            one = refl;
+            reads = times_read times fit;
+            timetable = is;
+            accepted = subst (λ ids. input_faults (periodic_time_input file.TimesP (period_in bundle) ids) (times_text times) ≡ [])
+                (sym ids_are)
+                (times_accepted file.TimesP (period_in bundle) (length events) times is.each is.within fit);
+          }
+
+    by_found : (entries : ℕ) (found : Option (List ℕ)) → Tells (problem_in bundle) found → (made : Made)
+        → search_made (whole_result entries found) ≡ Ok made → TimetableIsRight bundle made
+    by_found entries None tells made is = absurd (cc)
+    by_found entries (Some times) tells made is =
+        let same : times_made (record { times = times; entries = entries }) ≡ made = cc in
+        subst (TimetableIsRight bundle) same (made_right times tells entries)
+
+    result_right : (made : Made)
+        → search_made (result_within (budget_in bundle) (listing (problem_in bundle))) ≡ Ok made
+        → TimetableIsRight bundle made
+    unfolding result_within
+    result_right made is =
+        let all = listing (problem_in bundle) in
+        elim (nat_lt (budget_in bundle) all.entries) as
+        (λ b. search_made (cond b (Err (refusal.Spent (budget_in bundle))) (whole_result all.entries all.found)) ≡ Ok made
+        → TimetableIsRight bundle made) [
+          | true ↦ λ is. absurd (cc)
+          | false ↦ by_found all.entries all.found (listing_right (problem_in bundle) is_problem).tells made
+        ] is
+
+after : (faults : List Refusal) (outcome : Result Made Refusal) (made : Made)
+    → after_faults faults outcome ≡ Ok made → (faults ≡ []) × (outcome ≡ Ok made)
+after [] outcome made is = (refl, is)
+after (first ∷ more) outcome made is = absurd (cc)
+
+-- what the stage makes is right
+pub timetable_is_right : (bundle : BundleParts) (made : Made) → bundle.stage ≡ stage.Timetable
+    → Fits bundle → timetable_stage bundle ≡ Ok made → TimetableIsRight bundle made
+unfolding timetable_stage
+timetable_is_right bundle made own fits is =
+    let parts = after (timetable_faults bundle) _ made is in
+    result_right bundle own fits parts.0 made parts.1
+
+-- what a call gives that meets the stage
+pub right_given : (bundle : BundleParts) (result : Result Made StageFault)
+    → bundle.stage ≡ stage.Timetable → Fits bundle → StageGives (timetable_stage bundle) result
+    → IfOk result (TimetableIsRight bundle)
+right_given bundle (Ok made) own fits given = timetable_is_right bundle made own fits given
+right_given bundle (Err fault) own fits given = tt

@@ -1,0 +1,13 @@
+use Rattle.std.proofs.Common.{◌≡◌, ◌<◌, All, sym, subst, ◌∙◌}
+use Rattle.event_tables.specs.Cells.{periodic_time}
+use Rattle.event_tables.specs.RowsOfTables.{records_by}
+use Rattle.std.proofs.lemmas.Bool.{not-false}
+use Rattle.pesp_search.proofs.JudgedTimes.{in_order}
+use Rattle.pesp_search.proofs.judge.rows_fault.Goals as goal
+
+pub first_violated-requires-clause-within : goal.first_violated-requires-clause-within
+first_violated-requires-clause-within c =
+    let order = sym c.are_in_order.ensures ∙ c.if-not-are_in_order.false in
+    subst (All (λ time. time < c.args.pesp.now.period))
+    (sym (c.deref.ensures.value ∙ c.in_ok-times.ensures))
+    (in_order c.args.pesp.now (records_by periodic_time c.args.table.now) order).within

@@ -1,0 +1,14 @@
+use Rattle.std.proofs.Common.{◌≡◌, ◌++◌, ◌∷◌, [], ap, map, take, sym, ◌∙◌, arith}
+use Rattle.event_tables.specs.Cells.{periodic_time}
+use Rattle.event_tables.specs.RowsOfTables.{records_by}
+use Rattle.pesp_search.proofs.RowsOfTimes.{time_more, times_whole}
+use Rattle.pesp_search.proofs.judge.times_of.Goals as goal
+
+pub loop-row-preserved : goal.loop-row-preserved
+loop-row-preserved c =
+    let table = c.args.table.now in
+    let so_far = take c.loop-row.row (map (λ row. row.time) (records_by periodic_time table)) in
+    c.in_ok-push.ensures.items
+    ∙ ap (λ times. times ++ c.number.result ∷ []) c.loop-row.invariant
+    ∙ ap (λ time. so_far ++ time ∷ []) c.number.ensures
+    ∙ sym (time_more table c.loop-row.row (omega (arith, c.loop-row-test.true, c.len-row-end.ensures.len)))

@@ -1,0 +1,9 @@
+-- The times so far are those of the first rows.
+use Rattle.std.proofs.Common.{◌≡◌, map, take}
+use Rattle.event_tables.specs.Cells.{periodic_time}
+use Rattle.event_tables.specs.RowsOfTables.{records_by}
+use Rattle.pesp_search.proofs.judge.times_of.Given as goal
+
+abbrev pub invariant-loop-row : goal.invariant-loop-row
+invariant-loop-row l =
+    l.times.items ≡ take l.row (map (λ row. row.time) (records_by periodic_time l.table))

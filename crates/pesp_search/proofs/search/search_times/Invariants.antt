@@ -1,0 +1,10 @@
+-- The entries so far, each with a step, and those that are listed behind them.
+use Rattle.std.proofs.Common.{◌≡◌, ◌+◌}
+use Rattle.pesp_search.specs.Searches.{IsSearched}
+use Rattle.pesp_search.proofs.search.search_times.Given as goal
+
+abbrev pub invariant-loop-entry : goal.invariant-loop-entry
+invariant-loop-entry g l = record {
+  searched : IsSearched l.pesp l.sets l.entry;
+  steps : l.steps ≡ l.fn.steps + l.entry;
+}

@@ -1,0 +1,18 @@
+use Rattle.pesp_search.proofs.TimetableEnds.{none_told, spent_never}
+use Rattle.pesp_search.proofs.TimetableReads.{right_given}
+use Rattle.pesp_search.proofs.stage.make_timetable.Goals as goal
+
+pub returns-clause-right : goal.returns-clause-right
+returns-clause-right g c =
+    right_given c.args.bundle.now c.searched_timetable.result c.requires.stage c.requires.fits
+    c.searched_timetable.ensures.made
+
+pub returns-clause-none : goal.returns-clause-none
+returns-clause-none g c =
+    none_told c.args.bundle.now c.requires.stage c.requires.fits c.searched_timetable.result
+    c.searched_timetable.ensures.made
+
+pub returns-clause-never_spent : goal.returns-clause-never_spent
+returns-clause-never_spent g c =
+    spent_never c.args.bundle.now c.requires.stage c.requires.fits c.searched_timetable.result
+    c.searched_timetable.ensures.made

@@ -1,0 +1,30 @@
+use Rattle.std.proofs.Common.{◌∙◌, ◌<◌, arith, ap, sym}
+use Rattle.std.proofs.lemmas.Bool.{eq-eqb, ne_eqb}
+use Rattle.std.specs.List.{list_any}
+use Rattle.pesp_search.specs.Listings.{is_empty}
+use Rattle.pesp_search.proofs.NextSets.{here_empty, not_here, nowhere, sets_all}
+use Rattle.pesp_search.proofs.standing.has_empty.Goals as goal
+
+pub loop-event-init : goal.loop-event-init
+loop-event-init c = ap (list_any is_empty) (sets_all c.args.sets.now)
+
+pub loop-event-preserved : goal.loop-event-preserved
+loop-event-preserved c =
+    let some : c.loop-event.event < c.args.sets.now.events =
+    omega (arith, c.loop-event-test.true, c.events-event-end.ensures.value) in
+    c.loop-event.invariant
+    ∙ not_here c.args.sets.now c.loop-event.event is_empty some
+    (ne_eqb _ 0 (λ none. c.if-count-eq0.false (c.count.ensures ∙ none)))
+
+pub returns-then-count-eq0 : goal.returns-then-count-eq0
+returns-then-count-eq0 c =
+    let some : c.loop-event.event < c.args.sets.now.events =
+    omega (arith, c.loop-event-test.true, c.events-event-end.ensures.value) in
+    sym (c.loop-event.invariant
+    ∙ here_empty c.args.sets.now c.loop-event.event is_empty some
+    (eq-eqb _ 0 (sym c.count.ensures ∙ c.if-count-eq0.true)))
+
+pub returns : goal.returns
+returns c =
+    sym (c.loop-event.invariant ∙ nowhere c.args.sets.now c.loop-event.event is_empty
+    (omega (arith, c.loop-event-test.false, c.events-event-end.ensures.value)))

@@ -1,0 +1,40 @@
+use Rattle.std.proofs.Common.{◌∙◌, All, ap, arith, subst, sym}
+use Rattle.pesp_search.specs.Marks.{IsChange, Marks}
+use Rattle.pesp_search.proofs.Changes.{last_holds, none_left, others_hold, popped_branched, popped_removed}
+use Rattle.pesp_search.proofs.time_sets.TimeSets.restore.Goals as goal
+
+pub loop-change-preserved : goal.loop-change-preserved
+loop-change-preserved c = record {
+  period = ap (λ (sets : Marks). sets.period) c.mark.ensures ∙ c.loop-change.invariant.period;
+  events = ap (λ (sets : Marks). sets.events) c.mark.ensures ∙ c.loop-change.invariant.events;
+  saved = popped_removed c.loop-change.self-inside.sets c.mark.new.self
+      c.loop-change.self-inside.changes.items c.pop.new.self.items c.in-Some.change c.in-Removed.event
+      c.in-Removed.time c.in-Some.ensures.items c.in-Removed.is c.mark.ensures
+      ∙ c.loop-change.invariant.saved;
+  changes = subst (λ (now : Marks). All (IsChange now.period now.events) c.pop.new.self.items)
+      (sym c.mark.ensures)
+      (others_hold (IsChange c.loop-change.self-inside.sets.period c.loop-change.self-inside.sets.events)
+      c.loop-change.self-inside.changes.items c.pop.new.self.items c.in-Some.change
+      c.in-Some.ensures.items c.loop-change.invariant.changes);
+}
+
+pub returns-in-Branched : goal.returns-in-Branched
+returns-in-Branched c = (
+  sym c.loop-change.invariant.saved
+      ∙ popped_branched c.loop-change.self-inside.sets c.loop-change.self-inside.changes.items
+      c.pop.new.self.items c.in-Some.change c.in-Branched.branch c.in-Some.ensures.items
+      c.in-Branched.is,
+  subst (IsChange c.loop-change.self-inside.sets.period c.loop-change.self-inside.sets.events)
+      c.in-Branched.is
+      (last_holds (IsChange c.loop-change.self-inside.sets.period c.loop-change.self-inside.sets.events)
+      c.loop-change.self-inside.changes.items c.pop.new.self.items c.in-Some.change
+      c.in-Some.ensures.items c.loop-change.invariant.changes),
+  c.loop-change.invariant.period,
+  c.loop-change.invariant.events,
+)
+
+pub returns : goal.returns
+returns c =
+    sym c.loop-change.invariant.saved
+    ∙ none_left c.loop-change.self-inside.sets c.loop-change.self-inside.changes.items
+    (omega (arith, c.in_default.ensures.cases.0))

@@ -1,0 +1,16 @@
+-- The changes so far say of the sets what all said at first.
+use Rattle.std.proofs.Common.{◌≡◌, All, reverse, vec_len}
+use Rattle.pesp_search.specs.Marks.{IsChange, saved_by}
+use Rattle.pesp_search.proofs.time_sets.TimeSets.restore.Given as goal
+
+abbrev pub invariant-loop-change : goal.invariant-loop-change
+invariant-loop-change l = record {
+  period : l.self-inside.sets.period ≡ l.fn.self.sets.period;
+  events : l.self-inside.sets.events ≡ l.fn.self.sets.events;
+  saved : saved_by l.self-inside.sets (reverse l.self-inside.changes.items) ≡ l.fn.self.saved;
+  changes : All (IsChange l.self-inside.sets.period l.self-inside.sets.events)
+      l.self-inside.changes.items;
+}
+
+abbrev pub decreases-loop-change : goal.decreases-loop-change
+decreases-loop-change l = vec_len l.self-inside.changes

@@ -1,0 +1,147 @@
+-- Inner words: sets of times by a test of events and times, and what revising them by activities does.
+use Rattle.std.specs.Prelude.{◌≡◌, ◌⊎◌, ℕ, zero, suc, ◌+◌, ◌-◌, ◌%◌, ◌<◌, ◌≤◌, min, ◌==◌, not, Bool, true, false, ◌||◌}
+use Rattle.std.specs.Prelude.{if◌then◌else◌, List, length, filter, get_or, slice_get, slice_set, Some, All, unsigned_abs, ◌-ℤ◌}
+use Rattle.std.specs.List.{list_any, range_with_len}
+use Rattle.pesp_model.specs.declared.activity.PespActivity.{PespActivity}
+use Rattle.pesp_model.specs.Timetables.{Problem, keeps}
+use Rattle.pesp_search.specs.Marks.{Tracked, is_left, marks_left, sets_of}
+use Rattle.pesp_search.specs.TimeSets.{reduced}
+
+-- which times are left to which events
+abbrev pub Left : Type 0
+Left = ℕ → ℕ → Bool
+
+-- the times of one event for which a flag is set stay, and those of all others
+abbrev pub stays : ℕ → List Bool → Left
+stays kept flags event time = not (event == kept) || get_or flags time false
+
+-- a test holds for a number below another one
+unfoldable pub any_below : (ℕ → Bool) → ℕ → Bool
+any_below test zero = false
+any_below test (suc n) = any_below test n || test n
+
+-- the number of those below a number for which it holds
+unfoldable pub count_below : (ℕ → Bool) → ℕ → ℕ
+count_below test zero = 0
+count_below test (suc n) = count_below test n + (if test n then 1 else 0)
+
+-- a time is left in a window of a period that opens so many minutes behind another time
+abbrev pub reaches : ℕ → (ℕ → Bool) → ℕ → ℕ → ℕ → Bool
+reaches period left offset width time =
+    any_below (λ minutes. left ((time + offset + minutes) % period)) (width + 1)
+
+-- by how much an activity may take longer than its lower bound, up to a whole period
+abbrev pub width_of : ℕ → PespActivity → ℕ
+width_of period activity = min (unsigned_abs (activity.upper -ℤ activity.lower)) (period - 1)
+
+-- where the windows of its second times open behind its first ones, and the other way round
+abbrev pub ahead : ℕ → PespActivity → ℕ
+ahead period activity = unsigned_abs activity.lower % period
+
+abbrev pub behind : ℕ → PespActivity → ℕ
+behind period activity =
+    period - (unsigned_abs activity.lower + width_of period activity) % period
+
+-- a time is the first or the second one of two that keep an activity, where the other is left to its event
+abbrev pub second_left : ℕ → Left → PespActivity → ℕ → Bool
+second_left period left activity time =
+    list_any (keeps period activity time) (filter (left activity.to) (range_with_len 0 period))
+
+abbrev pub first_left : ℕ → Left → PespActivity → ℕ → Bool
+first_left period left activity time =
+    list_any (λ other. keeps period activity other time)
+    (filter (left activity.from) (range_with_len 0 period))
+
+-- the times without a second one are taken out of the set of an activity's first event, and those without a
+-- first one of that of its second event
+abbrev pub keeps_seconds : ℕ → Left → PespActivity → Left
+keeps_seconds period left activity event time =
+    not (event == activity.from) || second_left period left activity time
+
+abbrev pub keeps_firsts : ℕ → Left → PespActivity → Left
+keeps_firsts period left activity event time =
+    not (event == activity.to) || first_left period left activity time
+
+-- no time of either event of an activity is without a partner
+pub record IsRevised (period : ℕ) (left : Left) (activity : PespActivity) : Type 0 where
+  pub seconds : (time : ℕ) → left activity.from time ≡ true
+      → second_left period left activity time ≡ true
+  pub firsts : (time : ℕ) → left activity.to time ≡ true
+      → first_left period left activity time ≡ true
+
+-- each time that is left on one side is left on the other
+abbrev pub IsWithin : Left → Left → Type 0
+IsWithin left others = (event time : ℕ) → left event time ≡ true → others event time ≡ true
+
+-- Sets are made smaller, and none in which all activities are revised is lost.
+pub record Propagates (problem : Problem) (before after : Tracked) : Type 0 where
+  pub period : after.sets.period ≡ before.sets.period
+  pub events : after.sets.events ≡ before.sets.events
+  pub saved : after.saved ≡ before.saved
+  pub within : IsWithin (is_left after.sets) (is_left before.sets)
+  pub keeps : (left : Left) → All (IsRevised problem.period left) problem.activities
+      → IsWithin left (is_left before.sets) → IsWithin left (is_left after.sets)
+
+-- whether the set of an event has changed, and whether that of some event has
+abbrev pub has_changed : List Bool → ℕ → Bool
+has_changed changed event = get_or changed event false
+
+abbrev pub some_changed : List Bool → Bool
+some_changed changed = list_any (λ is. is) changed
+
+-- the flags where that of an event is set if its set has changed
+abbrev pub noted : List Bool → ℕ → Bool → List Bool
+noted flags event is_changed = slice_set flags event (has_changed flags event || is_changed)
+
+-- an activity is revised unless the set of one of its events has changed
+abbrev pub RevisedUnless : ℕ → Left → (ℕ → Bool) → PespActivity → Type 0
+RevisedUnless period left changed activity =
+    changed activity.from ≡ false → changed activity.to ≡ false → IsRevised period left activity
+
+-- the same of all activities from an index on, and of all before it
+abbrev pub AllFrom : List PespActivity → (PespActivity → Type 0) → ℕ → Type 0
+AllFrom activities Holds from = (index : ℕ) (activity : PespActivity)
+    → slice_get activities index ≡ Some activity → from ≤ index → Holds activity
+
+abbrev pub AllBefore : List PespActivity → (PespActivity → Type 0) → ℕ → Type 0
+AllBefore activities Holds end = (index : ℕ) (activity : PespActivity)
+    → slice_get activities index ≡ Some activity → index < end → Holds activity
+
+-- whether one of two sets of flags has that of an event
+abbrev pub either : List Bool → List Bool → ℕ → Bool
+either changed flags event = has_changed changed event || has_changed flags event
+
+-- An activity revises sets, if one of its events has a flag: where it has not it was revised before. Where the
+-- set of an event is not said to have changed it has not.
+pub record Revises (activity : PespActivity) (changed : List Bool) (before after : Tracked)
+    (flags more : List Bool) : Type 0 where
+  pub period : after.sets.period ≡ before.sets.period
+  pub events : after.sets.events ≡ before.sets.events
+  pub saved : after.saved ≡ before.saved
+  pub within : IsWithin (is_left after.sets) (is_left before.sets)
+  pub keeps : (left : Left) → IsRevised before.sets.period left activity
+      → IsWithin left (is_left before.sets) → IsWithin left (is_left after.sets)
+  pub each : length more ≡ length flags
+  pub here : RevisedUnless before.sets.period (is_left before.sets) (either changed flags) activity
+      → RevisedUnless before.sets.period (is_left after.sets) (has_changed more) activity
+  pub untouched : (event : ℕ) → has_changed more event ≡ false
+      → (has_changed flags event ≡ false) × (is_left after.sets event ≡ is_left before.sets event)
+  pub fewer : some_changed more ≡ true
+      → (some_changed flags ≡ true) ⊎ (marks_left after.sets < marks_left before.sets)
+  pub no_more : marks_left after.sets ≤ marks_left before.sets
+
+-- what a sweep leaves: smaller sets, of which it tells where they changed, and fewer marks where they did
+pub record Sweeps (problem : Problem) (before after : Tracked) (changed : List Bool) : Type 0 where
+  pub propagates : Propagates problem before after
+  pub each : length changed ≡ problem.events
+  pub revised : AllFrom problem.activities
+      (RevisedUnless problem.period (is_left after.sets) (has_changed changed)) 0
+  pub fewer : some_changed changed ≡ true → marks_left after.sets < marks_left before.sets
+  pub no_more : marks_left after.sets ≤ marks_left before.sets
+
+-- sets are reduced
+pub record Reduces (problem : Problem) (before after : Tracked) : Type 0 where
+  pub period : after.sets.period ≡ before.sets.period
+  pub events : after.sets.events ≡ before.sets.events
+  pub saved : after.saved ≡ before.saved
+  pub sets : sets_of after.sets ≡ reduced problem (sets_of before.sets)

@@ -1,0 +1,63 @@
+-- Inner words: a search between two entries, and what its call gives. A reader of the contracts of this crate
+-- needs none of them.
+use Rattle.std.specs.Prelude.{◌≡◌, ℕ, ◌+◌, List, ◌∷◌, Option, Some, None, Vec, Result, Ok, Err, ⊤}
+use Rattle.std.specs.Global.{Global}
+use Rattle.giv_files.specs.declared.refusal.Refusal.{Refusal}
+use Rattle.giv_files.specs.declared.refusal.StageFault.{StageFault}
+use Rattle.giv_files.specs.declared.refusal.StageFault.TheVariants as fault
+use Rattle.pesp_model.specs.Timetables.{Problem}
+use Rattle.pesp_search.specs.declared.search.Entry.{Entry}
+use Rattle.pesp_search.specs.declared.search.Entry.TheVariants as entries
+use Rattle.pesp_search.specs.declared.search.FoundTimes.{FoundTimes}
+use Rattle.pesp_search.specs.Listings.{Listing, TimesFound, entry, in_turn, listing, listing_of, one_more}
+use Rattle.pesp_search.specs.Listings.{unless_found, with_time}
+use Rattle.pesp_search.specs.Marks.{Tracked, sets_of, waiting}
+
+-- a listing behind so many entries that found nothing
+abbrev pub behind : ℕ → Listing → Listing
+behind count rest = record { entries = count + rest.entries; found = rest.found }
+
+-- what is listed from sets on, and from those that wait behind them
+abbrev pub listed_on : Problem → Tracked → Listing
+listed_on problem sets =
+    in_turn (listing_of problem) (sets_of sets.sets ∷ waiting sets.saved)
+
+-- what the entry of reduced sets lists, and those that wait behind it, by what is listed from other sets on
+abbrev pub entry_here : (List (List ℕ) → Listing) → Tracked → Listing
+entry_here visit sets =
+    unless_found
+    (entry (sets_of sets.sets) (λ event time. visit (with_time (sets_of sets.sets) event time)))
+    (in_turn visit (waiting sets.saved))
+
+-- what an entry comes to whose sets are reduced: the times that are found, or the children that wait
+abbrev pub Branches : Tracked → Tracked → Option (Vec ℕ Global) → Type 0
+Branches before after None =
+    ((visit : List (List ℕ) → Listing)
+    → entry_here visit before ≡ one_more (in_turn visit (waiting after.saved)))
+    × (after.sets ≡ before.sets)
+Branches before after (Some times) = (visit : List (List ℕ) → Listing)
+    → entry_here visit before ≡ record { entries = 1; found = Some times.items }
+
+-- one entry is taken: a timetable is found, or no entry is to come, or another one is
+abbrev pub TakesEntry : Problem → Tracked → Tracked → Entry → Type 0
+TakesEntry problem before after (entries.Found times) =
+    listed_on problem before ≡ record { entries = 1; found = Some times.items }
+TakesEntry problem before after entries.Last =
+    listed_on problem before ≡ record { entries = 1; found = None }
+TakesEntry problem before after entries.Next =
+    (listed_on problem before ≡ one_more (listed_on problem after))
+    × (after.sets.period ≡ before.sets.period)
+    × (after.sets.events ≡ before.sets.events)
+
+-- a search behind some entries, each of which took a step
+pub record IsSearched (problem : Problem) (sets : Tracked) (count : ℕ) : Type 0 where
+  pub period : sets.sets.period ≡ problem.period
+  pub events : sets.sets.events ≡ problem.events
+  pub listed : listing problem ≡ behind count (listed_on problem sets)
+
+-- what the call gives: what is found, or why nothing is, exactly as a result says; want of memory is free
+abbrev pub SearchGives : Result TimesFound Refusal → Result FoundTimes StageFault → Type 0
+SearchGives function (Ok found) =
+    function ≡ Ok (record { times = found.times.items; entries = found.entries })
+SearchGives function (Err (fault.Refused why)) = function ≡ Err why
+SearchGives function (Err fault.NoMemory) = ⊤

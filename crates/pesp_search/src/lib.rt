@@ -1,0 +1,22 @@
+//! Periodic timetables: the search of one by constraint propagation, and the test of one from any
+//! hand.
+#![tactic(auto)]
+
+mod check;
+mod children;
+mod fault;
+mod files;
+mod judge;
+mod marks;
+mod prune;
+mod reduce;
+mod revise;
+mod search;
+mod stage;
+mod standing;
+mod time_sets;
+mod windows;
+
+pub use check::check_timetable;
+pub use fault::TimetableFault;
+pub use stage::make_timetable;

@@ -1,0 +1,158 @@
+// Sets of times that are revised by an activity.
+ghost use Rattle.std.specs.Prelude.{◌≡◌, ◌<◌, ◌≤◌, ◌≤ℤ◌, ◌||◌, pos, length, map, IfOk, OnOk};
+ghost use Rattle.std.specs.List.{range_with_len};
+ghost use Rattle.pesp_model.specs.Timetables.{IsActivity};
+ghost use Rattle.pesp_search.specs.Marks.{Prunes, is_left};
+ghost use Rattle.pesp_search.specs.Revising.{ahead, behind, first_left, second_left, width_of};
+ghost use Rattle.pesp_search.specs.Revising.{Revises, has_changed, keeps_firsts, keeps_seconds, noted};
+
+use crate::marks::TimeMarks;
+use crate::prune::prune;
+use crate::time_sets::TimeSets;
+use crate::windows::reached;
+use pesp_model::PespActivity;
+use plan_num::NoMemory;
+use std::alloc::Global;
+
+/// Takes the times that have no partner out of the sets of both events of an activity, if one of
+/// them has a flag, and sets the flags of those whose set has changed.
+pub(crate) fn revise(
+    alloc: Global,
+    activity: PespActivity,
+    sets: &mut TimeSets,
+    changed: &[bool],
+    next: &mut [bool],
+) -> Result<(), NoMemory>
+    requires activity { IsActivity sets.old.sets.events activity }
+    requires each { length changed.now ≡ sets.old.sets.events }
+    requires next { length next.old ≡ sets.old.sets.events }
+    ensures { OnOk result
+        (Revises activity changed.now sets.old sets.new next.old next.new) }
+{
+    if !either_changed(changed, activity) && !either_changed(next, activity) {
+        return Ok(());
+    }
+    let is_changed = keep_seconds(alloc, activity, sets)?;
+    note(next, activity.from, is_changed);
+    let is_changed = keep_firsts(alloc, activity, sets)?;
+    note(next, activity.to, is_changed);
+    Ok(())
+}
+
+// Whether one of an activity's events has a flag.
+fn either_changed(changed: &[bool], activity: PespActivity) -> bool
+    requires from { activity.from < length changed.now }
+    requires to { activity.to < length changed.now }
+    ensures { result
+        ≡ (has_changed changed.now activity.from || has_changed changed.now activity.to) }
+{
+    changed[activity.from] || changed[activity.to]
+}
+
+// Sets the flag of an event if its set has changed.
+fn note(changed: &mut [bool], event: usize, is_changed: bool)
+    requires { event < length changed.old }
+    ensures { changed.new ≡ noted changed.old event is_changed }
+{
+    changed[event] = changed[event] || is_changed;
+}
+
+// Takes the times that have no second one out of the set of an activity's first event, and tells
+// whether there were any.
+fn keep_seconds(
+    alloc: Global,
+    activity: PespActivity,
+    sets: &mut TimeSets,
+) -> Result<bool, NoMemory>
+    requires { IsActivity sets.old.sets.events activity }
+    ensures { IfOk result (Prunes sets.old sets.new
+        (keeps_seconds sets.old.sets.period (is_left sets.old.sets) activity)) }
+{
+    let flags = with_second(alloc, activity, sets.sets())?;
+    prune(sets, activity.from, &flags)
+}
+
+// Takes the times that have no first one out of the set of an activity's second event, and tells
+// whether there were any.
+fn keep_firsts(alloc: Global, activity: PespActivity, sets: &mut TimeSets) -> Result<bool, NoMemory>
+    requires { IsActivity sets.old.sets.events activity }
+    ensures { IfOk result (Prunes sets.old sets.new
+        (keeps_firsts sets.old.sets.period (is_left sets.old.sets) activity)) }
+{
+    let flags = with_first(alloc, activity, sets.sets())?;
+    prune(sets, activity.to, &flags)
+}
+
+// For each time of the period whether it is the first one of two that keep an activity.
+fn with_second(
+    alloc: Global,
+    activity: PespActivity,
+    sets: &TimeMarks,
+) -> Result<Vec<bool>, NoMemory>
+    requires { IsActivity sets.now.events activity }
+    ensures { IfOk result (λ flags. flags.items
+        ≡ map (second_left sets.now.period (is_left sets.now) activity)
+        (range_with_len 0 sets.now.period)) }
+{
+    let period = sets.period();
+    let width = width_of(activity, period);
+    reached(alloc, sets, activity.to, ahead(activity, period), width)
+}
+
+// For each time of the period whether it is the second one of two that keep an activity.
+fn with_first(
+    alloc: Global,
+    activity: PespActivity,
+    sets: &TimeMarks,
+) -> Result<Vec<bool>, NoMemory>
+    requires { IsActivity sets.now.events activity }
+    ensures { IfOk result (λ flags. flags.items
+        ≡ map (first_left sets.now.period (is_left sets.now) activity)
+        (range_with_len 0 sets.now.period)) }
+{
+    let period = sets.period();
+    let width = width_of(activity, period);
+    reached(
+        alloc,
+        sets,
+        activity.from,
+        behind(activity, period, width),
+        width,
+    )
+}
+
+// By how much an activity may take longer than its lower bound, up to a whole period.
+fn width_of(activity: PespActivity, period: usize) -> usize
+    requires some { 1 ≤ period }
+    requires low { pos 0 ≤ℤ activity.lower }
+    requires in_order { activity.lower ≤ℤ activity.upper }
+    requires high { activity.upper ≤ℤ pos 100000 }
+    ensures width { result ≡ width_of period activity }
+    ensures within { result < period }
+{
+    ((activity.upper - activity.lower) as usize).min(period - 1)
+}
+
+// How far behind a first time the window of its second ones opens, up to whole periods.
+fn ahead(activity: PespActivity, period: usize) -> usize
+    requires some { 1 ≤ period }
+    requires low { pos 0 ≤ℤ activity.lower }
+    ensures ahead { result ≡ ahead period activity }
+    ensures within { result ≤ period }
+{
+    activity.lower as usize % period
+}
+
+// How far behind a second time the window of its first ones opens, up to whole periods.
+fn behind(activity: PespActivity, period: usize, width: usize) -> usize
+    requires some { 1 ≤ period }
+    requires low { pos 0 ≤ℤ activity.lower }
+    requires high { activity.lower ≤ℤ pos 100000 }
+    requires width { width ≡ width_of period activity }
+    requires narrow { width < period }
+    requires few { period ≤ 720 }
+    ensures behind { result ≡ behind period activity }
+    ensures within { result ≤ period }
+{
+    period - (activity.lower as usize + width) % period
+}

@@ -1,0 +1,103 @@
+// The search of a timetable within a budget of entries.
+ghost use Rattle.std.specs.Prelude.{◌≡◌, IfOk};
+ghost use Rattle.giv_files.specs.StageCalls.{TakesSteps};
+ghost use Rattle.pesp_search.specs.Listings.{entries_listed, listing, result_within};
+ghost use Rattle.pesp_search.specs.Searches.{Branches, IsSearched, SearchGives, TakesEntry};
+
+use crate::children::next_child;
+use crate::marks::TimeMarks;
+use crate::reduce::reduce;
+use crate::standing::{first_open, first_times, has_empty};
+use crate::time_sets::{Branch, TimeSets};
+use giv_files::{Refusal, StageFault};
+use pesp_model::Pesp;
+use plan_num::{Ledger, NoMemory, Steps};
+use std::alloc::Global;
+
+/// A timetable that was found, and how many entries were listed.
+#[derive(Debug, Drop)]
+pub(crate) struct FoundTimes {
+    pub(crate) times: Vec<u32>,
+    pub(crate) entries: u64,
+}
+
+/// What an entry comes to: the times of a timetable, or none where it is the last one or another
+/// one is to come.
+#[derive(Debug, Drop)]
+pub(crate) enum Entry {
+    Found(Vec<u32>),
+    Last,
+    Next,
+}
+
+/// Searches a timetable of a problem of a period, with so many entries at most. Each entry takes a
+/// step.
+pub(crate) fn search_times<L: Ledger>(
+    alloc: Global,
+    pesp: &Pesp,
+    period: u32,
+    budget: u64,
+    steps: &mut Steps<L>,
+) -> Result<FoundTimes, StageFault>
+    requires period { pesp.now.period ≡ period }
+    ensures found { SearchGives (result_within budget (listing pesp.now)) result }
+    ensures steps { TakesSteps (entries_listed budget (listing pesp.now)) steps.old steps.new
+        result }
+{
+    let mut sets = first_sets(alloc, pesp, period)?;
+    for entry in 0..budget {
+        steps.tick();
+        match take_entry(alloc, pesp, &mut sets)? {
+            Entry::Found(times) => return Ok(FoundTimes {
+                times,
+                entries: entry + 1,
+            }),
+            Entry::Last => return Err(StageFault::Refused(Refusal::NoSolution)),
+            Entry::Next => {}
+        }
+    }
+    Err(StageFault::Refused(Refusal::Spent { entries: budget }))
+}
+
+// The sets before the first entry.
+fn first_sets(alloc: Global, pesp: &Pesp, period: u32) -> Result<TimeSets, NoMemory>
+    requires { pesp.now.period ≡ period }
+    ensures { IfOk result (λ sets. IsSearched pesp.now sets 0) }
+{
+    let marks = TimeMarks::at_first(alloc, period as usize, pesp.event_count())?;
+    Ok(TimeSets::new(alloc, marks))
+}
+
+// Takes an entry.
+fn take_entry(alloc: Global, pesp: &Pesp, sets: &mut TimeSets) -> Result<Entry, NoMemory>
+    requires period { sets.old.sets.period ≡ pesp.now.period }
+    requires events { sets.old.sets.events ≡ pesp.now.events }
+    ensures { IfOk result (TakesEntry pesp.now sets.old sets.new) }
+{
+    reduce(alloc, pesp, sets)?;
+    if let Some(times) = branch(alloc, sets)? {
+        return Ok(Entry::Found(times));
+    }
+    if next_child(alloc, sets)? {
+        Ok(Entry::Next)
+    } else {
+        Ok(Entry::Last)
+    }
+}
+
+// The times of reduced sets where each event has one. Where some event has several, the sets are
+// saved as a branch on the first such event, unless some event has none.
+fn branch(alloc: Global, sets: &mut TimeSets) -> Result<Option<Vec<u32>>, NoMemory>
+    ensures { IfOk result (Branches sets.old sets.new) }
+{
+    if has_empty(sets.sets()) {
+        return Ok(None);
+    }
+    match first_open(sets.sets()) {
+        Some(event) => {
+            sets.save(Branch { event, from: 0 })?;
+            Ok(None)
+        }
+        None => Ok(Some(first_times(alloc, sets.sets())?)),
+    }
+}

@@ -1,0 +1,75 @@
+// The stage that searches a timetable.
+ghost use Rattle.std.specs.Prelude.{◌≡◌, ◌≤◌, [], IfOk};
+ghost use Rattle.giv_files.specs.declared.stage.Stage.TheVariants as stages;
+ghost use Rattle.giv_files.specs.Inputs.{UnlessFault};
+ghost use Rattle.giv_files.specs.Settings.{Fits};
+ghost use Rattle.giv_files.specs.StageCalls.{StageGives, TakesSteps};
+ghost use Rattle.pesp_search.specs.RightTimetables.{IsNeverSpent, SaysNone, TimetableIsRight};
+ghost use Rattle.pesp_search.specs.TimetableStage.{period_in, problem_in, timetable_faults};
+ghost use Rattle.pesp_search.specs.TimetableStage.{timetable_stage, timetable_work};
+
+use crate::files::times_made;
+use crate::search::search_times;
+use giv_files::{Bundle, Key, Made, StageFault};
+use pesp_model::Pesp;
+use plan_num::{Ledger, Steps};
+use std::alloc::Global;
+
+/// Searches a periodic timetable over the inputs of the stage, with at most as many entries as the
+/// budget allows (Serafini and Ukovich 1989 state the problem).
+pub fn make_timetable<L: Ledger>(
+    alloc: Global,
+    bundle: &Bundle,
+    steps: &mut Steps<L>,
+) -> Result<Made, StageFault>
+    requires stage { bundle.now.stage ≡ stages.Timetable }
+    requires fits { Fits bundle.now }
+    ensures made { StageGives (timetable_stage bundle.now) result }
+    ensures right { IfOk result (TimetableIsRight bundle.now) }
+    ensures none { timetable_faults bundle.now ≡ [] → SaysNone bundle.now result }
+    ensures never_spent { timetable_faults bundle.now ≡ [] → IsNeverSpent bundle.now result }
+    ensures steps { TakesSteps (timetable_work bundle.now) steps.old steps.new result }
+{
+    searched_timetable(alloc, bundle, steps)
+}
+
+// What the stage gives, and in how many steps.
+fn searched_timetable<L: Ledger>(
+    alloc: Global,
+    bundle: &Bundle,
+    steps: &mut Steps<L>,
+) -> Result<Made, StageFault>
+    requires stage { bundle.now.stage ≡ stages.Timetable }
+    requires fits { Fits bundle.now }
+    ensures made { StageGives (timetable_stage bundle.now) result }
+    ensures steps { TakesSteps (timetable_work bundle.now) steps.old steps.new result }
+{
+    steps.tick();
+    let pesp = read_pesp(alloc, bundle)?;
+    let period = period_of(bundle);
+    let budget = bundle.settings().amount(Key::TimetableBudget);
+    let found = search_times(alloc, &pesp, period, budget, steps)?;
+    Ok(times_made(alloc, &found)?)
+}
+
+/// The problem of the inputs of the stage, or their first fault.
+pub(crate) fn read_pesp(alloc: Global, bundle: &Bundle) -> Result<Pesp, StageFault>
+    requires stage { bundle.now.stage ≡ stages.Timetable }
+    requires fits { Fits bundle.now }
+    ensures read { UnlessFault (timetable_faults bundle.now)
+        (λ pesp. pesp ≡ problem_in bundle.now) result }
+    ensures period { IfOk result (λ pesp. pesp.period ≡ period_in bundle.now) }
+{
+    Pesp::from_texts(alloc, period_of(bundle), bundle.input(0), bundle.input(1))
+}
+
+/// The period of a bundle of the stage, in minutes.
+pub(crate) fn period_of(bundle: &Bundle) -> u32
+    requires stage { bundle.now.stage ≡ stages.Timetable }
+    requires fits { Fits bundle.now }
+    ensures value { result ≡ period_in bundle.now }
+    ensures some { 1 ≤ result }
+    ensures few { result ≤ 720 }
+{
+    bundle.settings().amount(Key::PeriodLength) as u32
+}
