@@ -3,7 +3,7 @@ use Rattle.std.proofs.Common.{◌≡◌, ◌∙◌, ℕ, zero, suc, ◌+◌, ◌
 use Rattle.std.proofs.Common.{nat_lt, List, [], ◌∷◌, ◌++◌, length, map, slice_get, All, Option, Some, None, is_some}
 use Rattle.std.proofs.Common.{is_none, IfNone, IfOk, Result, Ok, Err, refl, ap, sym, subst, arith}
 use Rattle.std.specs.List.{enumerate_from, list_all}
-use Rattle.std.proofs.lemmas.Bool.{and_parts, eqb-true, ltb-true, not-false}
+use Rattle.std.proofs.lemmas.Bool.{and_from, and_parts, eq-eqb, eqb-true, lt-ltb, ltb-true, not-false}
 use Rattle.std.proofs.lemmas.List.{length-map}
 use Rattle.std.proofs.lemmas.Option.{same_Some}
 use Rattle.std.proofs.lemmas.List.Elements.{All-cons, All-nil}
@@ -12,13 +12,14 @@ use Rattle.giv_files.specs.Reading.{faults, table_of}
 use Rattle.giv_files.specs.Tables.{TableRow}
 use Rattle.event_tables.specs.declared.periodic_time.PeriodicTime.{PeriodicTime}
 use Rattle.event_tables.specs.Cells.{periodic_time}
-use Rattle.event_tables.specs.RowsOfTables.{records_by}
+use Rattle.event_tables.specs.RowsOfTables.{ReadsAs, records_by}
 use Rattle.pesp_model.specs.Timetables.{IsProblem, IsTimetable, Problem, first_broken}
 use Rattle.pesp_model.proofs.FirstBroken.{first_is, none_is}
 use Rattle.pesp_search.specs.declared.fault.TimetableFault.{TimetableFault}
 use Rattle.pesp_search.specs.declared.fault.TimetableFault.TheVariants as fault
 use Rattle.pesp_search.specs.Judged.{Passes, are_in_order, broken_rows, first_broken_rule, is_table, is_time_of}
 use Rattle.pesp_search.specs.Judged.{rows_in, times_in}
+use Rattle.pesp_search.specs.TimetableStage.{time_rows}
 
 abbrev times_of : List PeriodicTime → List ℕ
 times_of rows = map (λ row. row.time) rows
@@ -98,6 +99,48 @@ module _ (problem : Problem) (sound : IsProblem problem) (text : List ℕ) where
       → IfNone answer (Passes problem text)
   passes_by None is = passes_of (sym is)
   passes_by (Some rule) is = tt
+
+-- ---- a timetable breaks none
+
+abbrev rows_from : ℕ → List ℕ → List PeriodicTime
+rows_from n times = map (λ at. record { event = at.0; time = at.1 }) (enumerate_from n times)
+
+times_back : (n : ℕ) (times : List ℕ) → times_of (rows_from n times) ≡ times
+times_back n [] = refl
+times_back n (time ∷ times) = ap (λ rest. time ∷ rest) (times_back (n + 1) times)
+
+all_in_place : (period n : ℕ) (times : List ℕ) → All (λ time. time < period) times
+    → list_all (is_time_of period) (enumerate_from n (rows_from n times)) ≡ true
+all_in_place period n [] below = refl
+all_in_place period n (time ∷ times) below =
+    ap (λ b. b && list_all (is_time_of period) (enumerate_from (n + 1) (rows_from (n + 1) times)))
+    (and_from (nat_eq n n) (nat_lt time period) (eq-eqb n n refl)
+    (lt-ltb time period (below 0 time (omega arith))))
+    ∙ all_in_place period (n + 1) times (λ k d h. below (suc k) d (omega (arith, h)))
+
+none_some : {X : Type 0} (option : Option X) → is_none option ≡ true → is_some option ≡ false
+none_some None is = refl
+none_some (Some x) is = absurd (cc)
+
+pub none_broken_by : (problem : Problem) → IsProblem problem → (text times : List ℕ)
+    → ReadsAs times_p_columns periodic_time (time_rows times) text → IsTimetable problem times
+    → first_broken_rule problem text ≡ None
+unfolding first_broken_rule
+none_broken_by problem sound text times reads is =
+    let table : is_table text ≡ true = ap (λ (faults : List _). length faults == 0) reads.0 in
+    let same : times_in text ≡ times = ap times_of reads.1 ∙ times_back 1 times in
+    let size : length (rows_in text) ≡ problem.events =
+    sym (length-map (rows_in text) (λ (row : PeriodicTime). row.time)) ∙ ap length same ∙ is.each in
+    let order : are_in_order problem (rows_in text) ≡ true =
+    and_from (length (rows_in text) == problem.events) _ (eq-eqb (length (rows_in text)) problem.events size)
+    (ap (λ rows. list_all (is_time_of problem.period) (enumerate_from 1 rows)) reads.1
+    ∙ all_in_place problem.period 1 times is.within) in
+    let first = first_is problem times sound is.each is.within (first_broken problem times) refl in
+    let kept : is_some (first_broken problem (times_in text)) ≡ false =
+    ap (λ times. is_some (first_broken problem times)) same
+    ∙ none_some (first_broken problem times)
+    ((none_is problem times sound is.each is.within (first_broken problem times) first).1 is) in
+    rw (table, order, kept) refl
 
 -- ---- what the reading of a text tells
 

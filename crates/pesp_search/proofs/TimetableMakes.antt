@@ -1,6 +1,6 @@
 -- Which files the stage of timetables makes, and which it names where it refuses a row.
 use Rattle.std.proofs.Common.{◌≡◌, ℕ, Bool, true, false, cond, nat_lt, List, [], ◌∷◌, Option, Some, None, Result}
-use Rattle.std.proofs.Common.{Ok, Err, ap, lit<, subst}
+use Rattle.std.proofs.Common.{Ok, Err, ap, lit<, subst, sym}
 use Rattle.giv_files.specs.declared.file_id.FileId.{FileId}
 use Rattle.giv_files.specs.declared.file_id.FileId.TheVariants as file
 use Rattle.giv_files.specs.declared.made.Made.{Made}
@@ -79,4 +79,12 @@ timetable_stage_names test events activities bundle reason is =
     (input_names test periodic_event_input (input_text bundle 0) events)
     (input_names test (periodic_activity_input ids) (input_text bundle 1) activities) in
     names_after test (timetable_faults bundle) _ reason named
+    (search_names test (budget_in bundle) (listing (problem_in bundle)) reason) is
+
+-- where the texts of events and of activities have no fault, no refusal names a file
+pub timetable_names_none : (test : FileId → Bool) (bundle : BundleParts) (reason : Refusal)
+    → timetable_faults bundle ≡ [] → timetable_stage bundle ≡ Err reason → NamesOnly test reason
+unfolding timetable_stage
+timetable_names_none test bundle reason none is =
+    names_after test (timetable_faults bundle) _ reason (subst (AllName test) (sym none) tt)
     (search_names test (budget_in bundle) (listing (problem_in bundle)) reason) is

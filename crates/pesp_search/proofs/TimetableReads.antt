@@ -27,6 +27,7 @@ use Rattle.pesp_search.specs.Listings.{ListingIsRight, Tells, TimesFound, listin
 use Rattle.pesp_search.specs.RightTimetables.{TimetableFilesAreRight, TimetableIsRight, event_ids}
 use Rattle.pesp_search.specs.TimetableStage.{after_faults, budget_in, period_in, problem_in, search_made}
 use Rattle.pesp_search.specs.TimetableStage.{timetable_faults, timetable_stage, times_made, times_text}
+use Rattle.pesp_search.proofs.JudgedTimes.{none_broken_by}
 use Rattle.pesp_search.proofs.ListingRight.{listing_right}
 use Rattle.pesp_search.proofs.TimesAccepted.{times_accepted, times_fit, times_read}
 
@@ -82,6 +83,7 @@ module _ (bundle : BundleParts) (own : bundle.stage ≡ stage.Timetable) (fits :
             one = refl;
             reads = times_read times fit;
             timetable = is;
+            passes = none_broken_by (problem_in bundle) is_problem (times_text times) times (times_read times fit) is;
             accepted = subst (λ ids. input_faults (periodic_time_input file.TimesP (period_in bundle) ids) (times_text times) ≡ [])
                 (sym ids_are)
                 (times_accepted file.TimesP (period_in bundle) (length events) times is.each is.within fit);

@@ -1,5 +1,5 @@
 -- What is right about the timetable that is made.
-use Rattle.std.specs.Prelude.{◌≡◌, ◌≢◌, ◌⊎◌, ◌≤◌, ℕ, List, [], ◌∷◌, Result, Err}
+use Rattle.std.specs.Prelude.{◌≡◌, ◌≢◌, ◌⊎◌, ◌≤◌, ℕ, List, [], ◌∷◌, None, Result, Err}
 use Rattle.giv_files.specs.declared.file_id.FileId.TheVariants as file
 use Rattle.giv_files.specs.declared.made.Made.{Made}
 use Rattle.giv_files.specs.declared.made.MadeFile.{MadeFile}
@@ -15,6 +15,7 @@ use Rattle.event_tables.specs.PeriodicFiles.{periodic_event_ids, periodic_time_i
 use Rattle.event_tables.specs.RowsOfTables.{ReadsAs}
 use Rattle.pesp_model.specs.PespTexts.{events_of}
 use Rattle.pesp_model.specs.Timetables.{IsTimetable}
+use Rattle.pesp_search.specs.Judged.{first_broken_rule}
 use Rattle.pesp_search.specs.Listings.{listing, most_entries}
 use Rattle.pesp_search.specs.TimetableStage.{budget_in, period_in, problem_in, time_rows, timetable_faults}
 
@@ -23,8 +24,8 @@ abbrev pub event_ids : BundleParts → List ℕ
 event_ids bundle = periodic_event_ids (events_of (input_text bundle 0))
 
 -- The files that are made are right: the inputs have no fault, and there is one file. Read again, it has one
--- time for each event in order, which are a timetable of the problem of the inputs, and no fault by the rules
--- of its kind.
+-- time for each event in order, which are a timetable of the problem of the inputs; it breaks no rule of a
+-- timetable from any hand, and has no fault by the rules of its kind.
 pub record TimetableFilesAreRight (bundle : BundleParts) (files : List MadeFile) : Type 0 where
   pub inputs : timetable_faults bundle ≡ []
   pub times : List ℕ
@@ -32,6 +33,7 @@ pub record TimetableFilesAreRight (bundle : BundleParts) (files : List MadeFile)
   pub one : files ≡ record { file = file.TimesP; text = text } ∷ []
   pub reads : ReadsAs times_p_columns periodic_time (time_rows times) text
   pub timetable : IsTimetable (problem_in bundle) times
+  pub passes : first_broken_rule (problem_in bundle) text ≡ None
   pub accepted : input_faults
       (periodic_time_input file.TimesP (period_in bundle) (event_ids bundle)) text ≡ []
 
