@@ -18,13 +18,14 @@ use Rattle.config_keys.specs.declared.config_fault.ConfigFault.{ConfigFault}
 use Rattle.config_keys.specs.Items.{look_in}
 use Rattle.config_keys.specs.Values.{effective}
 use Rattle.line_search.specs.RightConcepts.{ConceptFilesAreRight, mark_files}
+use Rattle.pesp_search.specs.RightTimetables.{TimetableFilesAreRight}
 use Rattle.stage_driver.specs.declared.cause.Cause.{Cause}
 use Rattle.stage_driver.specs.declared.cause.Cause.TheVariants as cause
 use Rattle.stage_driver.specs.declared.finding.Finding.{Finding}
 use Rattle.stage_driver.specs.declared.outcome.RunEnd.TheVariants as end
 use Rattle.stage_driver.specs.Built.{built, cause_of, files_of, made, run_stage, trace_of, trace_under}
 use Rattle.stage_driver.specs.Chain.{Halt, Trace, Visit, bundle_by, chain_from, go_on, is_to_run, to_run, visit_of}
-use Rattle.stage_driver.specs.Checks.{check_of, concept_verdict, first_found, first_text, found_under, is_lacking, judge, lacks_file, standing, verdict}
+use Rattle.stage_driver.specs.Checks.{check_of, concept_verdict, first_found, first_text, found_under, is_lacking, judge, lacks_file, standing, timetable_verdict, verdict}
 use Rattle.stage_driver.specs.Hand.{hand_of}
 use Rattle.stage_driver.specs.Passing.{RunsPass}
 use Rattle.stage_driver.specs.Reports.{end_of, end_of_refusal}
@@ -75,6 +76,19 @@ concept_none : (bundle : BundleParts) (there : List MadeFile) → ConceptFilesAr
     → concept_verdict bundle there ≡ None
 concept_none bundle there right = rw (right.each, right.inputs, first_mark right.tree, right.passes) refl
 
+-- ---- a timetable that was made
+
+times_there : (times : Option (List ℕ)) (text : List ℕ)
+    → found_file file.TimesP (ok_or times (cause.Missing file.TimesP)) []
+    ≡ record { file = file.TimesP; text = text } ∷ []
+    → (is_lacking file.TimesP times || false) ≡ false
+times_there (Some times) text is = refl
+times_there None text is = let none : [] ≡ file.TimesP ∷ [] = ap ids_of is in absurd (cc)
+
+timetable_none : (bundle : BundleParts) (there : List MadeFile) → TimetableFilesAreRight bundle there
+    → timetable_verdict bundle there ≡ None
+timetable_none bundle there right = rw (right.one, right.inputs, right.passes) refl
+
 module _ (folder : Folder) (values : List ℤ) where
   -- nothing is found of a stage over what it is given, where its files stand there
   abbrev NoneFound : Stage → Type 0
@@ -108,6 +122,9 @@ module _ (folder : Folder) (values : List ℤ) where
   one_passes stage.Concept visit given found right solved makes =
       none_by stage.Concept visit.bundle given (concept_there (map.get folder (file_name file.Concept)) (map.get folder (file_name file.Tree)) right.text right.tree (found ∙ right.each))
       (ap (concept_verdict visit.bundle) found ∙ concept_none visit.bundle visit.made.files right)
+  one_passes stage.Timetable visit given found right solved makes =
+      none_by stage.Timetable visit.bundle given (times_there (map.get folder (file_name file.TimesP)) right.text (found ∙ right.one))
+      (ap (timetable_verdict visit.bundle) found ∙ timetable_none visit.bundle visit.made.files right)
   one_passes _ visit given found right solved makes = absurd right
 
   -- the first that is found of stages, all of which are to run

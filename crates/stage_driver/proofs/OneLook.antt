@@ -1,5 +1,5 @@
 -- Stages over one look of texts, in which each file has one.
-use Rattle.std.proofs.Common.{◌≡◌, ℕ, ℤ, List, [], ◌∷◌, map, Some, ap, subst, sym, ◌∙◌}
+use Rattle.std.proofs.Common.{◌≡◌, ℕ, ℤ, List, [], ◌∷◌, map, Some, refl, ap, subst, sym, ◌∙◌}
 use Rattle.giv_files.specs.declared.file_id.FileId.{FileId}
 use Rattle.giv_files.specs.declared.file_id.FileId.TheVariants as file
 use Rattle.giv_files.specs.declared.made.MadeFile.{MadeFile}
@@ -16,6 +16,9 @@ use Rattle.line_pool.specs.PoolCosts.{pool_cost_input}
 use Rattle.line_pool.specs.Pools.{concept_faults, pool_of}
 use Rattle.line_pool.specs.RightCosts.{CostFilesAreRight}
 use Rattle.line_search.specs.RightConcepts.{ConceptFilesAreRight, mark_files}
+use Rattle.event_activity.specs.RightEan.{EanFilesAreRight, EanIsAccepted}
+use Rattle.pesp_model.specs.PespTexts.{events_of, problem_faults}
+use Rattle.pesp_search.specs.TimetableStage.{timetable_faults}
 use Rattle.stage_driver.specs.Chain.{bundle_for, chosen}
 use Rattle.stage_driver.specs.Checks.{first_text}
 use Rattle.stage_driver.specs.Right.{IsRightAs}
@@ -53,6 +56,21 @@ first_own look file (id ∷ ids) text more is =
     let own : look id ≡ text = cc in
     sym own ∙ ap look same
 
+-- both of two do
+both_own : (look : FileId → List ℕ) (first second : FileId) (ids : List FileId) (text other : List ℕ)
+    → files_over look ids
+    ≡ record { file = first; text = text } ∷ record { file = second; text = other } ∷ []
+    → (text ≡ look first) × (other ≡ look second)
+both_own look first second [] text other is = absurd (let none = ap ids_of is in cc)
+both_own look first second (id ∷ ids) text other is = (
+  first_own look first (id ∷ ids) text (record { file = second; text = other } ∷ []) is,
+  first_own look second ids other [] (ap behind_first is),
+)
+  where
+    behind_first : List MadeFile → List MadeFile
+    behind_first [] = []
+    behind_first (file ∷ files) = files
+
 -- ---- what an earlier stage made has no fault by the rules of its kind
 
 module _ (values : List ℤ) (look : FileId → List ℕ) where
@@ -79,3 +97,13 @@ module _ (values : List ℤ) (look : FileId → List ℕ) where
       let right : ConceptFilesAreRight (bundle_over values look stage.Concept) (files_over look concept.ids) = concept.right in
       subst (λ text. concept_faults network text ≡ [])
       (first_own look file.Concept concept.ids right.text (mark_files right.tree) right.each) right.accepted
+
+  pub periodic_accepted : IsRightOver values look stage.Ean
+      → timetable_faults (bundle_over values look stage.Timetable) ≡ []
+  unfolding problem_faults events_of
+  periodic_accepted ean =
+      let right : EanFilesAreRight (bundle_over values look stage.Ean) (files_over look ean.ids) = ean.right in
+      let both = both_own look file.EventsP file.ActivitiesP ean.ids right.events right.activities right.both in
+      let accepted = subst (λ text. EanIsAccepted text (look file.ActivitiesP)) both.0
+      (subst (EanIsAccepted right.events) both.1 right.accepted) in
+      rw (accepted.events_fine, accepted.activities_fine) refl

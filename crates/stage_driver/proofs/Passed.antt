@@ -52,6 +52,11 @@ concept_stands None tree lacks = absurd (cc)
 concept_stands (Some text) None lacks = (1, omega arith, refl)
 concept_stands (Some text) (Some tree) lacks = (0, omega arith, refl)
 
+times_stand : (times : Option (List ℕ)) → (is_lacking file.TimesP times || false) ≡ false
+    → MakesAs stage.Timetable (ids_of (found_file file.TimesP (ok_or times (cause.Missing file.TimesP)) []))
+times_stand None lacks = absurd (cc)
+times_stand (Some text) lacks = (0, omega arith, refl)
+
 -- what a stage found of files that stand there says of them
 module _ (folder : Folder) (bundle : BundleParts) (found : Option Finding) where
   abbrev text : FileId → Option (List ℕ)
@@ -70,6 +75,7 @@ module _ (folder : Folder) (bundle : BundleParts) (found : Option Finding) where
       right (content_stands stage.Ean (by_contents stage.Ean refl) folder lacks)
   stands_right stage.Concept lacks is right =
       right (concept_stands (text file.Concept) (text file.Tree) lacks)
+  stands_right stage.Timetable lacks is right = right (times_stand (text file.TimesP) lacks)
   stands_right _ lacks is right = rw is tt
 
 -- ---- clauses

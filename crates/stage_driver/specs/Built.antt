@@ -17,6 +17,7 @@ use Rattle.demand_load.specs.LoadStage.{load_stage}
 use Rattle.event_activity.specs.EanStage.{ean_stage}
 use Rattle.line_pool.specs.CostStage.{cost_stage}
 use Rattle.line_search.specs.ConceptStage.{concept_stage, concept_work}
+use Rattle.pesp_search.specs.TimetableStage.{timetable_stage, timetable_work}
 use Rattle.stage_driver.specs.declared.outcome.RunEnd.{RunEnd}
 use Rattle.stage_driver.specs.declared.cause.Cause.{Cause}
 use Rattle.stage_driver.specs.declared.cause.Cause.TheVariants as cause
@@ -25,7 +26,7 @@ use Rattle.stage_driver.specs.Reports.{stage_lines, last_line, end_of}
 
 -- the stages that are built, in the order in which they run
 abbrev pub built : List Stage
-built = stage.Load ∷ stage.Cost ∷ stage.Concept ∷ stage.Ean ∷ []
+built = stage.Load ∷ stage.Cost ∷ stage.Concept ∷ stage.Ean ∷ stage.Timetable ∷ []
 
 -- what each stage makes of what it is given; one that is not built makes nothing, and no chain has
 -- it
@@ -34,6 +35,7 @@ stage_function stage.Load bundle = load_stage bundle
 stage_function stage.Cost bundle = cost_stage bundle
 stage_function stage.Concept bundle = concept_stage bundle
 stage_function stage.Ean bundle = ean_stage bundle
+stage_function stage.Timetable bundle = timetable_stage bundle
 stage_function _ bundle = Err refusal.NoSolution
 
 -- the same, by the stage of the bundle
@@ -43,6 +45,7 @@ run_stage bundle = stage_function bundle.stage bundle
 -- how many steps each stage takes over what it is given
 unfoldable pub stage_steps : Stage → BundleParts → ℕ
 stage_steps stage.Concept bundle = concept_work bundle
+stage_steps stage.Timetable bundle = timetable_work bundle
 stage_steps _ bundle = 1
 
 -- the same, by the stage of the bundle

@@ -22,9 +22,10 @@ use Rattle.config_keys.specs.declared.config_end.ConfigEnd.TheVariants as config
 use Rattle.config_keys.specs.declared.config_fault.ConfigFault.{ConfigFault}
 use Rattle.config_keys.specs.Items.{look_in}
 use Rattle.config_keys.specs.Values.{effective}
-use Rattle.line_search.specs.declared.fault.ConceptFault.{ConceptFault}
 use Rattle.line_search.specs.GivenProblems.{problem_faults, problem_of}
 use Rattle.line_search.specs.Judged.{first_broken}
+use Rattle.pesp_search.specs.Judged.{first_broken_rule}
+use Rattle.pesp_search.specs.TimetableStage.{problem_in, timetable_faults}
 use Rattle.stage_driver.specs.declared.cause.Cause.{Cause}
 use Rattle.stage_driver.specs.declared.cause.Cause.TheVariants as cause
 use Rattle.stage_driver.specs.declared.chain_end.ChainEnd.{ChainEnd}
@@ -40,7 +41,7 @@ use Rattle.stage_driver.specs.declared.rule.Rule.{Rule}
 use Rattle.stage_driver.specs.declared.rule.Rule.TheVariants as rule
 use Rattle.stage_driver.specs.Built.{built, run_stage}
 use Rattle.stage_driver.specs.Chain.{bundle_by, is_to_run}
-use Rattle.stage_driver.specs.Findings.{concept_rule, finding_of, rule_name}
+use Rattle.stage_driver.specs.Findings.{concept_rule, finding_of, rule_name, timetable_rule}
 use Rattle.stage_driver.specs.Reports.{cause_text, line_of}
 use Rattle.stage_driver.specs.Right.{files_by, made_in, text_in}
 
@@ -84,11 +85,13 @@ abbrev pub content_found : Stage → Result Made Refusal → List MadeFile → O
 content_found stage (Err reason) others = Some (finding_of stage (cause.Refused stage reason))
 content_found stage (Ok made) others = files_found stage made.files others
 
--- what is found of a concept over its inputs, by their faults and by the first rule that it breaks
-abbrev pub concept_found : List Refusal → Option ConceptFault → Option Finding
-concept_found [] broken = option_map (λ fault. Broken stage.Concept (concept_rule fault)) broken
-concept_found (first ∷ more) broken =
-    Some (finding_of stage.Concept (cause.Refused stage.Concept first))
+-- what is found of files from any hand over the inputs of their stage, by the faults of these and by the
+-- first rule that the files break
+abbrev pub judged_found : {Fault : Type 0} → Stage → (Fault → Rule) → List Refusal → Option Fault
+    → Option Finding
+judged_found stage rule_of [] broken = option_map (λ fault. Broken stage (rule_of fault)) broken
+judged_found stage rule_of (first ∷ more) broken =
+    Some (finding_of stage (cause.Refused stage first))
 
 -- the text of the first of some files
 abbrev pub first_text : List MadeFile → Option (List ℕ)
@@ -99,8 +102,15 @@ first_text (file ∷ files) = Some file.text
 abbrev pub concept_verdict : BundleParts → List MadeFile → Option Finding
 concept_verdict bundle [] = None
 concept_verdict bundle (concept ∷ tree) =
-    concept_found (problem_faults bundle)
+    judged_found stage.Concept concept_rule (problem_faults bundle)
     (first_broken (problem_of bundle) concept.text (first_text tree))
+
+-- what is found of a timetable
+abbrev pub timetable_verdict : BundleParts → List MadeFile → Option Finding
+timetable_verdict bundle [] = None
+timetable_verdict bundle (times ∷ more) =
+    judged_found stage.Timetable timetable_rule (timetable_faults bundle)
+    (first_broken_rule (problem_in bundle) times.text)
 
 -- what is found of the files of a stage over what it is given; a stage that is not built
 -- never passes
@@ -109,6 +119,7 @@ verdict stage.Load bundle others = content_found stage.Load (run_stage bundle) o
 verdict stage.Cost bundle others = content_found stage.Cost (run_stage bundle) others
 verdict stage.Concept bundle others = concept_verdict bundle others
 verdict stage.Ean bundle others = content_found stage.Ean (run_stage bundle) others
+verdict stage.Timetable bundle others = timetable_verdict bundle others
 verdict stage bundle others = Some (Broken stage rule.Content)
 
 -- what is found of a stage: first of its inputs, then of the files that it makes

@@ -5,6 +5,8 @@ use Rattle.giv_files.specs.declared.refusal.Refusal.TheVariants as refusal
 use Rattle.giv_files.specs.declared.stage.Stage.{Stage}
 use Rattle.line_search.specs.declared.fault.ConceptFault.{ConceptFault}
 use Rattle.line_search.specs.declared.fault.ConceptFault.TheVariants as concept
+use Rattle.pesp_search.specs.declared.fault.TimetableFault.{TimetableFault}
+use Rattle.pesp_search.specs.declared.fault.TimetableFault.TheVariants as timetable
 use Rattle.stage_driver.specs.declared.cause.Cause.{Cause}
 use Rattle.stage_driver.specs.declared.cause.Cause.TheVariants as cause
 use Rattle.stage_driver.specs.declared.finding.Finding.{Finding}
@@ -52,6 +54,12 @@ concept_rule concept.Empty = rule.Empty
 concept_rule concept.Multiplier = rule.Multiplier
 concept_rule concept.Bound = rule.Bound
 concept_rule concept.Point = rule.Point
+
+-- the rule that a timetable breaks
+abbrev pub timetable_rule : TimetableFault → Rule
+timetable_rule timetable.Row = rule.Row
+timetable_rule timetable.Events = rule.Events
+timetable_rule timetable.Tension = rule.Tension
 
 -- people write the files of an origin
 abbrev pub is_of_people : Origin → Bool

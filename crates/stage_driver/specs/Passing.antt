@@ -14,6 +14,8 @@ use Rattle.line_search.specs.GivenProblems.{problem_faults, problem_of}
 use Rattle.line_search.specs.Judged.{Passes}
 use Rattle.line_search.specs.RightConcepts.{mark_files}
 use Rattle.event_activity.specs.RightEan.{EanFilesAreRight}
+use Rattle.pesp_search.specs.Judged.{Passes as KeepsRules}
+use Rattle.pesp_search.specs.TimetableStage.{problem_in, timetable_faults}
 use Rattle.stage_driver.specs.declared.outcome.RunEnd.TheVariants as end
 use Rattle.stage_driver.specs.Built.{built, made}
 use Rattle.stage_driver.specs.Chain.{bundle_by, is_to_run}
@@ -32,12 +34,21 @@ pub record ConceptPasses (bundle : BundleParts) (files : List MadeFile) : Type 0
   pub each : files ≡ record { file = file.Concept; text = text } ∷ mark_files tree
   pub passes : Passes (problem_of bundle) text tree
 
+-- A timetable from any hand passes over its inputs: these have no fault, and its text is the table of one
+-- time for each event, which keep the bounds of each activity.
+pub record TimetablePasses (bundle : BundleParts) (files : List MadeFile) : Type 0 where
+  pub inputs : timetable_faults bundle ≡ []
+  pub text : List ℕ
+  pub one : files ≡ record { file = file.TimesP; text = text } ∷ []
+  pub passes : KeepsRules (problem_in bundle) text
+
 -- The files of a stage satisfy its model over what it is given.
 abbrev pub SatisfyModel : Stage → BundleParts → List MadeFile → Type 0
 SatisfyModel stage.Load bundle files = LoadFilesAreRight bundle files
 SatisfyModel stage.Cost bundle files = CostFilesAreRight bundle files
 SatisfyModel stage.Concept bundle files = ConceptPasses bundle files
 SatisfyModel stage.Ean bundle files = EanFilesAreRight bundle files
+SatisfyModel stage.Timetable bundle files = TimetablePasses bundle files
 SatisfyModel _ bundle files = ⊥
 
 -- The files of a stage that stand in a folder satisfy its model over the files that stand there.

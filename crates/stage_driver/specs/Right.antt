@@ -19,6 +19,7 @@ use Rattle.demand_load.specs.RightLoads.{LoadFilesAreRight}
 use Rattle.line_pool.specs.RightCosts.{CostFilesAreRight}
 use Rattle.line_search.specs.RightConcepts.{ConceptFilesAreRight}
 use Rattle.event_activity.specs.RightEan.{EanFilesAreRight}
+use Rattle.pesp_search.specs.RightTimetables.{TimetableFilesAreRight}
 use Rattle.stage_driver.specs.declared.cause.Cause.{Cause}
 use Rattle.stage_driver.specs.declared.cause.Cause.TheVariants as cause
 use Rattle.stage_driver.specs.declared.origin.Origin.{Origin}
@@ -35,6 +36,7 @@ IsRightAs stage.Load bundle files = LoadFilesAreRight bundle files
 IsRightAs stage.Cost bundle files = CostFilesAreRight bundle files
 IsRightAs stage.Concept bundle files = ConceptFilesAreRight bundle files
 IsRightAs stage.Ean bundle files = EanFilesAreRight bundle files
+IsRightAs stage.Timetable bundle files = TimetableFilesAreRight bundle files
 IsRightAs _ bundle files = ⊥
 
 -- the text of a file that a stage makes, where it stands in a folder

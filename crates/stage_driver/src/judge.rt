@@ -8,8 +8,9 @@ ghost use Rattle.giv_files.specs.MadeLists.{MakesAs, ids_of};
 ghost use Rattle.giv_files.specs.Settings.{Fits};
 ghost use Rattle.stage_driver.specs.Checks.{concept_verdict, content_found, first_text, found_over};
 ghost use Rattle.stage_driver.specs.Checks.{EndedAs, files_found, judge, same_texts, verdict};
-ghost use Rattle.stage_driver.specs.Checks.{standing};
+ghost use Rattle.stage_driver.specs.Checks.{standing, timetable_verdict};
 ghost use Rattle.stage_driver.specs.Passing.{ConceptPasses, SatisfyModel, StageStands};
+ghost use Rattle.stage_driver.specs.Passing.{TimetablePasses};
 ghost use Rattle.stage_driver.specs.Built.{run_stage};
 ghost use Rattle.stage_driver.specs.Ends.{has_failed};
 
@@ -24,6 +25,7 @@ use crate::standing::standing;
 use config_keys::Config;
 use giv_files::{Bundle, MadeFile, Stage, StageFault};
 use line_search::check_concept;
+use pesp_search::check_timetable;
 use plan_files::Files;
 use plan_num::{NoMemory, Silent, Steps};
 use std::alloc::Global;
@@ -102,11 +104,10 @@ fn verdict(
         Stage::Cost => content_found(alloc, bundle, stage, there),
         Stage::Concept => concept_verdict(alloc, bundle, there),
         Stage::Ean => content_found(alloc, bundle, stage, there),
-        Stage::Timetable
-        | Stage::Rollout
-        | Stage::Vehicles
-        | Stage::Disposition
-        | Stage::Statistic => Ok(Some(Finding::Broken(stage, Rule::Content))),
+        Stage::Timetable => timetable_verdict(alloc, bundle, there),
+        Stage::Rollout | Stage::Vehicles | Stage::Disposition | Stage::Statistic => Ok(Some(
+            Finding::Broken(stage, Rule::Content),
+        )),
     }
 }
 
@@ -187,6 +188,32 @@ fn concept_verdict(
         Err(StageFault::Refused(refusal)) => Ok(Some(Finding::of(
             Stage::Concept,
             Cause::Refused(Stage::Concept, refusal),
+        ))),
+        Err(StageFault::NoMemory) => Err(NoMemory),
+    }
+}
+
+// What is found of a timetable.
+fn timetable_verdict(
+    alloc: Global,
+    bundle: &Bundle,
+    there: &[MadeFile],
+) -> Result<Option<Finding>, NoMemory>
+    requires fits { Fits bundle.now }
+    requires stage { bundle.now.stage ≡ stages.Timetable }
+    ensures found { IfOk result (λ found. found ≡ timetable_verdict bundle.now there.now) }
+    ensures passes { MakesAs stages.Timetable (ids_of there.now) → IfOk result (λ found.
+        IfNone found (TimetablePasses bundle.now there.now)) }
+{
+    let [times, ..] = there else {
+        return Ok(None);
+    };
+    match check_timetable(alloc, bundle, times.text.as_bytes()) {
+        Ok(None) => Ok(None),
+        Ok(Some(fault)) => Ok(Some(Finding::Broken(Stage::Timetable, Rule::from(fault)))),
+        Err(StageFault::Refused(refusal)) => Ok(Some(Finding::of(
+            Stage::Timetable,
+            Cause::Refused(Stage::Timetable, refusal),
         ))),
         Err(StageFault::NoMemory) => Err(NoMemory),
     }

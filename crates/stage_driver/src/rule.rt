@@ -1,8 +1,9 @@
 // The rules of a check.
 ghost use Rattle.std.specs.Prelude.{◌≡◌};
-ghost use Rattle.stage_driver.specs.Findings.{rule_name, concept_rule};
+ghost use Rattle.stage_driver.specs.Findings.{concept_rule, rule_name, timetable_rule};
 
 use line_search::ConceptFault;
+use pesp_search::TimetableFault;
 
 /// A rule that the files of a stage keep where a check passes.
 #[derive(Clone, Copy, Debug, PartialEq, Eq)]
@@ -102,6 +103,18 @@ impl From<ConceptFault> for Rule {
             ConceptFault::Multiplier => Rule::Multiplier,
             ConceptFault::Bound => Rule::Bound,
             ConceptFault::Point => Rule::Point,
+        }
+    }
+}
+
+impl From<TimetableFault> for Rule {
+    ghost from_gives = { λ fault rule. rule ≡ timetable_rule fault };
+
+    fn from(fault: TimetableFault) -> Rule {
+        match fault {
+            TimetableFault::Row => Rule::Row,
+            TimetableFault::Events => Rule::Events,
+            TimetableFault::Tension => Rule::Tension,
         }
     }
 }

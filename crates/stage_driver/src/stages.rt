@@ -11,6 +11,7 @@ use event_activity::make_ean;
 use giv_files::{Bundle, Made, Refusal, Stage, StageFault};
 use line_pool::make_cost;
 use line_search::make_concept;
+use pesp_search::make_timetable;
 use plan_num::{Ledger, Steps};
 use std::alloc::Global;
 
@@ -18,7 +19,13 @@ use std::alloc::Global;
 pub(crate) fn built() -> &'static [Stage]
     ensures { result.now ≡ built }
 {
-    &[Stage::Load, Stage::Cost, Stage::Concept, Stage::Ean]
+    &[
+        Stage::Load,
+        Stage::Cost,
+        Stage::Concept,
+        Stage::Ean,
+        Stage::Timetable,
+    ]
 }
 
 /// Makes what the stage of a bundle makes of it.
@@ -37,11 +44,8 @@ pub(crate) fn make_stage<L: Ledger>(
         Stage::Cost => make_cost(alloc, bundle, steps),
         Stage::Concept => make_concept(alloc, bundle, steps),
         Stage::Ean => make_ean(alloc, bundle, steps),
-        Stage::Timetable
-        | Stage::Rollout
-        | Stage::Vehicles
-        | Stage::Disposition
-        | Stage::Statistic => {
+        Stage::Timetable => make_timetable(alloc, bundle, steps),
+        Stage::Rollout | Stage::Vehicles | Stage::Disposition | Stage::Statistic => {
             steps.tick();
             Err(StageFault::Refused(Refusal::NoSolution))
         }
