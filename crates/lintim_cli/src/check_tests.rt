@@ -52,7 +52,10 @@ fn judged(
     report: &[u8],
 ) -> Result<(), Fail> {
     let mut files = made(rt.alloc())?;
-    files.put("basis/Config.cnf", b"load_source; file\nlast_stage; concept\n")?;
+    files.put(
+        "basis/Config.cnf",
+        b"load_source; file\nlast_stage; concept\n",
+    )?;
     files.put("line-planning/Line-Concept.lin", concept)?;
     match tree {
         Some(tree) => files.put("line-planning/Line-Concept.cert", tree)?,
@@ -196,7 +199,10 @@ fn made_files_are_judged(rt: HostRuntime) -> Result<(), Fail> {
     tells(&rt, &mut files, broken, b"uncertified: ean: content\n")?;
     files.put("timetabling/Events-periodic.giv", EVENTS)?;
     files.remove("line-planning/Line-Concept.cert")?;
-    files.put("line-planning/Line-Concept.lin", b"1; 1; 1; 2\n1; 2; 2; 2\n2; 1; 1; 0\n")?;
+    files.put(
+        "line-planning/Line-Concept.lin",
+        b"1; 1; 1; 2\n1; 2; 2; 2\n2; 1; 1; 0\n",
+    )?;
     tells(&rt, &mut files, broken, b"uncertified: ean: content\n")?;
     files.remove("line-planning/Line-Concept.lin")?;
     tells(&rt, &mut files, broken, b"uncertified: concept: missing\n")?;

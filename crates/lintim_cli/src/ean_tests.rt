@@ -61,9 +61,7 @@ const TOO_OFTEN: Case = Case {
         2; 40; 501; 501\n",
     ),
     costs: Some(b"# line-id; length; cost\n1; 5; 15\n"),
-    concept: Some(
-        b"# line-id; edge-order; edge-id; frequency\n1; 1; 1; 501\n1; 2; 2; 501\n",
-    ),
+    concept: Some(b"# line-id; edge-order; edge-id; frequency\n1; 1; 1; 501\n1; 2; 2; 501\n"),
     tree: Some(
         b"# kind; id; value; multiplier\nsplit; 1; 250; 0\nempty; 1; 1; 0\nsplit; 1; 376; 0\n\
         empty; 1; 1; 0\nsplit; 1; 439; 0\nempty; 1; 1; 0\nsplit; 1; 470; 0\nempty; 1; 1; 0\n\

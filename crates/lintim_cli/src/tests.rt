@@ -11,7 +11,17 @@ const NO_COSTS: &[u8] = b"# line-id; length; cost\n";
 
 const NO_CONCEPT: &[u8] = b"# line-id; edge-order; edge-id; frequency\n";
 
+const NO_EVENTS: &[u8] = b"# event-id; type; stop-id; line-id; direction; repetition\n";
+
+const NO_ACTIVITIES: &[u8] =
+    b"# activity-id; type; from-event; to-event; lower-bound; upper-bound\n";
+
 const POINT: &[u8] = b"# kind; id; value; multiplier\npoint; 0; 0; 0\n";
+
+const FOUR_STOPS: &[u8] = b"1; A; A; 0; 0\n2; B; B; 0; 0\n3; C; C; 0; 0\n4; D; D; 0; 0\n";
+
+const FOUR_EDGES: &[u8] =
+    b"1; 1; 2; 1; 3; 4\n2; 2; 4; 1; 3; 4\n3; 1; 3; 1; 3; 4\n4; 3; 4; 1; 3; 4\n";
 
 // A run whose first stage is refused.
 const REFUSED: Case = Case {
@@ -20,6 +30,8 @@ const REFUSED: Case = Case {
     costs: None,
     concept: None,
     tree: None,
+    events: None,
+    activities: None,
     steps: 1,
     ..MADE
 };
@@ -35,8 +47,8 @@ const REFUSED_LATER: Case = Case {
 // edges of one of them cannot be driven as often as they need.
 const SQUARE: Case = Case {
     config: None,
-    stops: Some(b"1; A; A; 0; 0\n2; B; B; 0; 0\n3; C; C; 0; 0\n4; D; D; 0; 0\n"),
-    edges: Some(b"1; 1; 2; 1; 3; 4\n2; 2; 4; 1; 3; 4\n3; 1; 3; 1; 3; 4\n4; 3; 4; 1; 3; 4\n"),
+    stops: Some(FOUR_STOPS),
+    edges: Some(FOUR_EDGES),
     pool: Some(b""),
     given: None,
     demand: Some(b"1; 4; 150\n"),
@@ -47,6 +59,8 @@ const SQUARE: Case = Case {
     costs: Some(NO_COSTS),
     concept: None,
     tree: None,
+    events: None,
+    activities: None,
     report: b"load: 4 edges\ncost: 0 lines\nno solution: concept\n",
     steps: 4,
 };
@@ -62,8 +76,11 @@ const NOTHING: Case = Case {
     costs: Some(NO_COSTS),
     concept: Some(NO_CONCEPT),
     tree: Some(POINT),
-    report: b"load: 0 edges\ncost: 0 lines\nconcept: cost 0, optimal, 1 entries\ndone\n",
-    steps: 4,
+    events: Some(NO_EVENTS),
+    activities: Some(NO_ACTIVITIES),
+    report: b"load: 0 edges\ncost: 0 lines\nconcept: cost 0, optimal, 1 entries\n\
+        ean: 0 events, 0 activities\ndone\n",
+    steps: 5,
     ..MADE
 };
 
@@ -75,7 +92,8 @@ fn stages_are_made(rt: HostRuntime) -> Result<(), Fail> {
         Case {
             config: Some(b"load_source; file\nlpool_costs_length; 0.5\nlpool_costs_edges; 2\n"),
             costs: Some(b"# line-id; length; cost\n1; 5; 16.5\n2; 2; 13\n"),
-            report: b"load: 2 edges\ncost: 2 lines\nconcept: cost 29.5, optimal, 9 entries\ndone\n",
+            report: b"load: 2 edges\ncost: 2 lines\nconcept: cost 29.5, optimal, 9 entries\n\
+                ean: 12 events, 14 activities\ndone\n",
             ..MADE
         },
         NOTHING,
@@ -84,10 +102,22 @@ fn stages_are_made(rt: HostRuntime) -> Result<(), Fail> {
             costs: None,
             concept: None,
             tree: None,
+            events: None,
+            activities: None,
             report: b"load: 2 edges\ndone\n",
             steps: 1,
             ..MADE
         },
+    ];
+    for case in &cases {
+        run(&rt, case)?;
+    }
+    Ok(())
+}
+
+#[test]
+fn loads_come_of_demand(rt: HostRuntime) -> Result<(), Fail> {
+    let cases = [
         Case {
             config: Some(b"load_source; od\n"),
             demand: Some(b"# no demand\n"),
@@ -100,7 +130,10 @@ fn stages_are_made(rt: HostRuntime) -> Result<(), Fail> {
             tree: Some(
                 b"# kind; id; value; multiplier\nsplit; 1; 1; 0\nsplit; 1; 0; 0\nsplit; 2; 1; 0\nsplit; 2; 0; 0\npoint; 0; 0; 0\nbound; 0; 0; 0\nbound; 0; 0; 0\nbound; 0; 0; 0\nbound; 0; 0; 0\n",
             ),
-            report: b"load: 2 edges\ncost: 2 lines\nconcept: cost 0, optimal, 9 entries\ndone\n",
+            events: Some(NO_EVENTS),
+            activities: Some(NO_ACTIVITIES),
+            report: b"load: 2 edges\ncost: 2 lines\nconcept: cost 0, optimal, 9 entries\n\
+                ean: 0 events, 0 activities\ndone\n",
             ..MADE
         },
         SQUARE,
@@ -113,7 +146,7 @@ fn stages_are_made(rt: HostRuntime) -> Result<(), Fail> {
         },
         Case {
             config: None,
-            stops: SQUARE.stops,
+            stops: Some(FOUR_STOPS),
             demand: Some(b"1; 2; 0\n"),
             ..NOTHING
         },
@@ -124,9 +157,9 @@ fn stages_are_made(rt: HostRuntime) -> Result<(), Fail> {
     Ok(())
 }
 
-// What people wrote is refused by file, row and rule, by its count, or by key.
+// Settings are refused by file, row and rule, or by key, and a file that is missing by its name.
 #[test]
-fn bad_input_is_refused(rt: HostRuntime) -> Result<(), Fail> {
+fn bad_settings_are_refused(rt: HostRuntime) -> Result<(), Fail> {
     let cases = [
         Case {
             config: Some(b"last_stage; costs\n"),
@@ -152,6 +185,17 @@ fn bad_input_is_refused(rt: HostRuntime) -> Result<(), Fail> {
             steps: 0,
             ..REFUSED
         },
+    ];
+    for case in &cases {
+        run(&rt, case)?;
+    }
+    Ok(())
+}
+
+// Rows are refused by file, row and rule, and frequencies by their count.
+#[test]
+fn bad_rows_are_refused(rt: HostRuntime) -> Result<(), Fail> {
+    let cases = [
         Case {
             edges: Some(b"# edges\n1; 1; 2; 2; 4\n2; 2; 3; 3; 6; 6\n"),
             report: b"refused: basis/Edge.giv row 2: wrong number of fields\n",
@@ -164,7 +208,7 @@ fn bad_input_is_refused(rt: HostRuntime) -> Result<(), Fail> {
         },
         Case {
             config: None,
-            stops: SQUARE.stops,
+            stops: Some(FOUR_STOPS),
             edges: Some(b""),
             demand: Some(b"1; 2; 1\n"),
             report: b"refused: basis/OD.giv row 1: no path\n",
@@ -172,12 +216,23 @@ fn bad_input_is_refused(rt: HostRuntime) -> Result<(), Fail> {
         },
         Case {
             config: None,
-            stops: SQUARE.stops,
-            edges: SQUARE.edges,
+            stops: Some(FOUR_STOPS),
+            edges: Some(FOUR_EDGES),
             demand: Some(b"1; 4; 70000\n"),
             report: b"refused: too many frequency: 1003\n",
             ..REFUSED
         },
+    ];
+    for case in &cases {
+        run(&rt, case)?;
+    }
+    Ok(())
+}
+
+// A refused pool leaves the loads, which were made before.
+#[test]
+fn bad_pools_are_refused(rt: HostRuntime) -> Result<(), Fail> {
+    let cases = [
         Case {
             pool: None,
             report: b"load: 2 edges\nrefused: basis/Pool.giv is missing\n",
