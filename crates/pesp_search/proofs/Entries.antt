@@ -1,10 +1,14 @@
 -- A search entry by entry, and what it comes to.
+use Rattle.std.specs.List.{range_with_len}
+use Rattle.pesp_search.specs.Marks.{IsChildOf, Saved, is_left}
+use Rattle.std.proofs.Common.{◌==◌}
+use Rattle.std.proofs.Common.{Bool, inl, inr, get_or, length}
 use Rattle.std.proofs.Common.{◌≡◌, ◌∙◌, ℕ, ◌+◌, ◌<◌, ◌≤◌, true, false, if◌then◌else◌}
 use Rattle.std.proofs.Common.{List, [], ◌∷◌, ◌++◌, map, position, Option, Some, None, is_some, Vec, Global}
 use Rattle.std.proofs.Common.{Err, refl, ap, sym, subst, arith}
 use Rattle.std.specs.List.{list_any}
 use Rattle.std.proofs.Math.Nat.{le-min, min-eq_left, min-eq_right}
-use Rattle.std.proofs.lemmas.Bool.{lt-ltb, le-ltb}
+use Rattle.std.proofs.lemmas.Bool.{cases_eq, eq-eqb, false≢true, lt-ltb, le-ltb}
 use Rattle.std.proofs.lemmas.List.FromFn.{get_or-map-range_with_len, length-map-range_with_len}
 use Rattle.std.proofs.lemmas.List.Quantifiers.{position-Some}
 use Rattle.giv_files.specs.declared.refusal.Refusal.TheVariants as refusal
@@ -12,9 +16,10 @@ use Rattle.pesp_model.specs.Timetables.{Problem}
 use Rattle.pesp_search.specs.Listings.{Listing, branches, entries_listed, entry, first_sets, has_several, in_turn, is_empty}
 use Rattle.pesp_search.specs.Listings.{listing, listing_of, one_more, result_within, unless_found, whole_result, with_time}
 use Rattle.pesp_search.specs.Marks.{IsNextChild, Marks, Tracked, sets_of, times_from, waiting}
-use Rattle.pesp_search.specs.Revising.{Reduces}
-use Rattle.pesp_search.specs.Searches.{Branches, IsSearched, behind, entry_here, listed_on}
+use Rattle.pesp_search.specs.Revising.{AreRevised, IsReady, Reduces, has_changed}
+use Rattle.pesp_search.specs.Searches.{Branches, IsSearched, SavesOnce, behind, entry_here, listed_on}
 use Rattle.pesp_search.specs.TimeSets.{left_to, reduced}
+use Rattle.pesp_search.proofs.Revised.{carried_firsts, carried_seconds}
 use Rattle.pesp_search.proofs.Unrolled.{unrolls}
 
 -- ---- listings one behind the other
@@ -125,6 +130,7 @@ branched before after event none is same = (
       ∙ turns_append visit children (waiting before.saved)
       ∙ ap (λ (tracked : Tracked). in_turn visit (waiting tracked.saved)) (sym same))),
   ap (λ (tracked : Tracked). tracked.sets) same,
+  inr (record { event = event; from = 0 }, ap (λ (tracked : Tracked). tracked.saved) same),
 )
 
 -- ---- an entry
@@ -147,23 +153,74 @@ module _ (problem : Problem) (before reduced : Tracked) (so : Reduces problem be
   entry_found after times found = entry_is ∙ found (listing_of problem)
 
   pub entry_last : (after : Tracked) (last : Tracked) → Branches reduced after None
-      → IsNextChild after last false → listed_on problem before ≡ record { entries = 1; found = None }
+      → IsNextChild after last None → listed_on problem before ≡ record { entries = 1; found = None }
   entry_last after last branch none =
       entry_is ∙ branch.0 (listing_of problem)
       ∙ ap (λ sets. one_more (in_turn (listing_of problem) sets)) none
       ∙ ap one_more (no_turn (listing_of problem))
 
-  pub entry_next : (after : Tracked) (next : Tracked) → Branches reduced after None
-      → IsNextChild after next true
+  -- what was saved before is still revised, and so is what an entry saves
+  saved_revised : (after : Tracked) → AreRevised problem before.saved → SavesOnce reduced after
+      → AreRevised problem after.saved
+  saved_revised after was (inl same) = subst (AreRevised problem) (sym (same ∙ so.saved)) was
+  saved_revised after was (inr (branch, is)) =
+      subst (AreRevised problem) (sym is) (so.revised, subst (AreRevised problem) (sym so.saved) was)
+
+  -- and the sets of a child are ready where its event has a flag
+  child_ready : (after next : Tracked) (event : ℕ) (flags : List Bool)
+      → AreRevised problem after.saved → next.sets.events ≡ problem.events → IsChildOf after next event
+      → flags ≡ map (λ other. other == event) (range_with_len 0 problem.events)
+      → IsReady problem next flags
+  child_ready after next event flags was events child are =
+      let parts = rest_revised child.passed (record { sets = child.branched; branch = child.from }
+      ∷ child.earlier) (subst (AreRevised problem) child.was was) in
+      record {
+        each = ap length are ∙ length-map-range_with_len (λ other. other == event) 0 problem.events;
+        revised = λ i activity at low.
+            let is = parts.0 i activity at low in (
+              carried_seconds problem.period (is_left child.branched) (is_left next.sets) (λ _. false)
+                  (has_changed flags) activity child.within untouched (λ _. is.seconds),
+              carried_firsts problem.period (is_left child.branched) (is_left next.sets) (λ _. false)
+                  (has_changed flags) activity child.within untouched (λ _. is.firsts),
+            );
+        saved = subst (AreRevised problem) (sym child.now) (parts.0, parts.1);
+      }
+    where
+      rest_revised : (passed rest : List Saved) → AreRevised problem (passed ++ rest)
+          → AreRevised problem rest
+      rest_revised [] rest all = all
+      rest_revised (saved ∷ passed) rest all = rest_revised passed rest all.1
+
+      set_there : has_changed flags event ≡ true
+      set_there =
+          ap (λ flags. get_or flags event false) are
+          ∙ get_or-map-range_with_len (λ other. other == event) 0 problem.events event event false
+          (omega (arith, child.inside, events)) (omega arith)
+          ∙ eq-eqb event event refl
+
+      untouched : (e : ℕ) → has_changed flags e ≡ false
+          → (false ≡ false) × (is_left next.sets e ≡ is_left child.branched e)
+      untouched e none = elim (cases_eq e event) [
+        | inl same ↦ absurd (false≢true (sym none ∙ ap (has_changed flags) same ∙ set_there))
+        | inr other ↦ (refl, child.others e other)
+      ]
+
+  pub entry_next : (after : Tracked) (next : Tracked) (event : ℕ) (flags : List Bool)
+      → Branches reduced after None → IsNextChild after next (Some event)
+      → before.sets.events ≡ problem.events → AreRevised problem before.saved
+      → flags ≡ map (λ other. other == event) (range_with_len 0 problem.events)
       → (listed_on problem before ≡ one_more (listed_on problem next))
       × (next.sets.period ≡ before.sets.period)
       × (next.sets.events ≡ before.sets.events)
-  entry_next after next branch child = (
-    entry_is ∙ branch.0 (listing_of problem)
-        ∙ ap (λ sets. one_more (in_turn (listing_of problem) sets)) child.0,
-    child.1 ∙ ap (λ (sets : Marks). sets.period) branch.1 ∙ so.period,
-    child.2 ∙ ap (λ (sets : Marks). sets.events) branch.1 ∙ so.events,
-  )
+      × IsReady problem next flags
+  entry_next after next event flags branch child there was are =
+      let events = child.2 ∙ ap (λ (sets : Marks). sets.events) branch.1 ∙ so.events in (
+        entry_is ∙ branch.0 (listing_of problem)
+            ∙ ap (λ sets. one_more (in_turn (listing_of problem) sets)) child.0,
+        child.1 ∙ ap (λ (sets : Marks). sets.period) branch.1 ∙ so.period,
+        events,
+        child_ready after next event flags (saved_revised after was branch.2) (events ∙ there) child.3 are,
+      )
 
 -- ---- the first entry, and one more
 

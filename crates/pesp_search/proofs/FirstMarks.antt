@@ -4,7 +4,7 @@ use Rattle.std.proofs.Common.{Bool, true, false, not, ◌&&◌, ◌||◌, if◌t
 use Rattle.std.proofs.Common.{refl, ap, sym, arith, Ok}
 use Rattle.std.specs.List.{range_with_len}
 use Rattle.std.proofs.Math.Nat.{mul-le-mul_right}
-use Rattle.std.proofs.lemmas.Bool.{and_from, cases_eq, eq-eqb, ne_eqb, le-leb, lt-leb, lt-ltb, or_right}
+use Rattle.std.proofs.lemmas.Bool.{and_from, and_parts, cases_eq, eq-eqb, ne_eqb, le-leb, lt-leb, lt-ltb, or_right}
 use Rattle.std.proofs.lemmas.List.FromFn.{get_or-map-range_with_len, length-map-range_with_len}
 use Rattle.pesp_search.specs.Listings.{times_at_first, with_time}
 use Rattle.pesp_search.specs.Marks.{AreMarks, KeepsTime, Marks, Prunes, Tracked, family, is_left, sets_of}
@@ -161,6 +161,10 @@ module _ (before after : Tracked) (event time : ℕ) (within : event < before.se
         (λ e. filter (after_left e) (range_with_len 0 before.sets.period)) (time ∷ []) 0 before.sets.events
         event event (omega arith) within only others
         ∙ ap (λ sets. with_time sets event time) (sym (sets_family before.sets));
+    within = λ e t is.
+        (and_parts (is_left before.sets e t) _ (sym (ap (λ (left : Left). left e t) so.left) ∙ is)).0;
+    others = λ e other. ap (λ (left : Left). left e) so.left
+        ∙ (λ i t. and_all (is_left before.sets e t) _ (ap (λ b. not b || (t == time)) (ne_eqb e event other)) i);
   }
     where
       after_left : Left

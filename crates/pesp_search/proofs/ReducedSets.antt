@@ -222,6 +222,7 @@ module _ (problem : Problem) (sound : IsProblem problem) where
     period = so.period;
     events = so.events;
     saved = so.saved;
+    revised = revised;
     sets = sets_family after.sets
         ∙ (λ i. family ((so.period ∙ period_is) i) ((so.events ∙ events_is) i) (is_left after.sets))
         ∙ sym (family_reduced (is_left before.sets) (is_left after.sets) revised so.keeps so.within)

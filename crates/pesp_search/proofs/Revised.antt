@@ -1,12 +1,14 @@
 -- What the sets of both events of an activity are after it has revised them.
+use Rattle.std.proofs.Common.{Result, Ok, Err, OnOk}
 use Rattle.std.proofs.Common.{◌≡◌, ◌∙◌, ◌⊎◌, inl, inr, ℕ, ◌<◌, ◌==◌, Bool, true, false, not, ◌&&◌, ◌||◌}
-use Rattle.std.proofs.Common.{List, length, slice_set, refl, ap, sym, subst, arith}
+use Rattle.std.proofs.Common.{filter, List, length, slice_set, refl, ap, sym, subst, arith}
+use Rattle.std.specs.List.{list_any, range_with_len}
 use Rattle.std.proofs.lemmas.Bool.{and_from, and_parts, cases_eq, eq-eqb, ne_eqb, or_from, or_parts}
 use Rattle.std.proofs.lemmas.List.{get_or-set_other, get_or-set_same, length-set, set-get_or}
 use Rattle.pesp_model.specs.declared.activity.PespActivity.{PespActivity}
 use Rattle.pesp_model.specs.Timetables.{keeps}
 use Rattle.pesp_search.specs.Marks.{Prunes, Tracked, is_left, marks_left}
-use Rattle.pesp_search.specs.Revising.{IsRevised, IsWithin, Left, Revises, first_left, has_changed}
+use Rattle.pesp_search.specs.Revising.{FirstsUnless, IsRevised, IsWithin, Left, Revises, RevisesFirsts, RevisesSeconds, SecondsUnless, Touches, either, first_left, has_changed}
 use Rattle.pesp_search.specs.Revising.{keeps_firsts, keeps_seconds, noted, second_left, some_changed}
 use Rattle.pesp_search.proofs.Partners.{holds_in_range, range_holds}
 
@@ -114,115 +116,174 @@ module _ (before after : Tracked) (kept : ℕ) (test : ℕ → Bool) (changes : 
     | inr other ↦ λ i t. (at e t ∙ and_all (old e t) _ (passes_elsewhere kept test e t other)) i
   ]
 
--- ---- both sides
+-- ---- what is known of a side, and of both
 
-module _ (activity : PespActivity) (start middle end : Tracked) (first second : Bool)
-    (flags : List Bool) (from_in : activity.from < length flags) (to_in : activity.to < length flags)
-    (one : Prunes start middle
-    (keeps_seconds start.sets.period (is_left start.sets) activity) first)
-    (two : Prunes middle end
-    (keeps_firsts middle.sets.period (is_left middle.sets) activity) second) where
-  abbrev period : ℕ
-  period = start.sets.period
+module _ (activity : PespActivity) (before after : Tracked) (kept : ℕ) (test : ℕ → Bool) (changes : Bool)
+    (flags : List Bool) (inside : kept < length flags)
+    (so : Prunes before after (kept_test kept test) changes)
+    (holds : (left : Left) → IsRevised before.sets.period left activity
+    → IsWithin left (is_left before.sets) → (t : ℕ) → left kept t ≡ true → test t ≡ true) where
+  side_touches : Touches activity before after flags (noted flags kept changes)
+  side_touches = record {
+    period = so.period;
+    events = so.events;
+    saved = so.saved;
+    within = side_within before after kept test changes so;
+    keeps = λ left revised within.
+        side_keeps before after kept test changes so left (holds left revised within) within;
+    each = length_noted flags kept changes;
+    untouched = λ event none.
+        let parts = not_noted flags kept changes event inside none in
+        (parts.0, side_untouched before after kept test changes so event parts.1);
+    fewer = λ some. fewer_marks (some_noted flags kept changes some);
+    no_more = so.no_more;
+  }
+    where
+      fewer_marks : (some_changed flags ≡ true) ⊎ (changes ≡ true)
+          → (some_changed flags ≡ true) ⊎ (marks_left after.sets < marks_left before.sets)
+      fewer_marks (inl was) = inl was
+      fewer_marks (inr is) = inr (so.fewer is)
 
-  abbrev seconds : ℕ → Bool
-  seconds = second_left period (is_left start.sets) activity
+pub seconds_revised : (activity : PespActivity) (before after : Tracked) (changes : Bool)
+    (changed flags : List Bool) → activity.from < length flags
+    → Prunes before after (keeps_seconds before.sets.period (is_left before.sets) activity) changes
+    → RevisesSeconds activity changed before after flags (noted flags activity.from changes)
+seconds_revised activity before after changes changed flags inside so =
+    let period = before.sets.period in
+    let test = second_left period (is_left before.sets) activity in
+    let touched = side_touches activity before after activity.from test changes flags inside so
+    (λ left revised within t is.
+    seconds_more period left (is_left before.sets) activity t within (revised.seconds t is)) in (
+      touched,
+      λ _ none t is.
+          ap (λ (left : ℕ → Bool). list_any (keeps period activity t) (filter left (range_with_len 0 period)))
+          (touched.untouched activity.to none).1
+          ∙ side_passes before after activity.from test changes so t is,
+    )
 
-  abbrev firsts : ℕ → Bool
-  firsts = first_left period (is_left middle.sets) activity
+pub firsts_revised : (activity : PespActivity) (before after : Tracked) (changes : Bool)
+    (changed flags : List Bool) → activity.to < length flags
+    → Prunes before after (keeps_firsts before.sets.period (is_left before.sets) activity) changes
+    → RevisesFirsts activity changed before after flags (noted flags activity.to changes)
+firsts_revised activity before after changes changed flags inside so =
+    let period = before.sets.period in
+    let test = first_left period (is_left before.sets) activity in
+    let touched = side_touches activity before after activity.to test changes flags inside so
+    (λ left revised within t is.
+    firsts_more period left (is_left before.sets) activity t within (revised.firsts t is)) in (
+      touched,
+      λ _ none t is.
+          ap (λ (left : ℕ → Bool). list_any (λ first. keeps period activity first t)
+          (filter left (range_with_len 0 period))) (touched.untouched activity.from none).1
+          ∙ side_passes before after activity.to test changes so t is,
+    )
 
-  next : Prunes middle end (keeps_firsts period (is_left middle.sets) activity) second
-  next = subst (λ period. Prunes middle end (keeps_firsts period (is_left middle.sets) activity) second)
-      one.period two
+-- a side that is not to be revised
+none_touched : (activity : PespActivity) (flags : List Bool) (sets : Tracked)
+    → Touches activity sets sets flags flags
+none_touched activity flags sets = record {
+  period = refl;
+  events = refl;
+  saved = refl;
+  within = λ e t is. is;
+  keeps = λ left _ within. within;
+  each = refl;
+  untouched = λ event none. (none, refl);
+  fewer = λ some. inl some;
+  no_more = omega arith;
+}
 
-  abbrev more : List Bool
-  more = noted (noted flags activity.from first) activity.to second
+pub seconds_kept : (activity : PespActivity) (changed flags : List Bool) (sets : Tracked)
+    → has_changed changed activity.to ≡ false → has_changed flags activity.to ≡ false
+    → RevisesSeconds activity changed sets sets flags flags
+seconds_kept activity changed flags sets was is = (
+  none_touched activity flags sets,
+  λ so _. so (or_from (has_changed changed activity.to) _ was is),
+)
 
-  to_in' : activity.to < length (noted flags activity.from first)
-  to_in' = omega (arith, to_in, length_noted flags activity.from first)
+pub firsts_kept : (activity : PespActivity) (changed flags : List Bool) (sets : Tracked)
+    → has_changed changed activity.from ≡ false → has_changed flags activity.from ≡ false
+    → RevisesFirsts activity changed sets sets flags flags
+firsts_kept activity changed flags sets was is = (
+  none_touched activity flags sets,
+  λ so _. so (or_from (has_changed changed activity.from) _ was is),
+)
 
-  within : IsWithin (is_left end.sets) (is_left start.sets)
-  within e t is =
-      side_within start middle activity.from seconds first one e t
-      (side_within middle end activity.to firsts second next e t is)
+-- what is revised stays so where the set of the other event has not changed
+pub carried_seconds : (period : ℕ) (first last : Left) (flags more : ℕ → Bool) (other : PespActivity)
+    → IsWithin last first
+    → ((event : ℕ) → more event ≡ false → (flags event ≡ false) × (last event ≡ first event))
+    → SecondsUnless period first flags other → SecondsUnless period last more other
+carried_seconds period first last flags more other within untouched so none t is =
+    let to = untouched other.to none in
+    ap (λ (left : ℕ → Bool). list_any (keeps period other t) (filter left (range_with_len 0 period))) to.1
+    ∙ so to.0 t (within other.from t is)
 
-  keeps_all : (left : Left) → IsRevised period left activity → IsWithin left (is_left start.sets)
-      → IsWithin left (is_left end.sets)
-  keeps_all left revised inside =
-      let held = side_keeps start middle activity.from seconds first one left
-      (λ t is. seconds_more period left (is_left start.sets) activity t inside (revised.seconds t is)) inside in
-      side_keeps middle end activity.to firsts second next left
-      (λ t is. firsts_more period left (is_left middle.sets) activity t held (revised.firsts t is)) held
+pub carried_firsts : (period : ℕ) (first last : Left) (flags more : ℕ → Bool) (other : PespActivity)
+    → IsWithin last first
+    → ((event : ℕ) → more event ≡ false → (flags event ≡ false) × (last event ≡ first event))
+    → FirstsUnless period first flags other → FirstsUnless period last more other
+carried_firsts period first last flags more other within untouched so none t is =
+    let from = untouched other.from none in
+    ap (λ (left : ℕ → Bool). list_any (λ first. keeps period other first t)
+    (filter left (range_with_len 0 period))) from.1
+    ∙ so from.0 t (within other.to t is)
 
-  untouched_parts : (event : ℕ) → has_changed more event ≡ false
-      → (has_changed flags event ≡ false) × (event ≡ activity.from → first ≡ false)
-      × (event ≡ activity.to → second ≡ false)
-  untouched_parts event none =
-      let last = not_noted (noted flags activity.from first) activity.to second event to_in' none in
-      let all = not_noted flags activity.from first event from_in last.0 in
-      (all.0, all.1, last.1)
-
-  here : has_changed more activity.from ≡ false → has_changed more activity.to ≡ false
-      → IsRevised period (is_left end.sets) activity
-  here from_same to_same =
-      let first_same = (untouched_parts activity.from from_same).1 refl in
-      let second_same = (untouched_parts activity.to to_same).2 refl in
-      let last = next.same second_same in
-      let all = last ∙ one.same first_same in
-      record {
-        seconds = λ t is. ap (λ (tracked : Tracked). second_left period (is_left tracked.sets) activity t)
-            all ∙ side_passes start middle activity.from seconds first one t
-            (ap (λ (tracked : Tracked). is_left tracked.sets activity.from t) (sym last) ∙ is);
-        firsts = λ t is. ap (λ (tracked : Tracked). first_left period (is_left tracked.sets) activity t)
-            last ∙ side_passes middle end activity.to firsts second next t is;
-      }
-
-  fewer_marks : (some_changed (noted flags activity.from first) ≡ true) ⊎ (second ≡ true)
+-- one side behind the other
+module _ (activity : PespActivity) (changed : List Bool) (start middle end : Tracked)
+    (flags some more : List Bool) (one : RevisesSeconds activity changed start middle flags some)
+    (two : RevisesFirsts activity changed middle end some more) where
+  fewer_both : (some_changed some ≡ true) ⊎ (marks_left end.sets < marks_left middle.sets)
       → (some_changed flags ≡ true) ⊎ (marks_left end.sets < marks_left start.sets)
-  fewer_marks (inr is) = inr (omega (arith, next.fewer is, one.no_more))
-  fewer_marks (inl some) = elim (some_noted flags activity.from first some) [
-    | inl was ↦ inl was
-    | inr is ↦ inr (omega (arith, one.fewer is, next.no_more))
+  fewer_both (inr less) = inr (omega (arith, less, one.0.no_more))
+  fewer_both (inl was) = elim (one.0.fewer was) [
+    | inl some ↦ inl some
+    | inr less ↦ inr (omega (arith, less, two.0.no_more))
   ]
 
-  pub both_revised : (changed : List Bool) → Revises activity changed start end flags more
-  both_revised changed = record {
-    period = next.period ∙ one.period;
-    events = next.events ∙ one.events;
-    saved = next.saved ∙ one.saved;
-    within = within;
-    keeps = keeps_all;
-    each = length_noted (noted flags activity.from first) activity.to second
-        ∙ length_noted flags activity.from first;
-    here = λ _. here;
-    untouched = λ event none. let parts = untouched_parts event none in (
-      parts.0,
-      side_untouched middle end activity.to firsts second next event parts.2
-          ∙ side_untouched start middle activity.from seconds first one event parts.1,
-    );
-    fewer = λ some. fewer_marks (some_noted (noted flags activity.from first) activity.to second some);
-    no_more = omega (arith, next.no_more, one.no_more);
+  both_touched : Touches activity start end flags more
+  both_touched = record {
+    period = two.0.period ∙ one.0.period;
+    events = two.0.events ∙ one.0.events;
+    saved = two.0.saved ∙ one.0.saved;
+    within = λ e t is. one.0.within e t (two.0.within e t is);
+    keeps = λ left revised within.
+        two.0.keeps left (subst (λ period. IsRevised period left activity) (sym one.0.period) revised)
+        (one.0.keeps left revised within);
+    each = two.0.each ∙ one.0.each;
+    untouched = λ event none.
+        let last = two.0.untouched event none in
+        let first = one.0.untouched event last.0 in
+        (first.0, last.1 ∙ first.1);
+    fewer = λ some. fewer_both (two.0.fewer some);
+    no_more = omega (arith, one.0.no_more, two.0.no_more);
   }
 
--- ---- an activity that is not to be revised
+  last_here : FirstsUnless start.sets.period (is_left middle.sets) (either changed some) activity
+      → FirstsUnless start.sets.period (is_left end.sets) (has_changed more) activity
+  last_here = subst (λ period. FirstsUnless period (is_left middle.sets) (either changed some) activity
+      → FirstsUnless period (is_left end.sets) (has_changed more) activity) one.0.period two.1
 
-pub none_revised : (activity : PespActivity) (changed flags : List Bool) (sets : Tracked)
-    → (has_changed changed activity.from || has_changed changed activity.to) ≡ false
-    → (has_changed flags activity.from || has_changed flags activity.to) ≡ false
-    → Revises activity changed sets sets flags flags
-none_revised activity changed flags sets was is =
-    let old = or_parts (has_changed changed activity.from) _ was in
-    let new = or_parts (has_changed flags activity.from) _ is in
-    record {
-      period = refl;
-      events = refl;
-      saved = refl;
-      within = λ e t is. is;
-      keeps = λ left _ within. within;
-      each = refl;
-      here = λ so _ _. so (or_from (has_changed changed activity.from) _ old.0 new.0)
-          (or_from (has_changed changed activity.to) _ old.1 new.1);
-      untouched = λ event none. (none, refl);
-      fewer = λ some. inl some;
-      no_more = omega arith;
-    }
+  pub both_revised : Revises activity changed start end flags more
+  both_revised = (
+    both_touched,
+    λ so. (
+      carried_seconds start.sets.period (is_left middle.sets) (is_left end.sets) (has_changed some)
+          (has_changed more) activity two.0.within two.0.untouched (one.1 so.0),
+      last_here (carried_firsts start.sets.period (is_left start.sets) (is_left middle.sets)
+          (either changed flags) (either changed some) activity one.0.within
+          (λ event none.
+          let parts = or_parts (has_changed changed event) _ none in
+          let same = one.0.untouched event parts.1 in
+          (or_from (has_changed changed event) _ parts.0 same.0, same.1)) so.1),
+    ),
+  )
+
+pub then_revised : {X E : Type 0} (activity : PespActivity) (changed : List Bool)
+    (start middle end : Tracked) (flags some more : List Bool) (result : Result X E)
+    → RevisesSeconds activity changed start middle flags some
+    → OnOk result (RevisesFirsts activity changed middle end some more)
+    → OnOk result (Revises activity changed start end flags more)
+then_revised activity changed start middle end flags some more (Ok value) one two =
+    both_revised activity changed start middle end flags some more one two
+then_revised activity changed start middle end flags some more (Err why) one two = tt

@@ -1,13 +1,13 @@
 -- A sweep over all activities, and what it leaves.
 use Rattle.std.proofs.Common.{◌≡◌, ◌∙◌, ◌⊎◌, inl, inr, ℕ, zero, suc, ◌+◌, ◌<◌, ◌≤◌, Bool, true, false, List, [], ◌∷◌, length}
-use Rattle.std.proofs.Common.{cond, filter, slice_get, Some, All, refl, ap, sym, subst, arith}
+use Rattle.std.proofs.Common.{cond, slice_get, Some, All, refl, ap, sym, subst, arith}
 use Rattle.std.proofs.lemmas.Bool.{cases_Bool, cases_eq, false≢true, or_from, or_parts}
 use Rattle.std.proofs.lemmas.Option.{get_or_from_slice_get, slice_get_within}
-use Rattle.std.specs.List.{list_any, range_with_len}
 use Rattle.pesp_model.specs.declared.activity.PespActivity.{PespActivity}
-use Rattle.pesp_model.specs.Timetables.{IsActivity, IsProblem, Problem, keeps}
+use Rattle.pesp_model.specs.Timetables.{IsActivity, IsProblem, Problem}
 use Rattle.pesp_search.specs.Marks.{Tracked, is_left, marks_left}
-use Rattle.pesp_search.specs.Revising.{AllBefore, AllFrom, IsRevised, Left, Propagates, RevisedUnless}
+use Rattle.pesp_search.proofs.Revised.{carried_firsts, carried_seconds}
+use Rattle.pesp_search.specs.Revising.{AllBefore, AllFrom, AreRevised, IsReady, IsRevised, IsWithin, Left, Propagates, RevisedUnless}
 use Rattle.pesp_search.specs.Revising.{Revises, Sweeps, either, has_changed, some_changed}
 
 -- what is known behind some activities: those so far are revised unless they have changed since, and the others
@@ -62,23 +62,14 @@ same_at : {X : Type 0} (xs : List X) (i : ℕ) (x y : X) → slice_get xs i ≡ 
 same_at xs i x y is other =
     sym (get_or_from_slice_get xs i x x is) ∙ get_or_from_slice_get xs i y x other
 
--- what is revised stays so where the sets of both its events have not changed
-carried : (period : ℕ) (old new : Left) (flags more : ℕ → Bool) (other : PespActivity)
+-- what is revised stays so where sets have not changed
+carried : (period : ℕ) (old new : Left) (flags more : ℕ → Bool) (other : PespActivity) → IsWithin new old
     → ((event : ℕ) → more event ≡ false → (flags event ≡ false) × (new event ≡ old event))
     → RevisedUnless period old flags other → RevisedUnless period new more other
-carried period old new flags more other untouched so from_none to_none =
-    let from = untouched other.from from_none in
-    let to = untouched other.to to_none in
-    let revised = so from.0 to.0 in
-    record {
-      seconds = λ t is.
-          ap (λ (left : ℕ → Bool). list_any (keeps period other t) (filter left (range_with_len 0 period))) to.1
-          ∙ revised.seconds t (ap (λ (left : ℕ → Bool). left t) (sym from.1) ∙ is);
-      firsts = λ t is.
-          ap (λ (left : ℕ → Bool). list_any (λ first. keeps period other first t)
-          (filter left (range_with_len 0 period))) from.1
-          ∙ revised.firsts t (ap (λ (left : ℕ → Bool). left t) (sym to.1) ∙ is);
-    }
+carried period old new flags more other within untouched so = (
+  carried_seconds period old new flags more other within untouched so.0,
+  carried_firsts period old new flags more other within untouched so.1,
+)
 
 -- ---- a sweep
 
@@ -96,9 +87,10 @@ sweep_begun problem sets changed flags each all revised = record {
   };
   each = each;
   done = λ i activity at low. absurd (omega (arith, low));
-  rest = λ i activity at low from to.
-      revised i activity at low (or_parts (has_changed changed activity.from) _ from).0
-      (or_parts (has_changed changed activity.to) _ to).0;
+  rest = λ i activity at low. (
+    λ to. (revised i activity at low).0 (or_parts (has_changed changed activity.to) _ to).0,
+    λ from. (revised i activity at low).1 (or_parts (has_changed changed activity.from) _ from).0,
+  );
   fewer = λ some. absurd (false≢true (sym (none_changed flags all) ∙ some));
   no_more = omega arith;
 }
@@ -110,7 +102,7 @@ module _ (problem : Problem) (before now after : Tracked) (changed flags more : 
     (turn : Revises activity changed now after flags more) where
   here : RevisedUnless problem.period (is_left after.sets) (has_changed more) activity
   here = subst (λ period. RevisedUnless period (is_left now.sets) (either changed flags) activity
-      → RevisedUnless period (is_left after.sets) (has_changed more) activity) period_is turn.here
+      → RevisedUnless period (is_left after.sets) (has_changed more) activity) period_is turn.1
       (so.rest index activity at (omega arith))
 
   done : AllBefore problem.activities
@@ -122,43 +114,43 @@ module _ (problem : Problem) (before now after : Tracked) (changed flags more : 
         (ap (slice_get problem.activities) (sym same) ∙ there)) here
     | inr apart ↦
         carried problem.period (is_left now.sets) (is_left after.sets) (has_changed flags) (has_changed more)
-        other turn.untouched (so.done i other there (omega (arith, low, apart)))
+        other turn.0.within turn.0.untouched (so.done i other there (omega (arith, low, apart)))
   ]
 
   rest : AllFrom problem.activities
       (RevisedUnless problem.period (is_left after.sets) (either changed more)) (index + 1)
   rest i other there high =
       carried problem.period (is_left now.sets) (is_left after.sets) (either changed flags)
-      (either changed more) other
+      (either changed more) other turn.0.within
       (λ event none.
       let parts = or_parts (has_changed changed event) _ none in
-      let same = turn.untouched event parts.1 in
+      let same = turn.0.untouched event parts.1 in
       (or_from (has_changed changed event) _ parts.0 same.0, same.1))
       (so.rest i other there (omega (arith, high)))
 
   fewer : (some_changed flags ≡ true) ⊎ (marks_left after.sets < marks_left now.sets)
       → marks_left after.sets < marks_left before.sets
-  fewer (inl was) = omega (arith, so.fewer was, turn.no_more)
+  fewer (inl was) = omega (arith, so.fewer was, turn.0.no_more)
   fewer (inr less) = omega (arith, less, so.no_more)
 
   pub sweep_turn : IsSwept problem before after changed more (index + 1)
   sweep_turn = record {
     propagates = record {
-      period = turn.period ∙ so.propagates.period;
-      events = turn.events ∙ so.propagates.events;
-      saved = turn.saved ∙ so.propagates.saved;
-      within = λ e t is. so.propagates.within e t (turn.within e t is);
+      period = turn.0.period ∙ so.propagates.period;
+      events = turn.0.events ∙ so.propagates.events;
+      saved = turn.0.saved ∙ so.propagates.saved;
+      within = λ e t is. so.propagates.within e t (turn.0.within e t is);
       keeps = λ left all within.
-          turn.keeps left
+          turn.0.keeps left
           (subst (λ period. IsRevised period left activity) (sym period_is)
           (held (IsRevised problem.period left) problem.activities index activity all at))
           (so.propagates.keeps left all within);
     };
-    each = turn.each ∙ so.each;
+    each = turn.0.each ∙ so.each;
     done = done;
     rest = rest;
-    fewer = λ some. fewer (turn.fewer some);
-    no_more = omega (arith, turn.no_more, so.no_more);
+    fewer = λ some. fewer (turn.0.fewer some);
+    no_more = omega (arith, turn.0.no_more, so.no_more);
   }
 
 pub sweep_ended : (problem : Problem) (before now : Tracked) (changed flags : List Bool) (index : ℕ)
@@ -175,10 +167,9 @@ sweep_ended problem before now changed flags index so all = record {
 
 -- ---- sweeps
 
-pub reducing_begun : (problem : Problem) (sets : Tracked) (flags : List Bool) → IsProblem problem
-    → length flags ≡ problem.events → All (λ flag. flag ≡ true) flags
-    → IsReducing problem sets sets flags
-reducing_begun problem sets flags sound each all = record {
+pub reducing_begun : (problem : Problem) (sets : Tracked) (flags : List Bool)
+    → IsReady problem sets flags → IsReducing problem sets sets flags
+reducing_begun problem sets flags ready = record {
   propagates = record {
     period = refl;
     events = refl;
@@ -186,10 +177,22 @@ reducing_begun problem sets flags sound each all = record {
     within = λ e t is. is;
     keeps = λ left _ within. within;
   };
+  each = ready.each;
+  revised = ready.revised;
+}
+
+-- flags that are all set make sets ready
+pub all_ready : (problem : Problem) (sets : Tracked) (flags : List Bool) → IsProblem problem
+    → length flags ≡ problem.events → All (λ flag. flag ≡ true) flags → sets.saved ≡ []
+    → IsReady problem sets flags
+all_ready problem sets flags sound each all none = record {
   each = each;
-  revised = λ i activity at _ from _.
-      let is = held (IsActivity problem.events) problem.activities i activity sound.sound at in
-      absurd (false≢true (sym from ∙ all activity.from false (omega (arith, is.from, each))));
+  revised = λ i activity at _.
+      let is = held (IsActivity problem.events) problem.activities i activity sound.sound at in (
+        λ to. absurd (false≢true (sym to ∙ all activity.to false (omega (arith, is.to, each)))),
+        λ from. absurd (false≢true (sym from ∙ all activity.from false (omega (arith, is.from, each)))),
+      );
+  saved = subst (AreRevised problem) (sym none) tt;
 }
 
 pub reducing_turn : (problem : Problem) (before now after : Tracked) (flags next : List Bool)
@@ -229,5 +232,7 @@ less_to_do problem now after flags next some swept =
 pub all_revised : (problem : Problem) (before now : Tracked) (flags : List Bool)
     → IsReducing problem before now flags → some_changed flags ≡ false
     → AllFrom problem.activities (IsRevised problem.period (is_left now.sets)) 0
-all_revised problem before now flags so none i activity at low =
-    so.revised i activity at low (no_flag flags none activity.from) (no_flag flags none activity.to)
+all_revised problem before now flags so none i activity at low = record {
+  seconds = (so.revised i activity at low).0 (no_flag flags none activity.to);
+  firsts = (so.revised i activity at low).1 (no_flag flags none activity.from);
+}

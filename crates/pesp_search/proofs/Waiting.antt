@@ -1,8 +1,11 @@
 -- The children that wait, one after the other.
-use Rattle.std.proofs.Common.{◌≡◌, ◌∙◌, ℕ, ◌+◌, List, [], ◌∷◌, ◌++◌, map, Some, None, ap, sym, true}
+use Rattle.std.proofs.Common.{◌<◌}
+use Rattle.std.proofs.Common.{subst}
+use Rattle.std.proofs.Common.{◌≡◌, ◌∙◌, ℕ, ◌+◌, List, [], ◌∷◌, ◌++◌, map, Some, None, ap, sym}
+use Rattle.std.proofs.lemmas.List.{append_assoc}
 use Rattle.pesp_search.specs.declared.time_sets.Branch.{Branch}
 use Rattle.pesp_search.specs.Listings.{with_time}
-use Rattle.pesp_search.specs.Marks.{IsNext, IsNextChild, KeepsTime, Marks, Restores, Saved, Tracked}
+use Rattle.pesp_search.specs.Marks.{IsNext, IsNextChild, KeepsTime, Marks, Restores, Saved, Tracked, is_left}
 use Rattle.pesp_search.specs.Marks.{sets_of, times_from, waiting}
 
 abbrev pub saved_at : Marks → Branch → Saved
@@ -33,7 +36,7 @@ pub next_waits : (before restored saved after : Tracked) (sets : Marks) (branch 
       sets = restored.sets;
       saved = saved_at restored.sets (tried branch time) ∷ restored.saved;
     }
-    → KeepsTime saved after branch.event time → IsNextChild before after true
+    → KeepsTime saved after branch.event time → IsNextChild before after (Some branch.event)
 unfolding waiting
 next_waits before restored saved after sets branch time is same next save keep = (
   ap waiting is.0
@@ -42,9 +45,25 @@ next_waits before restored saved after sets branch time is same next save keep =
       ∙ ap (λ (sets : Marks). time ∷ times_from sets branch.event (time + 1)) same)
       ∙ (λ i. sym sets_are i ∷ waiting (sym saved_are i)),
   keep.period ∙ ap (λ (tracked : Tracked). tracked.sets.period) save ∙ is.2,
-  keep.events ∙ ap (λ (tracked : Tracked). tracked.sets.events) save ∙ is.3,
+  keep.events ∙ events_are ∙ is.3,
+  record {
+    passed = [];
+    branched = restored.sets;
+    from = branch;
+    later = tried branch time;
+    earlier = restored.saved;
+    inside = subst (λ events. branch.event < events) (sym (keep.events ∙ events_are)) is.1;
+    was = is.0;
+    now = saved_are;
+    within = λ e t is.
+        ap (λ (tracked : Tracked). is_left tracked.sets e t) (sym save) ∙ keep.within e t is;
+    others = λ e other. keep.others e other ∙ ap (λ (tracked : Tracked). is_left tracked.sets e) save;
+  },
 )
   where
+    events_are : saved.sets.events ≡ restored.sets.events
+    events_are = ap (λ (tracked : Tracked). tracked.sets.events) save
+
     sets_are : sets_of after.sets ≡ with_time (sets_of restored.sets) branch.event time
     sets_are = keep.sets
         ∙ ap (λ (tracked : Tracked). with_time (sets_of tracked.sets) branch.event time) save
@@ -53,8 +72,30 @@ next_waits before restored saved after sets branch time is same next save keep =
     saved_are = keep.saved ∙ ap (λ (tracked : Tracked). tracked.saved) save
 
 -- before another turn
-pub next_from : (first before after : Tracked) → waiting first.saved ≡ waiting before.saved
-    → before.sets.period ≡ first.sets.period → before.sets.events ≡ first.sets.events
-    → IsNextChild before after true → IsNextChild first after true
-next_from first before after same period events next =
-    (same ∙ next.0, next.1 ∙ period, next.2 ∙ events)
+pub next_from : (first before after : Tracked) (passed : List Saved) (event : ℕ)
+    → waiting first.saved ≡ waiting before.saved → before.sets.period ≡ first.sets.period
+    → before.sets.events ≡ first.sets.events → first.saved ≡ passed ++ before.saved
+    → IsNextChild before after (Some event) → IsNextChild first after (Some event)
+next_from first before after passed event same period events all next = (
+  same ∙ next.0,
+  next.1 ∙ period,
+  next.2 ∙ events,
+  record {
+    passed = passed ++ next.3.passed;
+    branched = next.3.branched;
+    from = next.3.from;
+    later = next.3.later;
+    earlier = next.3.earlier;
+    inside = next.3.inside;
+    was = all ∙ ap (λ saved. passed ++ saved) next.3.was
+        ∙ sym (append_assoc passed next.3.passed (saved_at next.3.branched next.3.from ∷ next.3.earlier));
+    now = next.3.now;
+    within = next.3.within;
+    others = next.3.others;
+  },
+)
+
+pub passed_more : (all passed rest : List Saved) (saved : Saved) (more : List Saved)
+    → all ≡ passed ++ rest → rest ≡ saved ∷ more → all ≡ (passed ++ saved ∷ []) ++ more
+passed_more all passed rest saved more is next =
+    is ∙ ap (λ rest. passed ++ rest) next ∙ sym (append_assoc passed (saved ∷ []) more)

@@ -112,17 +112,36 @@ pub record Prunes (before after : Tracked) (keeps : ℕ → ℕ → Bool) (chang
   pub fewer : changes ≡ true → marks_left after.sets < marks_left before.sets
   pub no_more : marks_left after.sets ≤ marks_left before.sets
 
--- the next child that waits, if one does: its sets, and those that wait behind it
-abbrev pub IsNextChild : Tracked → Tracked → Bool → Type 0
-IsNextChild before after false = waiting before.saved ≡ []
-IsNextChild before after true =
-    (waiting before.saved ≡ sets_of after.sets ∷ waiting after.saved)
-    × (after.sets.period ≡ before.sets.period)
-    × (after.sets.events ≡ before.sets.events)
-
 -- one of its times is left to an event
 pub record KeepsTime (before after : Tracked) (event time : ℕ) : Type 0 where
   pub period : after.sets.period ≡ before.sets.period
   pub events : after.sets.events ≡ before.sets.events
   pub saved : after.saved ≡ before.saved
   pub sets : sets_of after.sets ≡ with_time (sets_of before.sets) event time
+  pub within : (other time : ℕ) → is_left after.sets other time ≡ true
+      → is_left before.sets other time ≡ true
+  pub others : (other : ℕ) → (other ≡ event → ⊥)
+      → is_left after.sets other ≡ is_left before.sets other
+
+-- the sets of a child are those that were saved at its branch, but for the event of the branch
+pub record IsChildOf (before after : Tracked) (event : ℕ) : Type 0 where
+  pub passed : List Saved
+  pub branched : Marks
+  pub from : Branch
+  pub later : Branch
+  pub earlier : List Saved
+  pub inside : event < after.sets.events
+  pub was : before.saved ≡ passed ++ record { sets = branched; branch = from } ∷ earlier
+  pub now : after.saved ≡ record { sets = branched; branch = later } ∷ earlier
+  pub within : (other time : ℕ) → is_left after.sets other time ≡ true
+      → is_left branched other time ≡ true
+  pub others : (other : ℕ) → (other ≡ event → ⊥) → is_left after.sets other ≡ is_left branched other
+
+-- the next child that waits, if one does, by the event of its branch: its sets, and those that wait behind it
+abbrev pub IsNextChild : Tracked → Tracked → Option ℕ → Type 0
+IsNextChild before after None = waiting before.saved ≡ []
+IsNextChild before after (Some event) =
+    (waiting before.saved ≡ sets_of after.sets ∷ waiting after.saved)
+    × (after.sets.period ≡ before.sets.period)
+    × (after.sets.events ≡ before.sets.events)
+    × IsChildOf before after event

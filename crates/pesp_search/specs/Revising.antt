@@ -1,10 +1,10 @@
 -- Inner words: sets of times by a test of events and times, and what revising them by activities does.
 use Rattle.std.specs.Prelude.{◌≡◌, ◌⊎◌, ℕ, zero, suc, ◌+◌, ◌-◌, ◌%◌, ◌<◌, ◌≤◌, min, ◌==◌, not, Bool, true, false, ◌||◌}
-use Rattle.std.specs.Prelude.{if◌then◌else◌, List, length, filter, get_or, slice_get, slice_set, Some, All, unsigned_abs, ◌-ℤ◌}
+use Rattle.std.specs.Prelude.{if◌then◌else◌, ⊤, [], ◌∷◌, List, length, filter, get_or, slice_get, slice_set, Some, All, unsigned_abs, ◌-ℤ◌}
 use Rattle.std.specs.List.{list_any, range_with_len}
 use Rattle.pesp_model.specs.declared.activity.PespActivity.{PespActivity}
 use Rattle.pesp_model.specs.Timetables.{Problem, keeps}
-use Rattle.pesp_search.specs.Marks.{Tracked, is_left, marks_left, sets_of}
+use Rattle.pesp_search.specs.Marks.{Saved, Tracked, is_left, marks_left, sets_of}
 use Rattle.pesp_search.specs.TimeSets.{reduced}
 
 -- which times are left to which events
@@ -93,10 +93,21 @@ some_changed changed = list_any (λ is. is) changed
 abbrev pub noted : List Bool → ℕ → Bool → List Bool
 noted flags event is_changed = slice_set flags event (has_changed flags event || is_changed)
 
--- an activity is revised unless the set of one of its events has changed
+-- the times of an activity's first event have their second ones unless the set of its second event has
+-- changed, and the other way round
+abbrev pub SecondsUnless : ℕ → Left → (ℕ → Bool) → PespActivity → Type 0
+SecondsUnless period left changed activity =
+    changed activity.to ≡ false → (time : ℕ) → left activity.from time ≡ true
+    → second_left period left activity time ≡ true
+
+abbrev pub FirstsUnless : ℕ → Left → (ℕ → Bool) → PespActivity → Type 0
+FirstsUnless period left changed activity =
+    changed activity.from ≡ false → (time : ℕ) → left activity.to time ≡ true
+    → first_left period left activity time ≡ true
+
 abbrev pub RevisedUnless : ℕ → Left → (ℕ → Bool) → PespActivity → Type 0
 RevisedUnless period left changed activity =
-    changed activity.from ≡ false → changed activity.to ≡ false → IsRevised period left activity
+    SecondsUnless period left changed activity × FirstsUnless period left changed activity
 
 -- the same of all activities from an index on, and of all before it
 abbrev pub AllFrom : List PespActivity → (PespActivity → Type 0) → ℕ → Type 0
@@ -111,10 +122,9 @@ AllBefore activities Holds end = (index : ℕ) (activity : PespActivity)
 abbrev pub either : List Bool → List Bool → ℕ → Bool
 either changed flags event = has_changed changed event || has_changed flags event
 
--- An activity revises sets, if one of its events has a flag: where it has not it was revised before. Where the
--- set of an event is not said to have changed it has not.
-pub record Revises (activity : PespActivity) (changed : List Bool) (before after : Tracked)
-    (flags more : List Bool) : Type 0 where
+-- An activity makes the sets of its events smaller. Where the set of an event is not said to have changed it
+-- has not.
+pub record Touches (activity : PespActivity) (before after : Tracked) (flags more : List Bool) : Type 0 where
   pub period : after.sets.period ≡ before.sets.period
   pub events : after.sets.events ≡ before.sets.events
   pub saved : after.saved ≡ before.saved
@@ -122,13 +132,30 @@ pub record Revises (activity : PespActivity) (changed : List Bool) (before after
   pub keeps : (left : Left) → IsRevised before.sets.period left activity
       → IsWithin left (is_left before.sets) → IsWithin left (is_left after.sets)
   pub each : length more ≡ length flags
-  pub here : RevisedUnless before.sets.period (is_left before.sets) (either changed flags) activity
-      → RevisedUnless before.sets.period (is_left after.sets) (has_changed more) activity
   pub untouched : (event : ℕ) → has_changed more event ≡ false
       → (has_changed flags event ≡ false) × (is_left after.sets event ≡ is_left before.sets event)
   pub fewer : some_changed more ≡ true
       → (some_changed flags ≡ true) ⊎ (marks_left after.sets < marks_left before.sets)
   pub no_more : marks_left after.sets ≤ marks_left before.sets
+
+-- it revises them on one side or on both, where flags say that a set has changed
+abbrev pub RevisesSeconds : PespActivity → List Bool → Tracked → Tracked → List Bool → List Bool → Type 0
+RevisesSeconds activity changed before after flags more =
+    Touches activity before after flags more
+    × (SecondsUnless before.sets.period (is_left before.sets) (either changed flags) activity
+    → SecondsUnless before.sets.period (is_left after.sets) (has_changed more) activity)
+
+abbrev pub RevisesFirsts : PespActivity → List Bool → Tracked → Tracked → List Bool → List Bool → Type 0
+RevisesFirsts activity changed before after flags more =
+    Touches activity before after flags more
+    × (FirstsUnless before.sets.period (is_left before.sets) (either changed flags) activity
+    → FirstsUnless before.sets.period (is_left after.sets) (has_changed more) activity)
+
+abbrev pub Revises : PespActivity → List Bool → Tracked → Tracked → List Bool → List Bool → Type 0
+Revises activity changed before after flags more =
+    Touches activity before after flags more
+    × (RevisedUnless before.sets.period (is_left before.sets) (either changed flags) activity
+    → RevisedUnless before.sets.period (is_left after.sets) (has_changed more) activity)
 
 -- what a sweep leaves: smaller sets, of which it tells where they changed, and fewer marks where they did
 pub record Sweeps (problem : Problem) (before after : Tracked) (changed : List Bool) : Type 0 where
@@ -145,3 +172,19 @@ pub record Reduces (problem : Problem) (before after : Tracked) : Type 0 where
   pub events : after.sets.events ≡ before.sets.events
   pub saved : after.saved ≡ before.saved
   pub sets : sets_of after.sets ≡ reduced problem (sets_of before.sets)
+  pub revised : AllFrom problem.activities (IsRevised problem.period (is_left after.sets)) 0
+
+-- all activities are revised in each of the sets that were saved
+abbrev pub AreRevised : Problem → List Saved → Type 0
+AreRevised problem [] = ⊤
+AreRevised problem (saved ∷ earlier) =
+    AllFrom problem.activities (IsRevised problem.period (is_left saved.sets)) 0
+    × AreRevised problem earlier
+
+-- sets are ready for an entry: activities are revised unless the set of one of their events is said to have
+-- changed, and in all saved sets
+pub record IsReady (problem : Problem) (sets : Tracked) (flags : List Bool) : Type 0 where
+  pub each : length flags ≡ problem.events
+  pub revised : AllFrom problem.activities
+      (RevisedUnless problem.period (is_left sets.sets) (has_changed flags)) 0
+  pub saved : AreRevised problem sets.saved

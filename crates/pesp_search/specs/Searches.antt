@@ -1,6 +1,6 @@
 -- Inner words: a search between two entries, and what its call gives. A reader of the contracts of this crate
 -- needs none of them.
-use Rattle.std.specs.Prelude.{◌≡◌, ℕ, ◌+◌, List, ◌∷◌, Option, Some, None, Vec, Result, Ok, Err, ⊤}
+use Rattle.std.specs.Prelude.{◌≡◌, ◌⊎◌, ℕ, ◌+◌, List, ◌∷◌, Option, Some, None, Vec, Result, Ok, Err, ⊤}
 use Rattle.std.specs.Global.{Global}
 use Rattle.giv_files.specs.declared.refusal.Refusal.{Refusal}
 use Rattle.giv_files.specs.declared.refusal.StageFault.{StageFault}
@@ -11,7 +11,9 @@ use Rattle.pesp_search.specs.declared.search.Entry.TheVariants as entries
 use Rattle.pesp_search.specs.declared.search.FoundTimes.{FoundTimes}
 use Rattle.pesp_search.specs.Listings.{Listing, TimesFound, entry, in_turn, listing, listing_of, one_more}
 use Rattle.pesp_search.specs.Listings.{unless_found, with_time}
+use Rattle.pesp_search.specs.declared.time_sets.Branch.{Branch}
 use Rattle.pesp_search.specs.Marks.{Tracked, sets_of, waiting}
+use Rattle.pesp_search.specs.Revising.{IsReady}
 
 -- a listing behind so many entries that found nothing
 abbrev pub behind : ℕ → Listing → Listing
@@ -29,12 +31,18 @@ entry_here visit sets =
     (entry (sets_of sets.sets) (λ event time. visit (with_time (sets_of sets.sets) event time)))
     (in_turn visit (waiting sets.saved))
 
+-- sets are saved at a branch, or none are
+abbrev pub SavesOnce : Tracked → Tracked → Type 0
+SavesOnce before after = (after.saved ≡ before.saved)
+    ⊎ ((branch : Branch) × (after.saved ≡ record { sets = before.sets; branch = branch } ∷ before.saved))
+
 -- what an entry comes to whose sets are reduced: the times that are found, or the children that wait
 abbrev pub Branches : Tracked → Tracked → Option (Vec ℕ Global) → Type 0
 Branches before after None =
     ((visit : List (List ℕ) → Listing)
     → entry_here visit before ≡ one_more (in_turn visit (waiting after.saved)))
     × (after.sets ≡ before.sets)
+    × SavesOnce before after
 Branches before after (Some times) = (visit : List (List ℕ) → Listing)
     → entry_here visit before ≡ record { entries = 1; found = Some times.items }
 
@@ -44,10 +52,11 @@ TakesEntry problem before after (entries.Found times) =
     listed_on problem before ≡ record { entries = 1; found = Some times.items }
 TakesEntry problem before after entries.Last =
     listed_on problem before ≡ record { entries = 1; found = None }
-TakesEntry problem before after entries.Next =
+TakesEntry problem before after (entries.Next changed) =
     (listed_on problem before ≡ one_more (listed_on problem after))
     × (after.sets.period ≡ before.sets.period)
     × (after.sets.events ≡ before.sets.events)
+    × IsReady problem after changed.items
 
 -- a search behind some entries, each of which took a step
 pub record IsSearched (problem : Problem) (sets : Tracked) (count : ℕ) : Type 0 where

@@ -8,8 +8,9 @@ use crate::time_sets::{Branch, TimeSets};
 use plan_num::NoMemory;
 use std::alloc::Global;
 
-/// Goes to the sets of the next child that waits, and tells whether there is one.
-pub(crate) fn next_child(alloc: Global, sets: &mut TimeSets) -> Result<bool, NoMemory>
+/// Goes to the sets of the next child that waits, and tells the event of its branch; none where no
+/// child waits.
+pub(crate) fn next_child(alloc: Global, sets: &mut TimeSets) -> Result<Option<usize>, NoMemory>
     ensures { IfOk result (IsNextChild sets.old sets.new) }
 {
     while let Some(branch) = sets.restore() {
@@ -19,10 +20,10 @@ pub(crate) fn next_child(alloc: Global, sets: &mut TimeSets) -> Result<bool, NoM
                 from: time + 1,
             })?;
             keep_time(alloc, sets, branch.event, time)?;
-            return Ok(true);
+            return Ok(Some(branch.event));
         }
     }
-    Ok(false)
+    Ok(None)
 }
 
 // Leaves one of its times to an event.
@@ -37,14 +38,14 @@ fn keep_time(alloc: Global, sets: &mut TimeSets, event: usize, time: usize) -> R
     Ok(())
 }
 
-// Flags of which that of one time is set.
-fn one_flag(alloc: Global, time: usize, period: usize) -> Result<Vec<bool>, NoMemory>
+/// So many flags, of which one is set.
+pub(crate) fn one_flag(alloc: Global, one: usize, count: usize) -> Result<Vec<bool>, NoMemory>
     ensures { IfOk result
-        (λ flags. flags.items ≡ map (λ other. other == time) (range_with_len 0 period)) }
+        (λ flags. flags.items ≡ map (λ other. other == one) (range_with_len 0 count)) }
 {
     let mut flags = Vec::new(alloc);
-    for other in 0..period {
-        flags.push(other == time)?;
+    for other in 0..count {
+        flags.push(other == one)?;
     }
     Ok(flags)
 }

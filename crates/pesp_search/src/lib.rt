@@ -20,3 +20,6 @@ mod windows;
 pub use check::check_timetable;
 pub use fault::TimetableFault;
 pub use stage::make_timetable;
+
+#[cfg(test)]
+mod search_tests;

@@ -1,7 +1,7 @@
 // Sets of times that are reduced by all activities.
 ghost use Rattle.std.specs.Prelude.{◌≡◌, ◌<◌, length, All, IfOk, OnOk};
 ghost use Rattle.pesp_search.specs.Marks.{is_left};
-ghost use Rattle.pesp_search.specs.Revising.{AllFrom, Reduces, RevisedUnless, Sweeps};
+ghost use Rattle.pesp_search.specs.Revising.{AllFrom, IsReady, Reduces, RevisedUnless, Sweeps};
 ghost use Rattle.pesp_search.specs.Revising.{has_changed, some_changed};
 
 use crate::revise::revise;
@@ -11,13 +11,21 @@ use plan_num::NoMemory;
 use std::alloc::Global;
 
 /// Takes times out of the sets of events until each time that is left has its partners on all
-/// activities. An activity is revised again where the set of one of its events has changed.
-pub(crate) fn reduce(alloc: Global, pesp: &Pesp, sets: &mut TimeSets) -> Result<(), NoMemory>
+/// activities. An activity is revised, and again, where the set of one of its events has changed;
+/// flags say which have at first.
+pub(crate) fn reduce(
+    alloc: Global,
+    pesp: &Pesp,
+    sets: &mut TimeSets,
+    changed: Vec<bool>,
+) -> Result<(), NoMemory>
     requires period { sets.old.sets.period ≡ pesp.now.period }
     requires events { sets.old.sets.events ≡ pesp.now.events }
+    requires ready { IsReady pesp.now sets.old changed.items }
     ensures { OnOk result (Reduces pesp.now sets.old sets.new) }
 {
-    let mut changed = flags(alloc, true, pesp.event_count())?;
+    let _ = pesp.event_count();
+    let mut changed = changed;
     while some_changed(&changed) {
         changed = sweep(alloc, pesp, sets, &changed)?;
     }
@@ -46,8 +54,8 @@ fn sweep(
     Ok(next)
 }
 
-// So many flags, which are all set or none of them.
-fn flags(alloc: Global, is_set: bool, count: usize) -> Result<Vec<bool>, NoMemory>
+/// So many flags, which are all set or none of them.
+pub(crate) fn flags(alloc: Global, is_set: bool, count: usize) -> Result<Vec<bool>, NoMemory>
     ensures each { IfOk result (λ flags. length flags.items ≡ count) }
     ensures all { IfOk result (λ flags. All (λ flag. flag ≡ is_set) flags.items) }
 {

@@ -1,10 +1,11 @@
 // Sets of times that are revised by an activity.
-ghost use Rattle.std.specs.Prelude.{◌≡◌, ◌<◌, ◌≤◌, ◌≤ℤ◌, ◌||◌, pos, length, map, IfOk, OnOk};
+ghost use Rattle.std.specs.Prelude.{◌≡◌, ◌<◌, ◌≤◌, ◌≤ℤ◌, pos, length, map, IfOk, OnOk};
 ghost use Rattle.std.specs.List.{range_with_len};
 ghost use Rattle.pesp_model.specs.Timetables.{IsActivity};
 ghost use Rattle.pesp_search.specs.Marks.{Prunes, is_left};
 ghost use Rattle.pesp_search.specs.Revising.{ahead, behind, first_left, second_left, width_of};
-ghost use Rattle.pesp_search.specs.Revising.{Revises, has_changed, keeps_firsts, keeps_seconds, noted};
+ghost use Rattle.pesp_search.specs.Revising.{Revises, RevisesFirsts, RevisesSeconds};
+ghost use Rattle.pesp_search.specs.Revising.{keeps_firsts, keeps_seconds, noted};
 
 use crate::marks::TimeMarks;
 use crate::prune::prune;
@@ -14,8 +15,8 @@ use pesp_model::PespActivity;
 use plan_num::NoMemory;
 use std::alloc::Global;
 
-/// Takes the times that have no partner out of the sets of both events of an activity, if one of
-/// them has a flag, and sets the flags of those whose set has changed.
+/// Takes the times that have no partner out of the sets of both events of an activity, where the
+/// set of the other event has a flag, and sets the flags of those whose set has changed.
 pub(crate) fn revise(
     alloc: Global,
     activity: PespActivity,
@@ -29,24 +30,52 @@ pub(crate) fn revise(
     ensures { OnOk result
         (Revises activity changed.now sets.old sets.new next.old next.new) }
 {
-    if !either_changed(changed, activity) && !either_changed(next, activity) {
+    revise_seconds(alloc, activity, sets, changed, next)?;
+    revise_firsts(alloc, activity, sets, changed, next)
+}
+
+// Does so for the first event.
+fn revise_seconds(
+    alloc: Global,
+    activity: PespActivity,
+    sets: &mut TimeSets,
+    changed: &[bool],
+    next: &mut [bool],
+) -> Result<(), NoMemory>
+    requires activity { IsActivity sets.old.sets.events activity }
+    requires each { length changed.now ≡ sets.old.sets.events }
+    requires next { length next.old ≡ sets.old.sets.events }
+    ensures { OnOk result
+        (RevisesSeconds activity changed.now sets.old sets.new next.old next.new) }
+{
+    if !changed[activity.to] && !next[activity.to] {
         return Ok(());
     }
     let is_changed = keep_seconds(alloc, activity, sets)?;
     note(next, activity.from, is_changed);
-    let is_changed = keep_firsts(alloc, activity, sets)?;
-    note(next, activity.to, is_changed);
     Ok(())
 }
 
-// Whether one of an activity's events has a flag.
-fn either_changed(changed: &[bool], activity: PespActivity) -> bool
-    requires from { activity.from < length changed.now }
-    requires to { activity.to < length changed.now }
-    ensures { result
-        ≡ (has_changed changed.now activity.from || has_changed changed.now activity.to) }
+// Does so for the second event.
+fn revise_firsts(
+    alloc: Global,
+    activity: PespActivity,
+    sets: &mut TimeSets,
+    changed: &[bool],
+    next: &mut [bool],
+) -> Result<(), NoMemory>
+    requires activity { IsActivity sets.old.sets.events activity }
+    requires each { length changed.now ≡ sets.old.sets.events }
+    requires next { length next.old ≡ sets.old.sets.events }
+    ensures { OnOk result
+        (RevisesFirsts activity changed.now sets.old sets.new next.old next.new) }
 {
-    changed[activity.from] || changed[activity.to]
+    if !changed[activity.from] && !next[activity.from] {
+        return Ok(());
+    }
+    let is_changed = keep_firsts(alloc, activity, sets)?;
+    note(next, activity.to, is_changed);
+    Ok(())
 }
 
 // Sets the flag of an event if its set has changed.

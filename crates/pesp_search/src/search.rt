@@ -1,12 +1,13 @@
 // The search of a timetable within a budget of entries.
-ghost use Rattle.std.specs.Prelude.{◌≡◌, IfOk};
+ghost use Rattle.std.specs.Prelude.{◌≡◌, [], IfOk};
 ghost use Rattle.giv_files.specs.StageCalls.{TakesSteps};
 ghost use Rattle.pesp_search.specs.Listings.{entries_listed, listing, result_within};
+ghost use Rattle.pesp_search.specs.Revising.{IsReady};
 ghost use Rattle.pesp_search.specs.Searches.{Branches, IsSearched, SearchGives, TakesEntry};
 
-use crate::children::next_child;
+use crate::children::{next_child, one_flag};
 use crate::marks::TimeMarks;
-use crate::reduce::reduce;
+use crate::reduce::{flags, reduce};
 use crate::standing::{first_open, first_times, has_empty};
 use crate::time_sets::{Branch, TimeSets};
 use giv_files::{Refusal, StageFault};
@@ -22,12 +23,12 @@ pub(crate) struct FoundTimes {
 }
 
 /// What an entry comes to: the times of a timetable, or none where it is the last one or another
-/// one is to come.
+/// one is to come, with the flags of the events whose sets have changed for it.
 #[derive(Debug, Drop)]
 pub(crate) enum Entry {
     Found(Vec<u32>),
     Last,
-    Next,
+    Next(Vec<bool>),
 }
 
 /// Searches a timetable of a problem of a period, with so many entries at most. Each entry takes a
@@ -45,15 +46,16 @@ pub(crate) fn search_times<L: Ledger>(
         result }
 {
     let mut sets = first_sets(alloc, pesp, period)?;
+    let mut changed = flags(alloc, true, pesp.event_count())?;
     for entry in 0..budget {
         steps.tick();
-        match take_entry(alloc, pesp, &mut sets)? {
+        match take_entry(alloc, pesp, &mut sets, changed)? {
             Entry::Found(times) => return Ok(FoundTimes {
                 times,
                 entries: entry + 1,
             }),
             Entry::Last => return Err(StageFault::Refused(Refusal::NoSolution)),
-            Entry::Next => {}
+            Entry::Next(flags) => changed = flags,
         }
     }
     Err(StageFault::Refused(Refusal::Spent { entries: budget }))
@@ -62,26 +64,32 @@ pub(crate) fn search_times<L: Ledger>(
 // The sets before the first entry.
 fn first_sets(alloc: Global, pesp: &Pesp, period: u32) -> Result<TimeSets, NoMemory>
     requires { pesp.now.period ≡ period }
-    ensures { IfOk result (λ sets. IsSearched pesp.now sets 0) }
+    ensures searched { IfOk result (λ sets. IsSearched pesp.now sets 0) }
+    ensures saved { IfOk result (λ sets. sets.saved ≡ []) }
 {
     let marks = TimeMarks::at_first(alloc, period as usize, pesp.event_count())?;
     Ok(TimeSets::new(alloc, marks))
 }
 
 // Takes an entry.
-fn take_entry(alloc: Global, pesp: &Pesp, sets: &mut TimeSets) -> Result<Entry, NoMemory>
+fn take_entry(
+    alloc: Global,
+    pesp: &Pesp,
+    sets: &mut TimeSets,
+    changed: Vec<bool>,
+) -> Result<Entry, NoMemory>
     requires period { sets.old.sets.period ≡ pesp.now.period }
     requires events { sets.old.sets.events ≡ pesp.now.events }
+    requires ready { IsReady pesp.now sets.old changed.items }
     ensures { IfOk result (TakesEntry pesp.now sets.old sets.new) }
 {
-    reduce(alloc, pesp, sets)?;
+    reduce(alloc, pesp, sets, changed)?;
     if let Some(times) = branch(alloc, sets)? {
         return Ok(Entry::Found(times));
     }
-    if next_child(alloc, sets)? {
-        Ok(Entry::Next)
-    } else {
-        Ok(Entry::Last)
+    match next_child(alloc, sets)? {
+        Some(event) => Ok(Entry::Next(one_flag(alloc, event, pesp.event_count())?)),
+        None => Ok(Entry::Last),
     }
 }
 

@@ -24,10 +24,11 @@ pub(crate) fn reached(
         ≡ map (reaches sets.now.period (is_left sets.now event) offset width)
         (range_with_len 0 sets.now.period)) }
 {
+    let period = sets.period();
     let sums = sums_of(alloc, sets, event)?;
-    let mut flags = Vec::new(alloc);
-    for time in 0..sets.period() {
-        let start = in_period(time + offset, sets.period());
+    let mut flags = Vec::with_capacity(alloc, period)?;
+    for time in 0..period {
+        let start = in_period(time + offset, period);
         flags.push(differ(&sums, start, start + width + 1))?;
     }
     Ok(flags)
@@ -40,11 +41,12 @@ fn sums_of(alloc: Global, sets: &TimeMarks, event: usize) -> Result<Vec<usize>, 
         ≡ map (count_below (λ time. is_left sets.now event (time % sets.now.period)))
         (range_with_len 0 (2 * sets.now.period))) }
 {
-    let mut sums = Vec::new(alloc);
+    let period = sets.period();
+    let mut sums = Vec::with_capacity(alloc, 2 * period)?;
     let mut sum = 0;
-    for time in 0..2 * sets.period() {
+    for time in 0..2 * period {
         sums.push(sum)?;
-        if sets.is_left(event, in_period(time, sets.period())) {
+        if sets.is_left(event, in_period(time, period)) {
             sum += 1;
         }
     }

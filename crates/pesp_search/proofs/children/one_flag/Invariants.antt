@@ -5,4 +5,4 @@ use Rattle.pesp_search.proofs.children.one_flag.Given as goal
 
 abbrev pub invariant-loop-other : goal.invariant-loop-other
 invariant-loop-other l =
-    l.flags.items ≡ map (λ other. other == l.time) (range_with_len 0 l.other)
+    l.flags.items ≡ map (λ other. other == l.one) (range_with_len 0 l.other)

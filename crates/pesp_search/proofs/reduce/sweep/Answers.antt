@@ -15,7 +15,7 @@ loop-index-preserved c =
     let turn = c.in_ok-revise.ensures in
     subst (λ (flags : List Bool). IsSwept c.args.pesp.now c.args.sets.now c.revise.new.sets
     c.args.changed.now flags (c.loop-index.index + 1))
-    (sym (with_items_is c.loop-index.next c.revise.new.next (turn.each ∙ c.deref_mut.ensures.len)))
+    (sym (with_items_is c.loop-index.next c.revise.new.next (turn.0.each ∙ c.deref_mut.ensures.len)))
     (sweep_turn c.args.pesp.now c.args.sets.now c.loop-index.sets c.revise.new.sets c.args.changed.now
     c.loop-index.next.items c.revise.new.next c.loop-index.index c.activity.result so
     c.activity.ensures.place (so.propagates.period ∙ c.requires.period)

@@ -1,7 +1,8 @@
-use Rattle.std.proofs.Common.{◌≡◌, None, Some, arith, subst}
+use Rattle.std.proofs.Common.{◌∙◌, ◌≡◌, None, Some, arith, subst}
 use Rattle.std.proofs.lemmas.Result.{err_from_is_err_and}
 use Rattle.pesp_search.specs.Searches.{IsSearched, TakesEntry}
 use Rattle.pesp_search.proofs.Entries.{search_ended, search_spent, search_turn, step_within}
+use Rattle.pesp_search.proofs.Sweeping.{all_ready}
 use Rattle.pesp_search.proofs.search.search_times.Goals as goal
 
 pub returns-in_err-times-clause-steps : goal.returns-in_err-times-clause-steps
@@ -61,6 +62,15 @@ returns-clause-steps g c =
     (subst (IsSearched c.args.pesp.now c.loop-entry.sets) spent c.loop-entry.invariant.searched)).1 in
     omega (arith, c.loop-entry.invariant.steps, listed, spent)
 
+pub loop-entry-init : goal.loop-entry-init
+loop-entry-init g c = record {
+  searched = c.in_ok-sets.ensures.searched;
+  ready = all_ready c.args.pesp.now c.in_ok-sets.sets c.in_ok-changed.changed.items
+      c.event_count.ensures.problem (c.in_ok-changed.ensures.each ∙ c.event_count.ensures.count)
+      c.in_ok-changed.ensures.all c.in_ok-sets.ensures.saved;
+  steps = omega arith;
+}
+
 pub loop-entry-preserved : goal.loop-entry-preserved
 loop-entry-preserved g c =
     let taken = subst (TakesEntry c.args.pesp.now c.loop-entry.sets c.take_entry.new.sets) c.in-Next.is
@@ -68,5 +78,6 @@ loop-entry-preserved g c =
     record {
       searched = search_turn c.args.pesp.now c.loop-entry.sets c.take_entry.new.sets c.loop-entry.entry
           c.loop-entry.invariant.searched taken.0 taken.1 taken.2;
+      ready = taken.3;
       steps = omega (arith, c.tick.ensures, c.loop-entry.invariant.steps);
     }

@@ -8,7 +8,7 @@ pub loop-time-init : goal.loop-time-init
 loop-time-init c = record {
   few = omega arith;
   sum = sym (count_start _);
-  sums = c.new-sums.ensures.items;
+  sums = c.in_ok-sums.ensures.items;
 }
 
 pub loop-time-preserved : goal.loop-time-preserved
@@ -17,7 +17,7 @@ loop-time-preserved c =
     let sums = one_sum_more _ c.loop-time.time c.loop-time.sums.items c.push.new.self.items
     c.loop-time.sum so.sums so.sum c.in_ok-push.ensures.items in
     let shown = ap (λ (time : ℕ). is_left c.args.sets.now c.args.event time)
-    (c.in_period.ensures.shown ∙ ap (λ (period : ℕ). c.loop-time.time % period) c.period.ensures.value) in
+    (c.in_period.ensures.shown ∙ ap (λ (period : ℕ). c.loop-time.time % period) c.period-period.ensures.value) in
     elim c.if-is_left.branch [
       | then-is_left w ↦ rw (w.sum-is) (record {
         few = omega (arith, so.few);
