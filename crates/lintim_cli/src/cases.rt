@@ -43,6 +43,9 @@ pub(crate) const ACTIVITIES: &[u8] =
     9; change; 2; 11; 3; 62\n10; change; 6; 11; 3; 62\n11; change; 8; 9; 3; 62\n\
     12; change; 10; 3; 3; 62\n13; change; 10; 7; 3; 62\n14; change; 12; 1; 3; 62\n";
 
+pub(crate) const TIMES: &[u8] =
+    b"# event-id; time\n1; 0\n2; 4\n3; 5\n4; 11\n5; 0\n6; 6\n7; 7\n8; 11\n9; 0\n10; 4\n11; 0\n12; 4\n";
+
 // The files that people wrote, those that are to be made, and what is to be told.
 #[derive(Clone, Copy)]
 pub(crate) struct Case {
@@ -59,6 +62,7 @@ pub(crate) struct Case {
     pub(crate) tree: Option<&'static [u8]>,
     pub(crate) events: Option<&'static [u8]>,
     pub(crate) activities: Option<&'static [u8]>,
+    pub(crate) times: Option<&'static [u8]>,
     pub(crate) report: &'static [u8],
     pub(crate) steps: u64,
 }
@@ -78,9 +82,10 @@ pub(crate) const MADE: Case = Case {
     tree: Some(TREE),
     events: Some(EVENTS),
     activities: Some(ACTIVITIES),
+    times: Some(TIMES),
     report: b"load: 2 edges\ncost: 2 lines\nconcept: cost 27, optimal, 9 entries\n\
-        ean: 12 events, 14 activities\ndone\n",
-    steps: 13,
+        ean: 12 events, 14 activities\ntimetable: 12 events, 10 entries\ndone\n",
+    steps: 24,
 };
 
 pub(crate) fn words(alloc: Global, word: &str) -> Result<Vec<String>, AllocError> {
@@ -99,6 +104,7 @@ pub(crate) fn run(rt: &(impl AllocGlobal + Abort), case: &Case) -> Result<(), Fa
         ("line-planning/Line-Concept.cert", case.tree),
         ("timetabling/Events-periodic.giv", case.events),
         ("timetabling/Activities-periodic.giv", case.activities),
+        ("timetabling/Timetable-periodic.tim", case.times),
     ];
     let mut files = SteadyFiles::new(alloc);
     for (name, _) in &made {

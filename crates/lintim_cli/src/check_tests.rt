@@ -1,6 +1,8 @@
 // Checks of what `make` made, and of concepts and trees that were put in the place of what it made.
 use crate::answers::Status;
-use crate::cases::{ACTIVITIES, CONCEPT, CONFIG, EDGES, EVENTS, GIVEN, POOL, STOPS, TREE, words};
+use crate::cases::{
+    ACTIVITIES, CONCEPT, CONFIG, EDGES, EVENTS, GIVEN, POOL, STOPS, TIMES, TREE, words,
+};
 use crate::top::lintim;
 use plan_files::{Files, MemorySink, SteadyFiles};
 use plan_num::{Steps, Tally};
@@ -191,6 +193,29 @@ fn multipliers_are_judged(rt: HostRuntime) -> Result<(), Fail> {
 fn made_files_are_judged(rt: HostRuntime) -> Result<(), Fail> {
     let mut files = made(rt.alloc())?;
     let broken = Status::Uncertified;
+    let times = "timetabling/Timetable-periodic.tim";
+    files.put(
+        times,
+        b"1; 0\n2; 6\n3; 5\n4; 11\n5; 0\n6; 6\n7; 7\n8; 11\n9; 0\n10; 4\n11; 0\n12; 4\n",
+    )?;
+    tells(
+        &rt,
+        &mut files,
+        broken,
+        b"uncertified: timetable: tension\n",
+    )?;
+    files.put(times, b"1; 0\n")?;
+    tells(&rt, &mut files, broken, b"uncertified: timetable: events\n")?;
+    files.put(times, b"1\n")?;
+    tells(&rt, &mut files, broken, b"uncertified: timetable: row\n")?;
+    files.remove(times)?;
+    tells(
+        &rt,
+        &mut files,
+        broken,
+        b"uncertified: timetable: missing\n",
+    )?;
+    files.put(times, TIMES)?;
     files.remove("timetabling/Activities-periodic.giv")?;
     tells(&rt, &mut files, broken, b"uncertified: ean: missing\n")?;
     files.put("timetabling/Activities-periodic.giv", ACTIVITIES)?;

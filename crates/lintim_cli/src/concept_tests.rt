@@ -8,8 +8,8 @@ const UNMARKED: Case = Case {
     config: Some(b"load_source; file\nconcept_budget; 8\n"),
     tree: None,
     report: b"load: 2 edges\ncost: 2 lines\nconcept: cost 27, not proved optimal, 8 entries\n\
-        ean: 12 events, 14 activities\ndone\n",
-    steps: 12,
+        ean: 12 events, 14 activities\ntimetable: 12 events, 10 entries\ndone\n",
+    steps: 23,
     ..MADE
 };
 
@@ -20,6 +20,7 @@ const NONE: Case = Case {
     tree: None,
     events: None,
     activities: None,
+    times: None,
     report: b"load: 2 edges\ncost: 2 lines\nno solution: concept\n",
     steps: 4,
     ..MADE
@@ -46,9 +47,10 @@ const EQUAL: Case = Case {
         b"# activity-id; type; from-event; to-event; lower-bound; upper-bound\n\
         1; drive; 1; 2; 4; 5\n2; drive; 3; 4; 4; 5\n",
     ),
+    times: Some(b"# event-id; time\n1; 0\n2; 4\n3; 0\n4; 4\n"),
     report: b"load: 1 edges\ncost: 2 lines\nconcept: cost 12, optimal, 5 entries\n\
-        ean: 4 events, 2 activities\ndone\n",
-    steps: 9,
+        ean: 4 events, 2 activities\ntimetable: 4 events, 4 entries\ndone\n",
+    steps: 14,
     ..MADE
 };
 
@@ -104,8 +106,8 @@ fn of_equal_concepts_the_first_is_made(rt: HostRuntime) -> Result<(), Fail> {
             config: Some(b"load_source; file\nconcept_budget; 4\n"),
             tree: None,
             report: b"load: 1 edges\ncost: 2 lines\nconcept: cost 12, not proved optimal, 4 entries\n\
-                ean: 4 events, 2 activities\ndone\n",
-            steps: 8,
+                ean: 4 events, 2 activities\ntimetable: 4 events, 4 entries\ndone\n",
+            steps: 13,
             ..EQUAL
         },
     )
@@ -139,8 +141,10 @@ fn a_bound_may_have_multipliers(rt: HostRuntime) -> Result<(), Fail> {
                 1; drive; 1; 2; 4; 5\n2; drive; 3; 4; 4; 5\n3; drive; 5; 6; 4; 5\n\
                 4; drive; 7; 8; 4; 5\n5; sync; 1; 3; 10; 10\n6; sync; 5; 7; 10; 10\n",
             ),
+            times: Some(b"# event-id; time\n1; 0\n2; 4\n3; 10\n4; 14\n5; 0\n6; 4\n7; 10\n8; 14\n"),
             report: b"load: 2 edges\ncost: 2 lines\nconcept: cost 24, optimal, 9 entries\n\
-                ean: 8 events, 6 activities\ndone\n",
+                ean: 8 events, 6 activities\ntimetable: 8 events, 6 entries\ndone\n",
+            steps: 20,
             ..MADE
         },
     )

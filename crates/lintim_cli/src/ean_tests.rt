@@ -44,9 +44,12 @@ const OFTEN: Case = Case {
         5; drive; 9; 10; 4; 5\n6; drive; 11; 12; 4; 5\n7; sync; 1; 3; 3; 4\n8; sync; 3; 5; 3; 4\n\
         9; sync; 7; 9; 3; 4\n10; sync; 9; 11; 3; 4\n",
     ),
+    times: Some(
+        b"# event-id; time\n1; 0\n2; 4\n3; 3\n4; 7\n5; 6\n6; 0\n7; 0\n8; 4\n9; 3\n10; 7\n11; 6\n12; 0\n",
+    ),
     report: b"load: 1 edges\ncost: 1 lines\nconcept: cost 36, optimal, 5 entries\n\
-        ean: 12 events, 10 activities\ndone\n",
-    steps: 9,
+        ean: 12 events, 10 activities\ntimetable: 12 events, 12 entries\ndone\n",
+    steps: 22,
     ..MADE
 };
 
@@ -70,6 +73,7 @@ const TOO_OFTEN: Case = Case {
     ),
     events: None,
     activities: None,
+    times: None,
     report: b"load: 2 edges\ncost: 1 lines\nconcept: cost 7515, optimal, 17 entries\n\
         refused: too many periodic events: 4008\n",
     steps: 21,

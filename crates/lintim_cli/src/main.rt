@@ -57,3 +57,5 @@ mod ean_tests;
 mod spies;
 #[cfg(test)]
 mod tests;
+#[cfg(test)]
+mod timetable_tests;

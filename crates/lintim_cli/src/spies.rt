@@ -127,7 +127,7 @@ impl Sink for SpySink {
 
 // The calls of a run over the dataset: it reads the hand files that its settings and its stages
 // need, and then it puts what they make.
-const CALLS: [(Kind, &str); 18] = [
+const CALLS: [(Kind, &str); 19] = [
     (Kind::Get, "basis/Config.cnf"),
     (Kind::Get, "basis/Stop.giv"),
     (Kind::Get, "basis/Edge.giv"),
@@ -146,6 +146,7 @@ const CALLS: [(Kind, &str); 18] = [
     (Kind::Put, "line-planning/Line-Concept.cert"),
     (Kind::Put, "timetabling/Events-periodic.giv"),
     (Kind::Put, "timetabling/Activities-periodic.giv"),
+    (Kind::Put, "timetabling/Timetable-periodic.tim"),
 ];
 
 // The first so many of these calls were made, and no other one.
@@ -176,15 +177,15 @@ fn a_run_names_its_files_alone(rt: HostRuntime) -> Result<(), Fail> {
     let mut out = SpySink::new(rt.alloc(), false);
     let status = run(&rt, "make", &mut files, &mut out)?;
     assert_eq!(rt; status, Status::Done);
-    are_first(&rt, &files, 18);
-    assert_eq!(rt; out.pieces.as_slice(), [100].as_slice());
+    are_first(&rt, &files, 19);
+    assert_eq!(rt; out.pieces.as_slice(), [133].as_slice());
     Ok(())
 }
 
 // After a call that fails no other one is made, and the line that tells of it is one write.
 #[test]
 fn nothing_is_called_after_a_fault(rt: HostRuntime) -> Result<(), Fail> {
-    for fails in 1..19 {
+    for fails in 1..20 {
         let mut files = SpyFiles::of_dataset(rt.alloc(), fails)?;
         let mut out = SpySink::new(rt.alloc(), false);
         let status = run(&rt, "make", &mut files, &mut out)?;
@@ -202,8 +203,8 @@ fn a_report_is_written_once(rt: HostRuntime) -> Result<(), Fail> {
     let mut out = SpySink::new(rt.alloc(), true);
     let status = run(&rt, "make", &mut files, &mut out)?;
     assert_eq!(rt; status, Status::SinkFault);
-    are_first(&rt, &files, 18);
-    assert_eq!(rt; out.pieces.as_slice(), [100].as_slice());
+    are_first(&rt, &files, 19);
+    assert_eq!(rt; out.pieces.as_slice(), [133].as_slice());
     Ok(())
 }
 
@@ -216,7 +217,7 @@ fn a_refused_run_removes_made_files_alone(rt: HostRuntime) -> Result<(), Fail> {
     let mut out = SpySink::new(rt.alloc(), false);
     let status = run(&rt, "make", &mut files, &mut out)?;
     assert_eq!(rt; status, Status::BadInput);
-    assert_eq!(rt; files.calls.len(), 8);
+    assert_eq!(rt; files.calls.len(), 9);
     let names = [
         "line-planning/Load.giv",
         "basis/Pool-Cost.giv",
@@ -224,6 +225,7 @@ fn a_refused_run_removes_made_files_alone(rt: HostRuntime) -> Result<(), Fail> {
         "line-planning/Line-Concept.cert",
         "timetabling/Events-periodic.giv",
         "timetabling/Activities-periodic.giv",
+        "timetabling/Timetable-periodic.tim",
     ];
     for (call, name) in files.calls.iter().skip(2).zip(names.iter()) {
         assert_eq!(rt; call.kind, Kind::Remove);

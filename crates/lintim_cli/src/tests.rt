@@ -16,6 +16,8 @@ const NO_EVENTS: &[u8] = b"# event-id; type; stop-id; line-id; direction; repeti
 const NO_ACTIVITIES: &[u8] =
     b"# activity-id; type; from-event; to-event; lower-bound; upper-bound\n";
 
+const NO_TIMES: &[u8] = b"# event-id; time\n";
+
 const POINT: &[u8] = b"# kind; id; value; multiplier\npoint; 0; 0; 0\n";
 
 const FOUR_STOPS: &[u8] = b"1; A; A; 0; 0\n2; B; B; 0; 0\n3; C; C; 0; 0\n4; D; D; 0; 0\n";
@@ -32,6 +34,7 @@ const REFUSED: Case = Case {
     tree: None,
     events: None,
     activities: None,
+    times: None,
     steps: 1,
     ..MADE
 };
@@ -61,6 +64,7 @@ const SQUARE: Case = Case {
     tree: None,
     events: None,
     activities: None,
+    times: None,
     report: b"load: 4 edges\ncost: 0 lines\nno solution: concept\n",
     steps: 4,
 };
@@ -78,9 +82,10 @@ const NOTHING: Case = Case {
     tree: Some(POINT),
     events: Some(NO_EVENTS),
     activities: Some(NO_ACTIVITIES),
+    times: Some(NO_TIMES),
     report: b"load: 0 edges\ncost: 0 lines\nconcept: cost 0, optimal, 1 entries\n\
-        ean: 0 events, 0 activities\ndone\n",
-    steps: 5,
+        ean: 0 events, 0 activities\ntimetable: 0 events, 1 entries\ndone\n",
+    steps: 7,
     ..MADE
 };
 
@@ -93,7 +98,7 @@ fn stages_are_made(rt: HostRuntime) -> Result<(), Fail> {
             config: Some(b"load_source; file\nlpool_costs_length; 0.5\nlpool_costs_edges; 2\n"),
             costs: Some(b"# line-id; length; cost\n1; 5; 16.5\n2; 2; 13\n"),
             report: b"load: 2 edges\ncost: 2 lines\nconcept: cost 29.5, optimal, 9 entries\n\
-                ean: 12 events, 14 activities\ndone\n",
+                ean: 12 events, 14 activities\ntimetable: 12 events, 10 entries\ndone\n",
             ..MADE
         },
         NOTHING,
@@ -104,6 +109,7 @@ fn stages_are_made(rt: HostRuntime) -> Result<(), Fail> {
             tree: None,
             events: None,
             activities: None,
+            times: None,
             report: b"load: 2 edges\ndone\n",
             steps: 1,
             ..MADE
@@ -132,8 +138,10 @@ fn loads_come_of_demand(rt: HostRuntime) -> Result<(), Fail> {
             ),
             events: Some(NO_EVENTS),
             activities: Some(NO_ACTIVITIES),
+            times: Some(NO_TIMES),
             report: b"load: 2 edges\ncost: 2 lines\nconcept: cost 0, optimal, 9 entries\n\
-                ean: 0 events, 0 activities\ndone\n",
+                ean: 0 events, 0 activities\ntimetable: 0 events, 1 entries\ndone\n",
+            steps: 15,
             ..MADE
         },
         SQUARE,

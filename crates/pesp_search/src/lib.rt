@@ -23,3 +23,5 @@ pub use stage::make_timetable;
 
 #[cfg(test)]
 mod search_tests;
+#[cfg(test)]
+mod stage_tests;
