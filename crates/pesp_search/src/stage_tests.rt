@@ -73,6 +73,7 @@ fn a_timetable_is_made(rt: HostRuntime) -> Result<(), Fail> {
     }
     let (made, steps) = run(rt.alloc(), 1, b"", b"")?;
     let made = made?;
+    assert_eq!(rt; made.files.len(), 1);
     assert_eq!(rt;
         made.files.get(0).text.as_bytes(),
         b"# event-id; time\n".as_slice()
