@@ -167,6 +167,7 @@ fn other_words_are_usage(rt: HostRuntime) -> Result<(), Fail> {
 fn a_real_folder_is_used(rt: HostRuntime) -> Result<(), Fail> {
     let alloc = rt.alloc();
     let _ = fs::remove_dir_all(&rt, "basis");
+    let _ = fs::remove_dir_all(&rt, "line-planning");
     let make = words(alloc, "make")?;
     let mut steps = Steps::new(Tally::new());
     let mut files = FolderFiles::here(&rt, alloc);
@@ -194,6 +195,7 @@ fn a_real_folder_is_used(rt: HostRuntime) -> Result<(), Fail> {
         Got::Absent | Got::TooLong => return Err(Fail::from("no edges")),
     }
     fs::remove_dir_all(&rt, "basis")?;
+    fs::remove_dir_all(&rt, "line-planning")?;
     Ok(())
 }
 
