@@ -168,6 +168,7 @@ fn a_real_folder_is_used(rt: HostRuntime) -> Result<(), Fail> {
     let alloc = rt.alloc();
     let _ = fs::remove_dir_all(&rt, "basis");
     let _ = fs::remove_dir_all(&rt, "line-planning");
+    let _ = fs::remove_dir_all(&rt, "timetabling");
     let make = words(alloc, "make")?;
     let mut steps = Steps::new(Tally::new());
     let mut files = FolderFiles::here(&rt, alloc);
@@ -196,6 +197,7 @@ fn a_real_folder_is_used(rt: HostRuntime) -> Result<(), Fail> {
     }
     fs::remove_dir_all(&rt, "basis")?;
     fs::remove_dir_all(&rt, "line-planning")?;
+    fs::remove_dir_all(&rt, "timetabling")?;
     Ok(())
 }
 
