@@ -245,6 +245,27 @@ fn made_files_are_judged(rt: HostRuntime) -> Result<(), Fail> {
     Ok(())
 }
 
+// A line over both edges is driven 501 times, which is more events than there may be. A run makes
+// none; those that are put there are not looked at.
+#[test]
+fn too_many_events_are_told(rt: HostRuntime) -> Result<(), Fail> {
+    let alloc = rt.alloc();
+    let mut files = made(alloc)?;
+    files.put("basis/Pool.giv", b"1; 1; 1\n1; 2; 2\n")?;
+    files.put("basis/Load.giv", b"1; 100; 501; 501\n2; 40; 501; 501\n")?;
+    let mut out = MemorySink::new(alloc);
+    let mut steps = Steps::new(Tally::new());
+    let make = words(alloc, "make")?;
+    let status = lintim(alloc, &make, &mut files, &mut out, &mut steps);
+    assert_eq!(rt; status, Status::BadInput);
+    let broken = Status::Uncertified;
+    tells(&rt, &mut files, broken, b"uncertified: ean: missing\n")?;
+    files.put("timetabling/Events-periodic.giv", EVENTS)?;
+    files.put("timetabling/Activities-periodic.giv", ACTIVITIES)?;
+    tells(&rt, &mut files, broken, b"uncertified: ean: input\n")?;
+    Ok(())
+}
+
 // What a run leaves passes, whatever the last stage is.
 #[test]
 fn a_run_passes(rt: HostRuntime) -> Result<(), Fail> {

@@ -41,12 +41,16 @@ module _ (folder : Folder) where
   abbrev there : List FileId → List MadeFile
   there files = files_by (made_in folder) files
 
+  -- a file, where it is found, and others behind it
+  abbrev with_one : FileId → Option (List ℕ) → List FileId → List MadeFile
+  with_one file found files = found_file file (ok_or found (cause.Missing file)) (there files)
+
   few_found : (files : List FileId) → length (there files) ≤ length files
   few_found [] = omega arith
   few_found (file ∷ files) = by (text file) (few_found files)
     where
       by : (found : Option (List ℕ)) → length (there files) ≤ length files
-          → length (found_file file (ok_or found (cause.Missing file)) (there files)) ≤ suc (length files)
+          → length (with_one file found files) ≤ suc (length files)
       by (Some bytes) few = omega (arith, few)
       by None few = omega (arith, few)
 
@@ -56,7 +60,7 @@ module _ (folder : Folder) where
   none_lacks (file ∷ files) all = by (text file) all (few_found files) (none_lacks files)
     where
       by : (found : Option (List ℕ))
-          → length (found_file file (ok_or found (cause.Missing file)) (there files)) ≡ suc (length files)
+          → length (with_one file found files) ≡ suc (length files)
           → length (there files) ≤ length files
           → (length (there files) ≡ length files → lacks files ≡ false)
           → (is_lacking file found || lacks files) ≡ false
@@ -73,8 +77,9 @@ module _ (folder : Folder) where
       by : (found : Option (List ℕ)) (may_lack : Bool)
           → (may_lack || list_any is_certificate files) ≡ false
           → ((not (is_some found) && not may_lack) || lacks files) ≡ false
-          → (list_any is_certificate files ≡ false → lacks files ≡ false → ids_of (there files) ≡ files)
-          → ids_of (found_file file (ok_or found (cause.Missing file)) (there files)) ≡ file ∷ files
+          → (list_any is_certificate files ≡ false → lacks files ≡ false
+          → ids_of (there files) ≡ files)
+          → ids_of (with_one file found files) ≡ file ∷ files
       by found true needed none rest = absurd (true≢false needed)
       by (Some bytes) false needed none rest = ap (λ ids. file ∷ ids) (rest needed none)
       by None false needed none rest = absurd (true≢false none)
@@ -140,9 +145,14 @@ module _ (at : Stage) (goes : GoesByContents at) where
       → standing folder at ≡ made.files
       → (lacks_file folder at ≡ false) × (verdict at bundle (standing folder at) ≡ None)
   content_passes folder bundle made solved makes found =
-      let ids : ids_of (standing folder at) ≡ stage_makes at = ap ids_of found ∙ sym (the_files (ids_of made.files) makes) in
-      let size : length (standing folder at) ≡ length (stage_makes at) = sym (length-map (standing folder at) (λ (file : MadeFile). file.file)) ∙ ap length ids in
-      (none_lacks folder (stage_makes at) size, goes.judged bundle (standing folder at) ∙ rw (solved, found, own_texts made.files) refl)
+      let ids : ids_of (standing folder at) ≡ stage_makes at =
+      ap ids_of found ∙ sym (the_files (ids_of made.files) makes) in
+      let size : length (standing folder at) ≡ length (stage_makes at) =
+      sym (length-map (standing folder at) (λ (file : MadeFile). file.file)) ∙ ap length ids in (
+        none_lacks folder (stage_makes at) size,
+        goes.judged bundle (standing folder at)
+            ∙ rw (solved, found, own_texts made.files) refl,
+      )
 
   -- files that are what their stage makes satisfy its model
   module _ (bundle : BundleParts) (others : List MadeFile) (fits : Fits bundle)
@@ -151,11 +161,16 @@ module _ (at : Stage) (goes : GoesByContents at) where
         → content_found at told others ≡ None → IsRightAs bundle.stage bundle others
     as_made (Err reason) is none = absurd (cc)
     as_made (Ok made) is none =
-        let made_as : MakesAs at (ids_of made.files) = subst (λ stage. MakesAs stage (ids_of made.files)) own (run_makes bundle made is) in
-        let same : made.files ≡ others = same_files made.files others (none_of (same_texts made.files others) _ none) (sym (the_files (ids_of made.files) made_as) ∙ the_files (ids_of others) makes) in
-        subst (IsRightAs bundle.stage bundle) same ((stage_laws bundle.stage).right bundle made refl fits is)
+        let made_as : MakesAs at (ids_of made.files) =
+        subst (λ stage. MakesAs stage (ids_of made.files)) own (run_makes bundle made is) in
+        let same : made.files ≡ others =
+        same_files made.files others (none_of (same_texts made.files others) _ none)
+        (sym (the_files (ids_of made.files) made_as) ∙ the_files (ids_of others) makes) in
+        subst (IsRightAs bundle.stage bundle) same
+        ((stage_laws bundle.stage).right bundle made refl fits is)
 
     pub content_right : content_found at (run_stage bundle) others ≡ None
         → SatisfyModel at bundle others
     content_right none =
-        goes.model bundle others (subst (λ stage. IsRightAs stage bundle others) own (as_made (run_stage bundle) refl none))
+        goes.model bundle others (subst (λ stage. IsRightAs stage bundle others) own
+        (as_made (run_stage bundle) refl none))
