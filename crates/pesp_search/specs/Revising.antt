@@ -1,5 +1,5 @@
 -- Inner words: sets of times by a test of events and times, and what revising them by activities does.
-use Rattle.std.specs.Prelude.{◌≡◌, ◌⊎◌, ℕ, zero, suc, ◌+◌, ◌-◌, ◌%◌, ◌<◌, ◌≤◌, min, ◌==◌, not, Bool, true, false, ◌||◌}
+use Rattle.std.specs.Prelude.{nat_le, slice_index, ◌≡◌, ◌⊎◌, ℕ, zero, suc, ◌+◌, ◌-◌, ◌%◌, ◌<◌, ◌≤◌, min, ◌==◌, not, Bool, true, false, ◌||◌}
 use Rattle.std.specs.Prelude.{if◌then◌else◌, ⊤, [], ◌∷◌, List, length, filter, get_or, slice_get, slice_set, Some, All, unsigned_abs, ◌-ℤ◌}
 use Rattle.std.specs.List.{list_any, range_with_len}
 use Rattle.pesp_model.specs.declared.activity.PespActivity.{PespActivity}
@@ -24,6 +24,12 @@ any_below test (suc n) = any_below test n || test n
 unfoldable pub count_below : (ℕ → Bool) → ℕ → ℕ
 count_below test zero = 0
 count_below test (suc n) = count_below test n + (if test n then 1 else 0)
+
+-- the sum before a time of two periods, by the sums before the times of one and before its end
+abbrev pub sum_before : List ℕ → ℕ → ℕ → ℕ
+sum_before sums period time =
+    if nat_le time period then slice_index sums time
+    else slice_index sums period + slice_index sums (time - period)
 
 -- a time is left in a window of a period that opens so many minutes behind another time
 abbrev pub reaches : ℕ → (ℕ → Bool) → ℕ → ℕ → ℕ → Bool
