@@ -4,7 +4,8 @@ use Rattle.pesp_search.specs.Marks.{IsChildOf, Saved, is_left}
 use Rattle.std.proofs.Common.{◌==◌}
 use Rattle.std.proofs.Common.{Bool, inl, inr, get_or, length}
 use Rattle.std.proofs.Common.{◌≡◌, ◌∙◌, ℕ, ◌+◌, ◌<◌, ◌≤◌, true, false, if◌then◌else◌}
-use Rattle.std.proofs.Common.{List, [], ◌∷◌, ◌++◌, map, position, Option, Some, None, is_some, Vec, Global}
+use Rattle.std.proofs.Common.{List, [], ◌∷◌, ◌++◌, map, position, Option, Some, None, is_some, Vec}
+use Rattle.std.proofs.Common.{Global}
 use Rattle.std.proofs.Common.{Err, refl, ap, sym, subst, arith}
 use Rattle.std.specs.List.{list_any}
 use Rattle.std.proofs.Math.Nat.{le-min, min-eq_left, min-eq_right}
@@ -13,11 +14,14 @@ use Rattle.std.proofs.lemmas.List.FromFn.{get_or-map-range_with_len, length-map-
 use Rattle.std.proofs.lemmas.List.Quantifiers.{position-Some}
 use Rattle.giv_files.specs.declared.refusal.Refusal.TheVariants as refusal
 use Rattle.pesp_model.specs.Timetables.{Problem}
-use Rattle.pesp_search.specs.Listings.{Listing, branches, entries_listed, entry, first_sets, has_several, in_turn, is_empty}
-use Rattle.pesp_search.specs.Listings.{listing, listing_of, one_more, result_within, unless_found, whole_result, with_time}
+use Rattle.pesp_search.specs.Listings.{Listing, branches, entries_listed, entry, first_sets}
+use Rattle.pesp_search.specs.Listings.{has_several, in_turn, is_empty}
+use Rattle.pesp_search.specs.Listings.{listing, listing_of, one_more, result_within, unless_found}
+use Rattle.pesp_search.specs.Listings.{whole_result, with_time}
 use Rattle.pesp_search.specs.Marks.{IsNextChild, Marks, Tracked, sets_of, times_from, waiting}
 use Rattle.pesp_search.specs.Revising.{AreRevised, IsReady, Reduces, has_changed}
-use Rattle.pesp_search.specs.Searches.{Branches, IsSearched, SavesOnce, behind, entry_here, listed_on}
+use Rattle.pesp_search.specs.Searches.{Branches, IsSearched, SavesOnce, behind, entry_here}
+use Rattle.pesp_search.specs.Searches.{listed_on}
 use Rattle.pesp_search.specs.TimeSets.{left_to, reduced}
 use Rattle.pesp_search.proofs.Revised.{carried_firsts, carried_seconds}
 use Rattle.pesp_search.proofs.Unrolled.{unrolls}

@@ -1,5 +1,6 @@
 // Windows of a period in which a time is left.
-ghost use Rattle.std.specs.Prelude.{◌≡◌, ◌<◌, ◌≤◌, ◌+◌, ◌*◌, ◌%◌, not, ◌==◌, length, map, slice_index, All, IfOk};
+ghost use Rattle.std.specs.Prelude.{◌≡◌, ◌<◌, ◌≤◌, ◌+◌, ◌*◌, ◌%◌, not, ◌==◌, length, map};
+ghost use Rattle.std.specs.Prelude.{slice_index, All, IfOk};
 ghost use Rattle.std.specs.List.{range_with_len};
 ghost use Rattle.pesp_search.specs.Marks.{is_left};
 ghost use Rattle.pesp_search.specs.Revising.{count_below, reaches, sum_before};
