@@ -24,72 +24,8 @@ use Rattle.pesp_search.specs.Searches.{Branches, IsSearched, SavesOnce, behind, 
 use Rattle.pesp_search.specs.Searches.{listed_on}
 use Rattle.pesp_search.specs.TimeSets.{left_to, reduced}
 use Rattle.pesp_search.proofs.Revised.{carried_firsts, carried_seconds}
+use Rattle.pesp_search.proofs.Turns.{first_turn, listed, no_turn, none_behind, turns_append, turns_map, unless_one}
 use Rattle.pesp_search.proofs.Unrolled.{unrolls}
-
--- ---- listings one behind the other
-
-abbrev nothing : Listing
-nothing = record { entries = 0; found = None }
-
-abbrev listed : ℕ → Option (List ℕ) → Listing
-listed count found = record { entries = count; found = found }
-
-unless_one : (first rest : Listing) → unless_found (one_more first) rest ≡ one_more (unless_found first rest)
-unless_one first rest = at first.entries first.found
-  where
-    at : (count : ℕ) (found : Option (List ℕ))
-        → unless_found (one_more (listed count found)) rest ≡ one_more (unless_found (listed count found) rest)
-    at count (Some times) = refl
-    at count None =
-        let sum : 1 + count + rest.entries ≡ 1 + (count + rest.entries) = omega arith in
-        ap (λ n. listed n rest.found) sum
-
-unless_again : (first more rest : Listing)
-    → unless_found (unless_found first more) rest ≡ unless_found first (unless_found more rest)
-unless_again first more rest = at first.entries first.found more.entries more.found
-  where
-    at : (count : ℕ) (found : Option (List ℕ)) (others : ℕ) (other : Option (List ℕ))
-        → unless_found (unless_found (listed count found) (listed others other)) rest
-        ≡ unless_found (listed count found) (unless_found (listed others other) rest)
-    at count (Some times) others other = refl
-    at count None others (Some times) = refl
-    at count None others None =
-        let sum : count + others + rest.entries ≡ count + (others + rest.entries) = omega arith in
-        ap (λ n. listed n rest.found) sum
-
-none_before : (rest : Listing) → unless_found nothing rest ≡ rest
-none_before rest =
-    let sum : 0 + rest.entries ≡ rest.entries = omega arith in ap (λ n. listed n rest.found) sum
-
-none_behind : (first : Listing) → unless_found first nothing ≡ first
-none_behind first = at first.entries first.found
-  where
-    at : (count : ℕ) (found : Option (List ℕ)) → unless_found (listed count found) nothing ≡ listed count found
-    at count (Some times) = refl
-    at count None = let sum : count + 0 ≡ count = omega arith in ap (λ n. listed n None) sum
-
-turns_append : {X : Type 0} (visit : X → Listing) (xs ys : List X)
-    → unless_found (in_turn visit xs) (in_turn visit ys) ≡ in_turn visit (xs ++ ys)
-unfolding in_turn
-turns_append visit [] ys = none_before (in_turn visit ys)
-turns_append visit (x ∷ xs) ys =
-    unless_again (visit x) (in_turn visit xs) (in_turn visit ys)
-    ∙ ap (unless_found (visit x)) (turns_append visit xs ys)
-
-turns_map : {X Y : Type 0} (visit : Y → Listing) (child : X → Y) (xs : List X)
-    → in_turn (λ x. visit (child x)) xs ≡ in_turn visit (map child xs)
-unfolding in_turn
-turns_map visit child [] = refl
-turns_map visit child (x ∷ xs) = ap (unless_found (visit (child x))) (turns_map visit child xs)
-
-first_turn : {X : Type 0} (visit : X → Listing) (x : X) (xs : List X)
-    → in_turn visit (x ∷ xs) ≡ unless_found (visit x) (in_turn visit xs)
-unfolding in_turn
-first_turn visit x xs = refl
-
-no_turn : {X : Type 0} (visit : X → Listing) → in_turn visit [] ≡ nothing
-unfolding in_turn
-no_turn visit = refl
 
 -- ---- a branch
 

@@ -10,6 +10,7 @@ mod ReducedSets
 mod Revised
 mod Sweeping
 mod Tried
+mod Turns
 mod Unrolled
 mod Waiting
 mod WindowSums
