@@ -4,7 +4,8 @@ use Rattle.pesp_search.specs.Marks.{IsChildOf, Saved, is_left}
 use Rattle.std.proofs.Common.{◌==◌}
 use Rattle.std.proofs.Common.{Bool, inl, inr, get_or, length}
 use Rattle.std.proofs.Common.{◌≡◌, ◌∙◌, ℕ, ◌+◌, ◌<◌, ◌≤◌, true, false, if◌then◌else◌}
-use Rattle.std.proofs.Common.{List, [], ◌∷◌, ◌++◌, map, position, Option, Some, None, is_some, Vec, Global}
+use Rattle.std.proofs.Common.{List, [], ◌∷◌, ◌++◌, map, position, Option, Some, None, is_some, Vec}
+use Rattle.std.proofs.Common.{Global}
 use Rattle.std.proofs.Common.{Err, refl, ap, sym, subst, arith}
 use Rattle.std.specs.List.{list_any}
 use Rattle.std.proofs.Math.Nat.{le-min, min-eq_left, min-eq_right}
@@ -13,79 +14,18 @@ use Rattle.std.proofs.lemmas.List.FromFn.{get_or-map-range_with_len, length-map-
 use Rattle.std.proofs.lemmas.List.Quantifiers.{position-Some}
 use Rattle.giv_files.specs.declared.refusal.Refusal.TheVariants as refusal
 use Rattle.pesp_model.specs.Timetables.{Problem}
-use Rattle.pesp_search.specs.Listings.{Listing, branches, entries_listed, entry, first_sets, has_several, in_turn, is_empty}
-use Rattle.pesp_search.specs.Listings.{listing, listing_of, one_more, result_within, unless_found, whole_result, with_time}
+use Rattle.pesp_search.specs.Listings.{Listing, branches, entries_listed, entry, first_sets}
+use Rattle.pesp_search.specs.Listings.{has_several, in_turn, is_empty}
+use Rattle.pesp_search.specs.Listings.{listing, listing_of, one_more, result_within, unless_found}
+use Rattle.pesp_search.specs.Listings.{whole_result, with_time}
 use Rattle.pesp_search.specs.Marks.{IsNextChild, Marks, Tracked, sets_of, times_from, waiting}
 use Rattle.pesp_search.specs.Revising.{AreRevised, IsReady, Reduces, has_changed}
-use Rattle.pesp_search.specs.Searches.{Branches, IsSearched, SavesOnce, behind, entry_here, listed_on}
+use Rattle.pesp_search.specs.Searches.{Branches, IsSearched, SavesOnce, behind, entry_here}
+use Rattle.pesp_search.specs.Searches.{listed_on}
 use Rattle.pesp_search.specs.TimeSets.{left_to, reduced}
 use Rattle.pesp_search.proofs.Revised.{carried_firsts, carried_seconds}
+use Rattle.pesp_search.proofs.Turns.{first_turn, listed, no_turn, none_behind, turns_append, turns_map, unless_one}
 use Rattle.pesp_search.proofs.Unrolled.{unrolls}
-
--- ---- listings one behind the other
-
-abbrev nothing : Listing
-nothing = record { entries = 0; found = None }
-
-abbrev listed : ℕ → Option (List ℕ) → Listing
-listed count found = record { entries = count; found = found }
-
-unless_one : (first rest : Listing) → unless_found (one_more first) rest ≡ one_more (unless_found first rest)
-unless_one first rest = at first.entries first.found
-  where
-    at : (count : ℕ) (found : Option (List ℕ))
-        → unless_found (one_more (listed count found)) rest ≡ one_more (unless_found (listed count found) rest)
-    at count (Some times) = refl
-    at count None =
-        let sum : 1 + count + rest.entries ≡ 1 + (count + rest.entries) = omega arith in
-        ap (λ n. listed n rest.found) sum
-
-unless_again : (first more rest : Listing)
-    → unless_found (unless_found first more) rest ≡ unless_found first (unless_found more rest)
-unless_again first more rest = at first.entries first.found more.entries more.found
-  where
-    at : (count : ℕ) (found : Option (List ℕ)) (others : ℕ) (other : Option (List ℕ))
-        → unless_found (unless_found (listed count found) (listed others other)) rest
-        ≡ unless_found (listed count found) (unless_found (listed others other) rest)
-    at count (Some times) others other = refl
-    at count None others (Some times) = refl
-    at count None others None =
-        let sum : count + others + rest.entries ≡ count + (others + rest.entries) = omega arith in
-        ap (λ n. listed n rest.found) sum
-
-none_before : (rest : Listing) → unless_found nothing rest ≡ rest
-none_before rest =
-    let sum : 0 + rest.entries ≡ rest.entries = omega arith in ap (λ n. listed n rest.found) sum
-
-none_behind : (first : Listing) → unless_found first nothing ≡ first
-none_behind first = at first.entries first.found
-  where
-    at : (count : ℕ) (found : Option (List ℕ)) → unless_found (listed count found) nothing ≡ listed count found
-    at count (Some times) = refl
-    at count None = let sum : count + 0 ≡ count = omega arith in ap (λ n. listed n None) sum
-
-turns_append : {X : Type 0} (visit : X → Listing) (xs ys : List X)
-    → unless_found (in_turn visit xs) (in_turn visit ys) ≡ in_turn visit (xs ++ ys)
-unfolding in_turn
-turns_append visit [] ys = none_before (in_turn visit ys)
-turns_append visit (x ∷ xs) ys =
-    unless_again (visit x) (in_turn visit xs) (in_turn visit ys)
-    ∙ ap (unless_found (visit x)) (turns_append visit xs ys)
-
-turns_map : {X Y : Type 0} (visit : Y → Listing) (child : X → Y) (xs : List X)
-    → in_turn (λ x. visit (child x)) xs ≡ in_turn visit (map child xs)
-unfolding in_turn
-turns_map visit child [] = refl
-turns_map visit child (x ∷ xs) = ap (unless_found (visit (child x))) (turns_map visit child xs)
-
-first_turn : {X : Type 0} (visit : X → Listing) (x : X) (xs : List X)
-    → in_turn visit (x ∷ xs) ≡ unless_found (visit x) (in_turn visit xs)
-unfolding in_turn
-first_turn visit x xs = refl
-
-no_turn : {X : Type 0} (visit : X → Listing) → in_turn visit [] ≡ nothing
-unfolding in_turn
-no_turn visit = refl
 
 -- ---- a branch
 

@@ -20,6 +20,7 @@ mod Sweeping
 mod TimesAccepted
 mod Tried
 mod TurnedTimes
+mod Turns
 mod Unrolled
 mod Waiting
 mod WindowSums

@@ -1,5 +1,6 @@
 -- The times that are left to an event, one after the other.
-use Rattle.std.proofs.Common.{◌≡◌, ◌∙◌, ℕ, suc, ◌+◌, ◌-◌, ◌<◌, ◌≤◌, Bool, true, false, List, [], ◌∷◌, length}
+use Rattle.std.proofs.Common.{◌≡◌, ◌∙◌, ℕ, suc, ◌+◌, ◌-◌, ◌<◌, ◌≤◌, Bool, true, false, List, []}
+use Rattle.std.proofs.Common.{◌∷◌, length}
 use Rattle.std.proofs.Common.{cond, filter, ap, arith}
 use Rattle.std.specs.List.{range_with_len}
 use Rattle.pesp_search.specs.Marks.{Marks, is_left, times_from}

@@ -1,15 +1,19 @@
 -- A time has a partner where a time is left in a window.
-use Rattle.std.proofs.Common.{◌≡◌, ◌∙◌, inl, inr, ℕ, zero, suc, ℤ, pos, negsuc, ◌+◌, ◌-◌, ◌*◌, ◌/◌, ◌%◌, ◌<◌, ◌≤◌, ◌≤ℤ◌, ◌-ℤ◌, min}
-use Rattle.std.proofs.Common.{Bool, true, false, cond, List, [], ◌∷◌, map, filter, Decides, refl, ap, sym, arith, unsigned_abs}
+use Rattle.std.proofs.Common.{◌≡◌, ◌∙◌, inl, inr, ℕ, zero, suc, ℤ, pos, negsuc, ◌+◌, ◌-◌, ◌*◌, ◌/◌}
+use Rattle.std.proofs.Common.{◌%◌, ◌<◌, ◌≤◌, ◌≤ℤ◌, ◌-ℤ◌, min}
+use Rattle.std.proofs.Common.{Bool, true, false, cond, List, [], ◌∷◌, map, filter, Decides, refl}
+use Rattle.std.proofs.Common.{ap, sym, arith, unsigned_abs}
 use Rattle.std.specs.List.{list_any, range_with_len}
-use Rattle.std.proofs.Math.Nat.{add-mod-mod, mod-add-mod, mod-add-div', add-mul-mod_self_right, add-mod_right, mod-eq_of_lt, mod-lt}
+use Rattle.std.proofs.Math.Nat.{add-mod-mod, mod-add-mod, mod-add-div', add-mul-mod_self_right}
+use Rattle.std.proofs.Math.Nat.{add-mod_right, mod-eq_of_lt, mod-lt}
 use Rattle.std.proofs.lemmas.Bool.{cases_Bool, cases_eq, or_cases, or_left, or_right, false≢true}
 use Rattle.std.proofs.lemmas.Int.{ints}
 use Rattle.std.proofs.lemmas.List.Elements.{All-cons, All-nil}
 use Rattle.pesp_model.specs.declared.activity.PespActivity.{PespActivity}
 use Rattle.pesp_model.specs.Timetables.{IsActivity, IsKept, keeps}
 use Rattle.pesp_model.proofs.Keeping.{test_tells}
-use Rattle.pesp_search.specs.Revising.{ahead, any_below, behind, first_left, reaches, second_left, width_of}
+use Rattle.pesp_search.specs.Revising.{ahead, any_below, behind, first_left, reaches, second_left}
+use Rattle.pesp_search.specs.Revising.{width_of}
 
 -- ---- tests that hold somewhere
 

@@ -1,16 +1,22 @@
 -- Rounds and any other way to take out times without a partner leave the same sets.
-use Rattle.std.proofs.Common.{◌≡◌, ◌∙◌, inl, inr, ℕ, zero, suc, ◌<◌, ◌≤◌, ◌==◌, nat_eq, nat_lt, Bool, true, false, not, ◌&&◌, ◌||◌}
-use Rattle.std.proofs.Common.{List, [], ◌∷◌, get_or, pos, slice_get, Some, All, refl, ap, sym, subst, arith}
+use Rattle.std.proofs.Common.{◌≡◌, ◌∙◌, inl, inr, ℕ, zero, suc, ◌<◌, ◌≤◌, ◌==◌, nat_eq, nat_lt}
+use Rattle.std.proofs.Common.{Bool, true, false, not, ◌&&◌, ◌||◌}
+use Rattle.std.proofs.Common.{List, [], ◌∷◌, get_or, pos, slice_get, Some, All, refl, ap, sym}
+use Rattle.std.proofs.Common.{subst, arith}
 use Rattle.std.specs.List.{list_all, list_any}
-use Rattle.std.proofs.lemmas.Bool.{and_from, and_parts, cases_Bool, cases_eq, eq-eqb, ne_eqb, eqb-true, eqb-false, lt-ltb, ltb-true}
+use Rattle.std.proofs.lemmas.Bool.{and_from, and_parts, cases_Bool, cases_eq, eq-eqb, ne_eqb}
+use Rattle.std.proofs.lemmas.Bool.{eqb-true, eqb-false, lt-ltb, ltb-true}
 use Rattle.std.proofs.lemmas.List.Elements.{All-from_get_or}
 use Rattle.std.proofs.lemmas.Option.{none-some, slice_get-get_or}
 use Rattle.pesp_model.specs.declared.activity.PespActivity.{PespActivity}
 use Rattle.pesp_model.specs.Timetables.{IsActivity, IsProblem, Problem, keeps}
 use Rattle.pesp_search.specs.Marks.{Tracked, family, is_left}
-use Rattle.pesp_search.specs.Revising.{AllFrom, IsRevised, IsWithin, Left, Propagates, Reduces, first_left, second_left}
-use Rattle.pesp_search.specs.TimeSets.{has_partner, has_partners, reduced, round, rounds, times_left}
-use Rattle.pesp_search.proofs.Families.{all_times, both_of, fewer_times, left_to_family, round_family, same_family, sets_family}
+use Rattle.pesp_search.specs.Revising.{AllFrom, IsRevised, IsWithin, Left, Propagates, Reduces}
+use Rattle.pesp_search.specs.Revising.{first_left, second_left}
+use Rattle.pesp_search.specs.TimeSets.{has_partner, has_partners, reduced, round, rounds}
+use Rattle.pesp_search.specs.TimeSets.{times_left}
+use Rattle.pesp_search.proofs.Families.{all_times, both_of, fewer_times, left_to_family}
+use Rattle.pesp_search.proofs.Families.{round_family, same_family, sets_family}
 use Rattle.pesp_search.proofs.Partners.{holds_in_range, range_holds, same_tests}
 use Rattle.pesp_search.proofs.Revised.{firsts_more, seconds_more}
 use Rattle.pesp_search.proofs.Sweeping.{held}

@@ -1,6 +1,7 @@
 -- What the sets of both events of an activity are after it has revised them.
 use Rattle.std.proofs.Common.{Result, Ok, Err, OnOk}
-use Rattle.std.proofs.Common.{◌≡◌, ◌∙◌, ◌⊎◌, inl, inr, ℕ, ◌<◌, ◌==◌, Bool, true, false, not, ◌&&◌, ◌||◌}
+use Rattle.std.proofs.Common.{◌≡◌, ◌∙◌, ◌⊎◌, inl, inr, ℕ, ◌<◌, ◌==◌, Bool, true, false, not, ◌&&◌}
+use Rattle.std.proofs.Common.{◌||◌}
 use Rattle.std.proofs.Common.{filter, List, length, slice_set, refl, ap, sym, subst, arith}
 use Rattle.std.specs.List.{list_any, range_with_len}
 use Rattle.std.proofs.lemmas.Bool.{and_from, and_parts, cases_eq, eq-eqb, ne_eqb, or_from, or_parts}
@@ -8,8 +9,11 @@ use Rattle.std.proofs.lemmas.List.{get_or-set_other, get_or-set_same, length-set
 use Rattle.pesp_model.specs.declared.activity.PespActivity.{PespActivity}
 use Rattle.pesp_model.specs.Timetables.{keeps}
 use Rattle.pesp_search.specs.Marks.{Prunes, Tracked, is_left, marks_left}
-use Rattle.pesp_search.specs.Revising.{FirstsUnless, IsRevised, IsWithin, Left, Revises, RevisesFirsts, RevisesSeconds, SecondsUnless, Touches, either, first_left, has_changed}
-use Rattle.pesp_search.specs.Revising.{keeps_firsts, keeps_seconds, noted, second_left, some_changed}
+use Rattle.pesp_search.specs.Revising.{FirstsUnless, IsRevised, IsWithin, Left, Revises}
+use Rattle.pesp_search.specs.Revising.{RevisesFirsts, RevisesSeconds, SecondsUnless, Touches}
+use Rattle.pesp_search.specs.Revising.{either, first_left, has_changed}
+use Rattle.pesp_search.specs.Revising.{keeps_firsts, keeps_seconds, noted, second_left}
+use Rattle.pesp_search.specs.Revising.{some_changed}
 use Rattle.pesp_search.proofs.Partners.{holds_in_range, range_holds}
 
 -- ---- partners among more times

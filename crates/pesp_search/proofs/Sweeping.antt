@@ -1,5 +1,6 @@
 -- A sweep over all activities, and what it leaves.
-use Rattle.std.proofs.Common.{◌≡◌, ◌∙◌, ◌⊎◌, inl, inr, ℕ, zero, suc, ◌+◌, ◌<◌, ◌≤◌, Bool, true, false, List, [], ◌∷◌, length}
+use Rattle.std.proofs.Common.{◌≡◌, ◌∙◌, ◌⊎◌, inl, inr, ℕ, zero, suc, ◌+◌, ◌<◌, ◌≤◌, Bool, true}
+use Rattle.std.proofs.Common.{false, List, [], ◌∷◌, length}
 use Rattle.std.proofs.Common.{cond, slice_get, Some, All, refl, ap, sym, subst, arith}
 use Rattle.std.proofs.lemmas.Bool.{cases_Bool, cases_eq, false≢true, or_from, or_parts}
 use Rattle.std.proofs.lemmas.Option.{get_or_from_slice_get, slice_get_within}
@@ -7,11 +8,12 @@ use Rattle.pesp_model.specs.declared.activity.PespActivity.{PespActivity}
 use Rattle.pesp_model.specs.Timetables.{IsActivity, IsProblem, Problem}
 use Rattle.pesp_search.specs.Marks.{Tracked, is_left, marks_left}
 use Rattle.pesp_search.proofs.Revised.{carried_firsts, carried_seconds}
-use Rattle.pesp_search.specs.Revising.{AllBefore, AllFrom, AreRevised, IsReady, IsRevised, IsWithin, Left, Propagates, RevisedUnless}
+use Rattle.pesp_search.specs.Revising.{AllBefore, AllFrom, AreRevised, IsReady, IsRevised, IsWithin}
+use Rattle.pesp_search.specs.Revising.{Left, Propagates, RevisedUnless}
 use Rattle.pesp_search.specs.Revising.{Revises, Sweeps, either, has_changed, some_changed}
 
--- what is known behind some activities: those so far are revised unless they have changed since, and the others
--- unless they had or have
+-- what is known behind some activities: those so far are revised unless they have changed since,
+-- and the others unless they had or have
 pub record IsSwept (problem : Problem) (before now : Tracked) (changed flags : List Bool) (index : ℕ)
     : Type 0 where
   pub propagates : Propagates problem before now

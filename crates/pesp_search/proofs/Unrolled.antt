@@ -1,12 +1,15 @@
 -- A listing does not depend on how many branches it is given, as long as there are enough.
-use Rattle.std.proofs.Common.{◌≡◌, ◌∙◌, inl, inr, ℕ, zero, suc, ◌+◌, ◌<◌, ◌≤◌, nat_eq, Bool, true, false, cond}
-use Rattle.std.proofs.Common.{List, [], ◌∷◌, length, map, filter, get_or, position, slice_set, Option, Some, None}
+use Rattle.std.proofs.Common.{◌≡◌, ◌∙◌, inl, inr, ℕ, zero, suc, ◌+◌, ◌<◌, ◌≤◌, nat_eq, Bool, true}
+use Rattle.std.proofs.Common.{false, cond}
+use Rattle.std.proofs.Common.{List, [], ◌∷◌, length, map, filter, get_or, position, slice_set}
+use Rattle.std.proofs.Common.{Option, Some, None}
 use Rattle.std.proofs.Common.{refl, ap, sym, arith}
 use Rattle.std.specs.List.{enumerate_from, list_any}
 use Rattle.std.proofs.lemmas.Bool.{cases_Bool, lt-ltb, ltb-true}
 use Rattle.std.proofs.lemmas.List.Quantifiers.{position-Some}
 use Rattle.pesp_model.specs.Timetables.{Problem}
-use Rattle.pesp_search.specs.Listings.{Listing, branches, entry, has_several, in_turn, is_empty, listing_from}
+use Rattle.pesp_search.specs.Listings.{Listing, branches, entry, has_several, in_turn, is_empty}
+use Rattle.pesp_search.specs.Listings.{listing_from}
 use Rattle.pesp_search.specs.Listings.{listing_of, one_more, several_in, with_time}
 use Rattle.pesp_search.specs.TimeSets.{has_partners, left_to, reduced, round, rounds, times_left}
 

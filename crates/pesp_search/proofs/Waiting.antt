@@ -5,7 +5,8 @@ use Rattle.std.proofs.Common.{◌≡◌, ◌∙◌, ℕ, ◌+◌, List, [], ◌�
 use Rattle.std.proofs.lemmas.List.{append_assoc}
 use Rattle.pesp_search.specs.declared.time_sets.Branch.{Branch}
 use Rattle.pesp_search.specs.Listings.{with_time}
-use Rattle.pesp_search.specs.Marks.{IsNext, IsNextChild, KeepsTime, Marks, Restores, Saved, Tracked, is_left}
+use Rattle.pesp_search.specs.Marks.{IsNext, IsNextChild, KeepsTime, Marks, Restores, Saved, Tracked}
+use Rattle.pesp_search.specs.Marks.{is_left}
 use Rattle.pesp_search.specs.Marks.{sets_of, times_from, waiting}
 
 abbrev pub saved_at : Marks → Branch → Saved

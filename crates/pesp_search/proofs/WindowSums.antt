@@ -1,11 +1,16 @@
 -- Sums over a period that is gone through twice, and the windows in which they differ.
-use Rattle.std.proofs.Common.{◌≡◌, ◌∙◌, inl, inr, ℕ, zero, suc, ◌+◌, ◌*◌, ◌%◌, ◌<◌, ◌≤◌, ◌==◌, cond}
-use Rattle.std.proofs.Common.{Bool, true, false, not, ◌||◌, List, ◌++◌, ◌∷◌, [], length, map, slice_index, refl, ap, sym, arith}
+use Rattle.std.proofs.Common.{All, subst}
+use Rattle.std.proofs.lemmas.List.Elements.{All-nil, All-push}
+use Rattle.std.proofs.Common.{◌≡◌, ◌∙◌, inl, inr, ℕ, zero, suc, ◌+◌, ◌-◌, ◌*◌, ◌%◌, ◌<◌, ◌≤◌, ◌==◌}
+use Rattle.std.proofs.Common.{cond}
+use Rattle.std.proofs.Common.{Bool, true, false, not, ◌||◌, List, ◌++◌, ◌∷◌, [], length, map}
+use Rattle.std.proofs.Common.{slice_index, refl, ap, sym, arith}
 use Rattle.std.specs.List.{range_with_len}
-use Rattle.std.proofs.Math.Nat.{mod-add-mod}
-use Rattle.std.proofs.lemmas.Bool.{cases_Bool, eq-eqb, ne_eqb}
-use Rattle.std.proofs.lemmas.List.FromFn.{get_or-map-range_with_len, length-map-range_with_len, map-range_with_len_more}
-use Rattle.pesp_search.specs.Revising.{any_below, count_below, reaches}
+use Rattle.std.proofs.Math.Nat.{add-mod_left, mod-add-mod}
+use Rattle.std.proofs.lemmas.Bool.{cases_Bool, cases_lt, eq-eqb, le-leb, lt-leb, ne_eqb}
+use Rattle.std.proofs.lemmas.List.FromFn.{get_or-map-range_with_len, length-map-range_with_len}
+use Rattle.std.proofs.lemmas.List.FromFn.{map-range_with_len_more}
+use Rattle.pesp_search.specs.Revising.{any_below, count_below, reaches, sum_before}
 
 -- ---- sums
 
@@ -83,28 +88,73 @@ module _ (test : ℕ → Bool) (start : ℕ) where
             ∙ differs n ∙ or_none (any_below (λ k. test (start + k)) n) _ is
       ]
 
--- the sums at both ends of a window differ where a time is left in it
-pub window : (period : ℕ) (left : ℕ → Bool) (sums : List ℕ) (offset width time start : ℕ)
-    → sums ≡ map (count_below (λ time. left (time % period))) (range_with_len 0 (2 * period))
-    → start ≡ (time + offset) % period → start < period → width < period
-    → not (slice_index sums (start + width + 1) == slice_index sums start)
-    ≡ reaches period left offset width time
-window period left sums offset width time start so shown within narrow =
-    let test : ℕ → Bool = λ time. left (time % period) in
-    let at : (k : ℕ) → k < 2 * period → slice_index sums k ≡ count_below test k =
-    λ k h. ap (λ sums. slice_index sums k) so
-    ∙ get_or-map-range_with_len (count_below test) 0 (2 * period) k k 0 h (omega arith) in
-    (λ i. not (at (start + width + 1) (omega (arith, within, narrow)) i
-    == at start (omega (arith, within)) i))
-    ∙ ap (λ end. not (count_below test end == count_below test start)) far
-    ∙ differs test start (width + 1)
-    ∙ ap (λ test. any_below test (width + 1)) (λ i k. left (there k i))
-  where
-    far : start + width + 1 ≡ start + (width + 1)
-    far = omega arith
+-- ---- sums of a period that is gone through again
 
-    there : (k : ℕ) → (start + k) % period ≡ (time + offset + k) % period
-    there k = ap (λ start. (start + k) % period) shown ∙ mod-add-mod (time + offset) period k
+module _ (period : ℕ) (left : ℕ → Bool) where
+  abbrev shown : ℕ → Bool
+  shown time = left (time % period)
+
+  again : (k : ℕ) → count_below shown (period + k) ≡ count_below shown period + count_below shown k
+  again zero =
+      let none : period + 0 ≡ period = omega arith in
+      let all = ap (count_below shown) none in
+      omega (arith, all, count_start shown)
+  again (suc k) =
+      let rest = again k in
+      let next : period + suc k ≡ period + k + 1 = omega arith in
+      let own : suc k ≡ k + 1 = omega arith in
+      let same : shown (period + k) ≡ shown k = ap left (add-mod_left period k) in
+      ap (count_below shown) next
+      ∙ elim (cases_Bool (shown k)) [
+        | inl is ↦
+            let far = count_more shown (period + k) (same ∙ is) in
+            let near = ap (count_below shown) own ∙ count_more shown k is in
+            omega (arith, rest, far, near)
+        | inr is ↦
+            let far = count_same shown (period + k) (same ∙ is) in
+            let near = ap (count_below shown) own ∙ count_same shown k is in
+            omega (arith, rest, far, near)
+      ]
+
+  sum_is : (sums : List ℕ) → sums ≡ map (count_below shown) (range_with_len 0 (period + 1)) → (time : ℕ)
+      → time ≤ period → slice_index sums time ≡ count_below shown time
+  sum_is sums so time low =
+      ap (λ sums. slice_index sums time) so
+      ∙ get_or-map-range_with_len (count_below shown) 0 (period + 1) time time 0 (omega (arith, low)) (omega arith)
+
+  sum_before_is : (sums : List ℕ) → sums ≡ map (count_below shown) (range_with_len 0 (period + 1))
+      → (time : ℕ) → time < 2 * period → sum_before sums period time ≡ count_below shown time
+  sum_before_is sums so time low = elim (cases_lt period time) [
+    | inl over ↦
+        let back : period + (time - period) ≡ time = omega (arith, over) in
+        ap (λ b. cond b (slice_index sums time) (slice_index sums period + slice_index sums (time - period)))
+        (lt-leb time period over)
+        ∙ (λ i. sum_is sums so period (omega arith) i + sum_is sums so (time - period) (omega (arith, low, over)) i)
+        ∙ sym (again (time - period)) ∙ ap (count_below shown) back
+    | inr within ↦
+        ap (λ b. cond b (slice_index sums time) (slice_index sums period + slice_index sums (time - period)))
+        (le-leb time period within)
+        ∙ sum_is sums so time within
+  ]
+
+  -- the sums at both ends of a window differ where a time is left in it
+  pub window : (sums : List ℕ) (offset width time start : ℕ)
+      → sums ≡ map (count_below shown) (range_with_len 0 (period + 1))
+      → start ≡ (time + offset) % period → start < period → width < period
+      → not (sum_before sums period (start + width + 1) == slice_index sums start)
+      ≡ reaches period left offset width time
+  window sums offset width time start so opens within narrow =
+      (λ i. not (sum_before_is sums so (start + width + 1) (omega (arith, within, narrow)) i
+      == sum_is sums so start (omega (arith, within)) i))
+      ∙ ap (λ end. not (count_below shown end == count_below shown start)) far
+      ∙ differs shown start (width + 1)
+      ∙ ap (λ test. any_below test (width + 1)) (λ i k. left (there k i))
+    where
+      far : start + width + 1 ≡ start + (width + 1)
+      far = omega arith
+
+      there : (k : ℕ) → (start + k) % period ≡ (time + offset + k) % period
+      there k = ap (λ start. (start + k) % period) opens ∙ mod-add-mod (time + offset) period k
 
 pub sums_long : (test : ℕ → Bool) (n : ℕ) (sums : List ℕ)
     → sums ≡ map (count_below test) (range_with_len 0 n) → length sums ≡ n
@@ -115,3 +165,25 @@ pub one_flag_more : (test : ℕ → Bool) (n : ℕ) (flags more : List Bool) (fl
     → more ≡ map test (range_with_len 0 (n + 1))
 one_flag_more test n flags more flag so last is =
     is ∙ (λ i. so i ++ last i ∷ []) ∙ sym (map-range_with_len_more test 0 n n (omega arith))
+
+-- the sum before the first time
+pub first_sum : (test : ℕ → Bool) (sums more : List ℕ) → sums ≡ [] → more ≡ sums ++ 0 ∷ []
+    → more ≡ map (count_below test) (range_with_len 0 1)
+first_sum test sums more none is =
+    is ∙ ap (λ sums. sums ++ 0 ∷ []) none ∙ ap (λ n. n ∷ []) (sym (count_start test))
+
+pub next_sum : (test : ℕ → Bool) (n : ℕ) (sums more : List ℕ) (sum : ℕ)
+    → sums ≡ map (count_below test) (range_with_len 0 (n + 1)) → sum ≡ count_below test (n + 1)
+    → more ≡ sums ++ sum ∷ [] → more ≡ map (count_below test) (range_with_len 0 (n + 1 + 1))
+next_sum test n sums more sum so last is = one_sum_more test (n + 1) sums more sum so last is
+
+pub small_more : (sums more : List ℕ) (sum : ℕ) → All (λ sum. sum ≤ 720) sums → sum ≤ 720
+    → more ≡ sums ++ sum ∷ [] → All (λ sum. sum ≤ 720) more
+small_more sums more sum all low is =
+    subst (All (λ sum. sum ≤ 720)) (sym is) (All-push (λ sum. sum ≤ 720) sums sum all low)
+
+pub small_first : (sums more : List ℕ) → sums ≡ [] → more ≡ sums ++ 0 ∷ []
+    → All (λ sum. sum ≤ 720) more
+small_first sums more none is =
+    small_more sums more 0 (subst (All (λ sum. sum ≤ 720)) (sym none) (All-nil (λ sum. sum ≤ 720)))
+    (omega arith) is

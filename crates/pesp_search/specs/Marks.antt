@@ -1,5 +1,8 @@
--- Inner words: marks of the times that are left to events, and sets of times that are changed and restored.
-use Rattle.std.specs.Prelude.{◌≡◌, ℕ, ◌+◌, ◌*◌, ◌-◌, ◌<◌, ◌≤◌, nat_lt, Bool, true, false, ◌&&◌, List, [], ◌∷◌, ◌++◌, length, map, filter, get_or, slice_set, Option, Some, None}
+-- Inner words: marks of the times that are left to events, and sets of times that are changed and
+-- restored.
+use Rattle.std.specs.Prelude.{◌≡◌, ℕ, ◌+◌, ◌*◌, ◌-◌, ◌<◌, ◌≤◌, nat_lt, Bool, true, false, ◌&&◌}
+use Rattle.std.specs.Prelude.{List, [], ◌∷◌, ◌++◌, length, map, filter, get_or, slice_set, Option}
+use Rattle.std.specs.Prelude.{Some, None}
 use Rattle.std.specs.List.{range_with_len}
 use Rattle.pesp_search.specs.declared.time_sets.Branch.{Branch}
 use Rattle.pesp_search.specs.declared.time_sets.Change.{Change}
@@ -48,8 +51,8 @@ pub record AreMarks (sets : Marks) : Type 0 where
   pub some : 1 ≤ sets.period
   pub few : sets.period ≤ 720
 
--- sets that were left where they branched, and the event and the time from which its children are still to be
--- visited
+-- sets that were left where they branched, and the event and the time from which its children are
+-- still to be visited
 pub record Saved : Type 0 where
   pub sets : Marks
   pub branch : Branch
@@ -62,7 +65,8 @@ pub record Tracked : Type 0 where
 -- what changes say of the sets before them, the last change first
 unfoldable pub saved_by : Marks → List Change → List Saved
 saved_by sets [] = []
-saved_by sets (change.Removed event time ∷ earlier) = saved_by (with_mark sets event time true) earlier
+saved_by sets (change.Removed event time ∷ earlier) =
+    saved_by (with_mark sets event time true) earlier
 saved_by sets (change.Branched branch ∷ earlier) =
     record { sets = sets; branch = branch } ∷ saved_by sets earlier
 
@@ -101,8 +105,8 @@ waiting (saved ∷ earlier) = children saved ++ waiting earlier
 abbrev pub marks_left : Marks → ℕ
 marks_left sets = length (filter (λ mark. mark) sets.marks)
 
--- Some times of an event are taken out: of all events those stay for which a test holds. Where nothing is
--- said to change nothing does, and else fewer times are left.
+-- Some times of an event are taken out: of all events those stay for which a test holds. Where
+-- nothing is said to change nothing does, and else fewer times are left.
 pub record Prunes (before after : Tracked) (keeps : ℕ → ℕ → Bool) (changes : Bool) : Type 0 where
   pub period : after.sets.period ≡ before.sets.period
   pub events : after.sets.events ≡ before.sets.events
@@ -137,7 +141,8 @@ pub record IsChildOf (before after : Tracked) (event : ℕ) : Type 0 where
       → is_left branched other time ≡ true
   pub others : (other : ℕ) → (other ≡ event → ⊥) → is_left after.sets other ≡ is_left branched other
 
--- the next child that waits, if one does, by the event of its branch: its sets, and those that wait behind it
+-- the next child that waits, if one does, by the event of its branch: its sets, and those that
+-- wait behind it
 abbrev pub IsNextChild : Tracked → Tracked → Option ℕ → Type 0
 IsNextChild before after None = waiting before.saved ≡ []
 IsNextChild before after (Some event) =

@@ -1,6 +1,9 @@
--- Inner words: sets of times by a test of events and times, and what revising them by activities does.
-use Rattle.std.specs.Prelude.{◌≡◌, ◌⊎◌, ℕ, zero, suc, ◌+◌, ◌-◌, ◌%◌, ◌<◌, ◌≤◌, min, ◌==◌, not, Bool, true, false, ◌||◌}
-use Rattle.std.specs.Prelude.{if◌then◌else◌, ⊤, [], ◌∷◌, List, length, filter, get_or, slice_get, slice_set, Some, All, unsigned_abs, ◌-ℤ◌}
+-- Inner words: sets of times by a test of events and times, and what revising them by activities
+-- does.
+use Rattle.std.specs.Prelude.{nat_le, slice_index, ◌≡◌, ◌⊎◌, ℕ, zero, suc, ◌+◌, ◌-◌, ◌%◌, ◌<◌, ◌≤◌}
+use Rattle.std.specs.Prelude.{min, ◌==◌, not, Bool, true, false, ◌||◌}
+use Rattle.std.specs.Prelude.{if◌then◌else◌, ⊤, [], ◌∷◌, List, length, filter, get_or, slice_get}
+use Rattle.std.specs.Prelude.{slice_set, Some, All, unsigned_abs, ◌-ℤ◌}
 use Rattle.std.specs.List.{list_any, range_with_len}
 use Rattle.pesp_model.specs.declared.activity.PespActivity.{PespActivity}
 use Rattle.pesp_model.specs.Timetables.{Problem, keeps}
@@ -25,6 +28,12 @@ unfoldable pub count_below : (ℕ → Bool) → ℕ → ℕ
 count_below test zero = 0
 count_below test (suc n) = count_below test n + (if test n then 1 else 0)
 
+-- the sum before a time of two periods, by the sums before the times of one and before its end
+abbrev pub sum_before : List ℕ → ℕ → ℕ → ℕ
+sum_before sums period time =
+    if nat_le time period then slice_index sums time
+    else slice_index sums period + slice_index sums (time - period)
+
 -- a time is left in a window of a period that opens so many minutes behind another time
 abbrev pub reaches : ℕ → (ℕ → Bool) → ℕ → ℕ → ℕ → Bool
 reaches period left offset width time =
@@ -42,7 +51,8 @@ abbrev pub behind : ℕ → PespActivity → ℕ
 behind period activity =
     period - (unsigned_abs activity.lower + width_of period activity) % period
 
--- a time is the first or the second one of two that keep an activity, where the other is left to its event
+-- a time is the first or the second one of two that keep an activity, where the other is left to
+-- its event
 abbrev pub second_left : ℕ → Left → PespActivity → ℕ → Bool
 second_left period left activity time =
     list_any (keeps period activity time) (filter (left activity.to) (range_with_len 0 period))
@@ -52,8 +62,8 @@ first_left period left activity time =
     list_any (λ other. keeps period activity other time)
     (filter (left activity.from) (range_with_len 0 period))
 
--- the times without a second one are taken out of the set of an activity's first event, and those without a
--- first one of that of its second event
+-- the times without a second one are taken out of the set of an activity's first event, and those
+-- without a first one of that of its second event
 abbrev pub keeps_seconds : ℕ → Left → PespActivity → Left
 keeps_seconds period left activity event time =
     not (event == activity.from) || second_left period left activity time
@@ -93,8 +103,8 @@ some_changed changed = list_any (λ is. is) changed
 abbrev pub noted : List Bool → ℕ → Bool → List Bool
 noted flags event is_changed = slice_set flags event (has_changed flags event || is_changed)
 
--- the times of an activity's first event have their second ones unless the set of its second event has
--- changed, and the other way round
+-- the times of an activity's first event have their second ones unless the set of its second event
+-- has changed, and the other way round
 abbrev pub SecondsUnless : ℕ → Left → (ℕ → Bool) → PespActivity → Type 0
 SecondsUnless period left changed activity =
     changed activity.to ≡ false → (time : ℕ) → left activity.from time ≡ true
@@ -122,9 +132,10 @@ AllBefore activities Holds end = (index : ℕ) (activity : PespActivity)
 abbrev pub either : List Bool → List Bool → ℕ → Bool
 either changed flags event = has_changed changed event || has_changed flags event
 
--- An activity makes the sets of its events smaller. Where the set of an event is not said to have changed it
--- has not.
-pub record Touches (activity : PespActivity) (before after : Tracked) (flags more : List Bool) : Type 0 where
+-- An activity makes the sets of its events smaller. Where the set of an event is not said to have
+-- changed it has not.
+pub record Touches (activity : PespActivity) (before after : Tracked) (flags more : List Bool)
+    : Type 0 where
   pub period : after.sets.period ≡ before.sets.period
   pub events : after.sets.events ≡ before.sets.events
   pub saved : after.saved ≡ before.saved
@@ -139,13 +150,15 @@ pub record Touches (activity : PespActivity) (before after : Tracked) (flags mor
   pub no_more : marks_left after.sets ≤ marks_left before.sets
 
 -- it revises them on one side or on both, where flags say that a set has changed
-abbrev pub RevisesSeconds : PespActivity → List Bool → Tracked → Tracked → List Bool → List Bool → Type 0
+abbrev pub RevisesSeconds : PespActivity → List Bool → Tracked → Tracked → List Bool → List Bool
+    → Type 0
 RevisesSeconds activity changed before after flags more =
     Touches activity before after flags more
     × (SecondsUnless before.sets.period (is_left before.sets) (either changed flags) activity
     → SecondsUnless before.sets.period (is_left after.sets) (has_changed more) activity)
 
-abbrev pub RevisesFirsts : PespActivity → List Bool → Tracked → Tracked → List Bool → List Bool → Type 0
+abbrev pub RevisesFirsts : PespActivity → List Bool → Tracked → Tracked → List Bool → List Bool
+    → Type 0
 RevisesFirsts activity changed before after flags more =
     Touches activity before after flags more
     × (FirstsUnless before.sets.period (is_left before.sets) (either changed flags) activity
@@ -157,7 +170,8 @@ Revises activity changed before after flags more =
     × (RevisedUnless before.sets.period (is_left before.sets) (either changed flags) activity
     → RevisedUnless before.sets.period (is_left after.sets) (has_changed more) activity)
 
--- what a sweep leaves: smaller sets, of which it tells where they changed, and fewer marks where they did
+-- what a sweep leaves: smaller sets, of which it tells where they changed, and fewer marks where
+-- they did
 pub record Sweeps (problem : Problem) (before after : Tracked) (changed : List Bool) : Type 0 where
   pub propagates : Propagates problem before after
   pub each : length changed ≡ problem.events
@@ -181,8 +195,8 @@ AreRevised problem (saved ∷ earlier) =
     AllFrom problem.activities (IsRevised problem.period (is_left saved.sets)) 0
     × AreRevised problem earlier
 
--- sets are ready for an entry: activities are revised unless the set of one of their events is said to have
--- changed, and in all saved sets
+-- sets are ready for an entry: activities are revised unless the set of one of their events is
+-- said to have changed, and in all saved sets
 pub record IsReady (problem : Problem) (sets : Tracked) (flags : List Bool) : Type 0 where
   pub each : length flags ≡ problem.events
   pub revised : AllFrom problem.activities

@@ -1,6 +1,7 @@
--- Inner words: a search between two entries, and what its call gives. A reader of the contracts of this crate
--- needs none of them.
-use Rattle.std.specs.Prelude.{◌≡◌, ◌⊎◌, ℕ, ◌+◌, List, ◌∷◌, Option, Some, None, Vec, Result, Ok, Err, ⊤}
+-- Inner words: a search between two entries, and what its call gives. A reader of the contracts of
+-- this crate needs none of them.
+use Rattle.std.specs.Prelude.{◌≡◌, ◌⊎◌, ℕ, ◌+◌, List, ◌∷◌, Option, Some, None, Vec, Result, Ok, Err}
+use Rattle.std.specs.Prelude.{⊤}
 use Rattle.std.specs.Global.{Global}
 use Rattle.giv_files.specs.declared.refusal.Refusal.{Refusal}
 use Rattle.giv_files.specs.declared.refusal.StageFault.{StageFault}
@@ -9,7 +10,8 @@ use Rattle.pesp_model.specs.Timetables.{Problem}
 use Rattle.pesp_search.specs.declared.search.Entry.{Entry}
 use Rattle.pesp_search.specs.declared.search.Entry.TheVariants as entries
 use Rattle.pesp_search.specs.declared.search.FoundTimes.{FoundTimes}
-use Rattle.pesp_search.specs.Listings.{Listing, TimesFound, entry, in_turn, listing, listing_of, one_more}
+use Rattle.pesp_search.specs.Listings.{Listing, TimesFound, entry, in_turn, listing, listing_of}
+use Rattle.pesp_search.specs.Listings.{one_more}
 use Rattle.pesp_search.specs.Listings.{unless_found, with_time}
 use Rattle.pesp_search.specs.declared.time_sets.Branch.{Branch}
 use Rattle.pesp_search.specs.Marks.{Tracked, sets_of, waiting}
@@ -24,7 +26,8 @@ abbrev pub listed_on : Problem → Tracked → Listing
 listed_on problem sets =
     in_turn (listing_of problem) (sets_of sets.sets ∷ waiting sets.saved)
 
--- what the entry of reduced sets lists, and those that wait behind it, by what is listed from other sets on
+-- what the entry of reduced sets lists, and those that wait behind it, by what is listed from
+-- other sets on
 abbrev pub entry_here : (List (List ℕ) → Listing) → Tracked → Listing
 entry_here visit sets =
     unless_found
@@ -34,9 +37,11 @@ entry_here visit sets =
 -- sets are saved at a branch, or none are
 abbrev pub SavesOnce : Tracked → Tracked → Type 0
 SavesOnce before after = (after.saved ≡ before.saved)
-    ⊎ ((branch : Branch) × (after.saved ≡ record { sets = before.sets; branch = branch } ∷ before.saved))
+    ⊎ ((branch : Branch)
+    × (after.saved ≡ record { sets = before.sets; branch = branch } ∷ before.saved))
 
--- what an entry comes to whose sets are reduced: the times that are found, or the children that wait
+-- what an entry comes to whose sets are reduced: the times that are found, or the children that
+-- wait
 abbrev pub Branches : Tracked → Tracked → Option (Vec ℕ Global) → Type 0
 Branches before after None =
     ((visit : List (List ℕ) → Listing)
@@ -64,7 +69,8 @@ pub record IsSearched (problem : Problem) (sets : Tracked) (count : ℕ) : Type 
   pub events : sets.sets.events ≡ problem.events
   pub listed : listing problem ≡ behind count (listed_on problem sets)
 
--- what the call gives: what is found, or why nothing is, exactly as a result says; want of memory is free
+-- what the call gives: what is found, or why nothing is, exactly as a result says; want of memory
+-- is free
 abbrev pub SearchGives : Result TimesFound Refusal → Result FoundTimes StageFault → Type 0
 SearchGives function (Ok found) =
     function ≡ Ok (record { times = found.times.items; entries = found.entries })

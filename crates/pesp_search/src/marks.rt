@@ -2,7 +2,8 @@
 ghost use Rattle.std.specs.Prelude.{◌≡◌, ◌<◌, ◌≤◌, ◌==◌, ◌||◌, nat_le, length, map, IfOk, IfSome};
 ghost use Rattle.std.specs.List.{range_with_len};
 ghost use Rattle.pesp_search.specs.Listings.{times_at_first};
-ghost use Rattle.pesp_search.specs.Marks.{AreMarks, IsNext, is_left, sets_of, times_from, with_mark};
+ghost use Rattle.pesp_search.specs.Marks.{AreMarks, IsNext, is_left, sets_of, times_from};
+ghost use Rattle.pesp_search.specs.Marks.{with_mark};
 
 use plan_num::NoMemory;
 use std::alloc::Global;

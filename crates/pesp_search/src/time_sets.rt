@@ -41,7 +41,8 @@ impl Model for TimeSets {
       saved = saved_by tracked.sets (reverse tracked.changes.items);
     } };
 
-    ghost invariant = { λ tracked. All (IsChange tracked.sets.period tracked.sets.events) tracked.changes.items };
+    ghost invariant = { λ tracked.
+        All (IsChange tracked.sets.period tracked.sets.events) tracked.changes.items };
 }
 
 impl TimeSets {

@@ -1,5 +1,6 @@
 use Rattle.std.proofs.Common.{◌∙◌, ◌++◌, ◌∷◌, [], refl}
-use Rattle.pesp_search.proofs.Waiting.{next_from, next_waits, none_waits, nothing_waits, passed_more, saved_at}
+use Rattle.pesp_search.proofs.Waiting.{next_from, next_waits, none_waits, nothing_waits}
+use Rattle.pesp_search.proofs.Waiting.{passed_more, saved_at}
 use Rattle.pesp_search.proofs.children.next_child.Goals as goal
 
 pub loop-branch-init : goal.loop-branch-init

@@ -1,7 +1,10 @@
 use Rattle.std.proofs.Common.{◌∙◌, ◌<◌, inl, inr, true, false, arith, sym}
 use Rattle.pesp_search.proofs.Pruned.{left_now, prune_ended, prune_kept, prune_removed}
 use Rattle.pesp_search.proofs.prune.prune.Goals as goal
-use Rattle.pesp_search.proofs.prune.prune.Goals.{then-not-flags-time+then-is_left+in_ok-remove, else-not-flags-time, else-not-flags-time-via-then-not-flags-time+else-is_left, else-not-flags-time-via-else-not-flags-time}
+use Rattle.pesp_search.proofs.prune.prune.Goals.{then-not-flags-time+then-is_left+in_ok-remove}
+use Rattle.pesp_search.proofs.prune.prune.Goals.{else-not-flags-time}
+use Rattle.pesp_search.proofs.prune.prune.Goals.{else-not-flags-time-via-then-not-flags-time+else-is_left}
+use Rattle.pesp_search.proofs.prune.prune.Goals.{else-not-flags-time-via-else-not-flags-time}
 
 pub loop-time-preserved : goal.loop-time-preserved
 loop-time-preserved c =

@@ -1,6 +1,7 @@
 use Rattle.std.proofs.Common.{◌∙◌, All, ap, arith, subst, sym}
 use Rattle.pesp_search.specs.Marks.{IsChange, Marks}
-use Rattle.pesp_search.proofs.Changes.{last_holds, none_left, others_hold, popped_branched, popped_removed}
+use Rattle.pesp_search.proofs.Changes.{last_holds, none_left, others_hold, popped_branched}
+use Rattle.pesp_search.proofs.Changes.{popped_removed}
 use Rattle.pesp_search.proofs.time_sets.TimeSets.restore.Goals as goal
 
 pub loop-change-preserved : goal.loop-change-preserved
