@@ -8,7 +8,7 @@ use std::test::Fail;
 
 const TWO: &[u8] = b"1; departure; 1; 1; >; 1\n2; arrival; 2; 1; >; 1\n";
 
-const THREE: &[u8] =
+pub(crate) const THREE: &[u8] =
     b"1; departure; 1; 1; >; 1\n2; arrival; 2; 1; >; 1\n3; departure; 2; 1; >; 1\n";
 
 const FOUR: &[u8] = b"1; departure; 1; 1; >; 1\n2; arrival; 2; 1; >; 1\n\
@@ -16,13 +16,14 @@ const FOUR: &[u8] = b"1; departure; 1; 1; >; 1\n2; arrival; 2; 1; >; 1\n\
 
 // Two lines in both directions, the first over three stops and the second over two of them, with
 // the changes between them.
-const TWELVE: &[u8] =
+pub(crate) const TWELVE: &[u8] =
     b"1; departure; 1; 1; >; 1\n2; arrival; 2; 1; >; 1\n3; departure; 2; 1; >; 1\n\
     4; arrival; 3; 1; >; 1\n5; departure; 3; 1; <; 1\n6; arrival; 2; 1; <; 1\n\
     7; departure; 2; 1; <; 1\n8; arrival; 1; 1; <; 1\n9; departure; 1; 2; >; 1\n\
     10; arrival; 2; 2; >; 1\n11; departure; 2; 2; <; 1\n12; arrival; 1; 2; <; 1\n";
 
-const CHANGES: &[u8] = b"1; drive; 1; 2; 4; 5\n2; wait; 2; 3; 1; 3\n3; drive; 3; 4; 6; 6\n\
+pub(crate) const CHANGES: &[u8] =
+    b"1; drive; 1; 2; 4; 5\n2; wait; 2; 3; 1; 3\n3; drive; 3; 4; 6; 6\n\
     4; drive; 5; 6; 6; 6\n5; wait; 6; 7; 1; 3\n6; drive; 7; 8; 4; 5\n7; drive; 9; 10; 4; 5\n\
     8; drive; 11; 12; 4; 5\n9; change; 2; 11; 2; 62\n10; change; 6; 11; 2; 62\n\
     11; change; 8; 9; 2; 62\n12; change; 10; 3; 2; 62\n13; change; 10; 7; 2; 62\n\
