@@ -1,4 +1,5 @@
 mod Changes
+mod Crowded
 mod Entries
 mod Families
 mod FirstMarks

@@ -3,10 +3,10 @@ use Rattle.std.proofs.Common.{All, subst}
 use Rattle.std.proofs.lemmas.List.Elements.{All-nil, All-push}
 use Rattle.std.proofs.Common.{◌≡◌, ◌∙◌, inl, inr, ℕ, zero, suc, ◌+◌, ◌-◌, ◌*◌, ◌%◌, ◌<◌, ◌≤◌, ◌==◌}
 use Rattle.std.proofs.Common.{cond}
-use Rattle.std.proofs.Common.{Bool, true, false, not, ◌||◌, List, ◌++◌, ◌∷◌, [], length, map}
+use Rattle.std.proofs.Common.{Bool, true, false, not, ◌||◌, List, ◌++◌, ◌∷◌, [], filter, length, map}
 use Rattle.std.proofs.Common.{slice_index, refl, ap, sym, arith}
 use Rattle.std.specs.List.{range_with_len}
-use Rattle.std.proofs.Math.Nat.{add-mod_left, mod-add-mod}
+use Rattle.std.proofs.Math.Nat.{add-mod_left, mod-add-mod, mod-eq_of_lt, mod-lt}
 use Rattle.std.proofs.lemmas.Bool.{cases_Bool, cases_lt, eq-eqb, le-leb, lt-leb, ne_eqb}
 use Rattle.std.proofs.lemmas.List.FromFn.{get_or-map-range_with_len, length-map-range_with_len}
 use Rattle.std.proofs.lemmas.List.FromFn.{map-range_with_len_more}
@@ -155,6 +155,66 @@ module _ (period : ℕ) (left : ℕ → Bool) where
 
       there : (k : ℕ) → (start + k) % period ≡ (time + offset + k) % period
       there k = ap (λ start. (start + k) % period) opens ∙ mod-add-mod (time + offset) period k
+
+  -- ---- where more times are left than lie outside of a window, each window has one
+
+  slow : (from n : ℕ) → count_below shown (from + n) ≤ count_below shown from + n
+  slow from zero =
+      let none : from + 0 ≡ from = omega arith in
+      let same = ap (count_below shown) none in
+      omega (arith, same)
+  slow from (suc n) =
+      let rest = slow from n in
+      let next : from + suc n ≡ from + n + 1 = omega arith in
+      let all = ap (count_below shown) next in
+      elim (cases_Bool (shown (from + n))) [
+        | inl is ↦ let more = count_more shown (from + n) is in omega (arith, rest, all, more)
+        | inr is ↦ let same = count_same shown (from + n) is in omega (arith, rest, all, same)
+      ]
+
+  all_counted : (from n : ℕ) → from + n ≤ period
+      → count_below shown from + length (filter left (range_with_len from n)) ≡ count_below shown (from + n)
+  all_counted from zero few =
+      let none : from + 0 ≡ from = omega arith in
+      let same = ap (count_below shown) none in
+      omega (arith, same)
+  all_counted from (suc n) few =
+      let rest = all_counted (from + 1) n (omega (arith, few)) in
+      let next : from + 1 + n ≡ from + suc n = omega arith in
+      let end = ap (count_below shown) next in
+      let own : shown from ≡ left from = ap left (mod-eq_of_lt (omega (arith, few))) in
+      one (left from) refl rest end own
+    where
+      one : (b : Bool) → left from ≡ b
+          → count_below shown (from + 1) + length (filter left (range_with_len (from + 1) n)) ≡ count_below shown (from + 1 + n)
+          → count_below shown (from + 1 + n) ≡ count_below shown (from + suc n) → shown from ≡ left from
+          → count_below shown from
+          + length (cond b (from ∷ filter left (range_with_len (from + 1) n)) (filter left (range_with_len (from + 1) n)))
+          ≡ count_below shown (from + suc n)
+      one true is rest end own = let more = count_more shown from (own ∙ is) in omega (arith, rest, end, more)
+      one false is rest end own = let same = count_same shown from (own ∙ is) in omega (arith, rest, end, same)
+
+  pub crowded : (width : ℕ) → 1 ≤ period → width < period
+      → period ≤ length (filter left (range_with_len 0 period)) + width → (offset time : ℕ)
+      → reaches period left offset width time ≡ true
+  crowded width some narrow many offset time =
+      let start = (time + offset) % period in
+      let within : start < period = mod-lt (time + offset) (omega (arith, some)) in
+      let counted = all_counted 0 period (omega arith) in
+      let first = count_start shown in
+      let none : 0 + period ≡ period = omega arith in
+      let whole = ap (count_below shown) none in
+      let round = again start in
+      let slowly = slow (start + (width + 1)) (period - (width + 1)) in
+      let last : start + (width + 1) + (period - (width + 1)) ≡ period + start = omega (arith, narrow) in
+      let ends = ap (count_below shown) last in
+      sym (ap (λ test. any_below test (width + 1)) (λ i k. left (shift k i)))
+      ∙ sym (differs shown start (width + 1))
+      ∙ ap not (ne_eqb (count_below shown (start + (width + 1))) (count_below shown start)
+      (λ same. absurd (omega (arith, same, counted, first, whole, round, slowly, ends, many, narrow))))
+    where
+      shift : (k : ℕ) → ((time + offset) % period + k) % period ≡ (time + offset + k) % period
+      shift k = mod-add-mod (time + offset) period k
 
 pub sums_long : (test : ℕ → Bool) (n : ℕ) (sums : List ℕ)
     → sums ≡ map (count_below test) (range_with_len 0 n) → length sums ≡ n

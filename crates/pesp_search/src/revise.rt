@@ -1,8 +1,8 @@
 // Sets of times that are revised by an activity.
-ghost use Rattle.std.specs.Prelude.{◌≡◌, ◌<◌, ◌≤◌, ◌≤ℤ◌, pos, length, map, IfOk, OnOk};
+ghost use Rattle.std.specs.Prelude.{◌≡◌, ◌-◌, ◌<◌, ◌≤◌, ◌≤ℤ◌, nat_le, pos, length, map, IfOk, OnOk};
 ghost use Rattle.std.specs.List.{range_with_len};
 ghost use Rattle.pesp_model.specs.Timetables.{IsActivity};
-ghost use Rattle.pesp_search.specs.Marks.{Prunes, is_left};
+ghost use Rattle.pesp_search.specs.Marks.{AreMarks, Prunes, is_left, times_from};
 ghost use Rattle.pesp_search.specs.Revising.{ahead, behind, first_left, second_left, width_of};
 ghost use Rattle.pesp_search.specs.Revising.{Revises, RevisesFirsts, RevisesSeconds};
 ghost use Rattle.pesp_search.specs.Revising.{keeps_firsts, keeps_seconds, noted};
@@ -97,6 +97,9 @@ fn keep_seconds(
     ensures { IfOk result (Prunes sets.old sets.new
         (keeps_seconds sets.old.sets.period (is_left sets.old.sets) activity)) }
 {
+    if is_crowded(sets.sets(), activity.to, activity) {
+        return Ok(false);
+    }
     let flags = with_second(alloc, activity, sets.sets())?;
     prune(sets, activity.from, &flags)
 }
@@ -108,8 +111,24 @@ fn keep_firsts(alloc: Global, activity: PespActivity, sets: &mut TimeSets) -> Re
     ensures { IfOk result (Prunes sets.old sets.new
         (keeps_firsts sets.old.sets.period (is_left sets.old.sets) activity)) }
 {
+    if is_crowded(sets.sets(), activity.from, activity) {
+        return Ok(false);
+    }
     let flags = with_first(alloc, activity, sets.sets())?;
     prune(sets, activity.to, &flags)
+}
+
+// Whether more times are left to an event than lie outside of each window of an activity, so that
+// every time has a partner among them.
+fn is_crowded(sets: &TimeMarks, event: usize, activity: PespActivity) -> bool
+    requires activity { IsActivity sets.now.events activity }
+    requires event { event < sets.now.events }
+    ensures crowded { result ≡ nat_le (sets.now.period - width_of sets.now.period activity)
+        (length (times_from sets.now event 0)) }
+    ensures sound { AreMarks sets.now }
+{
+    let period = sets.period();
+    period - width_of(activity, period) <= sets.count(event)
 }
 
 // For each time of the period whether it is the first one of two that keep an activity.

@@ -1,0 +1,81 @@
+-- An activity takes out nothing where more times are left than lie outside of each window.
+use Rattle.std.proofs.Common.{◌≡◌, ◌∙◌, inl, inr, ℕ, ◌+◌, ◌-◌, ◌<◌, ◌≤◌, ◌==◌, nat_le, nat_lt, Bool, true, false}
+use Rattle.std.proofs.Common.{not, ◌&&◌, ◌||◌, filter, length, refl, ap, sym, arith}
+use Rattle.std.specs.List.{range_with_len}
+use Rattle.std.proofs.lemmas.Bool.{and_parts, cases_Bool, eqb-true, false≢true, leb-true, ltb-true}
+use Rattle.pesp_model.specs.declared.activity.PespActivity.{PespActivity}
+use Rattle.pesp_model.specs.Timetables.{IsActivity}
+use Rattle.pesp_search.specs.Marks.{AreMarks, Marks, Prunes, Tracked, is_left, times_from}
+use Rattle.pesp_search.specs.Revising.{Left, ahead, behind, keeps_firsts, keeps_seconds, width_of}
+use Rattle.pesp_search.proofs.Partners.{first_reached, second_reached}
+use Rattle.pesp_search.proofs.WindowSums.{crowded}
+
+-- where all times that are left stay, nothing changes
+prunes_none : (before : Tracked) (keeps : Left)
+    → ((event time : ℕ) → is_left before.sets event time ≡ true → keeps event time ≡ true)
+    → Prunes before before keeps false
+prunes_none before keeps all = record {
+  period = refl;
+  events = refl;
+  saved = refl;
+  left = λ i event time. stay event time i;
+  same = λ _. refl;
+  fewer = λ is. absurd (false≢true is);
+  no_more = omega arith;
+}
+  where
+    stay : (event time : ℕ)
+        → is_left before.sets event time ≡ (is_left before.sets event time && keeps event time)
+    stay event time = elim (cases_Bool (is_left before.sets event time)) [
+      | inl is ↦ is ∙ sym (ap (λ b. b && keeps event time) is ∙ all event time is)
+      | inr is ↦ is ∙ sym (ap (λ b. b && keeps event time) is)
+    ]
+
+module _ (activity : PespActivity) (before : Tracked)
+    (is : IsActivity before.sets.events activity) (are : AreMarks before.sets) where
+  abbrev period : ℕ
+  period = before.sets.period
+
+  abbrev width : ℕ
+  width = width_of period activity
+
+  -- more times are left to an event than lie outside of a window
+  abbrev IsCrowded : ℕ → Type 0
+  IsCrowded event = nat_le (period - width) (length (times_from before.sets event 0)) ≡ true
+
+  narrow : width < period
+  narrow = omega (arith, are.some)
+
+  low : (event time : ℕ) → is_left before.sets event time ≡ true → time < period
+  low event time left = ltb-true time period (and_parts (nat_lt time period) _ left).0
+
+  many : (event : ℕ) → IsCrowded event
+      → period ≤ length (filter (is_left before.sets event) (range_with_len 0 period)) + width
+  many event so =
+      let none : period - 0 ≡ period = omega arith in
+      let same = ap (λ n. length (filter (is_left before.sets event) (range_with_len 0 n))) none in
+      omega (arith, leb-true _ _ so, narrow, same)
+
+  own : (event : ℕ) (test : Bool) → test ≡ true → (other : ℕ) → (not (event == other) || test) ≡ true
+  own event test so other = elim (cases_Bool (event == other)) [
+    | inl same ↦ ap (λ b. not b || test) same ∙ so
+    | inr differs ↦ ap (λ b. not b || test) differs
+  ]
+
+  pub crowded_seconds : IsCrowded activity.to
+      → Prunes before before (keeps_seconds period (is_left before.sets) activity) false
+  crowded_seconds so =
+      prunes_none before (keeps_seconds period (is_left before.sets) activity)
+      (λ event time left. own event _
+      (second_reached period are.some before.sets.events activity is (is_left before.sets) time (low event time left)
+      ∙ crowded period (is_left before.sets activity.to) width are.some narrow (many activity.to so) (ahead period activity) time)
+      activity.from)
+
+  pub crowded_firsts : IsCrowded activity.from
+      → Prunes before before (keeps_firsts period (is_left before.sets) activity) false
+  crowded_firsts so =
+      prunes_none before (keeps_firsts period (is_left before.sets) activity)
+      (λ event time left. own event _
+      (first_reached period are.some before.sets.events activity is (is_left before.sets) time (low event time left)
+      ∙ crowded period (is_left before.sets activity.from) width are.some narrow (many activity.from so) (behind period activity) time)
+      activity.to)
