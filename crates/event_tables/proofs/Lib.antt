@@ -12,4 +12,4 @@ pub mod SoundTrips
 mod Tried
 mod TriedRuns
 mod WholeFiles
-mod WrittenRecords
+pub mod WrittenRecords
