@@ -32,7 +32,7 @@ range_back : (min max cell : ℤ) (column : ℕ) → min ≤ℤ cell → cell �
 range_back min max cell column low high = rw (is_true (int_le min cell) low.le, is_true (int_le cell max) high.le) refl
 
 -- the bytes of a number mean nothing between cells
-number_plain : (byte : ℕ) → is_number_byte byte ≡ true → is_plain byte ≡ true
+pub number_plain : (byte : ℕ) → is_number_byte byte ≡ true → is_plain byte ≡ true
 number_plain byte h =
     let low : 45 ≤ byte = grind (arith, nat_tests) in
     let high : byte ≤ 57 = grind (arith, nat_tests) in
@@ -47,17 +47,17 @@ fixed_some (pos n) low high = omega (arith, ints, decimal_nonempty (n / 1000000)
 fixed_some (negsuc n) low high = omega arith
 
 -- each word of a table is the text of a cell, and is found at its place
-abbrev WordsGood : List (List ℕ) → List (List ℕ) → ℕ → Type 0
+abbrev pub WordsGood : List (List ℕ) → List (List ℕ) → ℕ → Type 0
 WordsGood table [] place = Unit {0}
 WordsGood table (word ∷ words) place = IsCell word × (place_of table word ≡ Some place) × WordsGood table words (place + 1)
 
-word_good : (table words : List (List ℕ)) (start place : ℕ) → WordsGood table words start → place < length words → IsCell (get_or words place []) × (place_of table (get_or words place []) ≡ Some (start + place))
+pub word_good : (table words : List (List ℕ)) (start place : ℕ) → WordsGood table words start → place < length words → IsCell (get_or words place []) × (place_of table (get_or words place []) ≡ Some (start + place))
 word_good table [] start place h lt = absurd (omega arith)
 word_good table (word ∷ words) start zero h lt = (h.0, h.1 ∙ ap Some (omega arith))
 word_good table (word ∷ words) start (suc place) h lt = let more = word_good table words (start + 1) place h.2 (omega arith) in (more.0, more.1 ∙ ap Some (omega arith))
 
 -- a text with a byte and only plain ones, as a test computes
-plain_word : (text : List ℕ) → (ltb 0 (length text) && list_all is_plain text) ≡ true → IsCell text
+pub plain_word : (text : List ℕ) → (ltb 0 (length text) && list_all is_plain text) ≡ true → IsCell text
 plain_word text h = let both = both_passed (ltb 0 (length text)) (list_all is_plain text) h in record { some = ltb-true 0 (length text) both.0; plain = both.1 }
 
 words_good : (words : WordTable) → WordsGood (table_words words) (table_words words) 0

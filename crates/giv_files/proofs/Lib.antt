@@ -15,6 +15,7 @@ pub mod ReportLines
 pub mod RowFacts
 pub mod RowsLeft
 pub mod SettingFacts
+pub mod SettingsTold
 pub mod SplitFacts
 pub mod Skipping
 pub mod SpacedFacts

@@ -17,7 +17,7 @@ use Rattle.giv_files.specs.Settings.{value_of, is_allowed, amount, SettingsFit}
 use Rattle.giv_files.proofs.KeyPlaces.{same_key}
 
 -- the value of a key is one that the key may have
-value_allowed : (settings : List Setting) (k : Key) (value : ℤ)
+pub value_allowed : (settings : List Setting) (k : Key) (value : ℤ)
     → list_all is_allowed settings ≡ true → value_of settings k ≡ Some value → allows k value ≡ true
 value_allowed [] k value all is = cc
 value_allowed (first ∷ settings) k value all is =
@@ -59,7 +59,7 @@ value_there (first ∷ settings) k some = at_first (is_key k first.key) refl som
               ∙ later.1,
         )
 
-among_all : (k : Key) → list_any (is_key k) all_keys ≡ true
+pub among_all : (k : Key) → list_any (is_key k) all_keys ≡ true
 among_all key.LastStage = refl
 among_all _ = refl
 

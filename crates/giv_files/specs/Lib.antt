@@ -13,6 +13,7 @@ pub mod Reading
 pub mod ReportLines
 pub mod Rows
 pub mod Settings
+pub mod SettingsText
 pub mod Spaced
 pub mod StageCalls
 pub mod StageNames

@@ -1,5 +1,5 @@
 // Words that the value of a key may be.
-ghost use Rattle.std.specs.Prelude.{◌≡◌, length, position};
+ghost use Rattle.std.specs.Prelude.{◌≡◌, ◌<◌, [], length, position, slice_index_or};
 ghost use Rattle.std.specs.Str.{bytes_eq};
 ghost use Rattle.giv_files.specs.KeyKinds.{key_words};
 ghost use Rattle.giv_files.specs.StageNames.{stage_name};
@@ -28,6 +28,17 @@ impl KeyWords {
         match self {
             KeyWords::Stages => Stage::all().len(),
             KeyWords::LoadSources => LOAD_SOURCES.len(),
+        }
+    }
+
+    /// The word at a place.
+    pub(crate) fn word(self, place: usize) -> &'static str
+        requires { place < length (key_words self) }
+        ensures { result.now ≡ slice_index_or (key_words self) place [] }
+    {
+        match self {
+            KeyWords::Stages => Stage::all()[place].name(),
+            KeyWords::LoadSources => LOAD_SOURCES[place],
         }
     }
 

@@ -27,6 +27,7 @@ mod row_why;
 mod setting;
 mod settings;
 mod settings_fit;
+mod settings_text;
 mod spaced;
 mod stage;
 mod table;
@@ -61,6 +62,8 @@ pub use write::write_table;
 
 #[cfg(test)]
 mod columns_tests;
+#[cfg(test)]
+mod settings_text_tests;
 #[cfg(test)]
 mod tests;
 #[cfg(test)]
