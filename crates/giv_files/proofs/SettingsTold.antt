@@ -1,10 +1,10 @@
 -- The text of settings tells them, among those that fit a stage.
-use Rattle.std.proofs.Common.{◌≡◌, ℕ, ℤ, ◌+◌, ◌<◌, ◌≤◌, ◌≤ℤ◌, ◌&&◌, ◌||◌, Bool, true, false, not, eqb, List, [], ◌∷◌, ◌++◌, length, map, take, drop, get_or, cond, zero, suc, pos, negsuc, neg_ℤ, true≢false, refl, ap, sym, subst, ◌∙◌, arith, codes, Option, Some, None, IfSome, int_le, unsigned_abs, option_map, unwrap_or, append-nil, append_assoc, decimal}
+use Rattle.std.proofs.Common.{◌≡◌, ℕ, ℤ, ◌+◌, ◌<◌, ◌≤◌, ◌≤ℤ◌, ◌&&◌, ◌||◌, Bool, true, false, not, eqb, List, [], ◌∷◌, ◌++◌, length, map, take, drop, get_or, cond, zero, suc, pos, negsuc, neg_ℤ, true≢false, refl, ap, sym, subst, ◌∙◌, arith, codes, Option, Some, None, IfSome, int_le, option_map, append-nil, append_assoc}
 use Rattle.std.specs.List.{find, flat_map, list_all, list_any}
 use Rattle.std.specs.Str.{bytes_eq}
 use Rattle.std.specs.Fmt.{signed_decimal}
 use Rattle.std.specs.Int.Signed.{le_z_yes}
-use Rattle.std.proofs.lemmas.Bool.{and_parts, eq-eqb, eqb-true, or_parts}
+use Rattle.std.proofs.lemmas.Bool.{and_parts, eq-eqb, eqb-true}
 use Rattle.std.proofs.lemmas.Bool.Decides.{nat_tests}
 use Rattle.std.proofs.lemmas.Float.{T_from_true}
 use Rattle.std.proofs.lemmas.Grind.{flat_map-append}
@@ -13,7 +13,7 @@ use Rattle.std.proofs.lemmas.List.{append_cancel_left, take_all, take_more}
 use Rattle.std.proofs.lemmas.Map.Views.{any-filter_same}
 use Rattle.std.proofs.lemmas.Option.{same_Some}
 use Rattle.std.proofs.lemmas.Slice.Eq.{bytes_eq-Decides}
-use Rattle.plan_num.specs.Number.{fixed_of, is_number_byte, whole_of}
+use Rattle.plan_num.specs.Number.{is_number_byte}
 use Rattle.plan_num.specs.Print.{fixed_text}
 use Rattle.plan_num.proofs.ReadBack.{whole_back, fixed_back, whole_bytes, fixed_bytes}
 use Rattle.giv_files.specs.declared.key.Key.{Key}
@@ -25,7 +25,7 @@ use Rattle.giv_files.specs.declared.key_words.KeyWords.TheVariants as words
 use Rattle.giv_files.specs.declared.setting.Setting.{Setting}
 use Rattle.giv_files.specs.declared.stage.Stage.{Stage}
 use Rattle.giv_files.specs.declared.stage.Stage.TheVariants as stage
-use Rattle.giv_files.specs.KeyKinds.{all_word, greatest, kept_if, key_words, least, none_word, spelled_as, wait_of}
+use Rattle.giv_files.specs.KeyKinds.{all_word, greatest, key_words, least, none_word, spelled_as, wait_of}
 use Rattle.giv_files.specs.Keys.{all_keys, allows, has_key, is_key, key_kind, key_name, stage_keys}
 use Rattle.giv_files.specs.Reading.{place_of}
 use Rattle.giv_files.specs.Settings.{SettingsFit, is_allowed, value_of}

@@ -14,7 +14,7 @@ fn text_of(
         settings.push(*key, *value)?;
     }
     let mut bundle = Bundle::new(alloc, stage, settings);
-    while bundle.inputs() < stage.inputs().len() {
+    for _file in stage.inputs() {
         bundle.push_input(b"")?;
     }
     if !bundle.fits() {

@@ -1,11 +1,10 @@
-use Rattle.std.proofs.Common.{◌≡◌, true, ℕ, List, ◌++◌, IfSome, ap, refl, sym, subst, ◌∙◌, arith, length, take, get_or}
+use Rattle.std.proofs.Common.{◌≡◌, true, ℕ, List, ◌++◌, IfSome, ap, sym, subst, ◌∙◌, take, get_or}
 use Rattle.std.specs.List.{flat_map}
-use Rattle.std.proofs.lemmas.List.{take_all}
 use Rattle.giv_files.specs.declared.key.Key.{Key}
 use Rattle.giv_files.specs.declared.key.Key.TheVariants.{LastStage}
-use Rattle.giv_files.specs.Keys.{all_keys, allows}
+use Rattle.giv_files.specs.Keys.{allows}
 use Rattle.giv_files.specs.Settings.{value_of}
-use Rattle.giv_files.specs.SettingsText.{key_line, settings_text}
+use Rattle.giv_files.specs.SettingsText.{key_line}
 use Rattle.giv_files.proofs.SettingsTold.{all_lines, one_key_more, text_tells, value_fits}
 use Rattle.giv_files.proofs.settings.Settings.text.Goals as goal
 
