@@ -1,0 +1,2 @@
+pub mod EntriesApart
+mod Tried

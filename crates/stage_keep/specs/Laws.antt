@@ -1,0 +1,58 @@
+-- What holds of entries, whatever is kept in them.
+use Rattle.std.specs.Prelude.{◌≡◌, ◌≢◌, ◌<◌, ◌^◌, length, ℕ, List, [], ◌++◌, map, true, Option, Some, None,
+    Result, Ok}
+use Rattle.giv_files.specs.declared.made.Made.{Made}
+use Rattle.giv_files.specs.declared.refusal.Refusal.{Refusal}
+use Rattle.giv_files.specs.declared.stage.Stage.{Stage}
+use Rattle.giv_files.specs.Settings.{BundleParts, Fits}
+use Rattle.giv_files.specs.MadeLists.{MakesAs, ids_of}
+use Rattle.stage_keep.specs.Entries.{EntryParts, IsEntryOf, entry_bytes, entry_for}
+use Rattle.stage_keep.specs.EntryReading.{ReadsEntry, read_entry}
+use Rattle.stage_keep.specs.Honest.{IsHonest, IsHonestKeep, matches, kept_for}
+
+-- where entries of one stage stand at the front of the same bytes, they are the same entry
+abbrev pub EntriesStandApart : Type 0
+EntriesStandApart = (stage : Stage) (entry other : EntryParts) (more rest : List ℕ)
+    → IsEntryOf stage entry → IsEntryOf stage other
+    → entry_bytes stage entry ++ more ≡ entry_bytes stage other ++ rest → (entry ≡ other) × (more ≡ rest)
+
+-- an entry is read back
+abbrev pub EntriesAreReadBack : Type 0
+EntriesAreReadBack = (stage : Stage) (entry : EntryParts)
+    → IsEntryOf stage entry → read_entry stage (entry_bytes stage entry) ≡ Some entry
+
+-- bytes that are read are the bytes of an entry, and bytes that are not read are no entry's
+abbrev pub ReadingIsExact : Type 0
+ReadingIsExact = (stage : Stage) (bytes : List ℕ)
+    → length bytes < 2 ^ 64 → ReadsEntry stage bytes (read_entry stage bytes)
+
+-- a front part of an entry is no entry, unless it is the whole
+abbrev pub FrontsAreNone : Type 0
+FrontsAreNone = (stage : Stage) (entry : EntryParts) (front behind : List ℕ) → IsEntryOf stage entry
+    → entry_bytes stage entry ≡ front ++ behind → behind ≢ [] → read_entry stage front ≡ None
+
+-- what is written of a bundle is an entry of its stage, and of that bundle
+abbrev pub WrittenIsEntry : Type 0
+WrittenIsEntry = (bundle : BundleParts) (made : Made)
+    → Fits bundle → MakesAs bundle.stage (ids_of made.files)
+    → length (entry_bytes bundle.stage (entry_for bundle made)) < 2 ^ 64
+    → IsEntryOf bundle.stage (entry_for bundle made) × (matches (entry_for bundle made) bundle ≡ true)
+
+-- what is written of a bundle and what its stage makes of it is honest
+abbrev pub WrittenIsHonest : Type 0
+WrittenIsHonest = (makes : BundleParts → Result Made Refusal) (bundle : BundleParts) (made : Made)
+    → Fits bundle → MakesAs bundle.stage (ids_of made.files)
+    → length (entry_bytes bundle.stage (entry_for bundle made)) < 2 ^ 64 → makes bundle ≡ Ok made
+    → IsHonest makes bundle.stage (entry_bytes bundle.stage (entry_for bundle made))
+
+-- and so is a front part of it
+abbrev pub FrontsAreHonest : Type 0
+FrontsAreHonest = (makes : BundleParts → Result Made Refusal) (stage : Stage) (entry : EntryParts)
+    (front behind : List ℕ) → IsEntryOf stage entry
+    → entry_bytes stage entry ≡ front ++ behind → behind ≢ [] → IsHonest makes stage front
+
+-- what an honest keep holds for a fitting bundle is what its stage makes
+abbrev pub HonestIsMade : Type 0
+HonestIsMade = (makes : BundleParts → Result Made Refusal) (kept : Stage → Option (List ℕ))
+    → IsHonestKeep makes kept → (bundle : BundleParts) (made : Made) → Fits bundle
+    → kept_for bundle (kept bundle.stage) ≡ Some made → makes bundle ≡ Ok made
