@@ -1,0 +1,162 @@
+-- Blocks at the front of bytes.
+use Rattle.std.proofs.Common.{◌≡◌, ◌≢◌, ℕ, ◌<◌, ◌≤◌, ◌+◌, ◌^◌, List, [], ◌∷◌, ◌++◌, length, take, drop, get_or, refl, ap, sym, subst, ◌∙◌, arith, All, Bool, true, false, not, cond, eqb, nat_eq, nat_le, zero, suc, Option, Some, None, option_map, decimal, codes, slice_get, append_assoc, append-nil, true≢false, inl, inr, ◌⊎◌, unwrap_or}
+use Rattle.std.specs.List.{filter_map, position, prefix_len, range_with_len, starts_with}
+use Rattle.std.specs.Prelude.{option_and_then}
+use Rattle.std.specs.Str.{IsUtf8}
+use Rattle.std.specs.Str.Parse.{AllDigits}
+use Rattle.std.specs.Char.{digit_value}
+use Rattle.std.proofs.lemmas.Fmt.{decimal_is_IsNumeral, IsAscii-decimal}
+use Rattle.std.proofs.lemmas.List.{get_or_append_left, length-append}
+use Rattle.std.proofs.lemmas.List.Elements.{All-nil, All-cons}
+use Rattle.std.proofs.lemmas.List.Sums.{prefix_len_is}
+use Rattle.std.proofs.lemmas.Str.{IsUtf8-from_ascii}
+use Rattle.std.proofs.lemmas.Bool.{ne_eqb, eq-eqb, cases_eq}
+use Rattle.std.proofs.lemmas.Bool.Decides.{nat_tests, Decides-eqb}
+use Rattle.std.proofs.lemmas.Slice.Eq.{starts_is}
+use Rattle.std.proofs.Math.Seq.{get_or-append_seam, take-append_seam}
+use Rattle.stage_keep.specs.Entries.{opening}
+use Rattle.stage_keep.specs.EntryReading.{behind, block_at, block_of_size, cut}
+use Rattle.stage_keep.specs.InnerReading.{line_behind, line_of}
+use Rattle.stage_keep.proofs.EntriesApart.{not_digit}
+
+-- a decimal has no line feed
+no_feed : (ds : List ℕ) → AllDigits 10 ds → All (λ byte. byte ≢ 10) ds
+no_feed [] all = All-nil (λ byte. byte ≢ 10)
+no_feed (d ∷ ds) all =
+    All-cons (λ byte. byte ≢ 10) d ds (λ is. not_digit d is all.0) (no_feed ds all.1)
+
+pub decimal_no_feed : (n : ℕ) → n < 2 ^ 64 → All (λ byte. byte ≢ 10) (decimal n)
+decimal_no_feed n small = no_feed (decimal n) (decimal_is_IsNumeral n small).0.1
+
+-- and is text
+pub decimal_utf8 : (n : ℕ) → n < 2 ^ 64 → IsUtf8 (decimal n)
+decimal_utf8 n small = IsUtf8-from_ascii (decimal n) (IsAscii-decimal n small)
+
+-- where a line ends at a line feed, that is found
+pub end_place : (line rest : List ℕ) → All (λ byte. byte ≢ 10) line
+    → position (λ byte. eqb byte 10) (line ++ 10 ∷ rest) ≡ Some (length line)
+end_place line rest none =
+    let whole = length-append line (10 ∷ rest) in
+    let at : prefix_len (λ byte. not (eqb byte 10)) (line ++ 10 ∷ rest) ≡ length line =
+        prefix_len_is (λ byte. not (eqb byte 10)) (line ++ 10 ∷ rest) (length line) 0
+        (omega (arith, whole))
+        (λ k before. rw (get_or_append_left line (10 ∷ rest) 0 k before)
+            (ap not (ne_eqb (get_or line k 0) 10 (none k 0 before))))
+        (λ within. rw (get_or-append_seam line 10 rest 0) refl) in
+    rw at (rw whole (rw (past (length line) (length rest)) refl))
+  where
+    past : (n m : ℕ) → nat_le (suc n) (n + suc m) ≡ true
+    past n m = grind (arith, nat_tests)
+
+drop_front : (front rest : List ℕ) → drop (length front) (front ++ rest) ≡ rest
+drop_front [] rest = refl
+drop_front (x ∷ front) rest = drop_front front rest
+
+-- what is behind a front
+pub front_is : (front rest : List ℕ) → behind front (front ++ rest) ≡ Some rest
+front_is front rest =
+    rw ((starts_is Decides-eqb (front ++ rest) front (starts_with nat_eq (front ++ rest) front) refl).1 rest refl)
+    (ap Some (drop_front front rest))
+
+pub front_back : (front bytes rest : List ℕ) → behind front bytes ≡ Some rest
+    → bytes ≡ front ++ rest
+front_back front bytes rest = by (starts_with nat_eq bytes front) refl
+  where
+    by : (b : Bool) → starts_with nat_eq bytes front ≡ b
+        → cond b (Some (drop (length front) bytes)) None ≡ Some rest → bytes ≡ front ++ rest
+    by true is found =
+        (starts_is Decides-eqb bytes front (starts_with nat_eq bytes front) refl).0 is
+        ∙ ap (λ (o : Option (List ℕ)). front ++ unwrap_or o []) found
+    by false is found = cc
+
+module _ {X : Type 0} (f : ℕ → Option X) where
+  -- where nothing is found at any number, nothing is
+  pub none_given : ((n : ℕ) → f n ≡ None) → (many start : ℕ)
+      → slice_get (filter_map f (range_with_len start many)) 0 ≡ None
+  none_given none zero start = refl
+  none_given none (suc many) start = rw (none start) (none_given none many (start + 1))
+
+  -- where something is found at one number alone, that is
+  one_given : (size : ℕ) (x : X) → f size ≡ Some x → ((n : ℕ) → n ≢ size → f n ≡ None)
+      → (many start : ℕ) → start ≤ size → size < start + many
+      → slice_get (filter_map f (range_with_len start many)) 0 ≡ Some x
+  one_given size x is others zero start low high = absurd (omega arith)
+  one_given size x is others (suc many) start low high =
+      by (cases_eq start size)
+      (λ later. one_given size x is others many (start + 1) later (omega arith))
+    where
+      by : (start ≡ size) ⊎ (start ≢ size)
+          → (start + 1 ≤ size → slice_get (filter_map f (range_with_len (start + 1) many)) 0 ≡ Some x)
+          → slice_get (filter_map f (range_with_len start (suc many))) 0 ≡ Some x
+      by (inl same) more = rw (ap f same ∙ is) refl
+      by (inr differ) more = rw (others start differ) (more (omega (arith, differ)))
+
+line_is : (text rest : List ℕ) → All (λ byte. byte ≢ 10) text → line_of (text ++ 10 ∷ rest) ≡ Some text
+unfolding line_of
+line_is text rest none = rw (end_place text rest none) (ap Some (take-append_seam text (10 ∷ rest)))
+
+spread_line : (head ds rest : List ℕ)
+    → (((head ++ codes " ") ++ ds) ++ 10 ∷ []) ++ rest ≡ head ++ (32 ∷ (ds ++ 10 ∷ rest))
+spread_line head ds rest =
+    append_assoc ((head ++ codes " ") ++ ds) (10 ∷ []) rest
+    ∙ append_assoc (head ++ codes " ") ds (10 ∷ rest)
+    ∙ append_assoc head (codes " ") (ds ++ 10 ∷ rest)
+
+-- the line of an opening
+pub opening_line : (head : List ℕ) (size : ℕ) (rest : List ℕ) → size < 2 ^ 64
+    → line_behind head (opening head size ++ rest) ≡ Some (decimal size)
+unfolding line_behind
+opening_line head size rest small =
+    let ds = decimal size in
+    rw (spread_line head ds rest) (rw (front_is head (32 ∷ (ds ++ 10 ∷ rest)))
+        (rw (front_is (codes " ") (ds ++ 10 ∷ rest)) (line_is ds rest (decimal_no_feed size small))))
+
+-- where a block of a length stands, its line does, with so many bytes behind it
+StandsAt : List ℕ → List ℕ → ℕ → Type 0
+StandsAt head bytes size =
+    (rest : List ℕ) × (bytes ≡ opening head size ++ rest) × (size ≤ length rest)
+
+sized : (head bytes : List ℕ) (size : ℕ) (block : List ℕ × List ℕ)
+    → block_of_size head bytes size ≡ Some block → StandsAt head bytes size
+unfolding StandsAt
+sized head bytes size block = by (behind (opening head size) bytes) refl
+  where
+    enough : (rest : List ℕ) (b : Bool) → nat_le size (length rest) ≡ b
+        → cond b (Some (take size rest, drop size rest)) None ≡ Some block → size ≤ length rest
+    enough rest true is found = grind (arith, nat_tests)
+    enough rest false is found = cc
+    by : (found : Option (List ℕ)) → behind (opening head size) bytes ≡ found
+        → option_and_then (cut size) found ≡ Some block
+        → (rest : List ℕ) × (bytes ≡ opening head size ++ rest) × (size ≤ length rest)
+    by None is none = cc
+    by (Some rest) is found = (rest, front_back (opening head size) bytes rest is,
+        enough rest (nat_le size (length rest)) refl found)
+
+opening_some : (head rest : List ℕ) (size : ℕ) → size ≤ length rest
+    → size < length (opening head size ++ rest)
+opening_some head rest size few =
+    omega (arith, few, length-append (opening head size) rest,
+        length-append ((head ++ codes " ") ++ decimal size) (10 ∷ []))
+
+module _ (head bytes : List ℕ) (short : length bytes < 2 ^ 64) where
+  -- where the line of no length stands, no block does
+  pub block_none : ((size : ℕ) (rest : List ℕ) → size < 2 ^ 64
+      → bytes ≡ opening head size ++ rest → ⊥) → block_at head bytes ≡ None
+  block_none never = none_given (block_of_size head bytes) (λ n. by n (block_of_size head bytes n) refl) (length bytes) 0
+    where
+      by : (n : ℕ) (found : Option (List ℕ × List ℕ)) → block_of_size head bytes n ≡ found
+          → found ≡ None
+      by n None is = refl
+      by n (Some block) is =
+          let at = sized head bytes n block is in
+          absurd (never n at.0 (omega (arith, short, small n at)) at.1)
+        where
+          small : (n : ℕ) → StandsAt head bytes n → n < length bytes
+          unfolding StandsAt
+          small n at = subst (λ all. n < length all) (sym at.1) (opening_some head at.0 n at.2)
+
+  -- where the line of one length alone can stand, the block is that of this length
+  pub block_is : (size : ℕ) → ((n : ℕ) (rest : List ℕ) → n < 2 ^ 64
+      → bytes ≡ opening head n ++ rest → n ≡ size)
+      → block_at head bytes ≡ block_of_size head bytes size
+  block_is size only = ?
