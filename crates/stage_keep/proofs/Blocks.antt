@@ -108,17 +108,19 @@ pub opening_line : (head : List ℕ) (size : ℕ) (rest : List ℕ) → size < 2
 unfolding line_behind
 opening_line head size rest small =
     let ds = decimal size in
-    rw (spread_line head ds rest) (rw (front_is head (32 ∷ (ds ++ 10 ∷ rest)))
-        (rw (front_is (codes " ") (ds ++ 10 ∷ rest)) (line_is ds rest (decimal_no_feed size small))))
+    let found = λ (o : Option (List ℕ)). option_and_then line_of (option_and_then (behind (codes " ")) o) in
+    ap (λ (bs : List ℕ). found (behind head bs)) (spread_line head ds rest)
+    ∙ ap found (front_is head (32 ∷ (ds ++ 10 ∷ rest)))
+    ∙ ap (option_and_then line_of) (front_is (codes " ") (ds ++ 10 ∷ rest))
+    ∙ line_is ds rest (decimal_no_feed size small)
 
 -- where a block of a length stands, its line does, with so many bytes behind it
-StandsAt : List ℕ → List ℕ → ℕ → Type 0
+abbrev StandsAt : List ℕ → List ℕ → ℕ → Type 0
 StandsAt head bytes size =
     (rest : List ℕ) × (bytes ≡ opening head size ++ rest) × (size ≤ length rest)
 
 sized : (head bytes : List ℕ) (size : ℕ) (block : List ℕ × List ℕ)
     → block_of_size head bytes size ≡ Some block → StandsAt head bytes size
-unfolding StandsAt
 sized head bytes size block = by (behind (opening head size) bytes) refl
   where
     enough : (rest : List ℕ) (b : Bool) → nat_le size (length rest) ≡ b
@@ -138,25 +140,46 @@ opening_some head rest size few =
     omega (arith, few, length-append (opening head size) rest,
         length-append ((head ++ codes " ") ++ decimal size) (10 ∷ []))
 
+at_small : (head bytes : List ℕ) (n : ℕ) → StandsAt head bytes n → n < length bytes
+at_small head bytes n at =
+    subst (λ all. n < length all) (sym at.1) (opening_some head at.0 n at.2)
+
 module _ (head bytes : List ℕ) (short : length bytes < 2 ^ 64) where
-  -- where the line of no length stands, no block does
-  pub block_none : ((size : ℕ) (rest : List ℕ) → size < 2 ^ 64
-      → bytes ≡ opening head size ++ rest → ⊥) → block_at head bytes ≡ None
-  block_none never = none_given (block_of_size head bytes) (λ n. by n (block_of_size head bytes n) refl) (length bytes) 0
+  never_sized : (n : ℕ)
+      → ((rest : List ℕ) → n < 2 ^ 64 → bytes ≡ opening head n ++ rest → ⊥)
+      → block_of_size head bytes n ≡ None
+  never_sized n never = by (block_of_size head bytes n) refl
     where
-      by : (n : ℕ) (found : Option (List ℕ × List ℕ)) → block_of_size head bytes n ≡ found
+      by : (found : Option (List ℕ × List ℕ)) → block_of_size head bytes n ≡ found
           → found ≡ None
-      by n None is = refl
-      by n (Some block) is =
+      by None is = refl
+      by (Some block) is =
           let at = sized head bytes n block is in
-          absurd (never n at.0 (omega (arith, short, small n at)) at.1)
-        where
-          small : (n : ℕ) → StandsAt head bytes n → n < length bytes
-          unfolding StandsAt
-          small n at = subst (λ all. n < length all) (sym at.1) (opening_some head at.0 n at.2)
+          absurd (never at.0 (omega (arith, short, at_small head bytes n at)) at.1)
+
+  -- where the line of no length stands, no block does
+  pub block_none : ((n : ℕ) (rest : List ℕ) → n < 2 ^ 64
+      → bytes ≡ opening head n ++ rest → ⊥) → block_at head bytes ≡ None
+  block_none never =
+      none_given (block_of_size head bytes) (λ n. never_sized n (never n)) (length bytes) 0
 
   -- where the line of one length alone can stand, the block is that of this length
   pub block_is : (size : ℕ) → ((n : ℕ) (rest : List ℕ) → n < 2 ^ 64
       → bytes ≡ opening head n ++ rest → n ≡ size)
       → block_at head bytes ≡ block_of_size head bytes size
-  block_is size only = ?
+  block_is size only = by (block_of_size head bytes size) refl
+    where
+      other : (n : ℕ) → n ≢ size → block_of_size head bytes n ≡ None
+      other n differ = never_sized n (λ rest small at. differ (only n rest small at))
+      each : block_of_size head bytes size ≡ None → (n : ℕ) → (n ≡ size) ⊎ (n ≢ size)
+          → block_of_size head bytes n ≡ None
+      each is n (inl same) = ap (block_of_size head bytes) same ∙ is
+      each is n (inr differ) = other n differ
+      by : (found : Option (List ℕ × List ℕ)) → block_of_size head bytes size ≡ found
+          → block_at head bytes ≡ found
+      by None is =
+          none_given (block_of_size head bytes) (λ n. each is n (cases_eq n size))
+          (length bytes) 0
+      by (Some block) is =
+          one_given (block_of_size head bytes) size block is other (length bytes) 0
+          (omega arith) (omega (arith, at_small head bytes size (sized head bytes size block is)))

@@ -1,3 +1,4 @@
 mod Blocks
 pub mod EntriesApart
+mod Reading
 mod Tried

@@ -83,7 +83,7 @@ fn line_behind<'a>(head: &[u8], bytes: &'a [u8]) -> Option<&'a [u8]>
 }
 
 // What is behind a front of the bytes.
-fn behind<'a>(front: &[u8], bytes: &'a [u8]) -> Option<&'a [u8]>
+pub(crate) fn behind<'a>(front: &[u8], bytes: &'a [u8]) -> Option<&'a [u8]>
     ensures { option_map (λ rest. rest.now) result ≡ behind front.now bytes.now }
 {
     bytes.strip_prefix(front)
