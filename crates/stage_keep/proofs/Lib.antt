@@ -2,3 +2,4 @@ mod Blocks
 pub mod EntriesApart
 mod Reading
 mod Tried
+mod Writing

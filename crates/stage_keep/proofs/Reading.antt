@@ -23,7 +23,7 @@ head_more files i d inside =
     ap (map (λ _. codes "input")) (take_more files i d inside)
     ∙ map-append (λ _. codes "input") (take i files) (get_or files i d ∷ [])
 
-drop_at : {X : Type 0} (xs : List X) (i : ℕ) (d : X) → i < length xs
+pub drop_at : {X : Type 0} (xs : List X) (i : ℕ) (d : X) → i < length xs
     → drop i xs ≡ get_or xs i d ∷ drop (i + 1) xs
 drop_at xs i d inside =
     drop-cons xs i d inside ∙ ap (λ n. get_or xs i d ∷ drop n xs) (next i)
