@@ -48,7 +48,7 @@ end_place line rest none =
     past : (n m : ℕ) → nat_le (suc n) (n + suc m) ≡ true
     past n m = grind (arith, nat_tests)
 
-drop_front : (front rest : List ℕ) → drop (length front) (front ++ rest) ≡ rest
+pub drop_front : (front rest : List ℕ) → drop (length front) (front ++ rest) ≡ rest
 drop_front [] rest = refl
 drop_front (x ∷ front) rest = drop_front front rest
 
@@ -95,7 +95,7 @@ line_is : (text rest : List ℕ) → All (λ byte. byte ≢ 10) text → line_of
 unfolding line_of
 line_is text rest none = rw (end_place text rest none) (ap Some (take-append_seam text (10 ∷ rest)))
 
-spread_line : (head ds rest : List ℕ)
+pub spread_line : (head ds rest : List ℕ)
     → (((head ++ codes " ") ++ ds) ++ 10 ∷ []) ++ rest ≡ head ++ (32 ∷ (ds ++ 10 ∷ rest))
 spread_line head ds rest =
     append_assoc ((head ++ codes " ") ++ ds) (10 ∷ []) rest

@@ -1,4 +1,5 @@
 mod Blocks
+mod BlocksTold
 pub mod EntriesApart
 mod Reading
 mod Tried

@@ -62,7 +62,7 @@ fused : (so_far : List (List ℕ)) (text : List ℕ) (found : Option (List (List
 fused so_far text None = refl
 fused so_far text (Some later) = ap Some (sym (append_assoc so_far (text ∷ []) later))
 
-block_some : (head : List ℕ) (heads : List (List ℕ)) (bytes text more : List ℕ)
+pub block_some : (head : List ℕ) (heads : List (List ℕ)) (bytes text more : List ℕ)
     → block_at head bytes ≡ Some (text, more)
     → texts_at (head ∷ heads) bytes ≡ option_map (λ texts. text ∷ texts) (texts_at heads more)
 unfolding texts_at
