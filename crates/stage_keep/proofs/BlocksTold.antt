@@ -123,7 +123,7 @@ block_told head bytes text more found =
         ∙ sym (append_assoc (opening head (length text)) text more)
 
 -- blocks of heads and texts, as many as there are both
-pub blocks_of : List (List ℕ) → List (List ℕ) → List Block
+unfoldable pub blocks_of : List (List ℕ) → List (List ℕ) → List Block
 blocks_of [] texts = []
 blocks_of (head ∷ heads) [] = []
 blocks_of (head ∷ heads) (text ∷ texts) =

@@ -1,12 +1,13 @@
 // Reading an entry of the keep.
-ghost use Rattle.std.specs.Prelude.{◌≡◌, ◌≤◌, ◌+◌, IfOk, IfSome, None, Some, drop};
+ghost use Rattle.std.specs.Prelude.{◌≡◌, ◌≢◌, ◌≤◌, ◌+◌, ◌++◌, ℕ, List, [], IfOk, IfSome, None};
+ghost use Rattle.std.specs.Prelude.{Some, drop};
 ghost use Rattle.std.specs.Prelude.{if◌then◌else◌, length, map, option_map, slice_get, zip};
 ghost use Rattle.std.specs.List.{filter_map};
 ghost use Rattle.std.specs.Str.{bytes_eq};
 ghost use Rattle.giv_files.specs.MadeLists.{made_lists};
-ghost use Rattle.stage_keep.specs.Entries.{last_line};
+ghost use Rattle.stage_keep.specs.Entries.{EntryParts, IsEntryOf, entry_bytes, last_line};
 ghost use Rattle.giv_files.specs.Stages.{stage_inputs};
-ghost use Rattle.stage_keep.specs.EntryReading.{entry_of, entry_with, heads, made_file};
+ghost use Rattle.stage_keep.specs.EntryReading.{ReadsEntry, entry_of, entry_with, heads, made_file};
 ghost use Rattle.stage_keep.specs.EntryReading.{read_entry, texts_at};
 
 use crate::block::{behind, block_at};
@@ -19,7 +20,11 @@ use std::alloc::Global;
 /// The entry of a stage that the bytes are, and None exactly where they are none: where they are a
 /// front part of one, or one with more bytes behind it, too.
 pub fn read_keep(alloc: Global, stage: Stage, bytes: &[u8]) -> Result<Option<Entry>, NoMemory>
-    ensures { IfOk result (λ found. found ≡ read_entry stage bytes.now) }
+    ensures read { IfOk result (λ found. found ≡ read_entry stage bytes.now) }
+    ensures exact { IfOk result (ReadsEntry stage bytes.now) }
+    ensures front { IfOk result (λ found. (entry : EntryParts) (more : List ℕ)
+        → IsEntryOf stage entry → entry_bytes stage entry ≡ bytes.now ++ more → more ≢ []
+        → found ≡ None) }
 {
     match entry_with(alloc, stage, stage.makes(), bytes)? {
         Some(entry) => Ok(Some(entry)),

@@ -1,9 +1,10 @@
 // Writing an entry of the keep.
-ghost use Rattle.std.specs.Prelude.{◌≡◌, ◌++◌, IfOk, OnOk, flat_map, map};
+ghost use Rattle.std.specs.Prelude.{◌≡◌, ◌++◌, IfOk, OnOk, Some, flat_map, map};
 ghost use Rattle.giv_files.specs.MadeLists.{MakesAs, ids_of};
 ghost use Rattle.giv_files.specs.Settings.{Fits};
 ghost use Rattle.stage_keep.specs.Entries.{block_bytes, entry_blocks, entry_bytes, entry_for};
 ghost use Rattle.stage_keep.specs.Entries.{input_block, made_block};
+ghost use Rattle.stage_keep.specs.EntryReading.{read_entry};
 
 use crate::block::push_block;
 use crate::heads::{first_line, made_head};
@@ -16,8 +17,10 @@ use std::alloc::Global;
 pub fn write_keep(alloc: Global, bundle: &Bundle, made: &Made) -> Result<Text, NoMemory>
     requires fits { Fits bundle.now }
     requires made { MakesAs bundle.now.stage (ids_of made.now.files) }
-    ensures { IfOk result (λ text. text
+    ensures text { IfOk result (λ text. text
         ≡ entry_bytes bundle.now.stage (entry_for bundle.now made.now)) }
+    ensures read_back { IfOk result (λ text. read_entry bundle.now.stage text
+        ≡ Some (entry_for bundle.now made.now)) }
 {
     let mut bytes = Vec::new(alloc);
     bytes.extend_from_slice(first_line(alloc, bundle.stage())?.as_bytes())?;
