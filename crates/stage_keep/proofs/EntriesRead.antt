@@ -1,15 +1,17 @@
 -- What is read of bytes are the bytes of an entry, and an entry is read back.
-use Rattle.std.proofs.Common.{◌≡◌, ◌≢◌, ℕ, ◌<◌, ◌≤◌, ◌+◌, ◌^◌, List, [], ◌∷◌, ◌++◌, length, map, take, drop, get_or, refl, ap, sym, subst, ◌∙◌, arith, zero, suc, Option, Some, None, option_map, option_and_then, codes, slice_get, append_assoc, append-nil}
+use Rattle.std.proofs.Common.{◌≡◌, ◌≢◌, ℕ, ◌<◌, ◌≤◌, ◌+◌, ◌^◌, List, [], ◌∷◌, ◌++◌, length, map, take, drop, get_or, refl, ap, sym, subst, ◌∙◌, arith, zero, suc, Result, Ok, Err, IfOk, Option, Some, None, option_map, option_and_then, codes, slice_get, append_assoc, append-nil}
 use Rattle.std.specs.List.{Contains, cons_option, filter_map, flat_map, zip}
 use Rattle.std.proofs.lemmas.List.{get_or-drop, length-append, length-drop, length-map, length-take-le}
 use Rattle.std.proofs.lemmas.Option.{same_Some}
 use Rattle.std.proofs.Math.Seq.{drop-nil}
 use Rattle.giv_files.specs.declared.file_id.FileId.{FileId}
+use Rattle.giv_files.specs.declared.made.Made.{Made}
 use Rattle.giv_files.specs.declared.made.MadeFile.{MadeFile}
 use Rattle.giv_files.specs.declared.stage.Stage.{Stage}
 use Rattle.giv_files.specs.MadeLists.{MakesAs, ids_of, made_lists}
+use Rattle.giv_files.specs.Settings.{BundleParts, Fits}
 use Rattle.giv_files.specs.Stages.{stage_inputs}
-use Rattle.stage_keep.specs.Entries.{Block, EntryParts, IsEntryOf, block_bytes, entry_blocks, entry_bytes, first_line, input_block, last_line, made_block, made_head}
+use Rattle.stage_keep.specs.Entries.{Block, EntryParts, IsEntryOf, block_bytes, entry_blocks, entry_bytes, entry_for, first_line, input_block, last_line, made_block, made_head}
 use Rattle.stage_keep.specs.EntryReading.{ReadsEntry, behind, entry_of, entry_with, heads, made_file, read_entry, texts_at}
 use Rattle.stage_keep.specs.Laws.{EntriesAreReadBack, FrontsAreNone, ReadingIsExact}
 use Rattle.stage_keep.proofs.Blocks.{front_back, front_is}
@@ -242,3 +244,36 @@ fronts_are_none at entry front rest is whole some =
     by (Some other) (also, same) =
         absurd (some (sym (entries_stand_apart at entry other [] rest is also
             (append-nil (entry_bytes at entry) ∙ whole ∙ ap (λ (l : List ℕ). l ++ rest) same)).1))
+
+-- ---- the laws of what a call reads
+
+pub exact_of : {E : Type 0} (at : Stage) (bytes : List ℕ) (result : Result (Option EntryParts) E)
+    → length bytes < 2 ^ 64 → IfOk result (λ found. found ≡ read_entry at bytes)
+    → IfOk result (ReadsEntry at bytes)
+exact_of at bytes (Ok found) short is =
+    subst (λ read. ReadsEntry at bytes read) (sym is) (reading_is_exact at bytes short)
+exact_of at bytes (Err end) short is = tt
+
+pub front_of : {E : Type 0} (at : Stage) (bytes : List ℕ) (result : Result (Option EntryParts) E)
+    → IfOk result (λ found. found ≡ read_entry at bytes)
+    → IfOk result (λ found. (entry : EntryParts) (more : List ℕ) → IsEntryOf at entry
+        → entry_bytes at entry ≡ bytes ++ more → more ≢ [] → found ≡ None)
+front_of at bytes (Ok found) is = λ entry more of whole some.
+    is ∙ fronts_are_none at entry bytes more of whole some
+front_of at bytes (Err end) is = tt
+
+-- what is written of a bundle is an entry of its stage
+pub entry_fits : (bundle : BundleParts) (made : Made) → Fits bundle
+    → MakesAs bundle.stage (ids_of made.files)
+    → length (entry_bytes bundle.stage (entry_for bundle made)) < 2 ^ 64
+    → IsEntryOf bundle.stage (entry_for bundle made)
+entry_fits bundle made fits makes short = record { inputs = fits.inputs; made = makes; short = short }
+
+pub back_of : (bundle : BundleParts) (made : Made) (text : List ℕ) → Fits bundle
+    → MakesAs bundle.stage (ids_of made.files) → length text < 2 ^ 64
+    → text ≡ entry_bytes bundle.stage (entry_for bundle made)
+    → read_entry bundle.stage text ≡ Some (entry_for bundle made)
+back_of bundle made text fits makes short is =
+    ap (read_entry bundle.stage) is
+    ∙ entries_are_read_back bundle.stage (entry_for bundle made)
+        (entry_fits bundle made fits makes (subst (λ (l : List ℕ). length l < 2 ^ 64) is short))

@@ -26,6 +26,13 @@ pub fn read_keep(alloc: Global, stage: Stage, bytes: &[u8]) -> Result<Option<Ent
         → IsEntryOf stage entry → entry_bytes stage entry ≡ bytes.now ++ more → more ≢ []
         → found ≡ None) }
 {
+    read_entry(alloc, stage, bytes)
+}
+
+// The entry of a stage that the bytes are, where they are one.
+fn read_entry(alloc: Global, stage: Stage, bytes: &[u8]) -> Result<Option<Entry>, NoMemory>
+    ensures { IfOk result (λ found. found ≡ read_entry stage bytes.now) }
+{
     match entry_with(alloc, stage, stage.makes(), bytes)? {
         Some(entry) => Ok(Some(entry)),
         None => shorter_entry(alloc, stage, bytes),
