@@ -1,16 +1,15 @@
 -- Blocks at the front of bytes.
-use Rattle.std.proofs.Common.{◌≡◌, ◌≢◌, ℕ, ◌<◌, ◌≤◌, ◌+◌, ◌^◌, List, [], ◌∷◌, ◌++◌, length, take, drop, get_or, refl, ap, sym, subst, ◌∙◌, arith, All, Bool, true, false, not, cond, eqb, nat_eq, nat_le, zero, suc, Option, Some, None, option_map, decimal, codes, slice_get, append_assoc, append-nil, true≢false, inl, inr, ◌⊎◌, unwrap_or}
+use Rattle.std.proofs.Common.{◌≡◌, ◌≢◌, ℕ, ◌<◌, ◌≤◌, ◌+◌, ◌^◌, List, [], ◌∷◌, ◌++◌, length, take, drop, get_or, refl, ap, sym, subst, ◌∙◌, arith, All, Bool, true, false, not, cond, eqb, nat_eq, nat_le, zero, suc, Option, Some, None, decimal, codes, slice_get, append_assoc, inl, inr, ◌⊎◌, unwrap_or}
 use Rattle.std.specs.List.{filter_map, position, prefix_len, range_with_len, starts_with}
 use Rattle.std.specs.Prelude.{option_and_then}
 use Rattle.std.specs.Str.{IsUtf8}
 use Rattle.std.specs.Str.Parse.{AllDigits}
-use Rattle.std.specs.Char.{digit_value}
 use Rattle.std.proofs.lemmas.Fmt.{decimal_is_IsNumeral, IsAscii-decimal}
 use Rattle.std.proofs.lemmas.List.{get_or_append_left, length-append}
 use Rattle.std.proofs.lemmas.List.Elements.{All-nil, All-cons}
 use Rattle.std.proofs.lemmas.List.Sums.{prefix_len_is}
 use Rattle.std.proofs.lemmas.Str.{IsUtf8-from_ascii}
-use Rattle.std.proofs.lemmas.Bool.{ne_eqb, eq-eqb, cases_eq}
+use Rattle.std.proofs.lemmas.Bool.{ne_eqb, cases_eq}
 use Rattle.std.proofs.lemmas.Bool.Decides.{nat_tests, Decides-eqb}
 use Rattle.std.proofs.lemmas.Slice.Eq.{starts_is}
 use Rattle.std.proofs.Math.Seq.{get_or-append_seam, take-append_seam}
@@ -38,11 +37,11 @@ pub end_place : (line rest : List ℕ) → All (λ byte. byte ≢ 10) line
 end_place line rest none =
     let whole = length-append line (10 ∷ rest) in
     let at : prefix_len (λ byte. not (eqb byte 10)) (line ++ 10 ∷ rest) ≡ length line =
-        prefix_len_is (λ byte. not (eqb byte 10)) (line ++ 10 ∷ rest) (length line) 0
-        (omega (arith, whole))
-        (λ k before. rw (get_or_append_left line (10 ∷ rest) 0 k before)
-            (ap not (ne_eqb (get_or line k 0) 10 (none k 0 before))))
-        (λ within. rw (get_or-append_seam line 10 rest 0) refl) in
+    prefix_len_is (λ byte. not (eqb byte 10)) (line ++ 10 ∷ rest) (length line) 0
+    (omega (arith, whole))
+    (λ k before. rw (get_or_append_left line (10 ∷ rest) 0 k before)
+    (ap not (ne_eqb (get_or line k 0) 10 (none k 0 before))))
+    (λ within. rw (get_or-append_seam line 10 rest 0) refl) in
     rw at (rw whole (rw (past (length line) (length rest)) refl))
   where
     past : (n m : ℕ) → nat_le (suc n) (n + suc m) ≡ true
@@ -127,18 +126,26 @@ sized head bytes size block = by (behind (opening head size) bytes) refl
         → cond b (Some (take size rest, drop size rest)) None ≡ Some block → size ≤ length rest
     enough rest true is found = grind (arith, nat_tests)
     enough rest false is found = cc
+
     by : (found : Option (List ℕ)) → behind (opening head size) bytes ≡ found
         → option_and_then (cut size) found ≡ Some block
         → (rest : List ℕ) × (bytes ≡ opening head size ++ rest) × (size ≤ length rest)
     by None is none = cc
-    by (Some rest) is found = (rest, front_back (opening head size) bytes rest is,
-        enough rest (nat_le size (length rest)) refl found)
+    by (Some rest) is found = (
+      rest,
+      front_back (opening head size) bytes rest is,
+      enough rest (nat_le size (length rest)) refl found,
+    )
 
 opening_some : (head rest : List ℕ) (size : ℕ) → size ≤ length rest
     → size < length (opening head size ++ rest)
 opening_some head rest size few =
-    omega (arith, few, length-append (opening head size) rest,
-        length-append ((head ++ codes " ") ++ decimal size) (10 ∷ []))
+    omega (
+      arith,
+      few,
+      length-append (opening head size) rest,
+      length-append ((head ++ codes " ") ++ decimal size) (10 ∷ []),
+    )
 
 at_small : (head bytes : List ℕ) (n : ℕ) → StandsAt head bytes n → n < length bytes
 at_small head bytes n at =
@@ -171,10 +178,12 @@ module _ (head bytes : List ℕ) (short : length bytes < 2 ^ 64) where
     where
       other : (n : ℕ) → n ≢ size → block_of_size head bytes n ≡ None
       other n differ = never_sized n (λ rest small at. differ (only n rest small at))
+
       each : block_of_size head bytes size ≡ None → (n : ℕ) → (n ≡ size) ⊎ (n ≢ size)
           → block_of_size head bytes n ≡ None
       each is n (inl same) = ap (block_of_size head bytes) same ∙ is
       each is n (inr differ) = other n differ
+
       by : (found : Option (List ℕ × List ℕ)) → block_of_size head bytes size ≡ found
           → block_at head bytes ≡ found
       by None is =

@@ -1,5 +1,5 @@
 -- Blocks are read back, and what is read are blocks.
-use Rattle.std.proofs.Common.{◌≡◌, ◌≢◌, ℕ, ◌<◌, ◌≤◌, ◌+◌, ◌^◌, List, [], ◌∷◌, ◌++◌, length, map, take, drop, get_or, refl, ap, sym, subst, ◌∙◌, arith, Bool, true, false, cond, nat_le, zero, suc, Option, Some, None, option_map, option_and_then, decimal, slice_get, append_assoc, take-append-drop, unwrap_or}
+use Rattle.std.proofs.Common.{◌≡◌, ℕ, ◌<◌, ◌≤◌, ◌+◌, ◌^◌, List, [], ◌∷◌, ◌++◌, length, map, take, drop, refl, ap, sym, subst, ◌∙◌, arith, Bool, true, false, cond, nat_le, suc, Option, Some, None, option_map, option_and_then, decimal, slice_get, append_assoc, take-append-drop}
 use Rattle.std.specs.List.{Contains, cons_option, filter_map, flat_map, range_with_len}
 use Rattle.std.specs.Str.{bytes_eq}
 use Rattle.std.proofs.lemmas.Bool.Decides.{nat_tests}
@@ -17,14 +17,14 @@ same_size : (head : List ℕ) (n m : ℕ) (a b : List ℕ) → n < 2 ^ 64 → m 
     → opening head n ++ a ≡ opening head m ++ b → n ≡ m
 same_size head n m a b small low e =
     (sizes n m a b small low
-        (tail_same 32 32 (decimal n ++ 10 ∷ a) (decimal m ++ 10 ∷ b)
-            (append_cancel_left head (32 ∷ (decimal n ++ 10 ∷ a)) (32 ∷ (decimal m ++ 10 ∷ b))
-                (sym (spread_line head (decimal n) a) ∙ e ∙ spread_line head (decimal m) b)))).0
+    (tail_same 32 32 (decimal n ++ 10 ∷ a) (decimal m ++ 10 ∷ b)
+    (append_cancel_left head (32 ∷ (decimal n ++ 10 ∷ a)) (32 ∷ (decimal m ++ 10 ∷ b))
+    (sym (spread_line head (decimal n) a) ∙ e ∙ spread_line head (decimal m) b)))).0
 
 cut_front : (text rest : List ℕ) → cut (length text) (text ++ rest) ≡ Some (text, rest)
 cut_front text rest =
     ap (λ b. cond b (Some (take (length text) (text ++ rest), drop (length text) (text ++ rest))) None)
-        (enough (length text) (length rest) (length (text ++ rest)) (length-append text rest))
+    (enough (length text) (length rest) (length (text ++ rest)) (length-append text rest))
     ∙ λ i. Some (take-append_seam text rest i, drop_front text rest i)
   where
     enough : (n m all : ℕ) → all ≡ n + m → nat_le n all ≡ true
@@ -38,9 +38,9 @@ block_back head text rest short =
     let line = opening head (length text) in
     let whole = append_assoc line text rest in
     let low : length text < 2 ^ 64 =
-        omega (arith, short, length-append (line ++ text) rest, length-append line text) in
+    omega (arith, short, length-append (line ++ text) rest, length-append line text) in
     block_is head ((line ++ text) ++ rest) short (length text)
-        (λ n more small at. same_size head n (length text) more (text ++ rest) small low (sym at ∙ whole))
+    (λ n more small at. same_size head n (length text) more (text ++ rest) small low (sym at ∙ whole))
     ∙ ap (λ (bytes : List ℕ). block_of_size head bytes (length text)) whole
     ∙ ap (option_and_then (cut (length text))) (front_is line (text ++ rest))
     ∙ cut_front text rest
@@ -60,12 +60,12 @@ texts_back (b ∷ blocks) short =
     let more = flat_map block_bytes blocks ++ last_line in
     let whole = append_assoc (block_bytes b) (flat_map block_bytes blocks) last_line in
     let less : length (block_bytes b ++ more) < 2 ^ 64 =
-        subst (λ (l : List ℕ). length l < 2 ^ 64) whole short in
+    subst (λ (l : List ℕ). length l < 2 ^ 64) whole short in
     ap (λ (bytes : List ℕ). texts_at (b.head ∷ heads_in blocks) bytes) whole
     ∙ block_some b.head (heads_in blocks) (block_bytes b ++ more) b.text more
-        (block_back b.head b.text more less)
+    (block_back b.head b.text more less)
     ∙ ap (option_map (λ (texts : List (List ℕ)). b.text ∷ texts))
-        (texts_back blocks (omega (arith, less, length-append (block_bytes b) more)))
+    (texts_back blocks (omega (arith, less, length-append (block_bytes b) more)))
 
 -- ---- what is read are blocks
 
@@ -79,7 +79,7 @@ found_in {X} {Y} f x (y ∷ list) is = by (f y) refl is (found_in f x list)
     by : (found : Option X) → f y ≡ found
         → slice_get (cons_option found (filter_map f list)) 0 ≡ Some x
         → (slice_get (filter_map f list) 0 ≡ Some x
-            → (z : Y) × Contains list z × (f z ≡ Some x))
+        → (z : Y) × Contains list z × (f z ≡ Some x))
         → (z : Y) × Contains (y ∷ list) z × (f z ≡ Some x)
     by None none is more =
         let later = more is in
@@ -93,16 +93,17 @@ cut_told size rest text more = by (nat_le size (length rest)) refl
   where
     by : (b : Bool) → nat_le size (length rest) ≡ b
         → cond {A = Option (List ℕ × List ℕ)} b (Some (take size rest, drop size rest)) None
-            ≡ Some (text, more)
+        ≡ Some (text, more)
         → (size ≡ length text) × (rest ≡ text ++ more)
     by false is found = cc
     by true is found =
         let few : size ≤ length rest = grind (arith, nat_tests) in
         let both = same_Some (take size rest, drop size rest) (text, more) found in
         let front : take size rest ≡ text = ap (λ pair. pair.0) both in
-        let back : drop size rest ≡ more = ap (λ pair. pair.1) both in
-        (sym (length-take-le size rest few) ∙ ap (λ (l : List ℕ). length l) front,
-          sym (take-append-drop size rest) ∙ λ i. front i ++ back i)
+        let back : drop size rest ≡ more = ap (λ pair. pair.1) both in (
+          sym (length-take-le size rest few) ∙ ap (λ (l : List ℕ). length l) front,
+          sym (take-append-drop size rest) ∙ λ i. front i ++ back i,
+        )
 
 -- a block that is read stands there
 pub block_told : (head bytes text more : List ℕ) → block_at head bytes ≡ Some (text, more)
@@ -140,17 +141,18 @@ texts_told [] bytes texts = by (bytes_eq bytes last_line) refl
     by : (b : Bool) → bytes_eq bytes last_line ≡ b → cond b (Some []) None ≡ Some texts
         → (length texts ≡ 0) × (bytes ≡ flat_map block_bytes [] ++ last_line)
     by false is found = cc
-    by true is found =
-        (ap (λ (l : List (List ℕ)). length l) (sym (same_Some [] texts found)),
-          (bytes_eq-Decides bytes last_line).0 is)
+    by true is found = (
+      ap (λ (l : List (List ℕ)). length l) (sym (same_Some [] texts found)),
+      (bytes_eq-Decides bytes last_line).0 is,
+    )
 texts_told (head ∷ heads) bytes texts = by (block_at head bytes) refl
     (λ more. texts_told heads more)
   where
     later : (text more : List ℕ) (found : Option (List (List ℕ))) → texts_at heads more ≡ found
         → block_at head bytes ≡ Some (text, more)
         → ((some : List (List ℕ)) → texts_at heads more ≡ Some some
-            → (length some ≡ length heads)
-            × (more ≡ flat_map block_bytes (blocks_of heads some) ++ last_line))
+        → (length some ≡ length heads)
+        × (more ≡ flat_map block_bytes (blocks_of heads some) ++ last_line))
         → option_map (λ (all : List (List ℕ)). text ∷ all) found ≡ Some texts
         → (length texts ≡ suc (length heads))
         × (bytes ≡ flat_map block_bytes (blocks_of (head ∷ heads) texts) ++ last_line)
@@ -159,17 +161,19 @@ texts_told (head ∷ heads) bytes texts = by (block_at head bytes) refl
         let told = each some is in
         let same = same_Some (text ∷ some) texts found in
         let all : bytes ≡ flat_map block_bytes (blocks_of (head ∷ heads) (text ∷ some)) ++ last_line =
-            block_told head bytes text more at
-            ∙ ap (λ (m : List ℕ). block_bytes (record { head = head; text = text }) ++ m) told.1
-            ∙ sym (append_assoc (block_bytes (record { head = head; text = text }))
-                (flat_map block_bytes (blocks_of heads some)) last_line) in
-        (ap (λ (l : List (List ℕ)). length l) (sym same) ∙ ap suc told.0,
+        block_told head bytes text more at
+        ∙ ap (λ (m : List ℕ). block_bytes (record { head = head; text = text }) ++ m) told.1
+        ∙ sym (append_assoc (block_bytes (record { head = head; text = text }))
+        (flat_map block_bytes (blocks_of heads some)) last_line) in (
+          ap (λ (l : List (List ℕ)). length l) (sym same) ∙ ap suc told.0,
           subst (λ (l : List (List ℕ)). bytes ≡ flat_map block_bytes (blocks_of (head ∷ heads) l) ++ last_line)
-            same all)
+              same all,
+        )
+
     by : (block : Option (List ℕ × List ℕ)) → block_at head bytes ≡ block
         → ((more : List ℕ) (some : List (List ℕ)) → texts_at heads more ≡ Some some
-            → (length some ≡ length heads)
-            × (more ≡ flat_map block_bytes (blocks_of heads some) ++ last_line))
+        → (length some ≡ length heads)
+        × (more ≡ flat_map block_bytes (blocks_of heads some) ++ last_line))
         → option_and_then (λ (b : List ℕ × List ℕ). option_map (λ all. b.0 ∷ all) (texts_at heads b.1)) block ≡ Some texts
         → (length texts ≡ suc (length heads))
         × (bytes ≡ flat_map block_bytes (blocks_of (head ∷ heads) texts) ++ last_line)

@@ -3,10 +3,8 @@ use Rattle.std.proofs.Common.{◌≡◌, ◌≢◌, ℕ, ◌<◌, ◌≤◌, ◌
 use Rattle.std.specs.List.{Contains, cons_option, filter_map, flat_map, zip}
 use Rattle.std.proofs.lemmas.List.{get_or-drop, length-append, length-drop, length-map, length-take-le}
 use Rattle.std.proofs.lemmas.Option.{same_Some}
-use Rattle.std.proofs.Math.Seq.{drop-nil}
 use Rattle.giv_files.specs.declared.file_id.FileId.{FileId}
 use Rattle.giv_files.specs.declared.made.Made.{Made}
-use Rattle.giv_files.specs.declared.made.MadeFile.{MadeFile}
 use Rattle.giv_files.specs.declared.stage.Stage.{Stage}
 use Rattle.giv_files.specs.MadeLists.{MakesAs, ids_of, made_lists}
 use Rattle.giv_files.specs.Settings.{BundleParts, Fits}
@@ -65,8 +63,13 @@ heads_size : (at : Stage) (files : List FileId)
 heads_size at files =
     let I = map (λ (_ : FileId). codes "input") (stage_inputs at) in
     let F = map made_head files in
-    omega (arith, length-append (I ++ F) (codes "report" ∷ []), length-append I F,
-        length-map (stage_inputs at) (λ (_ : FileId). codes "input"), length-map files made_head)
+    omega (
+      arith,
+      length-append (I ++ F) (codes "report" ∷ []),
+      length-append I F,
+      length-map (stage_inputs at) (λ (_ : FileId). codes "input"),
+      length-map files made_head,
+    )
 
 blocks_entry : (at : Stage) (files : List FileId) (texts : List (List ℕ))
     → length texts ≡ 2 + length (stage_inputs at) + length files
@@ -79,23 +82,23 @@ blocks_entry at files (s ∷ T) size =
     let n = length (stage_inputs at) in
     let many : length I ≡ n = length-map (stage_inputs at) (λ (_ : FileId). codes "input") in
     let all : length (I ++ F) ≡ n + length files =
-        length-append I F ∙ (λ j. many j + length-map files made_head j) in
+    length-append I F ∙ (λ j. many j + length-map files made_head j) in
     let one : length (drop (n + length files) T) ≡ 1 =
-        length-drop (n + length files) T ∙ omega (arith, size) in
+    length-drop (n + length files) T ∙ omega (arith, size) in
     let next : (k : ℕ) → suc k ≡ 1 + k = λ k. omega arith in
     let made : blocks_of F (drop (length I) T) ≡ map made_block (map made_file (zip files (drop (1 + n) (s ∷ T)))) =
-        ap (λ k. blocks_of F (drop k T)) many ∙ blocks_made files (drop n T)
-        ∙ ap (λ k. map made_block (map made_file (zip files (drop k (s ∷ T))))) (next n) in
+    ap (λ k. blocks_of F (drop k T)) many ∙ blocks_made files (drop n T)
+    ∙ ap (λ k. map made_block (map made_file (zip files (drop k (s ∷ T))))) (next n) in
     let place : suc (n + length files + 0) ≡ 1 + n + length files = omega arith in
     let last : blocks_of (codes "report" ∷ []) (drop (length (I ++ F)) T)
-            ≡ report_block (get_or (s ∷ T) (1 + n + length files) []) ∷ [] =
-        ap (λ k. blocks_of (codes "report" ∷ []) (drop k T)) all
-        ∙ blocks_last (drop (n + length files) T) one
-        ∙ ap (λ t. report_block t ∷ [])
-            (get_or-drop (n + length files) T 0 [] ∙ ap (λ k. get_or (s ∷ T) k []) place) in
+    ≡ report_block (get_or (s ∷ T) (1 + n + length files) []) ∷ [] =
+    ap (λ k. blocks_of (codes "report" ∷ []) (drop k T)) all
+    ∙ blocks_last (drop (n + length files) T) one
+    ∙ ap (λ t. report_block t ∷ [])
+    (get_or-drop (n + length files) T 0 [] ∙ ap (λ k. get_or (s ∷ T) k []) place) in
     ap (λ (more : List Block). record { head = codes "settings"; text = s } ∷ more)
-        (blocks_append (I ++ F) (codes "report" ∷ []) T
-          ∙ λ j. (blocks_append I F T ∙ λ k. blocks_inputs (stage_inputs at) T k ++ made k) j ++ last j)
+    (blocks_append (I ++ F) (codes "report" ∷ []) T
+    ∙ λ j. (blocks_append I F T ∙ λ k. blocks_inputs (stage_inputs at) T k ++ made k) j ++ last j)
 
 -- ---- what is read are the bytes of an entry
 
@@ -122,8 +125,8 @@ read_texts at bytes files rest texts is each told =
     let blocks = flat_map block_bytes (entry_blocks (entry_of at files texts)) in
     record {
       bytes_are = is ∙ ap (λ (r : List ℕ). first_line at ++ r)
-              (told ∙ ap (λ (bl : List Block). flat_map block_bytes bl ++ last_line)
-                  (blocks_entry at files texts size))
+          (told ∙ ap (λ (bl : List Block). flat_map block_bytes bl ++ last_line)
+          (blocks_entry at files texts size))
           ∙ sym (append_assoc (first_line at) blocks last_line);
       made = ids_zip files (drop (1 + length (stage_inputs at)) texts)
           (omega (arith, size, length-drop (1 + length (stage_inputs at)) texts));
@@ -143,6 +146,7 @@ entry_told at bytes files entry = by (behind (first_line at) bytes) refl
         let each = texts_told (heads at files) rest texts told in
         subst (λ e. IsRead at bytes files e) (same_Some (entry_of at files texts) entry found)
         (read_texts at bytes files rest texts (front_back (first_line at) bytes rest is) each.0 each.1)
+
     by : (rest : Option (List ℕ)) → behind (first_line at) bytes ≡ rest
         → option_map (entry_of at files) (option_and_then (texts_at (heads at files)) rest) ≡ Some entry
         → IsRead at bytes files entry
@@ -163,7 +167,7 @@ heads_are : (at : Stage) (entry : EntryParts) → length entry.inputs ≡ length
     → heads at (ids_of entry.made.files) ≡ heads_in (entry_blocks entry)
 heads_are at entry each =
     ap (λ (l : List (List ℕ)). codes "settings" ∷ ((l ++ map made_head (ids_of entry.made.files)) ++ (codes "report" ∷ [])))
-        (const_heads (stage_inputs at) entry.inputs each)
+    (const_heads (stage_inputs at) entry.inputs each)
     ∙ sym (heads_of entry)
 
 there : (at : Stage) (entry : EntryParts) → IsEntryOf at entry
@@ -175,14 +179,15 @@ there at entry is =
     let whole = append_assoc (first_line at) blocks last_line in
     let files = ids_of entry.made.files in
     let short : length rest < 2 ^ 64 =
-        omega (arith, is.short, ap (λ (l : List ℕ). length l) whole, length-append (first_line at) rest) in
-    (entry_of at files (texts_of (entry_blocks entry)),
+    omega (arith, is.short, ap (λ (l : List ℕ). length l) whole, length-append (first_line at) rest) in (
+      entry_of at files (texts_of (entry_blocks entry)),
       ap (λ (bytes : List ℕ). entry_with at bytes files) whole
-      ∙ ap (λ found. option_map (entry_of at files) (option_and_then (texts_at (heads at files)) found))
+          ∙ ap (λ found. option_map (entry_of at files) (option_and_then (texts_at (heads at files)) found))
           (front_is (first_line at) rest)
-      ∙ ap (λ (hs : List (List ℕ)). option_map (entry_of at files) (texts_at hs rest))
+          ∙ ap (λ (hs : List (List ℕ)). option_map (entry_of at files) (texts_at hs rest))
           (heads_are at entry is.inputs)
-      ∙ ap (option_map (entry_of at files)) (texts_back (entry_blocks entry) short))
+          ∙ ap (option_map (entry_of at files)) (texts_back (entry_blocks entry) short),
+    )
 
 -- where nothing is found, nothing is at any item
 none_in : {X Y : Type 0} (f : Y → Option X) (x : X) (y : Y) (list : List Y) → Contains list y
@@ -216,12 +221,14 @@ reading_is_exact at bytes short = by (read_entry at bytes) refl
         (ap (λ (b : List ℕ). entry_with at b (ids_of entry.made.files)) same ∙ other.1) none
     by (Some entry) some =
         let at_list = found_in (entry_with at bytes) entry (made_lists at) some in
-        let told = entry_told at bytes at_list.0 entry at_list.2 in
-        (record {
-          inputs = told.inputs;
-          made = subst (λ files. MakesAs at files) (sym told.made) at_list.1;
-          short = subst (λ (l : List ℕ). length l < 2 ^ 64) told.bytes_are short;
-        }, told.bytes_are)
+        let told = entry_told at bytes at_list.0 entry at_list.2 in (
+          record {
+            inputs = told.inputs;
+            made = subst (λ files. MakesAs at files) (sym told.made) at_list.1;
+            short = subst (λ (l : List ℕ). length l < 2 ^ 64) told.bytes_are short;
+          },
+          told.bytes_are,
+        )
 
 pub entries_are_read_back : EntriesAreReadBack
 entries_are_read_back at entry is =
@@ -232,18 +239,18 @@ entries_are_read_back at entry is =
     by None none = absurd (none entry is refl)
     by (Some other) (also, same) =
         ap Some (entries_stand_apart at other entry [] [] also is
-            (ap (λ (l : List ℕ). l ++ []) (sym same))).0
+        (ap (λ (l : List ℕ). l ++ []) (sym same))).0
 
 pub fronts_are_none : FrontsAreNone
 fronts_are_none at entry front rest is whole some =
     by (read_entry at front) (reading_is_exact at front
-        (omega (arith, is.short, ap (λ (l : List ℕ). length l) whole, length-append front rest)))
+    (omega (arith, is.short, ap (λ (l : List ℕ). length l) whole, length-append front rest)))
   where
     by : (found : Option EntryParts) → ReadsEntry at front found → found ≡ None
     by None none = refl
     by (Some other) (also, same) =
         absurd (some (sym (entries_stand_apart at entry other [] rest is also
-            (append-nil (entry_bytes at entry) ∙ whole ∙ ap (λ (l : List ℕ). l ++ rest) same)).1))
+        (append-nil (entry_bytes at entry) ∙ whole ∙ ap (λ (l : List ℕ). l ++ rest) same)).1))
 
 -- ---- the laws of what a call reads
 
@@ -257,7 +264,7 @@ exact_of at bytes (Err end) short is = tt
 pub front_of : {E : Type 0} (at : Stage) (bytes : List ℕ) (result : Result (Option EntryParts) E)
     → IfOk result (λ found. found ≡ read_entry at bytes)
     → IfOk result (λ found. (entry : EntryParts) (more : List ℕ) → IsEntryOf at entry
-        → entry_bytes at entry ≡ bytes ++ more → more ≢ [] → found ≡ None)
+    → entry_bytes at entry ≡ bytes ++ more → more ≢ [] → found ≡ None)
 front_of at bytes (Ok found) is = λ entry more of whole some.
     is ∙ fronts_are_none at entry bytes more of whole some
 front_of at bytes (Err end) is = tt
@@ -276,4 +283,4 @@ pub back_of : (bundle : BundleParts) (made : Made) (text : List ℕ) → Fits bu
 back_of bundle made text fits makes short is =
     ap (read_entry bundle.stage) is
     ∙ entries_are_read_back bundle.stage (entry_for bundle made)
-        (entry_fits bundle made fits makes (subst (λ (l : List ℕ). length l < 2 ^ 64) is short))
+    (entry_fits bundle made fits makes (subst (λ (l : List ℕ). length l < 2 ^ 64) is short))

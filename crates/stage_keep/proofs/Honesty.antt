@@ -1,19 +1,17 @@
 -- What is written is honest, fronts of it are, and what an honest keep holds is made.
-use Rattle.std.proofs.Common.{◌≡◌, ℕ, ◌<◌, ◌^◌, ◌&&◌, List, [], ◌∷◌, length, refl, ap, sym, subst, ◌∙◌, Bool, true, false, cond, Option, Some, None, option_and_then, Result, Ok}
+use Rattle.std.proofs.Common.{◌≡◌, ℕ, List, refl, ap, sym, subst, ◌∙◌, Bool, true, false, cond, Option, Some, None, option_and_then, Ok}
 use Rattle.std.specs.Cmp.Lexicographic.{pointwise}
 use Rattle.std.specs.Str.{bytes_eq}
 use Rattle.std.proofs.lemmas.Bool.{and_parts}
 use Rattle.std.proofs.lemmas.Option.{same_Some}
 use Rattle.std.proofs.lemmas.Slice.Eq.{bytes_eq-Decides, slice_eq-Decides}
 use Rattle.giv_files.specs.declared.made.Made.{Made}
-use Rattle.giv_files.specs.declared.refusal.Refusal.{Refusal}
-use Rattle.giv_files.specs.declared.stage.Stage.{Stage}
 use Rattle.giv_files.specs.Settings.{BundleParts, Fits, SettingsFit}
 use Rattle.giv_files.specs.SettingsText.{settings_text}
 use Rattle.giv_files.proofs.SettingsTold.{text_tells}
-use Rattle.stage_keep.specs.Entries.{EntryParts, entry_bytes, entry_for}
+use Rattle.stage_keep.specs.Entries.{EntryParts, entry_for}
 use Rattle.stage_keep.specs.EntryReading.{read_entry}
-use Rattle.stage_keep.specs.Honest.{IsHonest, held_for, kept_for, matches}
+use Rattle.stage_keep.specs.Honest.{held_for, matches}
 use Rattle.stage_keep.specs.Laws.{FrontsAreHonest, HonestIsMade, WrittenIsEntry, WrittenIsHonest}
 use Rattle.stage_keep.proofs.EntriesRead.{entries_are_read_back, entry_fits, fronts_are_none}
 
@@ -22,31 +20,34 @@ texts_decide : (xs ys : List (List ℕ)) → (pointwise bytes_eq xs ys ≡ true 
 texts_decide xs ys = slice_eq-Decides bytes_eq-Decides xs ys (pointwise bytes_eq xs ys) refl
 
 pub written_is_entry : WrittenIsEntry
-written_is_entry bundle made fits makes short =
-    (entry_fits bundle made fits makes short,
-      rw ((bytes_eq-Decides (settings_text bundle.settings) (settings_text bundle.settings)).1 refl,
-          (texts_decide bundle.inputs bundle.inputs).1 refl) refl)
+written_is_entry bundle made fits makes short = (
+  entry_fits bundle made fits makes short,
+  rw (
+    (bytes_eq-Decides (settings_text bundle.settings) (settings_text bundle.settings)).1 refl,
+    (texts_decide bundle.inputs bundle.inputs).1 refl,
+  ) refl,
+)
 
 -- an entry of a bundle matches no other bundle of its stage
 same_bundle : (bundle other : BundleParts) (made : Made) → Fits bundle → Fits other
     → other.stage ≡ bundle.stage → matches (entry_for bundle made) other ≡ true → other ≡ bundle
 same_bundle bundle other made fits also stage is =
     let both = and_parts (bytes_eq (settings_text bundle.settings) (settings_text other.settings))
-        (pointwise bytes_eq bundle.inputs other.inputs) is in
+    (pointwise bytes_eq bundle.inputs other.inputs) is in
     let text = (bytes_eq-Decides (settings_text bundle.settings) (settings_text other.settings)).0 both.0 in
     let inputs = (texts_decide bundle.inputs other.inputs).0 both.1 in
     let settings = text_tells bundle.settings (settings_text bundle.settings) refl bundle.stage
-        other.settings fits.settings
-        (subst (λ at. SettingsFit at other.settings) stage also.settings) (sym text) in
+    other.settings fits.settings
+    (subst (λ at. SettingsFit at other.settings) stage also.settings) (sym text) in
     λ i. record { stage = stage i; settings = settings i; inputs = sym inputs i }
 
 pub written_is_honest : WrittenIsHonest
 written_is_honest makes bundle made fits of short is = λ entry other read stage also matching.
     let own = same_Some (entry_for bundle made) entry
-        (sym (entries_are_read_back bundle.stage (entry_for bundle made)
-            (entry_fits bundle made fits of short)) ∙ read) in
+    (sym (entries_are_read_back bundle.stage (entry_for bundle made)
+    (entry_fits bundle made fits of short)) ∙ read) in
     ap makes (same_bundle bundle other made fits also stage
-        (ap (λ e. matches e other) own ∙ matching))
+    (ap (λ e. matches e other) own ∙ matching))
     ∙ is ∙ ap (λ e. Ok e.made) own
 
 pub fronts_are_honest : FrontsAreHonest
@@ -64,6 +65,7 @@ honest_is_made makes kept honest bundle made fits = by (kept bundle.stage) refl
         → cond b (Some entry.made) None ≡ Some made → makes bundle ≡ Ok made
     held entry true same makes_it found = makes_it same ∙ ap Ok (same_Some entry.made made found)
     held entry false same makes_it found = cc
+
     read : (bytes : List ℕ) (entry : Option EntryParts) → kept bundle.stage ≡ Some bytes
         → read_entry bundle.stage bytes ≡ entry
         → option_and_then (held_for bundle) entry ≡ Some made → makes bundle ≡ Ok made
@@ -71,6 +73,7 @@ honest_is_made makes kept honest bundle made fits = by (kept bundle.stage) refl
     read bytes (Some entry) at some found =
         held entry (matches entry bundle) refl
         (λ same. honest bundle.stage bytes at entry bundle some refl fits same) found
+
     by : (text : Option (List ℕ)) → kept bundle.stage ≡ text
         → option_and_then (held_for bundle) (option_and_then (read_entry bundle.stage) text) ≡ Some made
         → makes bundle ≡ Ok made

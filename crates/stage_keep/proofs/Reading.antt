@@ -1,5 +1,5 @@
 -- Steps of reading an entry.
-use Rattle.std.proofs.Common.{◌≡◌, ℕ, ◌<◌, ◌≤◌, ◌+◌, ◌-◌, zero, suc, List, [], ◌∷◌, ◌++◌, length, map, take, drop, get_or, refl, ap, sym, ◌∙◌, arith, Option, Some, None, option_map, slice_get, append_assoc, if◌then◌else◌, codes, cond, Bool, true, false, option_and_then, append-nil, drop-drop}
+use Rattle.std.proofs.Common.{◌≡◌, ℕ, ◌<◌, ◌≤◌, ◌+◌, ◌-◌, suc, List, [], ◌∷◌, ◌++◌, length, map, take, drop, get_or, refl, ap, sym, ◌∙◌, arith, Option, Some, None, option_map, slice_get, append_assoc, if◌then◌else◌, codes, cond, Bool, true, false, option_and_then, append-nil, drop-drop}
 use Rattle.std.specs.List.{filter_map, zip}
 use Rattle.std.specs.Str.{bytes_eq}
 use Rattle.std.specs.List.{drop-map, take-map}
@@ -36,12 +36,12 @@ pub file_more : (files : List FileId) (texts : List (List ℕ)) (i : ℕ) (d : F
     (made all : List MadeFile) → i < length files → i < length texts
     → made ++ map made_file (zip (drop i files) (drop i texts)) ≡ all
     → (made ++ record { file = get_or files i d; text = get_or texts i [] } ∷ [])
-        ++ map made_file (zip (drop (i + 1) files) (drop (i + 1) texts)) ≡ all
+    ++ map made_file (zip (drop (i + 1) files) (drop (i + 1) texts)) ≡ all
 file_more files texts i d made all inside within is =
     append_assoc made (record { file = get_or files i d; text = get_or texts i [] } ∷ [])
-        (map made_file (zip (drop (i + 1) files) (drop (i + 1) texts)))
+    (map made_file (zip (drop (i + 1) files) (drop (i + 1) texts)))
     ∙ ap (λ (fs : List FileId). made ++ map made_file (zip fs (get_or texts i [] ∷ drop (i + 1) texts)))
-        (sym (drop_at files i d inside))
+    (sym (drop_at files i d inside))
     ∙ ap (λ (ts : List (List ℕ)). made ++ map made_file (zip (drop i files) ts)) (sym (drop_at texts i [] within))
     ∙ is
 
@@ -53,7 +53,7 @@ pub file_pushed : (files : List FileId) (texts : List (List ℕ)) (i : ℕ) (d :
     → new ++ map made_file (zip (drop (i + 1) files) (drop (i + 1) texts)) ≡ all
 file_pushed files texts i d made all new text inside within own pushed is =
     ap (λ (m : List MadeFile). m ++ map made_file (zip (drop (i + 1) files) (drop (i + 1) texts)))
-        (pushed ∙ ap (λ t. made ++ record { file = get_or files i d; text = t } ∷ []) own)
+    (pushed ∙ ap (λ t. made ++ record { file = get_or files i d; text = t } ∷ []) own)
     ∙ file_more files texts i d made all inside within is
 
 fused : (so_far : List (List ℕ)) (text : List ℕ) (found : Option (List (List ℕ)))
@@ -97,9 +97,9 @@ module _ (heads : List (List ℕ)) (i : ℕ) (so_far : List (List ℕ)) (rest : 
   text_more d text more inside found =
       sym (fused so_far text (texts_at (drop (i + 1) heads) more))
       ∙ ap (option_map (λ later. so_far ++ later))
-          (sym (block_some (get_or heads i d) (drop (i + 1) heads) rest text more found))
+      (sym (block_some (get_or heads i d) (drop (i + 1) heads) rest text more found))
       ∙ ap (λ (hs : List (List ℕ)). option_map (λ later. so_far ++ later) (texts_at hs rest))
-          (sym (drop_at heads i d inside))
+      (sym (drop_at heads i d inside))
       ∙ is
 
   -- no text more
@@ -107,9 +107,9 @@ module _ (heads : List (List ℕ)) (i : ℕ) (so_far : List (List ℕ)) (rest : 
       → None ≡ all
   text_none d inside none =
       ap (option_map (λ later. so_far ++ later))
-          (sym (block_none (get_or heads i d) (drop (i + 1) heads) rest none))
+      (sym (block_none (get_or heads i d) (drop (i + 1) heads) rest none))
       ∙ ap (λ (hs : List (List ℕ)). option_map (λ later. so_far ++ later) (texts_at hs rest))
-          (sym (drop_at heads i d inside))
+      (sym (drop_at heads i d inside))
       ∙ is
 
   -- all texts
@@ -118,7 +118,7 @@ module _ (heads : List (List ℕ)) (i : ℕ) (so_far : List (List ℕ)) (rest : 
   texts_end past =
       ended so_far rest
       ∙ ap (λ (hs : List (List ℕ)). option_map (λ later. so_far ++ later) (texts_at hs rest))
-          (sym (drop_of_length-le heads past))
+      (sym (drop_of_length-le heads past))
       ∙ is
 
 -- the first of the lists of files with which the bytes are an entry
@@ -192,8 +192,8 @@ module _ {B : Type 0} (f : B → List ℕ) (xs : List B) (n m : ℕ) (d : B)
       → f (get_or back m d) ≡ get_or (map f xs) (1 + n + m) []
   last_text back is =
       let long : length back ≡ length xs - 1 - n =
-          ap (λ l. length l) (is ∙ ap (drop n) behind_first)
-          ∙ length-drop n (drop 1 xs) ∙ ap (λ k. k - n) (length-drop 1 xs) in
+      ap (λ l. length l) (is ∙ ap (drop n) behind_first)
+      ∙ length-drop n (drop 1 xs) ∙ ap (λ k. k - n) (length-drop 1 xs) in
       sym (get_or-map f back m d [] (omega (arith, long, enough)))
       ∙ ap (λ l. get_or l m []) (back_texts back is)
       ∙ get_or-drop (1 + n) (map f xs) m []

@@ -1,8 +1,13 @@
 -- Steps of writing an entry.
-use Rattle.std.proofs.Common.{◌≡◌, ℕ, ◌<◌, ◌+◌, List, [], ◌∷◌, ◌++◌, length, map, drop, get_or, ap, sym, ◌∙◌, arith, Some, slice_get, append_assoc}
+use Rattle.std.proofs.Common.{◌≡◌, ℕ, ◌+◌, List, [], ◌∷◌, ◌++◌, map, drop, ap, sym, subst, refl, ◌∙◌, arith, Some, slice_get, append_assoc}
 use Rattle.std.specs.List.{flat_map}
 use Rattle.std.proofs.lemmas.Option.{get_or_from_slice_get, slice_get_within}
+use Rattle.giv_files.specs.declared.file_id.FileId.{FileId}
+use Rattle.giv_files.specs.declared.file_id.FileId.TheVariants as file
 use Rattle.giv_files.specs.declared.made.MadeFile.{MadeFile}
+use Rattle.giv_files.specs.declared.stage.Stage.{Stage}
+use Rattle.giv_files.specs.declared.stage.Stage.TheVariants as stage
+use Rattle.giv_files.specs.MadeLists.{MakesAs}
 use Rattle.stage_keep.specs.Entries.{block_bytes, made_block, made_head}
 use Rattle.stage_keep.proofs.Reading.{drop_at}
 
@@ -15,9 +20,16 @@ pub made_more : (files : List MadeFile) (i : ℕ) (made : MadeFile) (head text b
 made_more files i made head text bytes new all at h t pushed is =
     let rest = flat_map block_bytes (map made_block (drop (i + 1) files)) in
     ap (λ (front : List ℕ). front ++ rest)
-        (pushed ∙ λ j. bytes ++ block_bytes (record { head = h j; text = t j }))
+    (pushed ∙ λ j. bytes ++ block_bytes (record { head = h j; text = t j }))
     ∙ append_assoc bytes (block_bytes (made_block made)) rest
     ∙ ap (λ (fs : List MadeFile). bytes ++ flat_map block_bytes (map made_block fs))
-        (ap (λ m. m ∷ drop (i + 1) files) (sym (get_or_from_slice_get files i made made at))
-          ∙ sym (drop_at files i made (slice_get_within files i made at)))
+    (ap (λ m. m ∷ drop (i + 1) files) (sym (get_or_from_slice_get files i made made at))
+    ∙ sym (drop_at files i made (slice_get_within files i made at)))
     ∙ is
+
+-- the one list of files that the stage of costs makes
+pub costs_are_made : (at : Stage) (files : List FileId) → at ≡ stage.Cost → files ≡ file.PoolCost ∷ []
+    → MakesAs at files
+costs_are_made at files is made =
+    subst (λ s. MakesAs s files) (sym is)
+    (subst (λ l. MakesAs stage.Cost l) (sym made) (0, omega arith, refl))

@@ -1,6 +1,30 @@
 -- The entry that some bytes are, where they are one.
-use Rattle.std.specs.Prelude.{◌≡◌, ℕ, ◌+◌, nat_le, nat_eq, if◌then◌else◌, List, [], ◌∷◌, ◌++◌, length, map,
-    filter_map, take, drop, get_or, zip, codes, slice_get, Option, Some, None, option_map, option_and_then}
+use Rattle.std.specs.Prelude.{
+  ◌≡◌,
+  ℕ,
+  ◌+◌,
+  nat_le,
+  nat_eq,
+  if◌then◌else◌,
+  List,
+  [],
+  ◌∷◌,
+  ◌++◌,
+  length,
+  map,
+  filter_map,
+  take,
+  drop,
+  get_or,
+  zip,
+  codes,
+  slice_get,
+  Option,
+  Some,
+  None,
+  option_map,
+  option_and_then,
+}
 use Rattle.std.specs.List.{starts_with, range_with_len}
 use Rattle.std.specs.Str.{bytes_eq}
 use Rattle.giv_files.specs.declared.file_id.FileId.{FileId}
@@ -48,8 +72,10 @@ abbrev pub entry_of : Stage → List FileId → List (List ℕ) → EntryParts
 entry_of stage files texts = let inputs = length (stage_inputs stage) in record {
   settings = get_or texts 0 [];
   inputs = take inputs (drop 1 texts);
-  made = record { files = map made_file (zip files (drop (1 + inputs) texts));
-      report = get_or texts (1 + inputs + length files) [] };
+  made = record {
+    files = map made_file (zip files (drop (1 + inputs) texts));
+    report = get_or texts (1 + inputs + length files) [];
+  };
 }
 
 -- the entry that bytes are, where its made files are these

@@ -19,11 +19,7 @@ pub(crate) fn first_line(alloc: Global, stage: Stage) -> Result<Text, NoMemory>
 }
 
 /// The heads of the blocks of an entry of a stage that has these made files.
-pub(crate) fn heads(
-    alloc: Global,
-    stage: Stage,
-    files: &[FileId],
-) -> Result<Vec<Text>, NoMemory>
+pub(crate) fn heads(alloc: Global, stage: Stage, files: &[FileId]) -> Result<Vec<Text>, NoMemory>
     ensures { IfOk result (λ found. found.items ≡ heads stage files.now) }
 {
     let mut heads = Vec::new(alloc);

@@ -134,11 +134,7 @@ fn copies(alloc: Global, texts: &[&[u8]]) -> Result<Vec<Text>, NoMemory>
 }
 
 // Files with the texts that stand first among these.
-fn made_files(
-    alloc: Global,
-    files: &[FileId],
-    texts: &[&[u8]],
-) -> Result<MadeList, NoMemory>
+fn made_files(alloc: Global, files: &[FileId], texts: &[&[u8]]) -> Result<MadeList, NoMemory>
     requires { length files.now ≤ length texts.now }
     ensures { IfOk result (λ made. made
         ≡ map made_file (zip files.now (map (λ text. text.now) texts.now))) }

@@ -9,4 +9,4 @@ loop-input-preserved c =
     ∙ ap (λ (head : List ℕ). c.loop-input.heads.items ++ head ∷ []) c.in_ok-copy-2.ensures
     ∙ ap (λ (front : List (List ℕ)). front ++ codes "input" ∷ []) c.loop-input.invariant
     ∙ ap (λ (more : List (List ℕ)). codes "settings" ∷ more)
-        (sym (head_more c.inputs-input-items.result.now c.loop-input._input-index Stop c.loop-input-test.true))
+    (sym (head_more c.inputs-input-items.result.now c.loop-input._input-index Stop c.loop-input-test.true))

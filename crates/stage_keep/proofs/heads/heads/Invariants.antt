@@ -1,5 +1,5 @@
 -- The heads so far.
-use Rattle.std.proofs.Common.{◌≡◌, ◌∷◌, ◌++◌, [], codes, map, take}
+use Rattle.std.proofs.Common.{◌≡◌, ◌∷◌, ◌++◌, codes, map, take}
 use Rattle.giv_files.specs.Stages.{stage_inputs}
 use Rattle.stage_keep.specs.Entries.{made_head}
 use Rattle.stage_keep.proofs.heads.heads.Given as goal
@@ -11,4 +11,4 @@ invariant-loop-input l =
 abbrev pub invariant-loop-file : goal.invariant-loop-file
 invariant-loop-file l =
     l.heads.items ≡ codes "settings" ∷ map (λ _. codes "input") (stage_inputs l.fn.stage)
-        ++ map made_head (take l.file-index l.files)
+    ++ map made_head (take l.file-index l.files)

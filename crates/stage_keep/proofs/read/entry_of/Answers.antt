@@ -1,4 +1,4 @@
-use Rattle.std.proofs.Common.{ℕ, ◌+◌, ◌-◌, ap, ◌∙◌, sym, length, map, take, drop, [], List}
+use Rattle.std.proofs.Common.{ℕ, ◌-◌, ap, ◌∙◌, length, map, take, drop, [], List}
 use Rattle.std.specs.List.{zip}
 use Rattle.giv_files.specs.declared.file_id.FileId.{FileId}
 use Rattle.giv_files.specs.Stages.{stage_inputs}
@@ -13,16 +13,16 @@ returns c =
     let n = length (stage_inputs c.args.stage) in
     let size = ap (λ (l : List FileId). length l) c.inputs.ensures in
     let front = c.split_at.ensures.front
-        ∙ ap (λ k. take k (take (length texts - 1) (drop 1 texts))) size in
+    ∙ ap (λ k. take k (take (length texts - 1) (drop 1 texts))) size in
     let back = c.split_at.ensures.back
-        ∙ ap (λ k. drop k (take (length texts - 1) (drop 1 texts))) size in
+    ∙ ap (λ k. drop k (take (length texts - 1) (drop 1 texts))) size in
     c.new.ensures
     ∙ entry_by_parts c.args.stage files (map (λ text. text.now) texts) _ _ _ _
-        (c.in_ok-settings.ensures ∙ first_text (λ text. text.now) texts n (length files) (record { ref_ptr = (0, 0); now = [] }) c.requires)
-        (c.in_ok-inputs.ensures
-          ∙ front_texts (λ text. text.now) texts n (length files) (record { ref_ptr = (0, 0); now = [] }) c.requires _ front)
-        (c.in_ok-files.ensures
-          ∙ ap (λ (l : List (List ℕ)). map made_file (zip files l))
-              (back_texts (λ text. text.now) texts n (length files) (record { ref_ptr = (0, 0); now = [] }) c.requires _ back))
-        (c.in_ok-report.ensures
-          ∙ last_text (λ text. text.now) texts n (length files) (record { ref_ptr = (0, 0); now = [] }) c.requires _ back)
+    (c.in_ok-settings.ensures ∙ first_text (λ text. text.now) texts n (length files) (record { ref_ptr = (0, 0); now = [] }) c.requires)
+    (c.in_ok-inputs.ensures
+    ∙ front_texts (λ text. text.now) texts n (length files) (record { ref_ptr = (0, 0); now = [] }) c.requires _ front)
+    (c.in_ok-files.ensures
+    ∙ ap (λ (l : List (List ℕ)). map made_file (zip files l))
+    (back_texts (λ text. text.now) texts n (length files) (record { ref_ptr = (0, 0); now = [] }) c.requires _ back))
+    (c.in_ok-report.ensures
+    ∙ last_text (λ text. text.now) texts n (length files) (record { ref_ptr = (0, 0); now = [] }) c.requires _ back)

@@ -1,4 +1,4 @@
-use Rattle.std.proofs.Common.{◌<◌, ap, ◌∙◌, sym, arith, length, map, [], List, ℕ}
+use Rattle.std.proofs.Common.{◌<◌, ◌∙◌, sym, arith, length, map, []}
 use Rattle.std.proofs.lemmas.List.{get_or-map, length-map}
 use Rattle.giv_files.specs.declared.file_id.FileId.TheVariants.{Stop}
 use Rattle.stage_keep.proofs.Reading.{file_pushed}
@@ -8,7 +8,7 @@ pub loop-index-preserved : goal.loop-index-preserved
 loop-index-preserved c =
     let few = c.loop-index.invariant.few in
     let inside : c.loop-index.index < length c.args.texts.now =
-        omega (arith, few, c.loop-index-test.true) in
+    omega (arith, few, c.loop-index-test.true) in
     record {
       few = few;
       left = file_pushed c.args.files.now (map (λ text. text.now) c.args.texts.now)
@@ -16,6 +16,6 @@ loop-index-preserved c =
           c.loop-index-test.true
           (omega (arith, inside, length-map c.args.texts.now (λ text. text.now)))
           (c.in_ok-text.ensures
-            ∙ sym (get_or-map (λ text. text.now) c.args.texts.now c.loop-index.index _ [] inside))
+          ∙ sym (get_or-map (λ text. text.now) c.args.texts.now c.loop-index.index _ [] inside))
           c.in_ok-push.ensures.ok c.loop-index.invariant.left;
     }

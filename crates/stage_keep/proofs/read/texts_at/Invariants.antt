@@ -7,6 +7,6 @@ abbrev pub invariant-loop-head : goal.invariant-loop-head
 invariant-loop-head l = record {
   each : length l.texts.items ≡ l.head-index;
   left : option_map (λ later. map (λ text. text.now) l.texts.items ++ later)
-          (texts_at (drop l.head-index l.heads) l.rest)
+      (texts_at (drop l.head-index l.heads) l.rest)
       ≡ texts_at l.heads l.fn.bytes;
 }

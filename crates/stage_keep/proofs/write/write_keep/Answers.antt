@@ -1,6 +1,6 @@
-use Rattle.std.proofs.Common.{◌≡◌, ap, arith, ◌∙◌, sym, length, List, ℕ}
+use Rattle.std.proofs.Common.{ap, arith, length, List, ℕ}
 use Rattle.std.proofs.lemmas.Grind.{common_steps}
-use Rattle.stage_keep.specs.Entries.{entry_bytes, entry_for}
+use Rattle.stage_keep.specs.Entries.{entry_bytes}
 use Rattle.stage_keep.proofs.EntriesRead.{back_of}
 use Rattle.stage_keep.proofs.write.write_keep.Goals as goal
 
