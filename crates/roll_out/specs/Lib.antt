@@ -1,0 +1,5 @@
+pub mod DayActivities
+pub mod DayTrips
+pub mod Plans
+pub mod RolloutStage
+pub mod TimedRuns

@@ -1,0 +1,103 @@
+// The changes between trips.
+ghost use Rattle.std.specs.Prelude.{◌≡◌, ◌≤◌, ◌<◌, ◌++◌, length, All, OnOk};
+ghost use Rattle.std.specs.List.{flat_map};
+ghost use Rattle.roll_out.specs.DayActivities.{is_change};
+ghost use Rattle.roll_out.specs.Plans.{AreFew, IsBetween, changes_at, changes_by, changes_if, copies_with};
+
+use crate::copies::Copies;
+use crate::network::TimedNetwork;
+use crate::ways::copy_of;
+use event_tables::{ActivityKind, ExpandedActivity, PeriodicActivity};
+use plan_num::NoMemory;
+
+/// How many changes between trips there are.
+pub(crate) fn change_count(network: &TimedNetwork, copies: &[Copies]) -> usize
+    requires each { length copies.now ≡ length network.now.events }
+    requires few { All AreFew copies.now }
+    ensures count { result
+        ≡ length (flat_map (changes_if network.now copies.now) network.now.activities) }
+    ensures few { result ≤ 400000000 }
+{
+    let mut count = 0;
+    for activity in network.activities() {
+        if is_change(activity) {
+            count += count_copies(network, copies, activity);
+        }
+    }
+    count
+}
+
+// How many copies of a change there are.
+fn count_copies(network: &TimedNetwork, copies: &[Copies], activity: &PeriodicActivity) -> usize
+    requires each { length copies.now ≡ length network.now.events }
+    requires few { All AreFew copies.now }
+    requires between { IsBetween network.now activity.now }
+    ensures count { result ≡ length (changes_by network.now copies.now activity.now) }
+    ensures few { result ≤ 2000 }
+{
+    let tail = copies[activity.from as usize - 1];
+    let head = copies[activity.to as usize - 1];
+    let minutes = network.minutes_of(activity);
+    let period = network.period();
+    let mut count = 0;
+    for earlier in 0..tail.count {
+        if head
+            .id_at(period, tail.time(period, earlier) + minutes)
+            .is_some()
+        {
+            count += 1;
+        }
+    }
+    count
+}
+
+/// The changes between trips are added.
+pub(crate) fn add_changes(
+    network: &TimedNetwork,
+    copies: &[Copies],
+    activities: &mut Vec<ExpandedActivity>,
+) -> Result<(), NoMemory>
+    requires each { length copies.now ≡ length network.now.events }
+    requires few { All AreFew copies.now }
+    ensures { OnOk result (activities.new.items ≡ activities.old.items
+        ++ flat_map (changes_if network.now copies.now) network.now.activities) }
+{
+    for activity in network.activities() {
+        if is_change(activity) {
+            add_copies(network, copies, activity, activities)?;
+        }
+    }
+    Ok(())
+}
+
+// The copies of a change are added.
+fn add_copies(
+    network: &TimedNetwork,
+    copies: &[Copies],
+    activity: &PeriodicActivity,
+    activities: &mut Vec<ExpandedActivity>,
+) -> Result<(), NoMemory>
+    requires each { length copies.now ≡ length network.now.events }
+    requires few { All AreFew copies.now }
+    requires between { IsBetween network.now activity.now }
+    ensures { OnOk result (activities.new.items ≡ activities.old.items
+        ++ changes_by network.now copies.now activity.now) }
+{
+    let tail = copies[activity.from as usize - 1];
+    let head = copies[activity.to as usize - 1];
+    let minutes = network.minutes_of(activity);
+    let period = network.period();
+    for earlier in 0..tail.count {
+        if let Some(id) = head.id_at(period, tail.time(period, earlier) + minutes) {
+            activities.push(copy_of(activity, tail.id(earlier), id))?;
+        }
+    }
+    Ok(())
+}
+
+// Whether an activity is a change.
+fn is_change(activity: &PeriodicActivity) -> bool
+    ensures { result ≡ is_change activity.now }
+{
+    matches!(activity.kind, ActivityKind::Change)
+}

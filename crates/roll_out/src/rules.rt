@@ -1,0 +1,153 @@
+// The rules of runs: where they are broken.
+ghost use Rattle.std.specs.Prelude.{◌≡◌, length, filter, map, IfOk, OnOk, ◌++◌};
+ghost use Rattle.std.specs.List.{count_by, flat_map};
+ghost use Rattle.event_tables.specs.Places.{AreNumbered};
+ghost use Rattle.event_tables.specs.RunRules.{breaks, broken_in, is_placed, is_stray, lacks_way, leads, stray_activities, unjoined_in, way_on};
+
+use crate::run::{Run, joins};
+use event_tables::{ActivityKind, EventKind, PeriodicActivity, PeriodicEvent};
+use plan_num::NoMemory;
+use std::alloc::Global;
+
+/// The events at which runs are broken: those of the wrong kind, since a run alternates from a
+/// departure on, and the last ones of runs of odd length.
+pub(crate) fn broken_events(alloc: Global, runs: &[Run]) -> Result<Vec<u32>, NoMemory>
+    ensures { IfOk result
+        (λ ids. ids.items ≡ map (λ event. event.id) (flat_map broken_in runs.now)) }
+{
+    let mut ids = Vec::new(alloc);
+    for run in runs {
+        add_broken(run.events(), &mut ids)?;
+    }
+    Ok(ids)
+}
+
+// The ids of the events at which a run is broken are added.
+fn add_broken(run: &[PeriodicEvent], ids: &mut Vec<u32>) -> Result<(), NoMemory>
+    ensures { OnOk result (ids.new.items
+        ≡ ids.old.items ++ map (λ event. event.id) (broken_in run.now)) }
+{
+    for place in 0..run.len() {
+        if breaks(run.len(), place, &run[place]) {
+            ids.push(run[place].id)?;
+        }
+    }
+    Ok(())
+}
+
+// Whether a run of so many events is broken at the event at a place.
+fn breaks(size: usize, place: usize, event: &PeriodicEvent) -> bool
+    ensures { result ≡ breaks size (place, event.now) }
+{
+    usize::from(event.kind.place()) != place % 2 || (size - 1 == place && size % 2 == 1)
+}
+
+/// The events that are not joined to the next one of their run by exactly one drive or wait.
+pub(crate) fn unjoined_events(
+    alloc: Global,
+    runs: &[Run],
+    activities: &[PeriodicActivity],
+) -> Result<Vec<u32>, NoMemory>
+    ensures { IfOk result (λ ids. ids.items
+        ≡ map (λ event. event.id) (flat_map (unjoined_in activities.now) runs.now)) }
+{
+    let mut ids = Vec::new(alloc);
+    for run in runs {
+        add_unjoined(run.events(), activities, &mut ids)?;
+    }
+    Ok(ids)
+}
+
+// The ids of the events of a run that are not so are added.
+fn add_unjoined(
+    run: &[PeriodicEvent],
+    activities: &[PeriodicActivity],
+    ids: &mut Vec<u32>,
+) -> Result<(), NoMemory>
+    ensures { OnOk result (ids.new.items
+        ≡ ids.old.items ++ map (λ event. event.id) (unjoined_in activities.now run.now)) }
+{
+    for place in 1..run.len() {
+        if lacks_way(&run[place - 1], &run[place], activities) {
+            ids.push(run[place - 1].id)?;
+        }
+    }
+    Ok(())
+}
+
+// Whether not exactly one activity leads from an event to the next one of its run.
+fn lacks_way(event: &PeriodicEvent, next: &PeriodicEvent, activities: &[PeriodicActivity]) -> bool
+    ensures { result ≡ lacks_way activities.now (event.now, next.now) }
+{
+    let mut count = 0;
+    for activity in activities {
+        if leads(event, next, activity) {
+            count += 1;
+        }
+    }
+    count != 1
+}
+
+/// Whether an activity leads from an event to the next one of its run.
+pub(crate) fn leads(
+    event: &PeriodicEvent,
+    next: &PeriodicEvent,
+    activity: &PeriodicActivity,
+) -> bool
+    ensures { result ≡ leads (event.now, next.now) activity.now }
+{
+    activity.kind.place() == way_on(event.kind).place()
+        && activity.from == event.id
+        && activity.to == next.id
+}
+
+// The kind of the activity that leads from an event of a kind to the next one of its run.
+fn way_on(kind: EventKind) -> ActivityKind
+    ensures { result ≡ way_on kind }
+{
+    match kind {
+        EventKind::Departure => ActivityKind::Drive,
+        EventKind::Arrival => ActivityKind::Wait,
+    }
+}
+
+/// The activities that join no two events in the way of their kind, and the drives that may take no
+/// time.
+pub(crate) fn stray_activities(
+    alloc: Global,
+    events: &[PeriodicEvent],
+    activities: &[PeriodicActivity],
+) -> Result<Vec<u32>, NoMemory>
+    requires { AreNumbered (λ event. event.id) events.now }
+    ensures { IfOk result (λ ids. ids.items
+        ≡ map (λ activity. activity.id) (stray_activities events.now activities.now)) }
+{
+    let mut ids = Vec::new(alloc);
+    for activity in activities {
+        if is_stray(events, activity) {
+            ids.push(activity.id)?;
+        }
+    }
+    Ok(ids)
+}
+
+// Whether an activity is so.
+fn is_stray(events: &[PeriodicEvent], activity: &PeriodicActivity) -> bool
+    requires { AreNumbered (λ event. event.id) events.now }
+    ensures { result ≡ is_stray events.now activity.now }
+{
+    let is_drive = matches!(activity.kind, ActivityKind::Drive);
+    !is_placed(events, activity) || (is_drive && activity.lower == 0)
+}
+
+// Whether an activity joins two events in the way of its kind. Ids of events are their places.
+fn is_placed(events: &[PeriodicEvent], activity: &PeriodicActivity) -> bool
+    requires { AreNumbered (λ event. event.id) events.now }
+    ensures { result ≡ is_placed events.now activity.now }
+{
+    let (from, to) = (activity.from as usize, activity.to as usize);
+    if from == 0 || to == 0 || from > events.len() || to > events.len() {
+        return false;
+    }
+    joins(activity.kind, &events[from - 1], &events[to - 1])
+}
