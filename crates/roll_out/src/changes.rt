@@ -1,7 +1,8 @@
 // The changes between trips.
-ghost use Rattle.std.specs.Prelude.{◌≡◌, ◌≤◌, ◌<◌, ◌++◌, length, All, OnOk};
+ghost use Rattle.std.specs.Prelude.{◌≡◌, ◌≤◌, ◌<◌, ◌++◌, length, map, All, OnOk};
+ghost use Rattle.std.specs.Option.{option_to_list};
 ghost use Rattle.std.specs.List.{flat_map};
-ghost use Rattle.roll_out.specs.DayActivities.{is_change};
+ghost use Rattle.roll_out.specs.DayActivities.{copy_of, is_change};
 ghost use Rattle.roll_out.specs.Plans.{AreFew, IsBetween, changes_at, changes_by, changes_if, copies_with};
 
 use crate::copies::Copies;
@@ -88,11 +89,37 @@ fn add_copies(
     let minutes = network.minutes_of(activity);
     let period = network.period();
     for earlier in 0..tail.count {
-        if let Some(id) = head.id_at(period, tail.time(period, earlier) + minutes) {
-            activities.push(copy_of(activity, tail.id(earlier), id))?;
-        }
+        let to = head.id_at(period, tail.time(period, earlier) + minutes);
+        add_copy(activity, tail.id(earlier), to, activities)?;
     }
     Ok(())
+}
+
+// The copy of an activity between two events is added, if the second one is there.
+fn add_copy(
+    activity: &PeriodicActivity,
+    from: u32,
+    to: Option<u32>,
+    activities: &mut Vec<ExpandedActivity>,
+) -> Result<(), NoMemory>
+    ensures { OnOk result (activities.new.items
+        ≡ activities.old.items ++ map (copy_of activity.now from) (option_to_list to)) }
+{
+    if let Some(to) = to {
+        activities.push(copy_of(activity, from, to))?;
+    }
+    Ok(())
+}
+
+// How many ids there are: one, or none.
+fn count_of(id: Option<u32>) -> usize
+    ensures count { result ≡ length (option_to_list id) }
+    ensures few { result ≤ 1 }
+{
+    match id {
+        None => 0,
+        Some(_) => 1,
+    }
 }
 
 // Whether an activity is a change.

@@ -1,5 +1,6 @@
 // Where the copies of periodic events are among the events of a day.
-ghost use Rattle.std.specs.Prelude.{◌≡◌, ◌+◌, ◌≤◌, ◌<◌, ◌++◌, length, All, IfOk, OnOk, option_list};
+ghost use Rattle.std.specs.Prelude.{◌≡◌, ◌+◌, ◌≤◌, ◌<◌, ◌++◌, length, All, IfOk, OnOk};
+ghost use Rattle.std.specs.Option.{option_to_list};
 ghost use Rattle.roll_out.specs.Plans.{AreFew, IsPlan, copies_by, copy_id, copy_time, event_total, ids_at, plan_copies, trip_total};
 
 use crate::plan::RunPlan;
@@ -43,16 +44,19 @@ impl Copies {
     pub(crate) fn id_at(&self, period: u32, time: u32) -> Option<u32>
         requires few { AreFew self.now }
         requires period { 1 ≤ period }
-        ensures { option_list result ≡ ids_at period self.now time }
+        ensures { option_to_list result ≡ ids_at period self.now time }
     {
-        if time < self.start || (time - self.start) % period != 0 {
+        if time < self.start {
             return None;
         }
-        let earlier = (time - self.start) / period;
-        if earlier >= self.count {
+        let after = time - self.start;
+        if after % period != 0 {
             return None;
         }
-        Some(self.id(earlier))
+        if after / period >= self.count {
+            return None;
+        }
+        Some(self.id(after / period))
     }
 }
 

@@ -89,6 +89,7 @@ impl TimedNetwork {
     pub(crate) fn activities(&self) -> &[PeriodicActivity]
         ensures activities { result.now ≡ self.now.activities }
         ensures sound { All (IsBetween self.now) self.now.activities }
+        ensures few { length self.now.activities ≤ 200000 }
     {
         &self.activities
     }

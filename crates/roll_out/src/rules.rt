@@ -1,5 +1,5 @@
 // The rules of runs: where they are broken.
-ghost use Rattle.std.specs.Prelude.{◌≡◌, length, filter, map, IfOk, OnOk, ◌++◌};
+ghost use Rattle.std.specs.Prelude.{◌≡◌, ◌<◌, ◌≤◌, ◌⊎◌, MatchBool, length, filter, map, IfOk, OnOk, ◌++◌};
 ghost use Rattle.std.specs.List.{count_by, flat_map};
 ghost use Rattle.event_tables.specs.Places.{AreNumbered};
 ghost use Rattle.event_tables.specs.RunRules.{breaks, broken_in, is_placed, is_stray, lacks_way, leads, stray_activities, unjoined_in, way_on};
@@ -37,9 +37,10 @@ fn add_broken(run: &[PeriodicEvent], ids: &mut Vec<u32>) -> Result<(), NoMemory>
 
 // Whether a run of so many events is broken at the event at a place.
 fn breaks(size: usize, place: usize, event: &PeriodicEvent) -> bool
+    requires { place < size }
     ensures { result ≡ breaks size (place, event.now) }
 {
-    usize::from(event.kind.place()) != place % 2 || (size - 1 == place && size % 2 == 1)
+    usize::from(event.kind.place()) != place % 2 || (place + 1 == size && size % 2 == 1)
 }
 
 /// The events that are not joined to the next one of their run by exactly one drive or wait.
@@ -79,7 +80,7 @@ fn add_unjoined(
 fn lacks_way(event: &PeriodicEvent, next: &PeriodicEvent, activities: &[PeriodicActivity]) -> bool
     ensures { result ≡ lacks_way activities.now (event.now, next.now) }
 {
-    let mut count = 0;
+    let mut count: usize = 0;
     for activity in activities {
         if leads(event, next, activity) {
             count += 1;
@@ -145,9 +146,20 @@ fn is_placed(events: &[PeriodicEvent], activity: &PeriodicActivity) -> bool
     requires { AreNumbered (λ event. event.id) events.now }
     ensures { result ≡ is_placed events.now activity.now }
 {
-    let (from, to) = (activity.from as usize, activity.to as usize);
-    if from == 0 || to == 0 || from > events.len() || to > events.len() {
+    if is_unknown(activity.from, events.len()) {
         return false;
     }
-    joins(activity.kind, &events[from - 1], &events[to - 1])
+    if is_unknown(activity.to, events.len()) {
+        return false;
+    }
+    let event = &events[activity.from as usize - 1];
+    let next = &events[activity.to as usize - 1];
+    joins(activity.kind, event, next)
+}
+
+// Whether an id is none of so many, which count from 1.
+fn is_unknown(id: u32, count: usize) -> bool
+    ensures { MatchBool result ((id < 1) ⊎ (count < id)) ((1 ≤ id) × (id ≤ count)) }
+{
+    id == 0 || id as usize > count
 }

@@ -7,6 +7,7 @@ ghost use Rattle.giv_files.specs.StageCalls.{StageGives, TakesSteps};
 ghost use Rattle.event_tables.specs.PeriodicRuns.{runs_of};
 ghost use Rattle.roll_out.specs.DayTrips.{trips_of};
 ghost use Rattle.roll_out.specs.Plans.{ArePlans, IsDay, IsPlan, plan_of, trips_by};
+ghost use Rattle.roll_out.specs.RightRollout.{RolloutIsRight};
 ghost use Rattle.roll_out.specs.RolloutStage.{file_faults, long_lists, made_of, network_in, rollout_stage, run_faults};
 
 use crate::changes::{add_changes, change_count};
@@ -40,6 +41,7 @@ pub fn make_rollout<L: Ledger>(
     requires stage { bundle.now.stage ≡ stages.Rollout }
     requires fits { Fits bundle.now }
     ensures made { StageGives (rollout_stage bundle.now) result }
+    ensures right { IfOk result (λ made. RolloutIsRight bundle.now made) }
     ensures steps { TakesSteps 1 steps.old steps.new result }
 {
     steps.tick();
