@@ -6,7 +6,7 @@ use Rattle.event_tables.specs.declared.periodic_event.PeriodicEvent.{PeriodicEve
 use Rattle.event_tables.specs.PeriodicRuns.{same_run, before_runs, runs_of}
 
 -- events with the last of them before runs: the first run goes on with them where it agrees with the last
-pub onto : PeriodicEvent → List PeriodicEvent → List (List PeriodicEvent) → List (List PeriodicEvent)
+abbrev pub onto : PeriodicEvent → List PeriodicEvent → List (List PeriodicEvent) → List (List PeriodicEvent)
 onto last some ((next ∷ run) ∷ runs) =
     cond (same_run last next) ((some ++ next ∷ run) ∷ runs) (some ∷ (next ∷ run) ∷ runs)
 onto last some runs = some ∷ runs
@@ -76,7 +76,7 @@ module _ (events : List PeriodicEvent) (d : PeriodicEvent) where
     run_goes_on same =
         let at : i ≡ i + 1 - 1 = omega arith in
         so_far ∙ ap (onto (get_or events (i - 1) d) (take i events)) next_is
-        ∙ onto_more _ _ (take i events) (runs_of (drop (i + 1) events)) same
+        ∙ onto_more (get_or events (i - 1) d) (get_or events i d) (take i events) (runs_of (drop (i + 1) events)) same
         ∙ ap (λ some. onto (get_or events i d) some (runs_of (drop (i + 1) events))) (sym (take_more events i d inside))
         ∙ ap (λ k. onto (get_or events k d) (take (i + 1) events) (runs_of (drop (i + 1) events))) at
 
@@ -85,7 +85,7 @@ module _ (events : List PeriodicEvent) (d : PeriodicEvent) where
         → runs_of events ≡ take i events ∷ runs_of (drop i events)
     run_ends other =
         so_far ∙ ap (onto (get_or events (i - 1) d) (take i events)) next_is
-        ∙ onto_ends _ _ (take i events) (runs_of (drop (i + 1) events)) other
+        ∙ onto_ends (get_or events (i - 1) d) (get_or events i d) (take i events) (runs_of (drop (i + 1) events)) other
         ∙ ap (λ runs. take i events ∷ runs) (sym next_is)
 
   -- or at the last event

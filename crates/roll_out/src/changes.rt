@@ -42,12 +42,7 @@ fn count_copies(network: &TimedNetwork, copies: &[Copies], activity: &PeriodicAc
     let period = network.period();
     let mut count = 0;
     for earlier in 0..tail.count {
-        if head
-            .id_at(period, tail.time(period, earlier) + minutes)
-            .is_some()
-        {
-            count += 1;
-        }
+        count += count_of(head.id_at(period, tail.time(period, earlier) + minutes));
     }
     count
 }

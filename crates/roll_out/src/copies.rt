@@ -82,13 +82,13 @@ fn add_copies(first: u32, plan: &RunPlan, copies: &mut Vec<Copies>) -> Result<()
     requires plan { IsPlan plan.now }
     ensures { OnOk result (copies.new.items ≡ copies.old.items ++ plan_copies first plan.now) }
 {
-    let step = plan.events().len() as u32;
-    for place in 0..plan.events().len() {
+    let (run, start, count) = (plan.events(), plan.start(), plan.trips());
+    for place in 0..run.len() {
         copies.push(Copies {
             first: first + place as u32,
-            step,
-            start: plan.start() + plan.events()[place].minutes,
-            count: plan.trips(),
+            step: run.len() as u32,
+            start: start + run[place].minutes,
+            count,
         })?;
     }
     Ok(())

@@ -1,5 +1,5 @@
 // The rules of runs: where they are broken.
-ghost use Rattle.std.specs.Prelude.{◌≡◌, ◌<◌, ◌≤◌, ◌⊎◌, MatchBool, length, filter, map, IfOk, OnOk, ◌++◌};
+ghost use Rattle.std.specs.Prelude.{◌≡◌, ◌<◌, ◌≤◌, ◌⊎◌, MatchBool, length, filter, map, IfOk, OnOk, ◌++◌, ◌∷◌, [], if◌then◌else◌};
 ghost use Rattle.std.specs.List.{count_by, flat_map};
 ghost use Rattle.event_tables.specs.Places.{AreNumbered};
 ghost use Rattle.event_tables.specs.RunRules.{breaks, broken_in, is_placed, is_stray, lacks_way, leads, stray_activities, unjoined_in, way_on};
@@ -28,9 +28,7 @@ fn add_broken(run: &[PeriodicEvent], ids: &mut Vec<u32>) -> Result<(), NoMemory>
         ≡ ids.old.items ++ map (λ event. event.id) (broken_in run.now)) }
 {
     for place in 0..run.len() {
-        if breaks(run.len(), place, &run[place]) {
-            ids.push(run[place].id)?;
-        }
+        add_if(breaks(run.len(), place, &run[place]), run[place].id, ids)?;
     }
     Ok(())
 }
@@ -41,6 +39,16 @@ fn breaks(size: usize, place: usize, event: &PeriodicEvent) -> bool
     ensures { result ≡ breaks size (place, event.now) }
 {
     usize::from(event.kind.place()) != place % 2 || (place + 1 == size && size % 2 == 1)
+}
+
+// An id is added, if some test was passed.
+fn add_if(passed: bool, id: u32, ids: &mut Vec<u32>) -> Result<(), NoMemory>
+    ensures { OnOk result (ids.new.items ≡ ids.old.items ++ (if passed then id ∷ [] else [])) }
+{
+    if passed {
+        ids.push(id)?;
+    }
+    Ok(())
 }
 
 /// The events that are not joined to the next one of their run by exactly one drive or wait.
@@ -69,9 +77,8 @@ fn add_unjoined(
         ≡ ids.old.items ++ map (λ event. event.id) (unjoined_in activities.now run.now)) }
 {
     for place in 1..run.len() {
-        if lacks_way(&run[place - 1], &run[place], activities) {
-            ids.push(run[place - 1].id)?;
-        }
+        let event = run[place - 1];
+        add_if(lacks_way(&event, &run[place], activities), event.id, ids)?;
     }
     Ok(())
 }

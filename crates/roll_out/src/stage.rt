@@ -16,12 +16,12 @@ use crate::day::Day;
 use crate::files::rollout_made;
 use crate::network::TimedNetwork;
 use crate::plan::{RunPlan, run_plans};
-use crate::refused::{none_at, too_many};
+use crate::refused::{no_activity_at, no_event_at, too_many};
 use crate::rules::{broken_events, stray_activities, unjoined_events};
 use crate::run::{Run, runs_of};
 use crate::trip::{day_events, day_trips, event_count, trip_count, trip_rows};
 use crate::ways::{add_ways, way_count, with_numbers};
-use giv_files::{Bundle, Counted, FileId, Made, RowWhy, StageFault, columns};
+use giv_files::{Bundle, Counted, Made, RowWhy, StageFault};
 use plan_num::{Ledger, Steps};
 use std::alloc::Global;
 
@@ -76,34 +76,14 @@ fn check_runs(
     requires runs { runs.now ≡ runs_of network.now.events }
     ensures { UnlessFault (run_faults bundle.now) (λ _. run_faults bundle.now ≡ []) result }
 {
-    let (events, activities) = (bundle.input(0), bundle.input(1));
+    let text = bundle.input(0);
     let broken = broken_events(alloc, runs)?;
-    none_at(
-        alloc,
-        FileId::EventsP,
-        events,
-        &columns!(EventsP),
-        RowWhy::BrokenRun,
-        &broken,
-    )?;
+    no_event_at(alloc, text, RowWhy::BrokenRun, &broken)?;
     let unjoined = unjoined_events(alloc, runs, network.activities())?;
-    none_at(
-        alloc,
-        FileId::EventsP,
-        events,
-        &columns!(EventsP),
-        RowWhy::Unjoined,
-        &unjoined,
-    )?;
-    let stray = stray_activities(alloc, network.events(), network.activities())?;
-    none_at(
-        alloc,
-        FileId::ActivitiesP,
-        activities,
-        &columns!(ActivitiesP),
-        RowWhy::StrayActivity,
-        &stray,
-    )
+    no_event_at(alloc, text, RowWhy::Unjoined, &unjoined)?;
+    let (events, text) = (network.events(), bundle.input(1));
+    let stray = stray_activities(alloc, events, network.activities())?;
+    no_activity_at(alloc, text, RowWhy::StrayActivity, &stray, events)
 }
 
 // What is made of plans, or the first list that would be too long.

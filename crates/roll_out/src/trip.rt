@@ -149,12 +149,14 @@ fn add_trips(
     requires few { plan.now.trips ≤ 2000 }
     ensures { OnOk result (trips.new.items ≡ trips.old.items ++ plan_trips period first plan.now) }
 {
-    let size = plan.events().len() as u32;
+    let run = plan.events();
+    let start = plan.start();
+    let size = run.len() as u32;
     for earlier in 0..plan.trips() {
         trips.push(DayTrip {
             first: first + earlier * size,
-            start: plan.start() + earlier * period,
-            run: Vec::from_slice(alloc, plan.events())?,
+            start: start + earlier * period,
+            run: Vec::from_slice(alloc, run)?,
         })?;
     }
     Ok(())
@@ -177,9 +179,9 @@ fn add_events(trip: &DayTrip, events: &mut Vec<ExpandedEvent>) -> Result<(), NoM
     requires { IsTrip trip.now }
     ensures { OnOk result (events.new.items ≡ events.old.items ++ trip_events trip.now) }
 {
-    for place in 0..trip.run().len() {
-        let id = trip.first() + place as u32;
-        events.push(day_event(trip.start(), id, &trip.run()[place]))?;
+    let (first, start, run) = (trip.first(), trip.start(), trip.run());
+    for place in 0..run.len() {
+        events.push(day_event(start, first + place as u32, &run[place]))?;
     }
     Ok(())
 }

@@ -56,9 +56,9 @@ fn add_trip_ways(trip: &DayTrip, activities: &mut Vec<ExpandedActivity>) -> Resu
     requires { IsTrip trip.now }
     ensures { OnOk result (activities.new.items ≡ activities.old.items ++ trip_ways trip.now) }
 {
-    for place in 0..trip.run().len() {
-        let id = trip.first() + place as u32;
-        add_way(id, trip.run()[place].way, activities)?;
+    let (first, run) = (trip.first(), trip.run());
+    for place in 0..run.len() {
+        add_way(first + place as u32, run[place].way, activities)?;
     }
     Ok(())
 }

@@ -1,4 +1,4 @@
-use Rattle.std.proofs.Common.{◌≡◌, ℕ, ◌+◌, ◌++◌, take, get_or, ap, sym, arith, ◌∙◌}
+use Rattle.std.proofs.Common.{◌≡◌, ℕ, ◌+◌, ◌++◌, length, take, get_or, ap, sym, arith, ◌∙◌}
 use Rattle.std.specs.List.{enumerate_from, flat_map}
 use Rattle.roll_out.specs.declared.timed_event.TimedEvent.{TimedEvent}
 use Rattle.roll_out.specs.DayActivities.{way_from}
@@ -12,7 +12,8 @@ loop-place-preserved c =
     let first = c.args.trip.now.first in
     let old = c.args.activities.now.items in
     let f = λ (at : ℕ × TimedEvent). way_from at.0 at.1.way in
-    let more = enumerated_more first run c.loop-place.place no_timed (omega (arith, c.loop-place-test.true)) in
+    let more = enumerated_more first run c.loop-place.place no_timed
+    (omega (arith, c.loop-place-test.true, ap length c.run-run.ensures)) in
     added_part old c.loop-place.activities.items c.add_way.new.activities.items f
     (take c.loop-place.place (enumerate_from first run))
     (first + c.loop-place.place, get_or run c.loop-place.place no_timed)
@@ -23,4 +24,5 @@ pub returns : goal.returns
 returns c =
     c.loop-place.invariant
     ∙ ap (λ some. c.args.activities.now.items ++ flat_map (λ (at : ℕ × TimedEvent). way_from at.0 at.1.way) some)
-    (enumerated_all c.args.trip.now.first c.args.trip.now.run c.loop-place.place (omega arith))
+    (enumerated_all c.args.trip.now.first c.args.trip.now.run c.loop-place.place
+    (omega (arith, ap length c.run-run.ensures, c.loop-place-test.false)))
