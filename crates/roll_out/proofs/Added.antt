@@ -73,6 +73,12 @@ module _ {X : Type 0} (old now after : List ℕ) (test : X → Bool) (event : X 
       same ∙ so_far ∙ ap (λ ys. old ++ ys) (sym (append-nil (ids_where test event xs)))
       ∙ ap (λ ys. old ++ ys) (sym (where_more false is))
 
+  -- both in one
+  pub added_test : (passed : Bool) → passed ≡ test x → after ≡ now ++ cond passed ((event x).id ∷ []) []
+      → after ≡ old ++ ids_where test event (xs ++ x ∷ [])
+  added_test true is more = added_where (sym is) more
+  added_test false is more = passed_over (sym is) (more ∙ append-nil now)
+
 -- one thing more with its number
 numbered_more : {X Y : Type 0} (f : ℕ × X → Y) (a : ℕ) (xs : List X) (x : X) (j : ℕ)
     → a + length xs ≡ j

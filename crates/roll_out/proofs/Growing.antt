@@ -2,6 +2,7 @@
 use Rattle.std.proofs.Common.{◌≡◌, ℕ, ◌+◌, ◌*◌, ◌<◌, ◌≤◌, arith, List, [], ◌∷◌, ◌++◌, length, map, take, drop, get_or, refl, ap, sym, ◌∙◌}
 use Rattle.std.specs.List.{flat_map, range_with_len, enumerate_from, sum_by}
 use Rattle.std.proofs.lemmas.List.{append_assoc, append-nil, at_drop_more, at_drop_all}
+use Rattle.std.proofs.lemmas.List.Sums.{sum_by-drop_more}
 use Rattle.event_tables.specs.declared.periodic_event.PeriodicEvent.{PeriodicEvent}
 use Rattle.event_tables.specs.declared.periodic_activity.PeriodicActivity.{PeriodicActivity}
 use Rattle.std.proofs.Common.{Option}
@@ -32,16 +33,17 @@ copies_is first place step start count at plan a b c =
 module _ {X Y : Type 0} (rest : ℕ → List X → List Y) (part : ℕ → X → List Y) (size : X → ℕ)
     (more : (n : ℕ) (x : X) (xs : List X) → rest n (x ∷ xs) ≡ part n x ++ rest (n + size x) xs)
     (none : (n : ℕ) → rest n [] ≡ [])
-    (xs : List X) (all now after : List Y) (n i : ℕ) (d : X)
-    (so_far : now ++ rest n (drop i xs) ≡ all) where
-  pub moved : i < length xs → after ≡ now ++ part n (get_or xs i d)
-      → after ++ rest (n + size (get_or xs i d)) (drop (i + 1) xs) ≡ all
-  moved h add =
-      let x = get_or xs i d in
-      ap (λ ys. ys ++ rest (n + size x) (drop (i + 1) xs)) add
+    (xs : List X) (all now : List Y) (n i : ℕ) (so_far : now ++ rest n (drop i xs) ≡ all) where
+  pub moved : (after : List Y) (x : X) (more_size : ℕ) → i < length xs → x ≡ get_or xs i x
+      → more_size ≡ size x → after ≡ now ++ part n x
+      → after ++ rest (n + more_size) (drop (i + 1) xs) ≡ all
+  moved after x more_size h is sized add =
+      ap (λ m. after ++ rest (n + m) (drop (i + 1) xs)) sized
+      ∙ ap (λ ys. ys ++ rest (n + size x) (drop (i + 1) xs)) add
       ∙ append_assoc now (part n x) (rest (n + size x) (drop (i + 1) xs))
       ∙ ap (λ ys. now ++ ys) (sym (more n x (drop (i + 1) xs)))
-      ∙ ap (λ ys. now ++ ys) (sym (at_drop_more (rest n) xs i d h)) ∙ so_far
+      ∙ ap (λ y. now ++ rest n (y ∷ drop (i + 1) xs)) is
+      ∙ ap (λ ys. now ++ ys) (sym (at_drop_more (rest n) xs i x h)) ∙ so_far
 
   pub all_moved : length xs ≤ i → now ≡ all
   all_moved h =
@@ -103,3 +105,12 @@ module _ (network : TimedParts) where
   pub timed_none : (minutes : ℕ) → timed_from network minutes [] ≡ []
   unfolding timed_from
   timed_none minutes = refl
+
+-- the ids of what is left
+pub total_left : (plans : List PlanParts) (i n more : ℕ) (plan : PlanParts) (all : ℕ) → i < length plans
+    → plan ≡ get_or plans i plan → more ≡ plan_size plan
+    → n + event_total (drop i plans) ≡ all → n + more + event_total (drop (i + 1) plans) ≡ all
+total_left plans i n more plan all h is sized so_far =
+    let step = sum_by-drop_more plan_size plans i plan h in
+    let same : plan_size plan ≡ plan_size (get_or plans i plan) = ap plan_size is in
+    omega (arith, step, same, sized, so_far)

@@ -1,7 +1,11 @@
 mod Added
+mod ChangesAt
 mod FoundOnes
 mod Growing
 mod Lists
+mod Neighbours
+mod OneCopy
+mod PlacedEvents
 mod RunsInTurn
 mod Spaced
 mod WaysCounted

@@ -1,7 +1,8 @@
 -- Runs that are read from the left.
-use Rattle.std.proofs.Common.{◌≡◌, ℕ, ◌-◌, ◌+◌, ◌<◌, ◌≤◌, arith, Bool, true, false, cond, List, [], ◌∷◌, ◌++◌, length, take, drop, get_or, refl, ap, sym, ◌∙◌}
+use Rattle.std.proofs.Common.{◌≡◌, ℕ, suc, ◌==◌, ◌-◌, ◌+◌, ◌<◌, ◌≤◌, arith, Bool, true, false, cond, List, [], ◌∷◌, ◌++◌, length, take, drop, get_or, refl, ap, sym, ◌∙◌}
 use Rattle.std.specs.List.{flat_map}
 use Rattle.std.proofs.lemmas.List.{append_assoc, drop_more, drop_all, take_more, take_all}
+use Rattle.std.proofs.lemmas.Bool.{eqb-true}
 use Rattle.event_tables.specs.declared.periodic_event.PeriodicEvent.{PeriodicEvent}
 use Rattle.event_tables.specs.PeriodicRuns.{same_run, before_runs, runs_of}
 
@@ -99,3 +100,9 @@ module _ (events : List PeriodicEvent) (d : PeriodicEvent) where
       ∙ ap (λ some. some ∷ []) (take_all i events over ∙ sym (take_all (length events) events (omega arith)))
       ∙ ap (λ rest. take (length events) events ∷ runs_of rest)
       (sym (drop_all (length events) events (omega arith)))
+
+-- no event makes no run
+pub no_runs : (events : List PeriodicEvent) → (length events == 0) ≡ true → runs_of events ≡ []
+unfolding runs_of
+no_runs [] none = refl
+no_runs (event ∷ events) none = absurd (omega (arith, eqb-true (suc (length events)) 0 none))

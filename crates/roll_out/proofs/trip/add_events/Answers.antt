@@ -15,7 +15,14 @@ loop-place-preserved c =
     added_one old c.loop-place.events.items c.push.new.self.items f
     (take c.loop-place.place (enumerate_from first run))
     (first + c.loop-place.place, get_or run c.loop-place.place no_timed) _
-    c.loop-place.invariant ? c.in_ok-push.ensures.items
+    c.loop-place.invariant
+    (c.day_event.ensures
+    ∙ ap (λ n. day_event n (c.first-first.result + c.loop-place.place,
+    get_or c.run-run.result.now c.loop-place.place no_timed)) c.start-start.ensures
+    ∙ ap (λ n. day_event c.args.trip.now.start (n + c.loop-place.place,
+    get_or c.run-run.result.now c.loop-place.place no_timed)) c.first-first.ensures
+    ∙ ap (λ some. day_event c.args.trip.now.start (first + c.loop-place.place,
+    get_or some c.loop-place.place no_timed)) c.run-run.ensures) c.in_ok-push.ensures.items
     ∙ ap (λ some. old ++ map f some) (sym more)
 
 pub returns : goal.returns

@@ -17,7 +17,12 @@ loop-place-preserved c =
     added_part old c.loop-place.activities.items c.add_way.new.activities.items f
     (take c.loop-place.place (enumerate_from first run))
     (first + c.loop-place.place, get_or run c.loop-place.place no_timed)
-    c.loop-place.invariant ?
+    c.loop-place.invariant
+    (c.in_ok-add_way.ensures
+    ∙ ap (λ n. c.loop-place.activities.items ++ way_from (n + c.loop-place.place)
+    (get_or c.run-run.result.now c.loop-place.place no_timed).way) c.first-first.ensures
+    ∙ ap (λ some. c.loop-place.activities.items ++ way_from (first + c.loop-place.place)
+    (get_or some c.loop-place.place no_timed).way) c.run-run.ensures)
     ∙ ap (λ some. old ++ flat_map f some) (sym more)
 
 pub returns : goal.returns
