@@ -159,6 +159,7 @@ pub record IsPlan (plan : PlanParts) : Type 0 where
 
 -- copies whose numbers are small
 pub record AreFew (copies : Copies) : Type 0 where
+  pub low : 1 ≤ copies.first
   pub first : copies.first ≤ 200000
   pub step : copies.step ≤ 4000
   pub start : copies.start ≤ 402890800
@@ -166,6 +167,7 @@ pub record AreFew (copies : Copies) : Type 0 where
 
 -- a trip with some events, whose numbers are small
 pub record IsTrip (trip : TripParts) : Type 0 where
+  pub low : 1 ≤ trip.first
   pub some : 1 ≤ length trip.run
   pub ids : trip.first + length trip.run ≤ 100001
   pub short : length trip.run ≤ 4000
@@ -176,5 +178,5 @@ pub record IsTrip (trip : TripParts) : Type 0 where
 pub record ArePlans (network : TimedParts) (plans : List PlanParts) : Type 0 where
   pub each : All IsPlan plans
   pub few : length plans ≤ 4000
-  pub placed : map (λ at. at.event.id) (flat_map (λ plan. plan.run) plans)
+  pub placed : flat_map (λ plan. map (λ at. at.event.id) plan.run) plans
       ≡ range_with_len 1 (length network.events)

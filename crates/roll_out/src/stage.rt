@@ -76,13 +76,13 @@ fn check_runs(
     requires runs { runs.now ≡ runs_of network.now.events }
     ensures { UnlessFault (run_faults bundle.now) (λ _. run_faults bundle.now ≡ []) result }
 {
-    let text = bundle.input(0);
+    let (events, text) = (network.events(), bundle.input(0));
     let broken = broken_events(alloc, runs)?;
     no_event_at(alloc, text, RowWhy::BrokenRun, &broken)?;
     let unjoined = unjoined_events(alloc, runs, network.activities())?;
     no_event_at(alloc, text, RowWhy::Unjoined, &unjoined)?;
-    let (events, text) = (network.events(), bundle.input(1));
     let stray = stray_activities(alloc, events, network.activities())?;
+    let text = bundle.input(1);
     no_activity_at(alloc, text, RowWhy::StrayActivity, &stray, events)
 }
 
