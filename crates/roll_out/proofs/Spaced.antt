@@ -1,0 +1,221 @@
+-- Times that are whole periods apart.
+use Rattle.std.proofs.Common.{◌≡◌, ℕ, ◌+◌, ◌-◌, ◌*◌, ◌/◌, ◌%◌, ◌==◌, ◌<◌, ◌≤◌, nat_le, arith, Bool, true, false, ◌&&◌, cond, List, [], ◌∷◌, ◌++◌, length, map, filter, min, refl, ap, sym, ◌∙◌}
+use Rattle.std.specs.Int.{div_ceil}
+use Rattle.std.specs.List.{range_with_len}
+use Rattle.std.proofs.lemmas.Bool.{eq-eqb, ne_eqb, le-leb, lt-leb, leb-true, leb-false}
+use Rattle.std.proofs.lemmas.Grind.{div_ceil_times}
+use Rattle.std.proofs.lemmas.Nat.{mul-le, mod_below, div-add-mod', div-mul-add, mod-mul-add}
+use Rattle.roll_out.specs.declared.copies.Copies.{Copies}
+use Rattle.roll_out.specs.declared.day.Day.{Day}
+use Rattle.roll_out.specs.DayTrips.{is_in_day, starts}
+use Rattle.roll_out.specs.Plans.{copy_id, copy_time, ids_at, first_start, start_count}
+use Rattle.roll_out.proofs.Lists.{filter_map_is, none_of_range, window, shifted, same_map}
+
+-- ---- the copies at a time
+
+module _ (period time : ℕ) (some : 1 ≤ period) (copies : Copies) where
+  abbrev at : ℕ → Bool
+  at earlier = copy_time period copies earlier == time
+
+  none_there : ((k : ℕ) → k < copies.count → copy_time period copies k ≡ time → ⊥)
+      → [] ≡ ids_at period copies time
+  none_there none =
+      ap (map (copy_id copies)) (sym (none_of_range at 0 copies.count
+      (λ k low high. ne_eqb (copy_time period copies k) time (none k (omega (arith, high))))))
+
+  -- a time before the first copy
+  pub before_copies : time < copies.start → [] ≡ ids_at period copies time
+  before_copies early = none_there (λ k below e. omega (arith, e, early))
+
+  plain : (k : ℕ) → (k * period) / period ≡ k
+  plain k =
+      let e : k * period ≡ k * period + 0 = omega arith in
+      ap (λ n. n / period) e ∙ div-mul-add k period 0 (omega (arith, some))
+
+  whole : (k : ℕ) → (k * period) % period ≡ 0
+  whole k =
+      let e : k * period ≡ k * period + 0 = omega arith in
+      ap (λ n. n % period) e ∙ mod-mul-add k period 0 (omega (arith, some))
+
+  module _ (late : copies.start ≤ time) where
+    abbrev after : ℕ
+    after = time - copies.start
+
+    after_is : (k : ℕ) → copy_time period copies k ≡ time → after ≡ k * period
+    after_is k e = omega (arith, e, late)
+
+    -- a time between two copies
+    pub between_copies : (after % period ≡ 0 → ⊥) → [] ≡ ids_at period copies time
+    between_copies uneven =
+        none_there (λ k below e. uneven (ap (λ n. n % period) (after_is k e) ∙ whole k))
+
+    -- a time behind the last copy
+    pub behind_copies : copies.count ≤ after / period → [] ≡ ids_at period copies time
+    behind_copies far =
+        none_there (λ k below e.
+        let same : after / period ≡ k = ap (λ n. n / period) (after_is k e) ∙ plain k in
+        omega (arith, same, far, below))
+
+    -- the time of a copy
+    pub copy_found : after % period ≡ 0 → after / period < copies.count
+        → copy_id copies (after / period) ∷ [] ≡ ids_at period copies time
+    copy_found even near =
+        let place : ℕ = after / period in
+        let same : place * period ≡ after =
+        let parts = div-add-mod' after period in omega (arith, parts, even) in
+        let only : (k : ℕ) → copy_time period copies k ≡ time → k ≡ place =
+        λ k e. sym (plain k) ∙ ap (λ n. n / period) (sym (after_is k e)) in
+        ap (map (copy_id copies)) (sym (window at place 1 copies.count (omega (arith, near))
+        (λ k below. ne_eqb (copy_time period copies k) time (λ e. let is = only k e in omega (arith, is, below)))
+        (λ k low high.
+        let is : k ≡ place = omega (arith, low, high) in
+        eq-eqb (copy_time period copies k) time
+        (ap (λ n. copies.start + n * period) is ∙ omega (arith, same, late)))
+        (λ k above. ne_eqb (copy_time period copies k) time (λ e. let is = only k e in omega (arith, is, above)))))
+
+div_low : (a b period : ℕ) → 1 ≤ period → a * period ≤ b → a ≤ b / period
+div_low a b period some h = by (nat_le a (b / period)) refl
+  where
+    by : (c : Bool) → nat_le a (b / period) ≡ c → a ≤ b / period
+    by true e = leb-true a (b / period) e
+    by false e =
+        let over = leb-false a (b / period) e in
+        let far = mul-le (b / period + 1) period a period (omega (arith, over)) (omega arith) in
+        let one : (b / period + 1) * period ≡ b / period * period + period = grind arith in
+        let parts = div-add-mod' b period in
+        let small = mod_below b period (omega (arith, some)) in
+        absurd (omega (arith, far, one, parts, small, h))
+
+-- ---- the starts of a day
+
+not_early : (day : Day) (t : ℕ) → t < day.earliest → is_in_day day t ≡ false
+not_early day t early = ap (λ b. b && nat_le t day.latest) (lt-leb day.earliest t early)
+
+not_late : (day : Day) (t : ℕ) → day.latest < t → is_in_day day t ≡ false
+not_late day t late =
+    ap (λ b. nat_le day.earliest t && b) (lt-leb t day.latest late) ∙ by (nat_le day.earliest t)
+  where
+    by : (b : Bool) → (b && false) ≡ false
+    by true = refl
+    by false = refl
+
+in_time : (day : Day) (t : ℕ) → day.earliest ≤ t → t ≤ day.latest → is_in_day day t ≡ true
+in_time day t low high =
+    ap (λ b. b && nat_le t day.latest) (le-leb day.earliest t low) ∙ le-leb t day.latest high
+
+module _ (period : ℕ) (some : 1 ≤ period) (day : Day) (time : ℕ) where
+  abbrev skipped : ℕ
+  skipped = div_ceil (day.earliest - time) period
+
+  abbrev start : ℕ
+  start = first_start period day time
+
+  abbrev at_time : ℕ → ℕ
+  at_time periods = time + periods * period
+
+  early_ones : (k : ℕ) → k < skipped → at_time k < day.earliest
+  early_ones k below =
+      let high = (div_ceil_times (day.earliest - time) period (omega (arith, some))).1 in
+      let more = mul-le (k + 1) period skipped period (omega (arith, below)) (omega arith) in
+      let one : (k + 1) * period ≡ k * period + period = grind arith in
+      omega (arith, high, more, one)
+
+  first_in : day.earliest ≤ start
+  first_in =
+      let low = (div_ceil_times (day.earliest - time) period (omega (arith, some))).0 in
+      omega (arith, low)
+
+  later_ones : (j : ℕ) → at_time (skipped + j) ≡ start + j * period
+  later_ones j =
+      let parts : (skipped + j) * period ≡ skipped * period + j * period = grind arith in
+      omega (arith, parts)
+
+  abbrev tests : ℕ → Bool
+  tests k = is_in_day day (at_time k)
+
+  abbrev all : ℕ
+  all = day.latest / period + 1
+
+  early_test : (k : ℕ) → k < skipped → tests k ≡ false
+  early_test k below = not_early day (at_time k) (early_ones k below)
+
+  -- a window of starts, where there is one
+  module _ (within : start ≤ day.latest) where
+    abbrev last : ℕ
+    last = (day.latest - start) / period
+
+    last_is : last * period ≤ day.latest - start
+    last_is = let parts = div-add-mod' (day.latest - start) period in omega (arith, parts)
+
+    past_last : day.latest - start < last * period + period
+    past_last =
+        let parts = div-add-mod' (day.latest - start) period in
+        let small = mod_below (day.latest - start) period (omega (arith, some)) in
+        omega (arith, parts, small)
+
+    room : skipped + (last + 1) ≤ all
+    room =
+        let low = last_is in
+        let at = later_ones last in
+        let inside : (skipped + last) * period ≤ day.latest = omega (arith, low, at, within) in
+        let few = div_low (skipped + last) day.latest period some inside in
+        omega (arith, few)
+
+    inside_test : (k : ℕ) → skipped ≤ k → k < skipped + (last + 1) → tests k ≡ true
+    inside_test k low high =
+        let j : ℕ = k - skipped in
+        let e : k ≡ skipped + j = omega (arith, low) in
+        let at : at_time k ≡ start + j * period = ap at_time e ∙ later_ones j in
+        let far = mul-le j period last period (omega (arith, e, high)) (omega arith) in
+        let most = last_is in
+        let first = first_in in
+        in_time day (at_time k) (omega (arith, at, first)) (omega (arith, at, far, most, within))
+
+    above_test : (k : ℕ) → skipped + (last + 1) ≤ k → tests k ≡ false
+    above_test k high =
+        let j : ℕ = k - skipped in
+        let e : k ≡ skipped + j = omega (arith, high) in
+        let at : at_time k ≡ start + j * period = ap at_time e ∙ later_ones j in
+        let far = mul-le (last + 1) period j period (omega (arith, e, high)) (omega arith) in
+        let one : (last + 1) * period ≡ last * period + period = grind arith in
+        let past = past_last in
+        not_late day (at_time k) (omega (arith, at, far, one, past, within))
+
+    some_starts : filter tests (range_with_len 0 all) ≡ range_with_len skipped (last + 1)
+    some_starts = window tests skipped (last + 1) all room early_test inside_test above_test
+
+  no_starts : day.latest < start → filter tests (range_with_len 0 all) ≡ []
+  no_starts late = none_of_range tests 0 all (λ k low high. by k (nat_le skipped k) refl)
+    where
+      by : (k : ℕ) (b : Bool) → nat_le skipped k ≡ b → tests k ≡ false
+      by k false below = early_test k (leb-false skipped k below)
+      by k true above =
+          let j : ℕ = k - skipped in
+          let here = leb-true skipped k above in
+          let e : k ≡ skipped + j = omega (arith, here) in
+          let at : at_time k ≡ start + j * period = ap at_time e ∙ later_ones j in
+          not_late day (at_time k) (omega (arith, at, late))
+
+  from_first : (n : ℕ) → map at_time (range_with_len skipped n)
+      ≡ map (λ k. start + k * period) (range_with_len 0 n)
+  from_first n =
+      let e : skipped ≡ skipped + 0 = omega arith in
+      ap (λ a. map at_time (range_with_len a n)) e ∙ shifted at_time skipped 0 n
+      ∙ same_map (λ k. at_time (skipped + k)) (λ k. start + k * period) later_ones (range_with_len 0 n)
+
+  passing : (b : Bool) → nat_le start day.latest ≡ b
+      → filter tests (range_with_len 0 all) ≡ range_with_len skipped (start_count period day start)
+  passing true within =
+      some_starts (leb-true start day.latest within)
+      ∙ ap (λ b. range_with_len skipped (cond b ((day.latest - start) / period + 1) 0)) (sym within)
+  passing false late =
+      no_starts (leb-false start day.latest late)
+      ∙ ap (λ b. range_with_len skipped (cond b ((day.latest - start) / period + 1) 0)) (sym late)
+
+  -- the times of a day are its first one, and those whole periods later
+  pub starts_are : starts period day time
+      ≡ map (λ k. start + k * period) (range_with_len 0 (start_count period day start))
+  starts_are =
+      filter_map_is (is_in_day day) at_time (range_with_len 0 all)
+      ∙ ap (map at_time) (passing (nat_le start day.latest) refl)
+      ∙ from_first (start_count period day start)

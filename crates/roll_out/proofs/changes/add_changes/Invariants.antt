@@ -1,0 +1,10 @@
+-- What holds before each turn.
+use Rattle.std.proofs.Common.{◌≡◌, ◌++◌, take}
+use Rattle.std.specs.List.{flat_map}
+use Rattle.roll_out.specs.Plans.{changes_if}
+use Rattle.roll_out.proofs.changes.add_changes.Given as goal
+
+abbrev pub invariant-loop-activity : goal.invariant-loop-activity
+invariant-loop-activity l =
+    l.activities.items ≡ l.fn.activities.items ++ flat_map (changes_if l.network l.copies)
+    (take l.activity-index l.network.activities)

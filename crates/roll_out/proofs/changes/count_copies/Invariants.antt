@@ -1,0 +1,12 @@
+-- What holds before each turn.
+use Rattle.std.proofs.Common.{◌≡◌, ◌≤◌, length}
+use Rattle.std.specs.List.{flat_map, range_with_len}
+use Rattle.roll_out.specs.Plans.{changes_at}
+use Rattle.roll_out.proofs.changes.count_copies.Given as goal
+
+abbrev pub invariant-loop-earlier : goal.invariant-loop-earlier
+invariant-loop-earlier l = record {
+  told : l.count ≡ length
+      (flat_map (changes_at l.network l.copies l.activity) (range_with_len 0 l.earlier));
+  few : l.count ≤ l.earlier;
+}

@@ -1,0 +1,13 @@
+use Rattle.std.proofs.Common.{All, arith, lit<, subst}
+use Rattle.event_tables.specs.PeriodicFiles.{periodic_activity_input, periodic_event_ids}
+use Rattle.event_tables.specs.Places.{IsOneOf}
+use Rattle.roll_out.proofs.RuleRows.{activities_counted, cells_fine}
+use Rattle.roll_out.proofs.refused.no_activity_at.Goals as goal
+
+pub none_at-requires : goal.none_at-requires
+none_at-requires c = (
+  omega arith,
+  record { narrow = lit< tt;
+  read = cells_fine (periodic_activity_input (periodic_event_ids c.args.events.now)) c.args.text.now c.requires.read;
+  there = subst (λ n. All (IsOneOf n) c.args.ids.now) (activities_counted c.args.events.now c.args.text.now) c.requires.there; },
+)

@@ -1,0 +1,13 @@
+use Rattle.std.proofs.Common.{All, arith, lit<, subst}
+use Rattle.event_tables.specs.PeriodicFiles.{periodic_event_input}
+use Rattle.event_tables.specs.Places.{IsOneOf}
+use Rattle.roll_out.proofs.RuleRows.{cells_fine, events_counted}
+use Rattle.roll_out.proofs.refused.no_event_at.Goals as goal
+
+pub none_at-requires : goal.none_at-requires
+none_at-requires c = (
+  omega arith,
+  record { narrow = lit< tt;
+  read = cells_fine periodic_event_input c.args.text.now c.requires.read;
+  there = subst (λ n. All (IsOneOf n) c.args.ids.now) (events_counted c.args.text.now) c.requires.there; },
+)

@@ -1,0 +1,11 @@
+-- What holds before each turn.
+use Rattle.std.proofs.Common.{◌≡◌, ◌++◌, ◌-◌, take}
+use Rattle.event_tables.specs.PeriodicRuns.{neighbours}
+use Rattle.event_tables.specs.RunRules.{lacks_way}
+use Rattle.roll_out.proofs.Added.{ids_where}
+use Rattle.roll_out.proofs.rules.add_unjoined.Given as goal
+
+abbrev pub invariant-loop-place : goal.invariant-loop-place
+invariant-loop-place l =
+    l.ids.items ≡ l.fn.ids.items ++ ids_where (lacks_way l.activities) (λ pair. pair.0)
+    (take (l.place - 1) (neighbours l.run))

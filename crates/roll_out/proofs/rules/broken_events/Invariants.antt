@@ -1,0 +1,11 @@
+-- What holds before each turn.
+use Rattle.std.proofs.Common.{◌≡◌, map, take}
+use Rattle.std.specs.List.{flat_map}
+use Rattle.event_tables.specs.declared.periodic_event.PeriodicEvent.{PeriodicEvent}
+use Rattle.event_tables.specs.RunRules.{broken_in}
+use Rattle.roll_out.proofs.rules.broken_events.Given as goal
+
+abbrev pub invariant-loop-run : goal.invariant-loop-run
+invariant-loop-run l =
+    l.ids.items
+    ≡ map (λ (event : PeriodicEvent). event.id) (flat_map broken_in (take l.run-index l.runs))

@@ -1,0 +1,10 @@
+-- What holds before each turn.
+use Rattle.std.proofs.Common.{◌≡◌, ◌++◌, length}
+use Rattle.event_tables.specs.PeriodicRuns.{runs_of}
+use Rattle.roll_out.proofs.run.runs_of.Given as goal
+
+abbrev pub invariant-loop-rest : goal.invariant-loop-rest
+invariant-loop-rest l = l.runs.items ++ runs_of l.rest ≡ runs_of l.events
+
+abbrev pub decreases-loop-rest : goal.decreases-loop-rest
+decreases-loop-rest l = length l.rest

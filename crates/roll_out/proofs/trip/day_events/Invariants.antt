@@ -1,0 +1,8 @@
+-- What holds before each turn.
+use Rattle.std.proofs.Common.{◌≡◌, take}
+use Rattle.std.specs.List.{flat_map}
+use Rattle.roll_out.specs.DayTrips.{trip_events}
+use Rattle.roll_out.proofs.trip.day_events.Given as goal
+
+abbrev pub invariant-loop-trip : goal.invariant-loop-trip
+invariant-loop-trip l = l.events.items ≡ flat_map trip_events (take l.trip-index l.trips)

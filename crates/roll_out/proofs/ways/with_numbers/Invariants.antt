@@ -1,0 +1,7 @@
+-- What holds before each turn.
+use Rattle.std.proofs.Common.{◌≡◌, take}
+use Rattle.roll_out.specs.DayActivities.{with_numbers}
+use Rattle.roll_out.proofs.ways.with_numbers.Given as goal
+
+abbrev pub invariant-loop-place : goal.invariant-loop-place
+invariant-loop-place l = l.numbered.items ≡ with_numbers (take l.place l.activities)
