@@ -125,6 +125,8 @@ module _ (folder : Folder) (values : List ℤ) where
   one_passes stage.Timetable visit given found right solved makes =
       none_by stage.Timetable visit.bundle given (times_there (map.get folder (file_name file.TimesP)) right.text (found ∙ right.one))
       (ap (timetable_verdict visit.bundle) found ∙ timetable_none visit.bundle visit.made.files right)
+  one_passes stage.Rollout visit given found right solved makes =
+      by_content stage.Rollout refl visit given found solved makes
   one_passes _ visit given found right solved makes = absurd right
 
   -- the first that is found of stages, all of which are to run

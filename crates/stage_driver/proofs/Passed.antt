@@ -76,6 +76,8 @@ module _ (folder : Folder) (bundle : BundleParts) (found : Option Finding) where
   stands_right stage.Concept lacks is right =
       right (concept_stands (text file.Concept) (text file.Tree) lacks)
   stands_right stage.Timetable lacks is right = right (times_stand (text file.TimesP) lacks)
+  stands_right stage.Rollout lacks is right =
+      right (content_stands stage.Rollout (by_contents stage.Rollout refl) folder lacks)
   stands_right _ lacks is right = rw is tt
 
 -- ---- clauses

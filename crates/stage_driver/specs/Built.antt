@@ -18,6 +18,7 @@ use Rattle.event_activity.specs.EanStage.{ean_stage}
 use Rattle.line_pool.specs.CostStage.{cost_stage}
 use Rattle.line_search.specs.ConceptStage.{concept_stage, concept_work}
 use Rattle.pesp_search.specs.TimetableStage.{timetable_stage, timetable_work}
+use Rattle.roll_out.specs.RolloutStage.{rollout_stage}
 use Rattle.stage_driver.specs.declared.outcome.RunEnd.{RunEnd}
 use Rattle.stage_driver.specs.declared.cause.Cause.{Cause}
 use Rattle.stage_driver.specs.declared.cause.Cause.TheVariants as cause
@@ -26,7 +27,9 @@ use Rattle.stage_driver.specs.Reports.{stage_lines, last_line, end_of}
 
 -- the stages that are built, in the order in which they run
 abbrev pub built : List Stage
-built = stage.Load ∷ stage.Cost ∷ stage.Concept ∷ stage.Ean ∷ stage.Timetable ∷ []
+built =
+    stage.Load ∷ stage.Cost ∷ stage.Concept ∷ stage.Ean ∷ stage.Timetable
+    ∷ stage.Rollout ∷ []
 
 -- what each stage makes of what it is given; one that is not built makes nothing, and no chain has
 -- it
@@ -36,6 +39,7 @@ stage_function stage.Cost bundle = cost_stage bundle
 stage_function stage.Concept bundle = concept_stage bundle
 stage_function stage.Ean bundle = ean_stage bundle
 stage_function stage.Timetable bundle = timetable_stage bundle
+stage_function stage.Rollout bundle = rollout_stage bundle
 stage_function _ bundle = Err refusal.NoSolution
 
 -- the same, by the stage of the bundle

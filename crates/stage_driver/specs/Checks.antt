@@ -120,6 +120,7 @@ verdict stage.Cost bundle others = content_found stage.Cost (run_stage bundle) o
 verdict stage.Concept bundle others = concept_verdict bundle others
 verdict stage.Ean bundle others = content_found stage.Ean (run_stage bundle) others
 verdict stage.Timetable bundle others = timetable_verdict bundle others
+verdict stage.Rollout bundle others = content_found stage.Rollout (run_stage bundle) others
 verdict stage bundle others = Some (Broken stage rule.Content)
 
 -- what is found of a stage: first of its inputs, then of the files that it makes

@@ -105,9 +105,10 @@ fn verdict(
         Stage::Concept => concept_verdict(alloc, bundle, there),
         Stage::Ean => content_found(alloc, bundle, stage, there),
         Stage::Timetable => timetable_verdict(alloc, bundle, there),
-        Stage::Rollout | Stage::Vehicles | Stage::Disposition | Stage::Statistic => Ok(Some(
-            Finding::Broken(stage, Rule::Content),
-        )),
+        Stage::Rollout => content_found(alloc, bundle, stage, there),
+        Stage::Vehicles | Stage::Disposition | Stage::Statistic => {
+            Ok(Some(Finding::Broken(stage, Rule::Content)))
+        }
     }
 }
 

@@ -13,6 +13,7 @@ use line_pool::make_cost;
 use line_search::make_concept;
 use pesp_search::make_timetable;
 use plan_num::{Ledger, Steps};
+use roll_out::make_rollout;
 use std::alloc::Global;
 
 /// The stages that are built, in the order in which they run.
@@ -25,6 +26,7 @@ pub(crate) fn built() -> &'static [Stage]
         Stage::Concept,
         Stage::Ean,
         Stage::Timetable,
+        Stage::Rollout,
     ]
 }
 
@@ -45,7 +47,8 @@ pub(crate) fn make_stage<L: Ledger>(
         Stage::Concept => make_concept(alloc, bundle, steps),
         Stage::Ean => make_ean(alloc, bundle, steps),
         Stage::Timetable => make_timetable(alloc, bundle, steps),
-        Stage::Rollout | Stage::Vehicles | Stage::Disposition | Stage::Statistic => {
+        Stage::Rollout => make_rollout(alloc, bundle, steps),
+        Stage::Vehicles | Stage::Disposition | Stage::Statistic => {
             steps.tick();
             Err(StageFault::Refused(Refusal::NoSolution))
         }

@@ -14,3 +14,7 @@ returns-in-Cost-clause-passes c =
 pub returns-in-Ean-clause-passes : goal.returns-in-Ean-clause-passes
 returns-in-Ean-clause-passes c =
     content_clause c.args.bundle.now c.args.there.now c.args.stage _ c.requires.fits c.requires.stage (ap is_content c.in-Ean.is) c.content_found-in-Ean.ensures
+
+pub returns-in-Rollout-clause-passes : goal.returns-in-Rollout-clause-passes
+returns-in-Rollout-clause-passes c =
+    content_clause c.args.bundle.now c.args.there.now c.args.stage _ c.requires.fits c.requires.stage (ap is_content c.in-Rollout.is) c.content_found-in-Rollout.ensures
