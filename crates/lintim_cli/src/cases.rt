@@ -7,7 +7,11 @@ use std::alloc::{AllocError, Global};
 use std::process::Abort;
 use std::test::Fail;
 
-pub(crate) const CONFIG: &[u8] = b"load_source; file\nperiod_length; 20\n";
+pub(crate) const CONFIG: &[u8] = b"load_source; file\nperiod_length; 20\nlast_stage; timetable\n";
+
+// The same with a short day, and all stages.
+pub(crate) const DAY_CONFIG: &[u8] = b"load_source; file\nperiod_length; 20\n\
+    ean_default_minimal_change_time; 2\nDM_earliest_time; 0\nDM_latest_time; 20\n";
 
 pub(crate) const STOPS: &[u8] = b"# stops\n1; A; A; 0; 0\n2; B; B; 0; 0\n3; C; C; 0; 0\n";
 
@@ -46,6 +50,14 @@ pub(crate) const ACTIVITIES: &[u8] =
 pub(crate) const TIMES: &[u8] =
     b"# event-id; time\n1; 0\n2; 4\n3; 5\n4; 11\n5; 0\n6; 6\n7; 7\n8; 11\n9; 0\n10; 4\n11; 0\n12; 4\n";
 
+// The three files of a day.
+#[derive(Clone, Copy)]
+pub(crate) struct Day {
+    pub(crate) events: &'static [u8],
+    pub(crate) activities: &'static [u8],
+    pub(crate) trips: &'static [u8],
+}
+
 // The files that people wrote, those that are to be made, and what is to be told.
 #[derive(Clone, Copy)]
 pub(crate) struct Case {
@@ -63,11 +75,12 @@ pub(crate) struct Case {
     pub(crate) events: Option<&'static [u8]>,
     pub(crate) activities: Option<&'static [u8]>,
     pub(crate) times: Option<&'static [u8]>,
+    pub(crate) day: Option<Day>,
     pub(crate) report: &'static [u8],
     pub(crate) steps: u64,
 }
 
-// The run over the dataset as it is.
+// The run over the dataset as it is, up to the timetable.
 pub(crate) const MADE: Case = Case {
     config: Some(CONFIG),
     stops: Some(STOPS),
@@ -83,6 +96,7 @@ pub(crate) const MADE: Case = Case {
     events: Some(EVENTS),
     activities: Some(ACTIVITIES),
     times: Some(TIMES),
+    day: None,
     report: b"load: 2 edges\ncost: 2 lines\nconcept: cost 27, optimal, 9 entries\n\
         ean: 12 events, 14 activities\ntimetable: 12 events, 10 entries\ndone\n",
     steps: 24,
@@ -105,6 +119,15 @@ pub(crate) fn run(rt: &(impl AllocGlobal + Abort), case: &Case) -> Result<(), Fa
         ("timetabling/Events-periodic.giv", case.events),
         ("timetabling/Activities-periodic.giv", case.activities),
         ("timetabling/Timetable-periodic.tim", case.times),
+        (
+            "delay-management/Events-expanded.giv",
+            case.day.map(|day| day.events),
+        ),
+        (
+            "delay-management/Activities-expanded.giv",
+            case.day.map(|day| day.activities),
+        ),
+        ("delay-management/Trips.giv", case.day.map(|day| day.trips)),
     ];
     let mut files = SteadyFiles::new(alloc);
     for (name, _) in &made {

@@ -10,10 +10,15 @@ use std::alloc::Global;
 use std::process::Abort;
 use std::test::Fail;
 
-// Files that were made by a run.
+// Files that were made by a run up to the timetable.
 fn made(alloc: Global) -> Result<SteadyFiles, Fail> {
+    made_under(alloc, CONFIG)
+}
+
+// Files that were made by a run under a config file.
+pub(crate) fn made_under(alloc: Global, config: &[u8]) -> Result<SteadyFiles, Fail> {
     let mut files = SteadyFiles::new(alloc);
-    files.put("basis/Config.cnf", CONFIG)?;
+    files.put("basis/Config.cnf", config)?;
     files.put("basis/Stop.giv", STOPS)?;
     files.put("basis/Edge.giv", EDGES)?;
     files.put("basis/Pool.giv", POOL)?;
@@ -26,7 +31,7 @@ fn made(alloc: Global) -> Result<SteadyFiles, Fail> {
 }
 
 // A check tells this, writes nothing and takes no step.
-fn tells(
+pub(crate) fn tells(
     rt: &(impl AllocGlobal + Abort),
     files: &mut SteadyFiles,
     status: Status,

@@ -5,7 +5,7 @@ use std::test::Fail;
 
 // A run that finds a concept behind fewer entries than it would list.
 const UNMARKED: Case = Case {
-    config: Some(b"load_source; file\nconcept_budget; 8\n"),
+    config: Some(b"load_source; file\nconcept_budget; 8\nlast_stage; timetable\n"),
     tree: None,
     report: b"load: 2 edges\ncost: 2 lines\nconcept: cost 27, not proved optimal, 8 entries\n\
         ean: 12 events, 14 activities\ntimetable: 12 events, 10 entries\ndone\n",
@@ -60,16 +60,16 @@ const EQUAL: Case = Case {
 fn a_budget_may_be_spent(rt: HostRuntime) -> Result<(), Fail> {
     let cases = [
         Case {
-            config: Some(b"load_source; file\nconcept_budget; 9\n"),
+            config: Some(b"load_source; file\nconcept_budget; 9\nlast_stage; timetable\n"),
             ..MADE
         },
         Case {
-            config: Some(b"load_source; file\nconcept_budget; 31\n"),
+            config: Some(b"load_source; file\nconcept_budget; 31\nlast_stage; timetable\n"),
             ..MADE
         },
         UNMARKED,
         Case {
-            config: Some(b"load_source; file\nconcept_budget; 6\n"),
+            config: Some(b"load_source; file\nconcept_budget; 6\nlast_stage; timetable\n"),
             status: Status::Spent,
             report: b"load: 2 edges\ncost: 2 lines\nspent: concept after 6 entries\n",
             steps: 9,
@@ -103,7 +103,7 @@ fn of_equal_concepts_the_first_is_made(rt: HostRuntime) -> Result<(), Fail> {
     run(
         &rt,
         &Case {
-            config: Some(b"load_source; file\nconcept_budget; 4\n"),
+            config: Some(b"load_source; file\nconcept_budget; 4\nlast_stage; timetable\n"),
             tree: None,
             report: b"load: 1 edges\ncost: 2 lines\nconcept: cost 12, not proved optimal, 4 entries\n\
                 ean: 4 events, 2 activities\ntimetable: 4 events, 4 entries\ndone\n",

@@ -5,7 +5,9 @@ use std::test::Fail;
 
 // Changes take 2 minutes at least.
 const QUICK_CHANGES: Case = Case {
-    config: Some(b"load_source; file\nperiod_length; 20\nean_default_minimal_change_time; 2\n"),
+    config: Some(
+        b"load_source; file\nperiod_length; 20\nean_default_minimal_change_time; 2\nlast_stage; timetable\n",
+    ),
     activities: Some(
         b"# activity-id; type; from-event; to-event; lower-bound; upper-bound\n\
         1; drive; 1; 2; 4; 5\n2; wait; 2; 3; 1; 3\n3; drive; 3; 4; 6; 6\n4; drive; 5; 6; 6; 6\n\
@@ -19,7 +21,7 @@ const QUICK_CHANGES: Case = Case {
 
 // One line over one edge, which is driven three times in 10 minutes.
 const OFTEN: Case = Case {
-    config: Some(b"load_source; file\nperiod_length; 10\n"),
+    config: Some(b"load_source; file\nperiod_length; 10\nlast_stage; timetable\n"),
     stops: Some(b"1; A; A; 0; 0\n2; B; B; 0; 0\n"),
     edges: Some(b"1; 1; 2; 2; 4; 5\n"),
     pool: Some(b"1; 1; 1\n"),

@@ -56,6 +56,8 @@ mod ean_tests;
 #[cfg(test)]
 mod refused_tests;
 #[cfg(test)]
+mod rollout_tests;
+#[cfg(test)]
 mod spies;
 #[cfg(test)]
 mod tests;

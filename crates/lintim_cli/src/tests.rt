@@ -1,6 +1,6 @@
 // Whole runs, over files in memory and over a real folder.
 use crate::answers::Status;
-use crate::cases::{CONFIG, COSTS, Case, EDGES, GIVEN, MADE, POOL, STOPS, run, words};
+use crate::cases::{CONFIG, COSTS, Case, Day, EDGES, GIVEN, MADE, POOL, STOPS, run, words};
 use crate::top::lintim;
 use plan_files::{Files, FolderFiles, Got, MemorySink, Sink, StdSink, SteadyFiles};
 use plan_num::{Steps, Tally};
@@ -45,13 +45,23 @@ const SQUARE: Case = Case {
     events: None,
     activities: None,
     times: None,
+    day: None,
     report: b"load: 4 edges\ncost: 0 lines\nno solution: concept\n",
     steps: 4,
 };
 
+// The files of a day without trips.
+const NO_DAY: Day = Day {
+    events: b"# event-id; periodic-id; type; time; stop-id\n",
+    activities: b"# activity-id; periodic-id; type; from-event; to-event; lower-bound; \
+        upper-bound\n",
+    trips: b"# start-id; periodic-start-id; start-stop; start-time; end-id; periodic-end-id; \
+        end-stop; end-time; line\n",
+};
+
 // A run over no edges and no lines.
 const NOTHING: Case = Case {
-    config: Some(b"load_source; file\n"),
+    config: Some(b"load_source; file\nlast_stage; timetable\n"),
     stops: Some(b""),
     edges: Some(b""),
     pool: Some(b""),
@@ -75,7 +85,9 @@ fn stages_are_made(rt: HostRuntime) -> Result<(), Fail> {
     let cases = [
         MADE,
         Case {
-            config: Some(b"load_source; file\nlpool_costs_length; 0.5\nlpool_costs_edges; 2\n"),
+            config: Some(
+                b"load_source; file\nlpool_costs_length; 0.5\nlpool_costs_edges; 2\nlast_stage; timetable\n",
+            ),
             costs: Some(b"# line-id; length; cost\n1; 5; 16.5\n2; 2; 13\n"),
             report: b"load: 2 edges\ncost: 2 lines\nconcept: cost 29.5, optimal, 9 entries\n\
                 ean: 12 events, 14 activities\ntimetable: 12 events, 10 entries\ndone\n",
@@ -105,7 +117,7 @@ fn stages_are_made(rt: HostRuntime) -> Result<(), Fail> {
 fn loads_come_of_demand(rt: HostRuntime) -> Result<(), Fail> {
     let cases = [
         Case {
-            config: Some(b"load_source; od\n"),
+            config: Some(b"load_source; od\nlast_stage; timetable\n"),
             demand: Some(b"# no demand\n"),
             loads: Some(
                 b"# edge-id; load; minimal-frequency; maximal-frequency\n1; 0; 0; 3\n2; 0; 0; 3\n",
@@ -136,6 +148,11 @@ fn loads_come_of_demand(rt: HostRuntime) -> Result<(), Fail> {
             config: None,
             stops: Some(FOUR_STOPS),
             demand: Some(b"1; 2; 0\n"),
+            day: Some(NO_DAY),
+            report: b"load: 0 edges\ncost: 0 lines\nconcept: cost 0, optimal, 1 entries\n\
+                ean: 0 events, 0 activities\ntimetable: 0 events, 1 entries\n\
+                rollout: 0 trips, 0 events, 0 activities\ndone\n",
+            steps: 8,
             ..NOTHING
         },
     ];

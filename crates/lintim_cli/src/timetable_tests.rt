@@ -5,7 +5,9 @@ use std::test::Fail;
 
 // A search that would list one entry more than its budget allows.
 const SPENT: Case = Case {
-    config: Some(b"load_source; file\nperiod_length; 20\ntimetable_budget; 9\n"),
+    config: Some(
+        b"load_source; file\nperiod_length; 20\ntimetable_budget; 9\nlast_stage; timetable\n",
+    ),
     status: Status::Spent,
     times: None,
     report: b"load: 2 edges\ncost: 2 lines\nconcept: cost 27, optimal, 9 entries\n\
@@ -20,7 +22,9 @@ fn a_budget_of_times_may_be_spent(rt: HostRuntime) -> Result<(), Fail> {
     run(
         &rt,
         &Case {
-            config: Some(b"load_source; file\nperiod_length; 20\ntimetable_budget; 10\n"),
+            config: Some(
+                b"load_source; file\nperiod_length; 20\ntimetable_budget; 10\nlast_stage; timetable\n",
+            ),
             ..MADE
         },
     )
