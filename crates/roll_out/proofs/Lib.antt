@@ -9,6 +9,7 @@ mod Lists
 mod Neighbours
 mod OneCopy
 mod PlacedEvents
+mod Rolled
 mod RolloutCalls
 mod RuleRows
 mod RunsInTurn
