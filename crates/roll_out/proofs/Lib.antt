@@ -2,13 +2,21 @@ mod Added
 mod ChangesAt
 mod DayCells
 mod DayChanges
+mod DayChangesGood
 mod FilesRead
 mod FoundOnes
+mod GoesForward
+mod GoodRuns
+mod GoodTrips
 mod Growing
+mod ListedEvents
 mod Lists
 mod Neighbours
 mod OneCopy
 mod PlacedEvents
+mod Rolled
+mod RolledTrips
+mod RolloutAccepted
 mod RolloutCalls
 mod RuleRows
 mod RunsInTurn
@@ -17,3 +25,5 @@ mod SoundTrips
 mod Spaced
 mod TripsOfDay
 mod WaysCounted
+pub mod RolloutMakes
+pub mod RolloutReads

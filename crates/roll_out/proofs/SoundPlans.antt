@@ -172,7 +172,7 @@ module _ (network : TimedParts) (some : 1 ≤ network.period) (short : network.p
 
 -- ---- plans
 
-between_all : (network : TimedParts) → IsTimed network → All (IsBetween network) network.activities
+pub between_all : (network : TimedParts) → IsTimed network → All (IsBetween network) network.activities
 between_all network is = λ i d h. record { sound = is.activities_are.each i d h; fits = is.activities_are.fit i d h }
 
 module _ (network : TimedParts) (is : IsTimed network) where
@@ -284,7 +284,7 @@ module _ (network : TimedParts) (is : IsTimed network) (day : Day) (in_week : Is
       ∙ sym (map-append (λ (event : PeriodicEvent). event.id) run (flat_map whole_run runs))
 
   -- the plans of all runs are those of the timetable
-  pub plans_are : ArePlans network (map (plan_of network day) all_runs)
+  pub plans_are : ArePlans network (map (plan_of network day) (runs_of network.events))
   plans_are = record {
     each = All-from_recursion IsPlan (map (plan_of network day) (runs_of network.events))
         (plans_sound (runs_of network.events) (runs_some network.events) (runs_in network is) (fits_in network is) (ids_in network is));

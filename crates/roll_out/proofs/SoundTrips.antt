@@ -67,6 +67,7 @@ module _ (period : ℕ) (short : period ≤ 720) where
       (trips_sound (n + plan_size plan) plans (All-tail IsPlan plan plans all) (omega (arith, low))
       (omega (arith, events, few)) (omega (arith, trips, rare)))
 
+module _ (period : ℕ) where
   -- how many there are
   pub trips_counted : (n : ℕ) (plans : List PlanParts) → length (trips_by period n plans) ≡ trip_total plans
   unfolding trips_by

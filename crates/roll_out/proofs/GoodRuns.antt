@@ -1,0 +1,194 @@
+-- Runs and activities that keep the rules of runs.
+use Rattle.std.proofs.Common.{◌≡◌, ℕ, zero, suc, ◌+◌, ◌-◌, ◌%◌, ◌<◌, ◌≤◌, ◌==◌, arith, Bool, true, false, ◌&&◌, ◌||◌, not, cond, All, IfSome, List, [], ◌∷◌, ◌++◌, length, map, filter, drop, get_or, find, Option, Some, None, refl, ap, subst, sym, ◌∙◌}
+use Rattle.std.specs.List.{flat_map, range_with_len, enumerate_from, count_by, zip, sum_by, AllByRecursion}
+use Rattle.std.proofs.lemmas.Bool.{eqb-true, eqb-false, false≢true}
+use Rattle.std.proofs.lemmas.List.{get_or-map}
+use Rattle.std.proofs.lemmas.List.Elements.{All-from_recursion, recursion_from_All}
+use Rattle.std.proofs.lemmas.List.FromFn.{get_or-range_with_len}
+use Rattle.std.proofs.lemmas.List.Sums.{sum_by-cons}
+use Rattle.giv_files.proofs.Ranges.{front_none, back_none}
+use Rattle.event_tables.specs.declared.activity_kind.ActivityKind.{ActivityKind}
+use Rattle.event_tables.specs.declared.activity_kind.ActivityKind.TheVariants as activity
+use Rattle.event_tables.specs.declared.event_kind.EventKind.{EventKind}
+use Rattle.event_tables.specs.declared.event_kind.EventKind.TheVariants as kinds
+use Rattle.event_tables.specs.declared.periodic_activity.PeriodicActivity.{PeriodicActivity}
+use Rattle.event_tables.specs.declared.periodic_event.PeriodicEvent.{PeriodicEvent}
+use Rattle.event_tables.specs.Kinds.{event_kind_place, is_arrival, is_sync}
+use Rattle.event_tables.specs.PeriodicRuns.{neighbours, runs_of}
+use Rattle.event_tables.specs.Places.{IsOneOf}
+use Rattle.event_tables.specs.RunRules.{KeepRunRules, breaks, broken_in, drives_at_once, is_placed, is_stray, lacks_way, leads, same_kind, unjoined_in, way_on}
+use Rattle.roll_out.specs.Plans.{IsBetween, IsTimed}
+use Rattle.roll_out.specs.TimedRuns.{TimedParts, minutes_of, no_event}
+use Rattle.roll_out.proofs.SoundPlans.{between_all, runs_have, runs_some, runs_whole}
+
+pub no_true : {P : Type 0} → false ≡ true → P
+no_true e = absurd (false≢true e)
+
+pub no_false : {P : Type 0} → true ≡ false → P
+no_false e = no_true (sym e)
+
+or_none : (a b : Bool) → (a || b) ≡ false → (a ≡ false) × (b ≡ false)
+or_none false b none = (refl, none)
+or_none true b none = no_false none
+
+and_both : (a b : Bool) → (a && b) ≡ true → (a ≡ true) × (b ≡ true)
+and_both true b all = (refl, all)
+and_both false b all = no_true all
+
+pub nothing_mapped : {A X : Type 0} (f : A → X) (xs : List A) → map f xs ≡ [] → xs ≡ []
+nothing_mapped f [] none = refl
+nothing_mapped f (x ∷ xs) none = absurd (cc)
+
+nothing_passes : {X : Type 0} (p : X → Bool) (xs : List X) → filter p xs ≡ [] → AllByRecursion (λ x. p x ≡ false) xs
+nothing_passes p [] none = tt
+nothing_passes p (x ∷ xs) none = by (p x) refl (nothing_passes p xs) none
+  where
+    by : (b : Bool) → p x ≡ b → (filter p xs ≡ [] → AllByRecursion (λ x. p x ≡ false) xs)
+        → cond b (x ∷ filter p xs) (filter p xs) ≡ [] → (p x ≡ false) × AllByRecursion (λ x. p x ≡ false) xs
+    by true is rest none = absurd (cc)
+    by false is rest none = (is, rest none)
+
+no_parts : {A X : Type 0} (f : A → List X) (xs : List A) → flat_map f xs ≡ [] → AllByRecursion (λ x. f x ≡ []) xs
+no_parts f [] none = tt
+no_parts f (x ∷ xs) none = (front_none (f x) (flat_map f xs) none, no_parts f xs (back_none (f x) (flat_map f xs) none))
+
+get_or_same : {X : Type 0} (xs : List X) (i : ℕ) (d e : X) → i < length xs → get_or xs i d ≡ get_or xs i e
+get_or_same [] i d e h = absurd (omega (arith, h))
+get_or_same (x ∷ xs) zero d e h = refl
+get_or_same (x ∷ xs) (suc i) d e h = get_or_same xs i d e (omega (arith, h))
+
+-- ---- activities
+
+-- an activity between events that is not stray
+pub record IsFit (network : TimedParts) (way : PeriodicActivity) : Type 0 where
+  pub between : IsBetween network way
+  pub placed : is_placed network.events way ≡ true
+  pub takes_time : drives_at_once way ≡ false
+
+not_stray : (a b : Bool) → (not a || b) ≡ false → (a ≡ true) × (b ≡ false)
+not_stray true b none = (refl, none)
+not_stray false b none = no_false none
+
+pub all_fit : (network : TimedParts) → IsTimed network → filter (is_stray network.events) network.activities ≡ []
+    → All (IsFit network) network.activities
+all_fit network is none = λ i d h.
+    let parts = not_stray (is_placed network.events (get_or network.activities i d))
+    (drives_at_once (get_or network.activities i d))
+    (All-from_recursion (λ way. is_stray network.events way ≡ false) network.activities
+    (nothing_passes (is_stray network.events) network.activities none) i d h) in
+    record { between = between_all network is i d h; placed = parts.0; takes_time = parts.1 }
+
+-- what is found passes the test
+pub found_passes : {X : Type 0} (p : X → Bool) (xs : List X) → IfSome (find p xs) (λ x. p x ≡ true)
+found_passes p [] = tt
+found_passes p (x ∷ xs) = by (p x) refl (found_passes p xs)
+  where
+    by : (b : Bool) → p x ≡ b → IfSome (find p xs) (λ x. p x ≡ true) → IfSome (cond b (Some x) (find p xs)) (λ x. p x ≡ true)
+    by true is rest = is
+    by false is rest = rest
+
+-- something that passes is found
+counted_found : {X : Type 0} (p : X → Bool) (xs : List X) → 1 ≤ count_by p xs → (x : X) × (find p xs ≡ Some x)
+counted_found p [] some = absurd (omega (arith, some))
+counted_found {X} p (x ∷ xs) some = by (p x) (counted_found p xs) (subst (λ n. 1 ≤ n) (sum_by-cons (λ x. cond (p x) 1 0) x xs) some)
+  where
+    by : (b : Bool) → (1 ≤ count_by p xs → (y : X) × (find p xs ≡ Some y)) → 1 ≤ cond b 1 0 + count_by p xs
+        → (y : X) × (cond b (Some x) (find p xs) ≡ Some y)
+    by true rest some = (x, refl)
+    by false rest some = rest (omega (arith, some))
+
+-- ---- the kinds of ways on
+
+pub way_no_sync : (kind : EventKind) (way : ActivityKind) → same_kind way (way_on kind) ≡ true → is_sync way ≡ false
+way_no_sync kinds.Departure activity.Sync is = no_true is
+way_no_sync kinds.Arrival activity.Sync is = no_true is
+way_no_sync kind activity.Drive is = refl
+way_no_sync kind activity.Wait is = refl
+way_no_sync kind activity.Change is = refl
+
+some_minutes : (drives : Bool) (lower : ℕ) → drives ≡ true → (drives && lower == 0) ≡ false → 1 ≤ lower
+some_minutes false lower is none = no_true is
+some_minutes true lower is none = let other = eqb-false lower 0 none in omega (arith, other)
+
+-- a way on from a departure takes time
+pub drive_takes : (way : PeriodicActivity) → same_kind way.kind activity.Drive ≡ true → drives_at_once way ≡ false
+    → 1 ≤ way.lower
+drive_takes way is none = some_minutes (same_kind way.kind activity.Drive) way.lower is none
+
+-- ---- runs
+
+-- an event of a timetable
+abbrev pub IsIn : TimedParts → PeriodicEvent → Type 0
+IsIn network event = IsOneOf (length network.events) event.id × (get_or network.events (event.id - 1) no_event ≡ event)
+
+-- a run that goes on by drives and waits, from a departure on
+pub record IsGoodRun (network : TimedParts) (run : List PeriodicEvent) : Type 0 where
+  pub more : 2 ≤ length run
+  pub departs : is_arrival (get_or run 0 no_event).kind ≡ false
+  pub joined : unjoined_in network.activities run ≡ []
+  pub within : AllByRecursion (IsIn network) run
+
+first_breaks : (event : PeriodicEvent) (run : List PeriodicEvent) → broken_in (event ∷ run) ≡ []
+    → breaks (length (event ∷ run)) (0, event) ≡ false
+first_breaks event run none =
+    (nothing_passes (breaks (length (event ∷ run))) (enumerate_from 0 (event ∷ run))
+    (nothing_mapped (λ (at : ℕ × PeriodicEvent). at.1) _ none)).0
+
+first_turn : (kind : EventKind) (odd : Bool) → (not (event_kind_place kind == 0 % 2) || odd) ≡ false
+    → (is_arrival kind ≡ false) × (odd ≡ false)
+first_turn kinds.Departure odd none = (refl, none)
+first_turn kinds.Arrival odd none = no_false none
+
+good_run : (network : TimedParts) (run : List PeriodicEvent) → 1 ≤ length run → broken_in run ≡ []
+    → unjoined_in network.activities run ≡ [] → AllByRecursion (IsIn network) run → IsGoodRun network run
+good_run network [] some whole joined within = absurd (omega (arith, some))
+good_run network (event ∷ []) some whole joined within =
+    let turn = first_turn event.kind true (first_breaks event [] whole) in no_false turn.1
+good_run network (event ∷ next ∷ run) some whole joined within =
+    let turn = first_turn event.kind _ (first_breaks event (next ∷ run) whole) in
+    record { more = omega arith; departs = turn.0; joined = joined; within = within }
+
+module _ (network : TimedParts) (is : IsTimed network) (keep : KeepRunRules network.events network.activities) where
+  in_at : (i : ℕ) (d : PeriodicEvent) → i < length network.events → IsIn network (get_or network.events i d)
+  in_at i d h =
+      let at : (get_or network.events i d).id ≡ 1 + i =
+      sym (get_or-map (λ (event : PeriodicEvent). event.id) network.events i d 0 h)
+      ∙ ap (λ ids. get_or ids i 0) is.events_are.numbered
+      ∙ get_or-range_with_len 1 (length network.events) i 0 h in
+      let e : (get_or network.events i d).id - 1 ≡ i = omega (arith, at) in
+      ((omega (arith, at), omega (arith, at, h)), ap (λ k. get_or network.events k no_event) e ∙ get_or_same network.events i no_event d h)
+
+  all_in : AllByRecursion (λ (run : List PeriodicEvent). AllByRecursion (IsIn network) run) (runs_of network.events)
+  all_in = runs_have (IsIn network) (runs_of network.events)
+      (subst (AllByRecursion (IsIn network)) (sym (runs_whole network.events))
+      (recursion_from_All (IsIn network) network.events in_at))
+
+  good_runs : (runs : List (List PeriodicEvent)) → AllByRecursion (λ (run : List PeriodicEvent). 1 ≤ length run) runs
+      → AllByRecursion (λ run. broken_in run ≡ []) runs
+      → AllByRecursion (λ run. unjoined_in network.activities run ≡ []) runs
+      → AllByRecursion (λ (run : List PeriodicEvent). AllByRecursion (IsIn network) run) runs
+      → AllByRecursion (IsGoodRun network) runs
+  good_runs [] some whole joined within = tt
+  good_runs (run ∷ runs) some whole joined within =
+      (good_run network run some.0 whole.0 joined.0 within.0, good_runs runs some.1 whole.1 joined.1 within.1)
+
+  pub runs_good : AllByRecursion (IsGoodRun network) (runs_of network.events)
+  runs_good = good_runs (runs_of network.events) (runs_some network.events)
+      (no_parts broken_in (runs_of network.events) keep.whole)
+      (no_parts (unjoined_in network.activities) (runs_of network.events) keep.joined) all_in
+
+-- the first two events of a run are joined
+pub first_joined : (network : TimedParts) (event next : PeriodicEvent) (run : List PeriodicEvent)
+    → unjoined_in network.activities (event ∷ next ∷ run) ≡ []
+    → (way : PeriodicActivity) × (find (leads (event, next)) network.activities ≡ Some way)
+first_joined network event next run none =
+    let kept = (nothing_passes (lacks_way network.activities) (neighbours (event ∷ next ∷ run))
+    (nothing_mapped (λ (pair : PeriodicEvent × PeriodicEvent). pair.0) _ none)).0 in
+    counted_found (leads (event, next)) network.activities (once (count_by (leads (event, next)) network.activities) kept)
+  where
+    once : (n : ℕ) → not (n == 1) ≡ false → 1 ≤ n
+    once n kept = by (n == 1) refl kept
+      where
+        by : (b : Bool) → (n == 1) ≡ b → not b ≡ false → 1 ≤ n
+        by true is kept = let e = eqb-true n 1 is in omega (arith, e)
+        by false is kept = no_false kept
