@@ -1,10 +1,9 @@
 -- Lists to which parts are added one by one.
 use Rattle.std.proofs.Common.{◌≡◌, ℕ, ◌+◌, ◌<◌, ◌≤◌, arith, Bool, true, false, cond, List, [], ◌∷◌, ◌++◌, length, map, filter, take, get_or, refl, ap, sym, ◌∙◌}
 use Rattle.std.specs.List.{flat_map, range_with_len, enumerate_from}
-use Rattle.std.proofs.lemmas.List.{append_assoc, append-nil, map-append, map-id, flat_map_more, take_more, take_all, length-take-le, length-append}
+use Rattle.std.proofs.lemmas.List.{append_assoc, append-nil, map-append, map-id, flat_map_more, take_more, take_all, length-take-le}
 use Rattle.std.proofs.lemmas.List.Elements.{filter-append}
 use Rattle.std.proofs.lemmas.List.FromFn.{map-range_with_len_more, get_or-enumerate_from, length-enumerate_from}
-use Rattle.std.proofs.lemmas.Grind.{flat_map-append}
 use Rattle.event_tables.specs.declared.periodic_event.PeriodicEvent.{PeriodicEvent}
 
 -- the ids of the events of the things that pass a test

@@ -1,12 +1,10 @@
 -- The changes of a day go forward between its events.
-use Rattle.std.proofs.Common.{◌≡◌, ℕ, ◌+◌, ◌-◌, ◌<◌, ◌≤◌, ◌==◌, arith, Bool, true, false, ◌&&◌, not, cond, All, List, [], ◌∷◌, ◌++◌, length, map, filter, get_or, refl, ap, subst, sym, ◌∙◌}
+use Rattle.std.proofs.Common.{◌≡◌, ℕ, ◌+◌, ◌-◌, ◌≤◌, ◌==◌, arith, Bool, true, false, ◌&&◌, not, cond, All, List, [], ◌∷◌, map, filter, get_or, refl, ap, subst, sym, ◌∙◌}
 use Rattle.std.specs.List.{flat_map, enumerate_from, AllByRecursion}
 use Rattle.std.proofs.lemmas.Bool.{eqb-true}
 use Rattle.std.proofs.lemmas.List.Elements.{recursion_from_All}
 use Rattle.event_tables.specs.declared.activity_kind.ActivityKind.{ActivityKind}
 use Rattle.event_tables.specs.declared.activity_kind.ActivityKind.TheVariants as activity
-use Rattle.event_tables.specs.declared.event_kind.EventKind.{EventKind}
-use Rattle.event_tables.specs.declared.expanded_activity.ExpandedActivity.{ExpandedActivity}
 use Rattle.event_tables.specs.declared.expanded_event.ExpandedEvent.{ExpandedEvent}
 use Rattle.event_tables.specs.declared.periodic_activity.PeriodicActivity.{PeriodicActivity}
 use Rattle.event_tables.specs.declared.periodic_event.PeriodicEvent.{PeriodicEvent}
@@ -14,8 +12,7 @@ use Rattle.event_tables.specs.ExpandedFiles.{IsExpandedActivity}
 use Rattle.event_tables.specs.Kinds.{is_arrival, is_sync}
 use Rattle.event_tables.specs.PeriodicRuns.{joins}
 use Rattle.event_tables.specs.Places.{AreNumbered}
-use Rattle.event_tables.specs.RunRules.{is_placed, same_kind}
-use Rattle.roll_out.specs.declared.timed_event.TimedEvent.{TimedEvent}
+use Rattle.event_tables.specs.RunRules.{same_kind}
 use Rattle.roll_out.specs.DayActivities.{change_copies, changes_from, copy_of, day_changes, is_change, is_copy, is_head}
 use Rattle.roll_out.specs.DayTrips.{TripParts, day_event, day_events, trip_events}
 use Rattle.roll_out.specs.TimedRuns.{TimedParts, minutes_of, no_event, timed_from, minutes_on, way_on}
@@ -24,7 +21,6 @@ use Rattle.roll_out.proofs.GoodRuns.{IsFit, IsIn, no_true}
 use Rattle.roll_out.proofs.ListedEvents.{IsListed}
 use Rattle.roll_out.proofs.PlacedEvents.{known_ends_is}
 use Rattle.roll_out.proofs.RolledTrips.{IsRolled, append_all}
-use Rattle.roll_out.proofs.SoundPlans.{minutes_are}
 
 -- an event of the day is of the kind and at the stop of its periodic event
 pub record IsOf (network : TimedParts) (event : ExpandedEvent) : Type 0 where
@@ -129,10 +125,10 @@ module _ (network : TimedParts) (some : 1 ≤ network.period) (short : network.p
   one_change way is changes tail from is_from head to is_to later =
       let sound = is.between.sound in
       let joined = joins_as way.kind (get_or network.events (way.from - 1) no_event)
-          (get_or network.events (way.to - 1) no_event) changes
-          (known_ends_is network.events numbered way no_event (sound.from.0, sound.from.1) (sound.to.0, sound.to.1) ∙ is.placed) in
+      (get_or network.events (way.to - 1) no_event) changes
+      (known_ends_is network.events numbered way no_event (sound.from.0, sound.from.1) (sound.to.0, sound.to.1) ∙ is.placed) in
       let ends = change_ends (get_or network.events (way.from - 1) no_event)
-          (get_or network.events (way.to - 1) no_event) joined in
+      (get_or network.events (way.to - 1) no_event) joined in
       let arrives : is_arrival tail.kind ≡ true =
       ap is_arrival (from.1.kind ∙ ap (λ (event : PeriodicEvent). event.kind) (sym from.1.is)
       ∙ ap (λ k. (get_or network.events (k - 1) no_event).kind) is_from) ∙ ends.0 in

@@ -1,6 +1,6 @@
 -- Runs and activities that keep the rules of runs.
-use Rattle.std.proofs.Common.{◌≡◌, ℕ, zero, suc, ◌+◌, ◌-◌, ◌%◌, ◌<◌, ◌≤◌, ◌==◌, arith, Bool, true, false, ◌&&◌, ◌||◌, not, cond, All, IfSome, List, [], ◌∷◌, ◌++◌, length, map, filter, drop, get_or, find, Option, Some, None, refl, ap, subst, sym, ◌∙◌}
-use Rattle.std.specs.List.{flat_map, range_with_len, enumerate_from, count_by, zip, sum_by, AllByRecursion}
+use Rattle.std.proofs.Common.{◌≡◌, ℕ, zero, suc, ◌+◌, ◌-◌, ◌%◌, ◌<◌, ◌≤◌, ◌==◌, arith, Bool, true, false, ◌&&◌, ◌||◌, not, cond, All, IfSome, List, [], ◌∷◌, length, map, filter, get_or, find, Some, refl, ap, subst, sym, ◌∙◌}
+use Rattle.std.specs.List.{flat_map, enumerate_from, count_by, AllByRecursion}
 use Rattle.std.proofs.lemmas.Bool.{eqb-true, eqb-false, false≢true}
 use Rattle.std.proofs.lemmas.List.{get_or-map}
 use Rattle.std.proofs.lemmas.List.Elements.{All-from_recursion, recursion_from_All}
@@ -18,7 +18,7 @@ use Rattle.event_tables.specs.PeriodicRuns.{neighbours, runs_of}
 use Rattle.event_tables.specs.Places.{IsOneOf}
 use Rattle.event_tables.specs.RunRules.{KeepRunRules, breaks, broken_in, drives_at_once, is_placed, is_stray, lacks_way, leads, same_kind, unjoined_in, way_on}
 use Rattle.roll_out.specs.Plans.{IsBetween, IsTimed}
-use Rattle.roll_out.specs.TimedRuns.{TimedParts, minutes_of, no_event}
+use Rattle.roll_out.specs.TimedRuns.{TimedParts, no_event}
 use Rattle.roll_out.proofs.SoundPlans.{between_all, runs_have, runs_some, runs_whole}
 
 pub no_true : {P : Type 0} → false ≡ true → P

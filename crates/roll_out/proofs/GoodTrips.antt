@@ -1,13 +1,12 @@
 -- The trips of a day take time, and each has a start event of its own.
-use Rattle.std.proofs.Common.{◌≡◌, ℕ, ℤ, zero, suc, pos, ◌+◌, ◌-◌, ◌<◌, ◌≤◌, ◌<ℤ◌, nat_le, arith, Bool, true, false, ◌||◌, not, All, List, [], ◌∷◌, ◌++◌, length, map, get_or, find, Option, Some, None, refl, ap, subst, sym, ◌∙◌}
+use Rattle.std.proofs.Common.{◌≡◌, ℕ, ℤ, suc, pos, ◌+◌, ◌-◌, ◌<◌, ◌≤◌, arith, true, false, ◌||◌, not, All, List, [], ◌∷◌, length, map, get_or, find, Some, refl, ap, subst, sym, ◌∙◌}
 use Rattle.std.specs.Cmp.{int_cmp_is}
-use Rattle.std.specs.List.{flat_map, enumerate_from, list_any, AllByRecursion}
+use Rattle.std.specs.List.{AllByRecursion}
 use Rattle.std.specs.List.Sorted.{IsStrictlySortedBy}
-use Rattle.std.specs.Ordering.{int_cmp, int_eq}
+use Rattle.std.specs.Ordering.{int_cmp}
 use Rattle.std.specs.declared.cmp.Ordering.TheVariants.{Less}
-use Rattle.std.proofs.lemmas.Bool.{lt-leb}
 use Rattle.std.proofs.lemmas.Int.{ints}
-use Rattle.std.proofs.lemmas.List.Elements.{All-from_recursion, recursion_from_All}
+use Rattle.std.proofs.lemmas.List.Elements.{All-from_recursion}
 use Rattle.event_tables.specs.declared.event_kind.EventKind.{EventKind}
 use Rattle.event_tables.specs.declared.event_kind.EventKind.TheVariants as kinds
 use Rattle.event_tables.specs.declared.periodic_activity.PeriodicActivity.{PeriodicActivity}
@@ -21,7 +20,7 @@ use Rattle.event_tables.specs.RunRules.{leads, same_kind}
 use Rattle.roll_out.specs.declared.timed_event.TimedEvent.{TimedEvent}
 use Rattle.roll_out.specs.DayTrips.{TripParts, no_timed, numbered_trips, trip_row, trips_of}
 use Rattle.roll_out.specs.RolloutStage.{trip_rows}
-use Rattle.roll_out.specs.TimedRuns.{TimedParts, minutes_of, minutes_on, no_event, timed_from, way_on}
+use Rattle.roll_out.specs.TimedRuns.{TimedParts, minutes_on, no_event, timed_from, way_on}
 use Rattle.roll_out.proofs.FoundOnes.{found_has}
 use Rattle.roll_out.proofs.GoodRuns.{IsFit, IsGoodRun, IsIn, drive_takes, first_joined, found_passes, no_true}
 use Rattle.roll_out.proofs.RolledTrips.{IsRolled, leads_kind}
@@ -48,9 +47,9 @@ module _ (network : TimedParts) (some : 1 ≤ network.period) (short : network.p
   first_way event next run departs joined =
       let found = first_joined network event next run joined in
       let passes = subst (λ way. IfSome way (λ way. leads (event, next) way ≡ true)) found.1
-          (found_passes (leads (event, next)) network.activities) in
+      (found_passes (leads (event, next)) network.activities) in
       let is = subst (λ way. IfSome way (IsFit network)) found.1
-          (found_has (IsFit network) (leads (event, next)) network.activities fit) in
+      (found_has (IsFit network) (leads (event, next)) network.activities fit) in
       let takes = departure_drives event.kind found.0 departs (leads_kind (event, next) found.0 passes) is.takes_time in
       let low = (minutes_are network some short found.0).0 in
       subst (λ way. 1 ≤ minutes_on network way) (sym found.1) (omega (arith, takes, low))
@@ -66,7 +65,7 @@ module _ (network : TimedParts) (some : 1 ≤ network.period) (short : network.p
       let rest = timed_from network (0 + minutes_on network way) (next ∷ run) in
       let later = first_way event next run good.departs good.joined in
       let all = All-from_recursion (λ (at : TimedEvent). 1 ≤ at.minutes) rest
-          (later_minutes network 1 (0 + minutes_on network way) (next ∷ run) (omega (arith, later))) in
+      (later_minutes network 1 (0 + minutes_on network way) (next ∷ run) (omega (arith, later))) in
       let size = timed_size network (0 + minutes_on network way) (next ∷ run) in
       let e : suc (length rest) - 1 ≡ suc (length rest - 1) = omega (arith, size) in
       let last = all (length rest - 1) no_timed (omega (arith, size)) in
@@ -77,7 +76,7 @@ module _ (network : TimedParts) (some : 1 ≤ network.period) (short : network.p
   pub trip_takes : (trip : TripParts) → IsRolled network trip → (trip_row trip).start.time < (trip_row trip).end.time
   trip_takes trip rolled =
       let takes = subst (λ run. (get_or run 0 no_timed).minutes < (get_or run (length run - 1) no_timed).minutes)
-          (sym rolled.is) (run_takes rolled.periodic rolled.good) in
+      (sym rolled.is) (run_takes rolled.periodic rolled.good) in
       omega (arith, takes)
 
 -- ---- start events of their own
@@ -150,7 +149,7 @@ module _ (network : TimedParts) (stops : List ℤ)
       let size = timed_size network 0 rolled.periodic in
       let more = rolled.good.more in
       let all = All-from_recursion (λ (at : TimedEvent). AtStop at.event) run
-          (first_of network AtStop 0 rolled.periodic (run_stops rolled.periodic rolled.good.within)) in
+      (first_of network AtStop 0 rolled.periodic (run_stops rolled.periodic rolled.good.within)) in
       let first : is_stop stops (get_or run 0 no_timed).event.stop ≡ true = all 0 no_timed (omega (arith, size, more)) in
       let last : is_stop stops (get_or run (length run - 1) no_timed).event.stop ≡ true =
       all (length run - 1) no_timed (omega (arith, size, more)) in

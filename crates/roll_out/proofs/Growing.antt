@@ -1,14 +1,11 @@
 -- Trips, copies and timed events that are added one by one.
-use Rattle.std.proofs.Common.{◌≡◌, ℕ, ◌+◌, ◌*◌, ◌<◌, ◌≤◌, arith, List, [], ◌∷◌, ◌++◌, length, map, take, drop, get_or, refl, ap, sym, ◌∙◌}
-use Rattle.std.specs.List.{flat_map, range_with_len, enumerate_from, sum_by}
+use Rattle.std.proofs.Common.{◌≡◌, ℕ, ◌+◌, ◌*◌, ◌<◌, ◌≤◌, arith, List, [], ◌∷◌, ◌++◌, length, drop, get_or, refl, ap, sym, ◌∙◌}
 use Rattle.std.proofs.lemmas.List.{append_assoc, append-nil, at_drop_more, at_drop_all}
 use Rattle.std.proofs.lemmas.List.Sums.{sum_by-drop_more}
 use Rattle.event_tables.specs.declared.periodic_event.PeriodicEvent.{PeriodicEvent}
 use Rattle.event_tables.specs.declared.periodic_activity.PeriodicActivity.{PeriodicActivity}
 use Rattle.std.proofs.Common.{Option}
-use Rattle.roll_out.specs.declared.copies.Copies.{Copies}
 use Rattle.roll_out.specs.declared.timed_event.TimedEvent.{TimedEvent}
-use Rattle.roll_out.specs.DayTrips.{TripParts}
 use Rattle.roll_out.specs.Plans.{PlanParts, trip_after, copies_at, plan_trips, plan_copies, trips_by, copies_by, event_total}
 use Rattle.roll_out.specs.TimedRuns.{TimedParts, timed_from, way_on, minutes_on}
 

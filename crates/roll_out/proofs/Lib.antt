@@ -3,7 +3,7 @@ mod ChangesAt
 mod DayCells
 mod DayChanges
 mod DayChangesGood
-mod FilesRead
+pub mod FilesRead
 mod FoundOnes
 mod GoesForward
 mod GoodRuns

@@ -1,5 +1,5 @@
 -- Neighbours in a run, one after the other.
-use Rattle.std.proofs.Common.{◌≡◌, ℕ, zero, suc, ◌+◌, ◌-◌, ◌<◌, ◌≤◌, arith, List, [], ◌∷◌, ◌++◌, length, take, drop, get_or, refl, ap, sym, ◌∙◌}
+use Rattle.std.proofs.Common.{◌≡◌, ℕ, zero, suc, ◌+◌, ◌-◌, ◌<◌, ◌≤◌, arith, List, [], ◌∷◌, ◌++◌, length, take, get_or, refl, ap, ◌∙◌}
 use Rattle.std.specs.List.{zip}
 use Rattle.std.proofs.lemmas.List.{take_all, take_more}
 use Rattle.event_tables.specs.declared.periodic_event.PeriodicEvent.{PeriodicEvent}

@@ -1,8 +1,8 @@
 -- The copies of a periodic event among the events of a day.
-use Rattle.std.proofs.Common.{◌≡◌, ℕ, zero, suc, ◌+◌, ◌-◌, ◌*◌, ◌<◌, ◌≤◌, ◌==◌, ◌⊎◌, inl, inr, arith, Bool, true, false, cond, List, [], ◌∷◌, ◌++◌, length, map, filter, get_or, nat_lt, refl, ap, subst, sym, ◌∙◌}
+use Rattle.std.proofs.Common.{◌≡◌, ℕ, zero, suc, ◌+◌, ◌-◌, ◌*◌, ◌<◌, ◌≤◌, ◌⊎◌, inl, inr, arith, Bool, true, false, cond, List, [], ◌∷◌, ◌++◌, length, map, filter, get_or, nat_lt, refl, ap, sym, ◌∙◌}
 use Rattle.std.specs.List.{flat_map, range_with_len, enumerate_from}
 use Rattle.std.proofs.lemmas.Bool.{eq-eqb, ne_eqb, ltb-true, ltb-false}
-use Rattle.std.proofs.lemmas.List.{get_or-map, get_or_append_left, get_or-append_right, map-append, length-append, length-map, append-nil}
+use Rattle.std.proofs.lemmas.List.{get_or-map, get_or_append_left, get_or-append_right, length-append, length-map, append-nil}
 use Rattle.std.proofs.lemmas.List.Concat.{flat_map_single}
 use Rattle.std.proofs.lemmas.List.Elements.{filter-append}
 use Rattle.std.proofs.lemmas.List.Folds.{flat_map-map}
@@ -12,7 +12,7 @@ use Rattle.event_tables.specs.declared.expanded_event.ExpandedEvent.{ExpandedEve
 use Rattle.roll_out.specs.declared.copies.Copies.{Copies}
 use Rattle.roll_out.specs.declared.timed_event.TimedEvent.{TimedEvent}
 use Rattle.roll_out.specs.DayActivities.{is_copy}
-use Rattle.roll_out.specs.DayTrips.{TripParts, day_event, day_events, trip_events, no_timed}
+use Rattle.roll_out.specs.DayTrips.{day_event, day_events, trip_events, no_timed}
 use Rattle.roll_out.specs.Plans.{PlanParts, trip_after, plan_trips, trips_by, copies_at, plan_copies, copies_by, copy_id, copy_time, no_copies}
 use Rattle.roll_out.proofs.Lists.{filter_parts, map_parts, same_parts}
 
@@ -95,8 +95,10 @@ module _ (period : ℕ) where
   plan_has : (n f i : ℕ) (plan : PlanParts) → run_ids plan.run ≡ range_with_len f (length plan.run)
       → i < length plan.run
       → map place_of (filter (is_copy (f + i)) (day_events (plan_trips period n plan)))
-      ≡ map (λ k. (copy_id (copies_at n plan (i, get_or plan.run i no_timed)) k,
-      copy_time period (copies_at n plan (i, get_or plan.run i no_timed)) k)) (range_with_len 0 plan.trips)
+      ≡ map (λ k. (
+        copy_id (copies_at n plan (i, get_or plan.run i no_timed)) k,
+        copy_time period (copies_at n plan (i, get_or plan.run i no_timed)) k,
+      )) (range_with_len 0 plan.trips)
   plan_has n f i plan are h =
       ap (λ events. map place_of (filter (is_copy (f + i)) events))
       (flat_map-map trip_events (trip_after period n plan) (range_with_len 0 plan.trips))
@@ -104,13 +106,17 @@ module _ (period : ℕ) where
       (range_with_len 0 plan.trips))
       ∙ map_parts place_of (λ k. filter (is_copy (f + i)) (trip_events (trip_after period n plan k)))
       (range_with_len 0 plan.trips)
-      ∙ same_parts _ (λ k. (copy_id (copies_at n plan (i, get_or plan.run i no_timed)) k,
-      copy_time period (copies_at n plan (i, get_or plan.run i no_timed)) k) ∷ []) one (range_with_len 0 plan.trips)
+      ∙ same_parts _ (λ k. (
+        copy_id (copies_at n plan (i, get_or plan.run i no_timed)) k,
+        copy_time period (copies_at n plan (i, get_or plan.run i no_timed)) k,
+      ) ∷ []) one (range_with_len 0 plan.trips)
       ∙ flat_map_single _ (range_with_len 0 plan.trips)
     where
       one : (k : ℕ) → map place_of (filter (is_copy (f + i)) (trip_events (trip_after period n plan k)))
-          ≡ (copy_id (copies_at n plan (i, get_or plan.run i no_timed)) k,
-          copy_time period (copies_at n plan (i, get_or plan.run i no_timed)) k) ∷ []
+          ≡ (
+            copy_id (copies_at n plan (i, get_or plan.run i no_timed)) k,
+            copy_time period (copies_at n plan (i, get_or plan.run i no_timed)) k,
+          ) ∷ []
       one k =
           let at = get_or plan.run i no_timed in
           let e : n + k * length plan.run + i ≡ n + i + k * length plan.run = omega arith in

@@ -1,11 +1,8 @@
 -- Each trip is of a run that goes on by drives and waits, and what follows for its events.
-use Rattle.std.proofs.Common.{◌≡◌, ℕ, zero, suc, ◌+◌, ◌-◌, ◌<◌, ◌≤◌, ◌==◌, arith, Bool, true, false, ◌&&◌, All, IfSome, List, [], ◌∷◌, ◌++◌, length, map, filter, get_or, find, Option, Some, None, refl, ap, subst, sym, ◌∙◌}
-use Rattle.std.specs.List.{flat_map, range_with_len, enumerate_from, AllByRecursion}
-use Rattle.std.proofs.lemmas.List.Elements.{All-from_recursion, recursion_from_All}
-use Rattle.event_tables.specs.declared.activity_kind.ActivityKind.TheVariants as activity
+use Rattle.std.proofs.Common.{◌≡◌, ℕ, ◌+◌, ◌≤◌, arith, Bool, true, false, ◌&&◌, All, IfSome, List, [], ◌∷◌, ◌++◌, length, map, Option, Some, None, refl, ap, subst, sym}
+use Rattle.std.specs.List.{flat_map, enumerate_from, AllByRecursion}
 use Rattle.event_tables.specs.declared.event_kind.EventKind.{EventKind}
 use Rattle.event_tables.specs.declared.event_kind.EventKind.TheVariants as kinds
-use Rattle.event_tables.specs.declared.expanded_activity.ExpandedActivity.{ExpandedActivity}
 use Rattle.event_tables.specs.declared.expanded_event.ExpandedEvent.{ExpandedEvent}
 use Rattle.event_tables.specs.declared.periodic_activity.PeriodicActivity.{PeriodicActivity}
 use Rattle.event_tables.specs.declared.periodic_event.PeriodicEvent.{PeriodicEvent}
@@ -17,12 +14,12 @@ use Rattle.event_tables.specs.RunRules as rules
 use Rattle.event_tables.specs.RunRules.{leads, same_kind}
 use Rattle.roll_out.specs.declared.day.Day.{Day}
 use Rattle.roll_out.specs.declared.timed_event.TimedEvent.{TimedEvent}
-use Rattle.roll_out.specs.DayActivities.{copy_of, day_ways, trip_ways, way_from}
-use Rattle.roll_out.specs.DayTrips.{TripParts, day_event, day_events, departures_of, first_time, numbered_trips, starts, trip_events, trips_of}
+use Rattle.roll_out.specs.DayActivities.{day_ways, trip_ways, way_from}
+use Rattle.roll_out.specs.DayTrips.{TripParts, day_event, departures_of, first_time, numbered_trips, starts, trip_events, trips_of}
 use Rattle.roll_out.specs.TimedRuns.{TimedParts, minutes_of, minutes_on, timed_from, way_on}
 use Rattle.roll_out.proofs.FoundOnes.{found_has}
 use Rattle.roll_out.proofs.GoesForward.{forward_between, later_stands, waits_stand}
-use Rattle.roll_out.proofs.GoodRuns.{IsFit, IsGoodRun, IsIn, drive_takes, found_passes, way_no_sync}
+use Rattle.roll_out.proofs.GoodRuns.{IsFit, IsGoodRun, drive_takes, found_passes, way_no_sync}
 use Rattle.roll_out.proofs.ListedEvents.{IsListed, mapped_all}
 use Rattle.roll_out.proofs.SoundPlans.{minutes_are}
 

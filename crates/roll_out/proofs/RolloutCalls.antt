@@ -1,5 +1,5 @@
 -- The stage that rolls a timetable out, from what its parts give.
-use Rattle.std.proofs.Common.{◌≡◌, ℕ, ◌+◌, ◌<◌, ◌≤◌, cond, arith, List, [], ◌∷◌, ◌++◌, length, map, refl, ap, subst, sym, ◌∙◌, Ok, Err, Result, slice_get}
+use Rattle.std.proofs.Common.{◌≡◌, ℕ, ◌+◌, ◌<◌, ◌≤◌, cond, arith, List, [], ◌∷◌, ◌++◌, length, ap, subst, sym, ◌∙◌, Ok, Err, Result, slice_get}
 use Rattle.std.specs.List.{enumerate_from}
 use Rattle.std.proofs.lemmas.Bool.{lt-ltb, le-ltb}
 use Rattle.std.proofs.lemmas.List.{append_assoc, append-nil, length-append, length-map}
@@ -140,14 +140,14 @@ module _ (bundle : BundleParts) where
     unfolding rollout_stage
     rolled kept network trips is are (Ok made) h =
         let left = behind_none (rollout_faults bundle) (long_lists (network_in bundle) (trips_in bundle))
-            (behind_none (file_faults bundle) (run_faults bundle) none ∙ kept) in
+        (behind_none (file_faults bundle) (run_faults bundle) none ∙ kept) in
         let same : long_lists network trips ≡ long_lists (network_in bundle) (trips_in bundle) =
         ap (λ n. long_lists n trips) is ∙ ap (long_lists (network_in bundle)) are in
         stage_made _ _ made (left ∙ sym same ∙ h.0)
         (h.1 ∙ ap (λ n. made_of n trips) is ∙ ap (made_of (network_in bundle)) are)
     rolled kept network trips is are (Err why) h =
         let left = behind_none (rollout_faults bundle) (long_lists (network_in bundle) (trips_in bundle))
-            (behind_none (file_faults bundle) (run_faults bundle) none ∙ kept) in
+        (behind_none (file_faults bundle) (run_faults bundle) none ∙ kept) in
         let same : long_lists network trips ≡ long_lists (network_in bundle) (trips_in bundle) =
         ap (λ n. long_lists n trips) is ∙ ap (long_lists (network_in bundle)) are in
         stage_refused _ _ why (subst (λ all. Refuses all why) (same ∙ sym left) h)

@@ -12,7 +12,7 @@ use Rattle.giv_files.specs.declared.row_why.RowWhy.{RowWhy}
 use Rattle.giv_files.specs.declared.row_why.RowWhy.TheVariants as why
 use Rattle.giv_files.specs.declared.stage.Stage.TheVariants as stage
 use Rattle.giv_files.specs.Columns.{activities_p_columns, events_p_columns}
-use Rattle.giv_files.specs.Inputs.{Limit, input_faults, limit_faults, or_else, row_limit}
+use Rattle.giv_files.specs.Inputs.{Limit, input_faults, limit_faults, row_limit}
 use Rattle.giv_files.specs.MadeLists.{MakesAs, ids_of}
 use Rattle.giv_files.specs.NamedFiles.{NamesOnly}
 use Rattle.giv_files.specs.Settings.{BundleParts}

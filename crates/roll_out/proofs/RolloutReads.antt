@@ -1,8 +1,8 @@
 -- The files of a day that are made, read again, are right.
-use Rattle.std.proofs.Common.{◌≡◌, ℕ, ℤ, ◌+◌, ◌<◌, ◌≤◌, arith, All, List, [], ◌∷◌, ◌++◌, length, map, filter, Option, Some, None, refl, ap, subst, sym, ◌∙◌, Ok, Err, Result}
+use Rattle.std.proofs.Common.{◌≡◌, ℕ, ℤ, ◌+◌, ◌≤◌, arith, All, List, [], ◌∷◌, ◌++◌, length, map, Option, Some, None, refl, ap, subst, sym, ◌∙◌, Ok, Err, Result}
 use Rattle.std.specs.Prelude.{IfOk}
 use Rattle.std.specs.List.{AllByRecursion, enumerate_from, range_with_len}
-use Rattle.std.proofs.lemmas.List.{length-append, length-map}
+use Rattle.std.proofs.lemmas.List.{length-map}
 use Rattle.std.proofs.lemmas.List.FromFn.{length-enumerate_from}
 use Rattle.giv_files.specs.declared.counted.Counted.TheVariants as counted
 use Rattle.giv_files.specs.declared.file_id.FileId.TheVariants as file
@@ -14,7 +14,7 @@ use Rattle.giv_files.specs.declared.row_why.RowWhy.TheVariants as why
 use Rattle.giv_files.specs.declared.stage.Stage.TheVariants as stage
 use Rattle.giv_files.specs.Columns.{activities_p_columns, activities_x_columns, events_p_columns, events_x_columns, trips_columns}
 use Rattle.giv_files.specs.Inputs.{input_faults, limit_faults, or_else, row_limit}
-use Rattle.giv_files.specs.Settings.{BundleParts, Fits, SettingsFit, amount}
+use Rattle.giv_files.specs.Settings.{BundleParts, Fits, SettingsFit}
 use Rattle.giv_files.specs.StageCalls.{StageGives, input_text}
 use Rattle.giv_files.proofs.Inputs.{limits_sound}
 use Rattle.giv_files.proofs.Ranges.{front_none, back_none}
@@ -22,32 +22,28 @@ use Rattle.giv_files.proofs.SettingFacts.{amount_within}
 use Rattle.giv_files.proofs.StageCalls.{made_unless, none_unless}
 use Rattle.event_tables.specs.declared.expanded_activity.ExpandedActivity.{ExpandedActivity}
 use Rattle.event_tables.specs.declared.expanded_event.ExpandedEvent.{ExpandedEvent}
-use Rattle.event_tables.specs.declared.periodic_event.PeriodicEvent.{PeriodicEvent}
-use Rattle.event_tables.specs.declared.trip.Trip.{Trip}
 use Rattle.event_tables.specs.Cells.{expanded_activity_cells, expanded_event_cells, trip_cells}
 use Rattle.event_tables.specs.ExpandedFiles.{IsExpandedActivity, expanded_activity_input}
 use Rattle.event_tables.specs.Headers.{expanded_activity_header, expanded_event_header, trip_header}
-use Rattle.event_tables.specs.PeriodicFiles.{periodic_activity_input, periodic_event_ids, periodic_time_input}
+use Rattle.event_tables.specs.PeriodicFiles.{periodic_activity_input, periodic_time_input}
 use Rattle.event_tables.specs.PeriodicRuns.{runs_of}
 use Rattle.event_tables.specs.Places.{AreNumbered}
 use Rattle.event_tables.specs.RowsOfTables.{file_text}
-use Rattle.event_tables.specs.RunRules.{KeepRunRules, broken_events, is_stray, stray_activities, unjoined_events}
-use Rattle.event_tables.specs.Trips.{lacks_stop}
+use Rattle.event_tables.specs.RunRules.{KeepRunRules, broken_events, stray_activities, unjoined_events}
 use Rattle.event_tables.proofs.SoundFiles.{periodic_activities_sound, periodic_events_sound}
 use Rattle.event_tables.proofs.SoundTimes.{periodic_times_sound}
 use Rattle.pesp_model.specs.PespTexts.{activities_of, events_of}
-use Rattle.roll_out.specs.declared.day.Day.{Day}
 use Rattle.roll_out.specs.DayActivities.{day_activities, day_changes, day_ways, with_number}
-use Rattle.roll_out.specs.DayTrips.{TripParts, day_events, trip_events, trip_row, trips_of}
-use Rattle.roll_out.specs.Plans.{ArePlans, IsDay, IsTimed, IsTrip, PlanParts, event_total, plan_of, trip_total, trips_by}
+use Rattle.roll_out.specs.DayTrips.{TripParts, day_events, trip_events, trip_row}
+use Rattle.roll_out.specs.Plans.{IsDay, IsTimed, IsTrip, PlanParts, plan_of, trips_by}
 use Rattle.roll_out.specs.RightRollout.{AtStops, RolloutIsAccepted, RolloutIsRight}
 use Rattle.roll_out.specs.RolloutStage.{activities_in, day_in, events_in, faults_at, file_faults, long_lists, made_of, network_in, period_in, rollout_faults, rollout_stage, run_faults, trip_rows, trips_in}
 use Rattle.roll_out.specs.TimedRuns.{TimedParts}
 use Rattle.roll_out.proofs.DayCells.{activities_fit, events_fit, trips_fit}
-use Rattle.roll_out.proofs.DayChangesGood.{IsOf, changes_good, events_of_trips, mapped_from}
+use Rattle.roll_out.proofs.DayChangesGood.{changes_good, events_of_trips, mapped_from}
 use Rattle.roll_out.proofs.FilesRead.{activities_fine, events_fine, times_fine}
-use Rattle.roll_out.proofs.GoodRuns.{IsFit, IsGoodRun, all_fit, nothing_mapped, runs_good}
-use Rattle.roll_out.proofs.GoodTrips.{start_id, starts_rise, trip_stops, trip_takes}
+use Rattle.roll_out.proofs.GoodRuns.{IsFit, all_fit, nothing_mapped, runs_good}
+use Rattle.roll_out.proofs.GoodTrips.{starts_rise, trip_stops, trip_takes}
 use Rattle.roll_out.proofs.ListedEvents.{IsListed, all_listed, events_placed, parts_of_all}
 use Rattle.roll_out.proofs.RolledTrips.{IsRolled, append_all, trips_rolled, ways_good}
 use Rattle.roll_out.proofs.RolloutAccepted.{TripGood, activities_accepted, activities_again, activities_back, events_accepted, events_again, events_back, trips_accepted, trips_again, trips_back}
@@ -114,9 +110,9 @@ module _ (bundle : BundleParts) (own : bundle.stage ≡ stage.Rollout) (fits : F
       let are = periodic_events_sound (input_text bundle 0) (events_fine bundle files_none) in
       let count = length (events_of (input_text bundle 0)) in
       let activities = subst (λ ids. input_faults (periodic_activity_input ids) (input_text bundle 1) ≡ []) are.numbered
-          (activities_fine bundle files_none) in
+      (activities_fine bundle files_none) in
       let times = subst (λ ids. input_faults (periodic_time_input file.TimesP (period_in bundle) ids) (input_text bundle 2) ≡ [])
-          are.numbered (times_fine bundle files_none) in
+      are.numbered (times_fine bundle files_none) in
       record {
         some = period_within.0;
         short = period_within.1;

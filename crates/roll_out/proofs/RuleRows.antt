@@ -1,15 +1,12 @@
 -- The rows at which rules of runs are broken.
-use Rattle.std.proofs.Common.{◌≡◌, ℕ, ◌+◌, ◌-◌, ◌<◌, ◌≤◌, arith, Bool, true, false, cond, All, List, [], ◌∷◌, ◌++◌, length, map, filter, drop, get_or, Result, refl, ap, subst, sym, ◌∙◌}
-use Rattle.std.specs.List.{flat_map, range_with_len, enumerate_from, zip, AllByRecursion}
+use Rattle.std.proofs.Common.{◌≡◌, ℕ, ◌+◌, arith, All, List, [], ◌∷◌, ◌++◌, length, map, filter, drop, get_or, Result, refl, ap, subst, sym, ◌∙◌}
+use Rattle.std.specs.List.{flat_map, enumerate_from, zip, AllByRecursion}
 use Rattle.std.proofs.lemmas.List.{length-map, get_or-map}
-use Rattle.std.proofs.lemmas.List.Elements.{All-filter, All-map, All-append, All-nil, All-from_recursion, recursion_from_All}
+use Rattle.std.proofs.lemmas.List.Elements.{All-filter, All-map, All-append, All-nil, All-from_recursion}
 use Rattle.std.proofs.lemmas.List.FromFn.{get_or-range_with_len}
-use Rattle.giv_files.specs.declared.column.ColumnKind.{ColumnKind}
-use Rattle.giv_files.specs.declared.file_id.FileId.{FileId}
 use Rattle.giv_files.specs.declared.file_id.FileId.TheVariants as file
 use Rattle.giv_files.specs.declared.refusal.Refusal.{Refusal}
 use Rattle.giv_files.specs.declared.refusal.StageFault.{StageFault}
-use Rattle.giv_files.specs.declared.row_why.RowWhy.{RowWhy}
 use Rattle.giv_files.specs.declared.row_why.RowWhy.TheVariants as why
 use Rattle.giv_files.specs.Columns.{events_p_columns, activities_p_columns}
 use Rattle.giv_files.specs.Inputs.{Input, Refuses, UnlessFault, cell_faults, input_faults, or_else, records_of}

@@ -1,9 +1,8 @@
 -- The plans of the runs of a timetable.
-use Rattle.std.proofs.Common.{◌≡◌, ℕ, suc, ◌+◌, ◌*◌, ◌-◌, ◌/◌, ◌<◌, ◌≤◌, ◌≤ℤ◌, pos, nat_le, unsigned_abs, arith, Bool, true, false, cond, All, IfSome, List, [], ◌∷◌, ◌++◌, length, map, get_or, find, Option, Some, None, refl, ap, subst, sym, ◌∙◌}
-use Rattle.std.specs.List.{flat_map, range_with_len, AllByRecursion}
-use Rattle.std.proofs.lemmas.List.{length-map, length-append, map-append, append_assoc}
-use Rattle.std.proofs.lemmas.List.Elements.{All-nil, All-cons, All-head, All-tail, All-map, All-weaker, All-append, recursion_from_All, All-from_recursion}
-use Rattle.std.proofs.lemmas.List.Folds.{flat_map-map}
+use Rattle.std.proofs.Common.{◌≡◌, ℕ, suc, ◌+◌, ◌*◌, ◌-◌, ◌/◌, ◌<◌, ◌≤◌, ◌≤ℤ◌, pos, nat_le, unsigned_abs, arith, Bool, true, false, cond, All, IfSome, List, [], ◌∷◌, ◌++◌, length, map, get_or, Option, Some, None, refl, ap, subst, sym, ◌∙◌}
+use Rattle.std.specs.List.{flat_map, AllByRecursion}
+use Rattle.std.proofs.lemmas.List.{length-map, length-append, map-append}
+use Rattle.std.proofs.lemmas.List.Elements.{recursion_from_All, All-from_recursion}
 use Rattle.giv_files.specs.Columns.{events_p_columns, activities_p_columns}
 use Rattle.giv_files.specs.Writing.{InColumns}
 use Rattle.event_tables.specs.declared.periodic_activity.PeriodicActivity.{PeriodicActivity}
@@ -24,7 +23,6 @@ use Rattle.std.proofs.lemmas.Grind.{div_ceil_times}
 use Rattle.std.proofs.lemmas.List.{get_or-map}
 use Rattle.std.proofs.lemmas.List.FromFn.{get_or-range_with_len}
 use Rattle.roll_out.proofs.FoundOnes.{found_has}
-use Rattle.roll_out.proofs.Lists.{same_parts}
 
 -- ---- runs
 
@@ -238,7 +236,7 @@ module _ (network : TimedParts) (is : IsTimed network) (day : Day) (in_week : Is
       by true =
           let parts = div-add-mod' (day.latest - start) network.period in
           let more = mul-le ((day.latest - start) / network.period) 1 ((day.latest - start) / network.period)
-              network.period (omega arith) is.some in
+          network.period (omega arith) is.some in
           let end = in_week.1 in
           omega (arith, parts, more, end)
       by false = omega arith

@@ -1,15 +1,14 @@
 -- The trips of plans are those of the day.
 use Rattle.std.proofs.Common.{◌≡◌, ℕ, zero, suc, ◌+◌, ◌*◌, ◌≤◌, arith, List, [], ◌∷◌, ◌++◌, length, map, refl, ap, sym, ◌∙◌}
 use Rattle.std.specs.List.{flat_map, range_with_len, sum_by}
-use Rattle.std.proofs.lemmas.List.{map-append}
 use Rattle.std.proofs.lemmas.List.Sums.{sum_by-cons}
 use Rattle.std.proofs.lemmas.Simd.{map-map}
 use Rattle.event_tables.specs.declared.periodic_event.PeriodicEvent.{PeriodicEvent}
 use Rattle.event_tables.specs.PeriodicRuns.{runs_of}
 use Rattle.roll_out.specs.declared.day.Day.{Day}
 use Rattle.roll_out.specs.declared.timed_event.TimedEvent.{TimedEvent}
-use Rattle.roll_out.specs.DayTrips.{TripParts, departures_of, first_time, numbered_trips, starts, trips_of}
-use Rattle.roll_out.specs.Plans.{PlanParts, first_start, start_count, plan_of, plan_trips, trip_after, trips_by}
+use Rattle.roll_out.specs.DayTrips.{departures_of, first_time, numbered_trips, trips_of}
+use Rattle.roll_out.specs.Plans.{PlanParts, first_start, plan_of, plan_trips, trip_after, trips_by}
 use Rattle.roll_out.specs.TimedRuns.{TimedParts, timed_from}
 use Rattle.roll_out.proofs.Spaced.{starts_are}
 
@@ -50,7 +49,7 @@ module _ (network : TimedParts) (day : Day) (some : 1 ≤ network.period) where
     spread_size a zero = omega arith
     spread_size a (suc count) =
         let step = sum_by-cons (λ (at : ℕ × List TimedEvent). length at.1) (departs a)
-            (map departs (range_with_len (a + 1) count)) in
+        (map departs (range_with_len (a + 1) count)) in
         let one : suc count * length plan.run ≡ length plan.run + count * length plan.run = grind arith in
         let rest = spread_size (a + 1) count in
         omega (arith, step, one, rest)

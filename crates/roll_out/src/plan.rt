@@ -1,7 +1,6 @@
 // Runs with their times, and how often they start in a day.
-ghost use Rattle.std.specs.Prelude.{◌≡◌, ◌+◌, ◌≤◌, ◌∷◌, drop, length, map, find, All, IfOk, IfSome};
-ghost use Rattle.std.specs.List.{flat_map};
-ghost use Rattle.roll_out.specs.Plans.{IsBetween, IsDay, IsPlan, IsTimed, event_total, plan_of, trip_total};
+ghost use Rattle.std.specs.Prelude.{◌≡◌, ◌+◌, ◌≤◌, length, map, find, All, IfOk, IfSome};
+ghost use Rattle.roll_out.specs.Plans.{IsBetween, IsDay, plan_of};
 ghost use Rattle.roll_out.specs.TimedRuns.{timed_from, minutes_on, way_on};
 ghost use Rattle.event_tables.specs.RunRules.{leads};
 

@@ -1,4 +1,4 @@
-use Rattle.std.proofs.Common.{◌≡◌, ◌+◌, ◌++◌, length, map, take, get_or, ap, sym, arith, ◌∙◌}
+use Rattle.std.proofs.Common.{◌+◌, ◌++◌, length, map, take, get_or, ap, sym, arith, ◌∙◌}
 use Rattle.std.specs.List.{enumerate_from}
 use Rattle.roll_out.specs.DayTrips.{no_timed}
 use Rattle.roll_out.specs.Plans.{copies_at}

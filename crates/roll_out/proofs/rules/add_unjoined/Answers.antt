@@ -1,4 +1,4 @@
-use Rattle.std.proofs.Common.{◌++◌, ◌-◌, length, take, get_or, ap, sym, arith, ◌∙◌}
+use Rattle.std.proofs.Common.{◌++◌, ◌-◌, take, get_or, ap, sym, arith, ◌∙◌}
 use Rattle.event_tables.specs.PeriodicRuns.{neighbours}
 use Rattle.event_tables.specs.RunRules.{lacks_way}
 use Rattle.roll_out.specs.TimedRuns.{no_event}

@@ -127,23 +127,23 @@ rollout_made-requires-clause-trips c =
 pub returns : goal.returns
 returns c = (
   none_refused c.args.network.now c.args.plans.now c.requires c.period.ensures.sound
-    c.trip_count-trip_count.result c.event_count-event_count.result c.trip_count-trip_count.ensures
-    c.if-trip_count-gt-MOST_TRIPS.false c.event_count-event_count.ensures c.if-event_count-gt-MOST_EVENTS.false
-    c.deref.result.now c.deref-4.result.now c.deref-2.result.now c.deref-5.result.now c.way_count.result c.change_count.result
-    (c.deref.ensures.value ∙ c.in_ok-trips.ensures ∙ ap (λ p. trips_by p 1 c.args.plans.now) c.period.ensures.period) (c.deref-2.ensures.value ∙ c.in_ok-copies.ensures)
-    c.way_count.ensures.count c.change_count.ensures.count c.if-activity_count-gt-MOST_ACTIVITIES.false
-    (c.deref-4.ensures.value ∙ c.in_ok-trips.ensures ∙ ap (λ p. trips_by p 1 c.args.plans.now) c.period.ensures.period) (c.deref-5.ensures.value ∙ c.in_ok-copies.ensures),
+      c.trip_count-trip_count.result c.event_count-event_count.result c.trip_count-trip_count.ensures
+      c.if-trip_count-gt-MOST_TRIPS.false c.event_count-event_count.ensures c.if-event_count-gt-MOST_EVENTS.false
+      c.deref.result.now c.deref-4.result.now c.deref-2.result.now c.deref-5.result.now c.way_count.result c.change_count.result
+      (c.deref.ensures.value ∙ c.in_ok-trips.ensures ∙ ap (λ p. trips_by p 1 c.args.plans.now) c.period.ensures.period) (c.deref-2.ensures.value ∙ c.in_ok-copies.ensures)
+      c.way_count.ensures.count c.change_count.ensures.count c.if-activity_count-gt-MOST_ACTIVITIES.false
+      (c.deref-4.ensures.value ∙ c.in_ok-trips.ensures ∙ ap (λ p. trips_by p 1 c.args.plans.now) c.period.ensures.period) (c.deref-5.ensures.value ∙ c.in_ok-copies.ensures),
   made_is c.args.network.now (trips_by c.args.network.now.period 1 c.args.plans.now) c.in_ok-rollout_made.field-0
       c.deref-8.result.now c.deref-9.result.now c.deref-10.result.now c.in_ok-rollout_made.ensures
       (c.deref-8.ensures.value ∙ c.in_ok-events.ensures ∙ ap day_events (c.deref-3.ensures.value ∙ c.in_ok-trips.ensures ∙ ap (λ p. trips_by p 1 c.args.plans.now) c.period.ensures.period))
       (all_activities c.args.network.now c.args.plans.now c.requires c.period.ensures.sound
-    c.trip_count-trip_count.result c.event_count-event_count.result c.trip_count-trip_count.ensures
-    c.if-trip_count-gt-MOST_TRIPS.false c.event_count-event_count.ensures c.if-event_count-gt-MOST_EVENTS.false
-    c.deref.result.now c.deref-4.result.now c.deref-2.result.now c.deref-5.result.now c.way_count.result c.change_count.result
-    (c.deref.ensures.value ∙ c.in_ok-trips.ensures ∙ ap (λ p. trips_by p 1 c.args.plans.now) c.period.ensures.period) (c.deref-2.ensures.value ∙ c.in_ok-copies.ensures)
-    c.way_count.ensures.count c.change_count.ensures.count c.if-activity_count-gt-MOST_ACTIVITIES.false
-    (c.deref-4.ensures.value ∙ c.in_ok-trips.ensures ∙ ap (λ p. trips_by p 1 c.args.plans.now) c.period.ensures.period) (c.deref-5.ensures.value ∙ c.in_ok-copies.ensures) c.deref-6.result.now c.deref-9.result.now
+      c.trip_count-trip_count.result c.event_count-event_count.result c.trip_count-trip_count.ensures
+      c.if-trip_count-gt-MOST_TRIPS.false c.event_count-event_count.ensures c.if-event_count-gt-MOST_EVENTS.false
+      c.deref.result.now c.deref-4.result.now c.deref-2.result.now c.deref-5.result.now c.way_count.result c.change_count.result
+      (c.deref.ensures.value ∙ c.in_ok-trips.ensures ∙ ap (λ p. trips_by p 1 c.args.plans.now) c.period.ensures.period) (c.deref-2.ensures.value ∙ c.in_ok-copies.ensures)
+      c.way_count.ensures.count c.change_count.ensures.count c.if-activity_count-gt-MOST_ACTIVITIES.false
+      (c.deref-4.ensures.value ∙ c.in_ok-trips.ensures ∙ ap (λ p. trips_by p 1 c.args.plans.now) c.period.ensures.period) (c.deref-5.ensures.value ∙ c.in_ok-copies.ensures) c.deref-6.result.now c.deref-9.result.now
       (c.deref-6.ensures.value ∙ (c.in_ok-add_changes.ensures ∙ ap (λ xs. xs ++ flat_map (changes_if c.args.network.now c.deref-5.result.now) c.args.network.now.activities)
-    (c.in_ok-add_ways.ensures ∙ ap (λ xs. xs ++ day_ways c.deref-4.result.now) c.new-activities.ensures.items))) (c.deref-9.ensures.value ∙ c.in_ok-numbered.ensures))
+      (c.in_ok-add_ways.ensures ∙ ap (λ xs. xs ++ day_ways c.deref-4.result.now) c.new-activities.ensures.items))) (c.deref-9.ensures.value ∙ c.in_ok-numbered.ensures))
       (c.deref-10.ensures.value ∙ c.in_ok-rows.ensures ∙ ap trip_rows (c.deref-7.ensures.value ∙ c.in_ok-trips.ensures ∙ ap (λ p. trips_by p 1 c.args.plans.now) c.period.ensures.period)),
 )
