@@ -57,7 +57,7 @@ both_all P Q [] first second = tt
 both_all P Q (x ∷ xs) first second = ((first.0, second.0), both_all P Q xs first.1 second.1)
 
 -- those that pass a test, with the test
-passing_all : {X : Type 0} (P : X → Type 0) (p : X → Bool) (xs : List X) → AllByRecursion P xs
+pub passing_all : {X : Type 0} (P : X → Type 0) (p : X → Bool) (xs : List X) → AllByRecursion P xs
     → AllByRecursion (λ x. P x × (p x ≡ true)) (filter p xs)
 passing_all P p [] all = tt
 passing_all P p (x ∷ xs) all = by (p x) refl (passing_all P p xs all.1)
@@ -72,13 +72,13 @@ pub mapped_from : {A X : Type 0} (P : X → Type 0) (Q : A → Type 0) (f : A �
 mapped_from P Q f step [] all = tt
 mapped_from P Q f step (x ∷ xs) all = (step x all.0, mapped_from P Q f step xs all.1)
 
-parts_from : {A X : Type 0} (P : X → Type 0) (Q : A → Type 0) (f : A → List X)
+pub parts_from : {A X : Type 0} (P : X → Type 0) (Q : A → Type 0) (f : A → List X)
     → ((x : A) → Q x → AllByRecursion P (f x)) → (xs : List A) → AllByRecursion Q xs → AllByRecursion P (flat_map f xs)
 parts_from P Q f step [] all = tt
 parts_from P Q f step (x ∷ xs) all =
     append_all P (f x) (flat_map f xs) (step x all.0) (parts_from P Q f step xs all.1)
 
-both_true : (a b : Bool) → (a && b) ≡ true → (a ≡ true) × (b ≡ true)
+pub both_true : (a b : Bool) → (a && b) ≡ true → (a ≡ true) × (b ≡ true)
 both_true true b all = (refl, all)
 both_true false b all = no_true all
 

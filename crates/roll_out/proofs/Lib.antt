@@ -3,7 +3,7 @@ mod ChangesAt
 mod DayCells
 mod DayChanges
 mod DayChangesGood
-pub mod FilesRead
+mod DayInWords
 mod FoundOnes
 mod GoesForward
 mod GoodRuns
@@ -11,6 +11,7 @@ mod GoodTrips
 mod Growing
 mod ListedEvents
 mod Lists
+mod Members
 mod Neighbours
 mod OneCopy
 mod PlacedEvents
@@ -25,5 +26,6 @@ mod SoundTrips
 mod Spaced
 mod TripsOfDay
 mod WaysCounted
+pub mod FilesRead
 pub mod RolloutMakes
 pub mod RolloutReads

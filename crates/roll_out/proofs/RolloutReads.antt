@@ -41,6 +41,7 @@ use Rattle.roll_out.specs.RolloutStage.{activities_in, day_in, events_in, faults
 use Rattle.roll_out.specs.TimedRuns.{TimedParts}
 use Rattle.roll_out.proofs.DayCells.{activities_fit, events_fit, trips_fit}
 use Rattle.roll_out.proofs.DayChangesGood.{changes_good, events_of_trips, mapped_from}
+use Rattle.roll_out.proofs.DayInWords.{changes_are_those, trips_are_those}
 use Rattle.roll_out.proofs.FilesRead.{activities_fine, events_fine, times_fine}
 use Rattle.roll_out.proofs.GoodRuns.{IsFit, all_fit, nothing_mapped, runs_good}
 use Rattle.roll_out.proofs.GoodTrips.{starts_rise, trip_stops, trip_takes}
@@ -255,6 +256,8 @@ module _ (bundle : BundleParts) (own : bundle.stage ≡ stage.Rollout) (fits : F
     reads_activities = activities_again (activities_in bundle)
         (activities_fit trips sound network (between_all network is_timed) few_activities);
     reads_trips = trips_again (trip_rows trips) (trips_fit trips sound);
+    all_trips = trips_are_those network is_timed (day_in bundle) day_within;
+    all_changes = changes_are_those network (events_in bundle);
     accepted = files_accepted;
   }
 

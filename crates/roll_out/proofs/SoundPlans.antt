@@ -218,7 +218,7 @@ module _ (network : TimedParts) (is : IsTimed network) where
       (λ (event : PeriodicEvent). IsOneOf (length network.events) event.id) run) all_runs ids_in i d h)
 
 module _ (network : TimedParts) (is : IsTimed network) (day : Day) (in_week : IsDay day) where
-  time_in : (id : ℕ) → 1 ≤ id → id ≤ length network.events → time_at network id < network.period
+  pub time_in : (id : ℕ) → 1 ≤ id → id ≤ length network.events → time_at network id < network.period
   time_in id low high =
       is.times_are.in_period (id - 1) no_time (omega (arith, low, high, is.times_are.each_event))
 

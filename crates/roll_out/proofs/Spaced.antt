@@ -73,7 +73,7 @@ module _ (period time : ℕ) (some : 1 ≤ period) (copies : Copies) where
         (ap (λ n. copies.start + n * period) is ∙ omega (arith, same, late)))
         (λ k above. ne_eqb (copy_time period copies k) time (λ e. let is = only k e in omega (arith, is, above)))))
 
-div_low : (a b period : ℕ) → 1 ≤ period → a * period ≤ b → a ≤ b / period
+pub div_low : (a b period : ℕ) → 1 ≤ period → a * period ≤ b → a ≤ b / period
 div_low a b period some h = by (nat_le a (b / period)) refl
   where
     by : (c : Bool) → nat_le a (b / period) ≡ c → a ≤ b / period
