@@ -16,20 +16,23 @@ use Rattle.roll_out.specs.TimedRuns.{TimedParts, minutes_of}
 use Rattle.roll_out.proofs.Lists.{filter_both, filter_map_is, same_parts, parts_where}
 use Rattle.roll_out.proofs.OneCopy.{place_of, copies_are}
 
-pub same_for : {A X : Type 0} (P : A → Type 0) (f g : A → List X) → ((x : A) → P x → f x ≡ g x) → (xs : List A)
+pub same_for : {A X : Type 0} (P : A → Type 0) (f g : A → List X) → ((x : A) → P x → f x ≡ g x)
+    → (xs : List A)
     → All P xs → flat_map f xs ≡ flat_map g xs
 same_for P f g same [] all = refl
 same_for P f g same (x ∷ xs) all =
     ap (λ ys. ys ++ flat_map f xs) (same x (All-head P x xs all))
     ∙ ap (λ ys. g x ++ ys) (same_for P f g same xs (All-tail P x xs all))
 
-module _ (network : TimedParts) (events : List ExpandedEvent) (copies : List Copies) (activity : PeriodicActivity)
+module _ (network : TimedParts) (events : List ExpandedEvent) (copies : List Copies)
+    (activity : PeriodicActivity)
   where
     abbrev minutes : ℕ
     minutes = minutes_of network activity
 
     abbrev pairs : Copies → List (ℕ × ℕ)
-    pairs some = map (λ k. (copy_id some k, copy_time network.period some k)) (range_with_len 0 some.count)
+    pairs some = map (λ k. (copy_id some k, copy_time network.period some k))
+        (range_with_len 0 some.count)
 
     abbrev heads : List ExpandedEvent
     heads = filter (is_copy activity.to) events
@@ -55,7 +58,8 @@ module _ (network : TimedParts) (events : List ExpandedEvent) (copies : List Cop
         ≡ map (copy_of activity (copy_id from k))
         (ids_at network.period to (copy_time network.period from k + minutes))
     onto_pairs to from k =
-        let test : ℕ → Bool = λ j. copy_time network.period to j == copy_time network.period from k + minutes in
+        let test : ℕ → Bool = λ j. copy_time network.period to j == copy_time network.period from k
+        + minutes in
         let some : List ℕ = range_with_len 0 to.count in
         ap (map (λ (at : ℕ × ℕ). copy_of activity (copy_id from k) at.0))
         (filter_map_is (λ (at : ℕ × ℕ). at.1 == copy_time network.period from k + minutes)
@@ -65,18 +69,21 @@ module _ (network : TimedParts) (events : List ExpandedEvent) (copies : List Cop
         ∙ sym (map-map (copy_of activity (copy_id from k)) (copy_id to) (filter test some))
 
     -- the copies of a change, where the places of its tail and of its head are known
-    pub change_same : map place_of (filter (is_copy activity.from) events) ≡ pairs (copies_with copies activity.from)
+    pub change_same : map place_of (filter (is_copy activity.from) events)
+        ≡ pairs (copies_with copies activity.from)
         → map place_of heads ≡ pairs (copies_with copies activity.to)
         → changes_by network copies activity ≡ change_copies network events activity
     change_same from to =
         let tail = copies_with copies activity.from in
         let head = copies_with copies activity.to in
         let tails = filter (is_copy activity.from) events in
-        sym (same_parts (changes_from network events activity) (λ at. onto (map place_of heads) (place_of at)) by_places tails
+        sym (same_parts (changes_from network events activity)
+        (λ at. onto (map place_of heads) (place_of at)) by_places tails
         ∙ sym (flat_map-map (onto (map place_of heads)) place_of tails)
         ∙ ap (flat_map (onto (map place_of heads))) from
         ∙ ap (λ places. flat_map (onto places) (pairs tail)) to
-        ∙ flat_map-map (onto (pairs head)) (λ k. (copy_id tail k, copy_time network.period tail k)) (range_with_len 0 tail.count)
+        ∙ flat_map-map (onto (pairs head)) (λ k. (copy_id tail k, copy_time network.period tail k))
+        (range_with_len 0 tail.count)
         ∙ same_parts (λ k. onto (pairs head) (copy_id tail k, copy_time network.period tail k))
         (changes_at network copies activity) (onto_pairs head tail) (range_with_len 0 tail.count))
 
@@ -89,7 +96,11 @@ module _ (network : TimedParts) (plans : List PlanParts) (are : ArePlans network
 
   places_at : (id : ℕ) → 1 ≤ id → id ≤ length network.events
       → map place_of (filter (is_copy id) events)
-      ≡ map (λ k. (copy_id (copies_with copies id) k, copy_time network.period (copies_with copies id) k))
+      ≡ map (λ k. (
+        copy_id (copies_with copies id) k,
+        copy_time network.period
+            (copies_with copies id) k,
+      ))
       (range_with_len 0 (copies_with copies id).count)
   places_at id low high =
       let e : id ≡ 1 + (id - 1) = omega (arith, low) in

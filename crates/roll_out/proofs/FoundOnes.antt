@@ -2,7 +2,8 @@
 use Rattle.std.proofs.Common.{Bool, true, false, cond, List, [], ◌∷◌, find, Some, All, IfSome}
 use Rattle.std.proofs.lemmas.List.Elements.{All-head, All-tail}
 
-pub found_has : {X : Type 0} (P : X → Type 0) (p : X → Bool) (xs : List X) → All P xs → IfSome (find p xs) P
+pub found_has : {X : Type 0} (P : X → Type 0) (p : X → Bool) (xs : List X) → All P xs
+    → IfSome (find p xs) P
 found_has P p [] all = tt
 found_has P p (x ∷ xs) all = by (p x) (All-head P x xs all) (found_has P p xs (All-tail P x xs all))
   where

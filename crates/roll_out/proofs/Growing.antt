@@ -55,7 +55,8 @@ abbrev pub plan_size : PlanParts → ℕ
 plan_size plan = plan.trips * length plan.run
 
 pub trips_more : (period n : ℕ) (plan : PlanParts) (plans : List PlanParts)
-    → trips_by period n (plan ∷ plans) ≡ plan_trips period n plan ++ trips_by period (n + plan_size plan) plans
+    → trips_by period n (plan ∷ plans) ≡ plan_trips period n plan
+    ++ trips_by period (n + plan_size plan) plans
 unfolding trips_by
 trips_more period n plan plans = refl
 
@@ -78,7 +79,8 @@ module _ (network : TimedParts) where
       record { event = event; minutes = minutes; way = way_on network event run } ∷ []
 
   -- one timed event more
-  pub timed_moved : (run : List PeriodicEvent) (now after all : List TimedEvent) (minutes more i : ℕ)
+  pub timed_moved : (run : List PeriodicEvent) (now after all : List TimedEvent)
+      (minutes more i : ℕ)
       (way : Option PeriodicActivity) (d : PeriodicEvent)
       → now ++ timed_from network minutes (drop i run) ≡ all → i < length run
       → way ≡ way_on network (get_or run i d) (drop (i + 1) run)
@@ -104,7 +106,8 @@ module _ (network : TimedParts) where
   timed_none minutes = refl
 
 -- the ids of what is left
-pub total_left : (plans : List PlanParts) (i n more : ℕ) (plan : PlanParts) (all : ℕ) → i < length plans
+pub total_left : (plans : List PlanParts) (i n more : ℕ) (plan : PlanParts) (all : ℕ) → i
+    < length plans
     → plan ≡ get_or plans i plan → more ≡ plan_size plan
     → n + event_total (drop i plans) ≡ all → n + more + event_total (drop (i + 1) plans) ≡ all
 total_left plans i n more plan all h is sized so_far =

@@ -37,16 +37,19 @@ cells_fine input text none = none_first (cell_faults input.file input.columns te
 -- and as many records as rows
 pub rows_counted : {X : Type 0} (input : Input X) (text : List ℕ)
     → length (records_of input text) ≡ length (table_of input.columns text)
-rows_counted input text = length-map (table_of input.columns text) (λ (row : TableRow). input.read row.cells)
+rows_counted input text = length-map (table_of input.columns text)
+    (λ (row : TableRow). input.read row.cells)
 
-pub events_counted : (text : List ℕ) → length (events_of text) ≡ length (table_of events_p_columns text)
+pub events_counted : (text : List ℕ) → length (events_of text)
+    ≡ length (table_of events_p_columns text)
 unfolding events_of
 events_counted text = rows_counted periodic_event_input text
 
 pub activities_counted : (events : List PeriodicEvent) (text : List ℕ)
     → length (activities_of events text) ≡ length (table_of activities_p_columns text)
 unfolding activities_of
-activities_counted events text = rows_counted (periodic_activity_input (periodic_event_ids events)) text
+activities_counted events text = rows_counted (periodic_activity_input (periodic_event_ids events))
+    text
 
 -- ---- the ids of the things at which a rule is broken
 
@@ -64,22 +67,28 @@ module _ (P : PeriodicEvent → Type 0) where
 
   broken_have : (run : List PeriodicEvent) → AllByRecursion P run → All P (broken_in run)
   broken_have run all =
-      All-map P (λ (at : ℕ × PeriodicEvent). at.1) (filter (breaks (length run)) (enumerate_from 0 run))
+      All-map P (λ (at : ℕ × PeriodicEvent). at.1)
+      (filter (breaks (length run)) (enumerate_from 0 run))
       (All-filter (breaks (length run)) (λ (at : ℕ × PeriodicEvent). P at.1) (enumerate_from 0 run)
-      (All-from_recursion (λ (at : ℕ × PeriodicEvent). P at.1) (enumerate_from 0 run) (enumerated_have 0 run all)))
+      (All-from_recursion (λ (at : ℕ × PeriodicEvent). P at.1) (enumerate_from 0 run)
+      (enumerated_have 0 run all)))
 
-  unjoined_have : (activities : List PeriodicActivity) (run : List PeriodicEvent) → AllByRecursion P run
+  unjoined_have : (activities : List PeriodicActivity) (run : List PeriodicEvent)
+      → AllByRecursion P run
       → All P (unjoined_in activities run)
   unjoined_have activities run all =
-      All-map P (λ (at : PeriodicEvent × PeriodicEvent). at.0) (filter (lacks_way activities) (neighbours run))
-      (All-filter (lacks_way activities) (λ (at : PeriodicEvent × PeriodicEvent). P at.0) (neighbours run)
+      All-map P (λ (at : PeriodicEvent × PeriodicEvent). at.0)
+      (filter (lacks_way activities) (neighbours run))
+      (All-filter (lacks_way activities) (λ (at : PeriodicEvent × PeriodicEvent). P at.0)
+      (neighbours run)
       (All-from_recursion (λ (at : PeriodicEvent × PeriodicEvent). P at.0) (neighbours run)
       (zipped_have run (drop 1 run) all)))
 
   runs_parts : (part : List PeriodicEvent → List PeriodicEvent)
       → ((run : List PeriodicEvent) → AllByRecursion P run → All P (part run))
       → (runs : List (List PeriodicEvent))
-      → AllByRecursion (λ (run : List PeriodicEvent). AllByRecursion P run) runs → All P (flat_map part runs)
+      → AllByRecursion (λ (run : List PeriodicEvent). AllByRecursion P run) runs
+      → All P (flat_map part runs)
   runs_parts part has [] all = All-nil P
   runs_parts part has (run ∷ runs) all =
       All-append P (part run) (flat_map part runs) (has run all.0) (runs_parts part has runs all.1)
@@ -111,7 +120,8 @@ pub stray_ids : (events : List PeriodicEvent) (activities : List PeriodicActivit
     → All (IsOneOf (length activities)) (map activity_id (stray_activities events activities))
 stray_ids events activities numbered =
     All-map (IsOneOf (length activities)) activity_id (stray_activities events activities)
-    (All-filter (is_stray events) (λ activity. IsOneOf (length activities) activity.id) activities (λ i d h.
+    (All-filter (is_stray events) (λ activity. IsOneOf (length activities) activity.id) activities
+    (λ i d h.
     let at : (get_or activities i d).id ≡ 1 + i =
     sym (get_or-map activity_id activities i d 0 h) ∙ ap (λ ids. get_or ids i 0) numbered
     ∙ get_or-range_with_len 1 (length activities) i 0 h in
@@ -127,30 +137,36 @@ module _ (bundle : BundleParts) where
   unjoined ids = faults_at file.EventsP events_p_columns (input_text bundle 0) why.Unjoined ids
 
   abbrev stray : List ℕ → List Refusal
-  stray ids = faults_at file.ActivitiesP activities_p_columns (input_text bundle 1) why.StrayActivity ids
+  stray ids = faults_at file.ActivitiesP activities_p_columns (input_text bundle 1)
+      why.StrayActivity ids
 
   abbrev broken_at : List ℕ
   broken_at = map event_id (broken_events (network_in bundle).events)
 
   abbrev unjoined_at : List ℕ
-  unjoined_at = map event_id (unjoined_events (network_in bundle).events (network_in bundle).activities)
+  unjoined_at = map event_id (unjoined_events (network_in bundle).events
+      (network_in bundle).activities)
 
   abbrev stray_at : List ℕ
-  stray_at = map activity_id (stray_activities (network_in bundle).events (network_in bundle).activities)
+  stray_at = map activity_id (stray_activities (network_in bundle).events
+      (network_in bundle).activities)
 
   -- a broken run
-  pub run_refused : (ids : List ℕ) (fault : StageFault) → ids ≡ broken_at → Refuses (broken ids) fault
+  pub run_refused : (ids : List ℕ) (fault : StageFault) → ids ≡ broken_at
+      → Refuses (broken ids) fault
       → Refuses (run_faults bundle) fault
   run_refused ids fault are by =
       refused_append (broken broken_at ++ unjoined unjoined_at) (stray stray_at) fault
-      (refused_append (broken broken_at) (unjoined unjoined_at) fault (subst (λ some. Refuses (broken some) fault) are by))
+      (refused_append (broken broken_at) (unjoined unjoined_at) fault
+      (subst (λ some. Refuses (broken some) fault) are by))
 
   module _ (first : List ℕ) (first_are : first ≡ broken_at) (first_none : first ≡ []) where
     no_broken : broken broken_at ≡ []
     no_broken = ap broken (sym first_are ∙ first_none)
 
     -- an event that is not joined
-    pub event_refused : (ids : List ℕ) (fault : StageFault) → ids ≡ unjoined_at → Refuses (unjoined ids) fault
+    pub event_refused : (ids : List ℕ) (fault : StageFault) → ids ≡ unjoined_at
+        → Refuses (unjoined ids) fault
         → Refuses (run_faults bundle) fault
     event_refused ids fault are by =
         refused_append (broken broken_at ++ unjoined unjoined_at) (stray stray_at) fault
@@ -170,5 +186,6 @@ module _ (bundle : BundleParts) where
           → UnlessFault (run_faults bundle) (λ _. run_faults bundle ≡ []) result
       activities_told ids result are by =
           let same = ap stray are ∙ only_stray in
-          UnlessFault-weaker (stray ids) (run_faults bundle) (λ _. ids ≡ []) (λ _. run_faults bundle ≡ [])
+          UnlessFault-weaker (stray ids) (run_faults bundle) (λ _. ids ≡ [])
+          (λ _. run_faults bundle ≡ [])
           result same (λ _ none. sym same ∙ ap stray none) by

@@ -10,8 +10,10 @@ use Rattle.roll_out.specs.DayActivities.{copy_of, is_change}
 use Rattle.roll_out.specs.DayTrips.{TripParts, first_time}
 use Rattle.roll_out.specs.TimedRuns.{TimedParts, minutes_of, timed_from}
 
--- a time of a day, both ends included, at which it is the time of a run's first event in some period
-pub record IsStart (network : TimedParts) (day : Day) (run : List PeriodicEvent) (time : ℕ) : Type 0 where
+-- a time of a day, both ends included, at which it is the time of a run's first event in some
+-- period
+pub record IsStart (network : TimedParts) (day : Day) (run : List PeriodicEvent) (time : ℕ) : Type
+    0 where
   pub due : time % network.period ≡ first_time network run
   pub not_early : day.earliest ≤ time
   pub not_late : time ≤ day.latest
@@ -27,7 +29,8 @@ pub record IsTripOf (network : TimedParts) (day : Day) (trip : TripParts) : Type
 pub record AreTripsOf (network : TimedParts) (day : Day) (trips : List TripParts) : Type 0 where
   pub sound : All (IsTripOf network day) trips
   pub whole : (run : List PeriodicEvent) (time : ℕ) → Contains (runs_of network.events) run
-      → IsStart network day run time → (trip : TripParts) × Contains trips trip × (trip.start ≡ time)
+      → IsStart network day run time → (trip : TripParts) × Contains trips trip
+      × (trip.start ≡ time)
       × (trip.run ≡ timed_from network 0 run)
 
 -- a copy of a change, between copies of its events that are as far apart as it takes

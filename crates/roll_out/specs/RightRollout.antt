@@ -23,16 +23,19 @@ AtStops (Some stops) events = All (λ event. is_stop stops event.stop ≡ true) 
 -- The files of a day are accepted by the rules of their kinds: events are numbered in their order;
 -- activities go forward between them, with bounds in order, and none is a sync; trips have start
 -- events of their own, end after they start, and are at stops wherever the periodic events are.
-pub record RolloutIsAccepted (periodic : List PeriodicEvent) (events activities trips : List ℕ) : Type 0 where
+pub record RolloutIsAccepted (periodic : List PeriodicEvent)
+    (events activities trips : List ℕ) : Type 0 where
   pub events_fine : input_faults expanded_event_input events ≡ []
   pub activities_fine : input_faults
       (expanded_activity_input (records_of expanded_event_input events)) activities ≡ []
   pub trips_fine : (stops : Option (List ℤ)) → AtStops stops periodic
       → input_faults (trip_input stops) trips ≡ []
 
--- The files that are made are right: the inputs have no fault, and there are three files. Read again,
+-- The files that are made are right: the inputs have no fault, and there are three files. Read
+-- again,
 -- they have the events of the trips of the day over the inputs, the activities between these, and
--- the trips, and no fault by the rules of their kinds. The trips are those of each run at each of its
+-- the trips, and no fault by the rules of their kinds. The trips are those of each run at each of
+-- its
 -- starts, and the changes all those between their events.
 pub record RolloutFilesAreRight (bundle : BundleParts) (files : List MadeFile) : Type 0 where
   pub inputs : rollout_faults bundle ≡ []

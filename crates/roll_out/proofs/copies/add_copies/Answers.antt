@@ -19,8 +19,10 @@ loop-place-preserved c =
     c.loop-place.invariant
     (copies_is c.args.first c.loop-place.place _ _ _ (get_or run c.loop-place.place no_timed)
     c.args.plan.now (ap length c.events-run.ensures)
-    (ap (λ n. n + (get_or c.events-run.result.now c.loop-place.place no_timed).minutes) c.start-start.ensures
-    ∙ ap (λ some. c.args.plan.now.start + (get_or some c.loop-place.place no_timed).minutes) c.events-run.ensures)
+    (ap (λ n. n + (get_or c.events-run.result.now c.loop-place.place no_timed).minutes)
+    c.start-start.ensures
+    ∙ ap (λ some. c.args.plan.now.start + (get_or some c.loop-place.place no_timed).minutes)
+    c.events-run.ensures)
     c.trips-count.ensures) c.in_ok-push.ensures.items
     ∙ ap (λ some. old ++ map f some) (sym more)
 

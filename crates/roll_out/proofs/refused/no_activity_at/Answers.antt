@@ -10,8 +10,10 @@ none_at-requires c = (
   (
     lit< tt,
     (
-      cells_fine (periodic_activity_input (periodic_event_ids c.args.events.now)) c.args.text.now c.requires.read,
-      subst (λ n. All (IsOneOf n) c.args.ids.now) (activities_counted c.args.events.now c.args.text.now) c.requires.there,
+      cells_fine (periodic_activity_input (periodic_event_ids c.args.events.now)) c.args.text.now
+          c.requires.read,
+      subst (λ n. All (IsOneOf n) c.args.ids.now)
+          (activities_counted c.args.events.now c.args.text.now) c.requires.there,
     ),
   ),
 )

@@ -21,5 +21,6 @@ loop-place-preserved c =
 pub returns : goal.returns
 returns c =
     c.loop-place.invariant
-    ∙ ap (λ some. c.args.ids.now.items ++ ids_where (lacks_way c.args.activities.now) (λ pair. pair.0) some)
+    ∙ ap (λ some. c.args.ids.now.items ++ ids_where (lacks_way c.args.activities.now)
+    (λ pair. pair.0) some)
     (neighbours_all c.args.run.now c.loop-place.place c.loop-place-test.false)

@@ -52,7 +52,8 @@ returns-clause-read c =
         times = c.in_ok-times.times.items;
       })
           (sym c.deref-2.ensures.value)
-          ∙ network_is c.args.bundle.now c.deref-2.result.now read.0 (c.deref-2.ensures.value ∙ read.1)
+          ∙ network_is c.args.bundle.now c.deref-2.result.now read.0
+          (c.deref-2.ensures.value ∙ read.1)
           fine c.period_of-period.result c.period_of-period.ensures.value
           c.in_ok-activities.activities.items c.in_ok-times.times.items
           (rows.1 ∙ ap (λ some. records_of (periodic_activity_input (periodic_event_ids some))
