@@ -17,7 +17,8 @@ use Rattle.roll_out.specs.Plans.{IsDay, IsTimed}
 use Rattle.roll_out.specs.TimedRuns.{TimedParts, minutes_of, no_event, timed_from}
 use Rattle.roll_out.proofs.DayChangesGood.{both_true, mapped_from, parts_from, passing_all}
 use Rattle.roll_out.proofs.Members.{contains_filter, contains_map, contains_more, contains_part, contains_range}
-use Rattle.roll_out.proofs.SoundPlans.{ids_in, runs_some, time_in}
+use Rattle.roll_out.proofs.SoundPlans.{ids_in, time_in}
+use Rattle.roll_out.proofs.WholeRuns.{runs_some}
 use Rattle.roll_out.proofs.Spaced.{div_low}
 
 -- what starts is of a run of the timetable, at one of its starts

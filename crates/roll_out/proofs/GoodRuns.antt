@@ -19,7 +19,8 @@ use Rattle.event_tables.specs.Places.{IsOneOf}
 use Rattle.event_tables.specs.RunRules.{KeepRunRules, breaks, broken_in, drives_at_once, is_placed, is_stray, lacks_way, leads, same_kind, unjoined_in, way_on}
 use Rattle.roll_out.specs.Plans.{IsBetween, IsTimed}
 use Rattle.roll_out.specs.TimedRuns.{TimedParts, no_event}
-use Rattle.roll_out.proofs.SoundPlans.{between_all, runs_have, runs_some, runs_whole}
+use Rattle.roll_out.proofs.SoundPlans.{between_all}
+use Rattle.roll_out.proofs.WholeRuns.{runs_have, runs_some, runs_whole}
 
 pub no_true : {P : Type 0} → false ≡ true → P
 no_true e = absurd (false≢true e)

@@ -13,6 +13,7 @@ mod ListedEvents
 mod Lists
 mod Members
 mod Neighbours
+mod NumberedActivities
 mod OneCopy
 mod PlacedEvents
 mod Rolled
@@ -26,6 +27,7 @@ mod SoundTrips
 mod Spaced
 mod TripsOfDay
 mod WaysCounted
+mod WholeRuns
 pub mod FilesRead
 pub mod RolloutMakes
 pub mod RolloutReads

@@ -1,5 +1,5 @@
 -- The files of a day that are made, read again, are right.
-use Rattle.std.proofs.Common.{◌≡◌, ℕ, ℤ, ◌+◌, ◌≤◌, arith, All, List, [], ◌∷◌, ◌++◌, length, map, Option, Some, None, refl, ap, subst, sym, ◌∙◌, Ok, Err, Result}
+use Rattle.std.proofs.Common.{◌≡◌, ℕ, ℤ, ◌≤◌, arith, All, List, [], ◌∷◌, ◌++◌, length, map, Option, Some, None, refl, ap, subst, sym, ◌∙◌, Ok, Err, Result}
 use Rattle.std.specs.Prelude.{IfOk}
 use Rattle.std.specs.List.{AllByRecursion, enumerate_from, range_with_len}
 use Rattle.std.proofs.lemmas.List.{length-map}
@@ -8,20 +8,17 @@ use Rattle.giv_files.specs.declared.counted.Counted.TheVariants as counted
 use Rattle.giv_files.specs.declared.file_id.FileId.TheVariants as file
 use Rattle.giv_files.specs.declared.key.Key.TheVariants as key
 use Rattle.giv_files.specs.declared.made.Made.{Made}
-use Rattle.giv_files.specs.declared.refusal.Refusal.{Refusal}
 use Rattle.giv_files.specs.declared.refusal.StageFault.{StageFault}
 use Rattle.giv_files.specs.declared.row_why.RowWhy.TheVariants as why
 use Rattle.giv_files.specs.declared.stage.Stage.TheVariants as stage
 use Rattle.giv_files.specs.Columns.{activities_p_columns, activities_x_columns, events_p_columns, events_x_columns, trips_columns}
-use Rattle.giv_files.specs.Inputs.{input_faults, limit_faults, or_else, row_limit}
+use Rattle.giv_files.specs.Inputs.{input_faults, limit_faults, row_limit}
 use Rattle.giv_files.specs.Settings.{BundleParts, Fits, SettingsFit}
 use Rattle.giv_files.specs.StageCalls.{StageGives, input_text}
 use Rattle.giv_files.proofs.Inputs.{limits_sound}
 use Rattle.giv_files.proofs.Ranges.{front_none, back_none}
 use Rattle.giv_files.proofs.SettingFacts.{amount_within}
 use Rattle.giv_files.proofs.StageCalls.{made_unless, none_unless}
-use Rattle.event_tables.specs.declared.expanded_activity.ExpandedActivity.{ExpandedActivity}
-use Rattle.event_tables.specs.declared.expanded_event.ExpandedEvent.{ExpandedEvent}
 use Rattle.event_tables.specs.Cells.{expanded_activity_cells, expanded_event_cells, trip_cells}
 use Rattle.event_tables.specs.ExpandedFiles.{IsExpandedActivity, expanded_activity_input}
 use Rattle.event_tables.specs.Headers.{expanded_activity_header, expanded_event_header, trip_header}
@@ -48,36 +45,11 @@ use Rattle.roll_out.proofs.GoodTrips.{starts_rise, trip_stops, trip_takes}
 use Rattle.roll_out.proofs.ListedEvents.{IsListed, all_listed, events_placed, parts_of_all}
 use Rattle.roll_out.proofs.RolledTrips.{IsRolled, append_all, trips_rolled, ways_good}
 use Rattle.roll_out.proofs.RolloutAccepted.{TripGood, activities_accepted, activities_again, activities_back, events_accepted, events_again, events_back, trips_accepted, trips_again, trips_back}
-use Rattle.roll_out.proofs.RuleRows.{activity_id, event_id, none_first}
+use Rattle.roll_out.proofs.NumberedActivities.{numbered_good, numbers_are}
+use Rattle.roll_out.proofs.RuleRows.{activity_id, event_id, none_behind, none_first}
 use Rattle.roll_out.proofs.SoundPlans.{between_all, plans_are}
 use Rattle.roll_out.proofs.SoundTrips.{events_counted, trips_counted, trips_sound}
 use Rattle.roll_out.proofs.TripsOfDay.{trips_are}
-
-none_behind : (all others : List Refusal) → or_else all others ≡ [] → others ≡ []
-none_behind [] others none = none
-none_behind (first ∷ more) others none = absurd (cc)
-
--- activities with their places as ids
-numbers_are : (n : ℕ) (plain : List ExpandedActivity)
-    → map (λ (row : ExpandedActivity). row.id) (map with_number (enumerate_from n plain))
-    ≡ range_with_len n (length plain)
-numbers_are n [] = refl
-numbers_are n (row ∷ plain) = ap (λ ids. n ∷ ids) (numbers_are (n + 1) plain)
-
-numbered_good : (events : List ExpandedEvent) (n : ℕ) (plain : List ExpandedActivity)
-    → AllByRecursion (IsExpandedActivity events) plain
-    → AllByRecursion (IsExpandedActivity events) (map with_number (enumerate_from n plain))
-numbered_good events n [] good = tt
-numbered_good events n (row ∷ plain) good = (
-  record {
-    from = good.0.from;
-    to = good.0.to;
-    in_order = good.0.in_order;
-    no_sync = good.0.no_sync;
-    forward = good.0.forward;
-  },
-  numbered_good events (n + 1) plain good.1,
-)
 
 module _ (bundle : BundleParts) (own : bundle.stage ≡ stage.Rollout) (fits : Fits bundle)
     (none : rollout_faults bundle ≡ []) (short : long_lists (network_in bundle) (trips_in bundle)

@@ -28,6 +28,10 @@ pub none_first : (all others : List Refusal) → or_else all others ≡ [] → a
 none_first [] others none = refl
 none_first (first ∷ more) others none = none
 
+pub none_behind : (all others : List Refusal) → or_else all others ≡ [] → others ≡ []
+none_behind [] others none = none
+none_behind (first ∷ more) others none = absurd (cc)
+
 -- a text without a fault has none in its cells
 pub cells_fine : {X : Type 0} (input : Input X) (text : List ℕ) → input_faults input text ≡ []
     → cell_faults input.file input.columns text ≡ []

@@ -67,7 +67,8 @@ fn none_at<const C: usize>(
     requires narrow { C < 2 ^ 32 }
     requires read { cell_faults file kinds.now text.now ≡ [] }
     requires there { All (IsOneOf (length (table_of kinds.now text.now))) ids.now }
-    ensures { UnlessFault (faults_at file kinds.now text.now why ids.now) (λ _. ids.now ≡ []) result }
+    ensures { UnlessFault (faults_at file kinds.now text.now why ids.now)
+        (λ _. ids.now ≡ []) result }
 {
     match ids.first() {
         None => Ok(()),

@@ -30,8 +30,8 @@ const MOST_EVENTS: usize = 100_000;
 
 const MOST_ACTIVITIES: usize = 500_000;
 
-/// The trips of a day, their events and the activities between them, from the settings and the texts
-/// of periodic events, activities and times. It takes one step.
+/// The trips of a day, their events and the activities between them, from the settings and the
+/// texts of periodic events, activities and times. It takes one step.
 pub fn make_rollout<L: Ledger>(
     alloc: Global,
     bundle: &Bundle,
