@@ -1,10 +1,9 @@
 -- Lists to which parts are added one by one.
 use Rattle.std.proofs.Common.{◌≡◌, ℕ, ◌+◌, ◌<◌, ◌≤◌, arith, Bool, true, false, cond, List, [], ◌∷◌, ◌++◌, length, map, filter, take, get_or, refl, ap, sym, ◌∙◌}
 use Rattle.std.specs.List.{flat_map, range_with_len, enumerate_from}
-use Rattle.std.proofs.lemmas.List.{append_assoc, append-nil, map-append, map-id, flat_map_more, take_more, take_all, length-take-le, length-append}
+use Rattle.std.proofs.lemmas.List.{append_assoc, append-nil, map-append, map-id, flat_map_more, take_more, take_all, length-take-le}
 use Rattle.std.proofs.lemmas.List.Elements.{filter-append}
 use Rattle.std.proofs.lemmas.List.FromFn.{map-range_with_len_more, get_or-enumerate_from, length-enumerate_from}
-use Rattle.std.proofs.lemmas.Grind.{flat_map-append}
 use Rattle.event_tables.specs.declared.periodic_event.PeriodicEvent.{PeriodicEvent}
 
 -- the ids of the events of the things that pass a test
@@ -19,7 +18,8 @@ range_more a n j e =
 
 -- one thing with its number more
 pub enumerated_more : {X : Type 0} (a : ℕ) (xs : List X) (i : ℕ) (d : X) → i < length xs
-    → take (i + 1) (enumerate_from a xs) ≡ take i (enumerate_from a xs) ++ (a + i, get_or xs i d) ∷ []
+    → take (i + 1) (enumerate_from a xs) ≡ take i (enumerate_from a xs) ++ (a + i, get_or xs i d)
+    ∷ []
 enumerated_more a xs i d h =
     take_more (enumerate_from a xs) i (0, d) (omega (arith, h, length-enumerate_from a xs))
     ∙ ap (λ x. take i (enumerate_from a xs) ++ x ∷ []) (get_or-enumerate_from a xs i (0, d) h)
@@ -27,7 +27,8 @@ enumerated_more a xs i d h =
 -- and all of them
 pub enumerated_all : {X : Type 0} (a : ℕ) (xs : List X) (i : ℕ) → length xs ≤ i
     → take i (enumerate_from a xs) ≡ enumerate_from a xs
-enumerated_all a xs i h = take_all i (enumerate_from a xs) (omega (arith, h, length-enumerate_from a xs))
+enumerated_all a xs i h = take_all i (enumerate_from a xs)
+    (omega (arith, h, length-enumerate_from a xs))
 
 module _ {X Y : Type 0} (old now after : List Y) where
   -- what a thing stands for is added
@@ -35,14 +36,16 @@ module _ {X Y : Type 0} (old now after : List Y) where
       → after ≡ now ++ y ∷ [] → after ≡ old ++ map f (xs ++ x ∷ [])
   added_one f xs x y so_far is more =
       more ∙ ap (λ ys. ys ++ y ∷ []) so_far ∙ append_assoc old (map f xs) (y ∷ [])
-      ∙ ap (λ z. old ++ (map f xs ++ z ∷ [])) is ∙ ap (λ ys. old ++ ys) (sym (map-append f xs (x ∷ [])))
+      ∙ ap (λ z. old ++ (map f xs ++ z ∷ [])) is
+      ∙ ap (λ ys. old ++ ys) (sym (map-append f xs (x ∷ [])))
 
   -- what belongs to a thing is added
   pub added_part : (f : X → List Y) (xs : List X) (x : X) → now ≡ old ++ flat_map f xs
       → after ≡ now ++ f x → after ≡ old ++ flat_map f (xs ++ x ∷ [])
   added_part f xs x so_far more = more ∙ ap (λ ys. ys ++ f x) so_far ∙ flat_map_more f old xs x
 
-module _ {X : Type 0} (old now after : List ℕ) (test : X → Bool) (event : X → PeriodicEvent) (xs : List X)
+module _ {X : Type 0} (old now after : List ℕ) (test : X → Bool) (event : X → PeriodicEvent)
+    (xs : List X)
     (x : X) (so_far : now ≡ old ++ ids_where test event xs) where
   where_more : (b : Bool) → test x ≡ b
       → ids_where test event (xs ++ x ∷ [])
@@ -50,11 +53,14 @@ module _ {X : Type 0} (old now after : List ℕ) (test : X → Bool) (event : X 
   where_more b is =
       ap (λ ys. map (λ (one : PeriodicEvent). one.id) (map event ys))
       (filter-append test xs (x ∷ []) ∙ ap (λ c. filter test xs ++ cond c (x ∷ []) []) is)
-      ∙ ap (map (λ (one : PeriodicEvent). one.id)) (map-append event (filter test xs) (cond b (x ∷ []) []))
-      ∙ map-append (λ (one : PeriodicEvent). one.id) (map event (filter test xs)) (map event (cond b (x ∷ []) []))
+      ∙ ap (map (λ (one : PeriodicEvent). one.id))
+      (map-append event (filter test xs) (cond b (x ∷ []) []))
+      ∙ map-append (λ (one : PeriodicEvent). one.id) (map event (filter test xs))
+      (map event (cond b (x ∷ []) []))
       ∙ by b
     where
-      by : (b : Bool) → ids_where test event xs ++ map (λ (one : PeriodicEvent). one.id) (map event (cond b (x ∷ []) []))
+      by : (b : Bool) → ids_where test event xs
+          ++ map (λ (one : PeriodicEvent). one.id) (map event (cond b (x ∷ []) []))
           ≡ ids_where test event xs ++ cond b ((event x).id ∷ []) []
       by true = refl
       by false = refl
@@ -68,13 +74,15 @@ module _ {X : Type 0} (old now after : List ℕ) (test : X → Bool) (event : X 
       ∙ ap (λ ys. old ++ ys) (sym (where_more true is))
 
   -- and that of one that does not, is not
-  pub passed_over : test x ≡ false → after ≡ now → after ≡ old ++ ids_where test event (xs ++ x ∷ [])
+  pub passed_over : test x ≡ false → after ≡ now → after ≡ old
+      ++ ids_where test event (xs ++ x ∷ [])
   passed_over is same =
       same ∙ so_far ∙ ap (λ ys. old ++ ys) (sym (append-nil (ids_where test event xs)))
       ∙ ap (λ ys. old ++ ys) (sym (where_more false is))
 
   -- both in one
-  pub added_test : (passed : Bool) → passed ≡ test x → after ≡ now ++ cond passed ((event x).id ∷ []) []
+  pub added_test : (passed : Bool) → passed ≡ test x → after ≡ now
+      ++ cond passed ((event x).id ∷ []) []
       → after ≡ old ++ ids_where test event (xs ++ x ∷ [])
   added_test true is more = added_where (sym is) more
   added_test false is more = passed_over (sym is) (more ∙ append-nil now)
@@ -89,7 +97,8 @@ numbered_more f a (y ∷ xs) x j e =
     ap (λ rest. f (a, y) ∷ rest) (numbered_more f (a + 1) xs x j (omega (arith, e)))
 
 -- the next one of some things is added with its number
-pub added_numbered : {X Y : Type 0} (f : ℕ × X → Y) (xs : List X) (i : ℕ) (d : X) (now after : List Y)
+pub added_numbered : {X Y : Type 0} (f : ℕ × X → Y) (xs : List X) (i : ℕ) (d : X)
+    (now after : List Y)
     → i < length xs → now ≡ map f (enumerate_from 1 (take i xs))
     → after ≡ now ++ f (i + 1, get_or xs i d) ∷ []
     → after ≡ map f (enumerate_from 1 (take (i + 1) xs))

@@ -1,5 +1,5 @@
 -- Changes from a copy of their tail.
-use Rattle.std.proofs.Common.{◌≡◌, ℕ, ◌+◌, arith, List, [], ◌∷◌, ◌++◌, length, map, refl, ap, sym, ◌∙◌}
+use Rattle.std.proofs.Common.{◌≡◌, ℕ, ◌+◌, arith, List, [], ◌∷◌, ◌++◌, length, map, ap, sym, ◌∙◌}
 use Rattle.std.specs.List.{flat_map, range_with_len}
 use Rattle.std.proofs.lemmas.List.{length-append, length-map, append-nil}
 use Rattle.std.proofs.lemmas.Grind.{flat_map-append}
@@ -43,7 +43,7 @@ pub parts_counted : {X : Type 0} (f : ℕ → List X) (n count more : ℕ)
     → count + more ≡ length (flat_map f (range_with_len 0 (n + 1)))
 parts_counted f n count more so_far is =
     let last : length (flat_map f (range_with_len 0 (n + 1)))
-        ≡ length (flat_map f (range_with_len 0 n)) + length (f n) =
+    ≡ length (flat_map f (range_with_len 0 n)) + length (f n) =
     ap (λ xs. length (flat_map f xs)) (range_more 0 n n (omega arith))
     ∙ ap length (flat_map-append f (range_with_len 0 n) (n ∷ []))
     ∙ length-append (flat_map f (range_with_len 0 n)) (f n ++ [])

@@ -1,11 +1,11 @@
 -- The cells of the files of a day are in their columns.
-use Rattle.std.proofs.Common.{◌≡◌, ℕ, zero, suc, pos, ◌+◌, ◌-◌, ◌<◌, ◌≤◌, ◌≤ℤ◌, arith, All, IfSome, List, [], ◌∷◌, ◌++◌, length, map, filter, get_or, Option, Some, None, refl, ap, subst, sym, ◌∙◌}
+use Rattle.std.proofs.Common.{ℕ, pos, ◌+◌, ◌-◌, ◌<◌, ◌≤◌, ◌≤ℤ◌, arith, All, IfSome, List, [], ◌∷◌, ◌++◌, length, filter, get_or, Option, Some, None, subst, sym}
 use Rattle.std.specs.List.{flat_map, enumerate_from, AllByRecursion}
 use Rattle.std.proofs.lemmas.Int.{ints}
 use Rattle.std.proofs.lemmas.List.Elements.{All-nil, All-cons, All-append, All-head, All-tail, All-map, All-filter, All-weaker, All-from_recursion, recursion_from_All}
 use Rattle.std.proofs.lemmas.List.{length-map}
 use Rattle.std.proofs.lemmas.List.FromFn.{length-enumerate_from, get_or-enumerate_from}
-use Rattle.giv_files.specs.Columns.{activities_p_columns, activities_x_columns, events_p_columns, events_x_columns, trips_columns}
+use Rattle.giv_files.specs.Columns.{activities_p_columns, activities_x_columns, events_x_columns, trips_columns}
 use Rattle.giv_files.specs.Writing.{InColumns}
 use Rattle.event_tables.specs.declared.expanded_activity.ExpandedActivity.{ExpandedActivity}
 use Rattle.event_tables.specs.declared.expanded_event.ExpandedEvent.{ExpandedEvent}
@@ -34,11 +34,13 @@ ActivityFits activity = InColumns activities_x_columns (expanded_activity_cells 
 abbrev PlainFits : ExpandedActivity → Type 0
 PlainFits activity = ActivityFits (record activity { id = 1 })
 
-parts_fit : {A X : Type 0} (P : X → Type 0) (Q : A → Type 0) (f : A → List X) → ((x : A) → Q x → All P (f x))
+parts_fit : {A X : Type 0} (P : X → Type 0) (Q : A → Type 0) (f : A → List X)
+    → ((x : A) → Q x → All P (f x))
     → (xs : List A) → All Q xs → All P (flat_map f xs)
 parts_fit P Q f step [] all = All-nil P
 parts_fit P Q f step (x ∷ xs) all =
-    All-append P (f x) (flat_map f xs) (step x (All-head Q x xs all)) (parts_fit P Q f step xs (All-tail Q x xs all))
+    All-append P (f x) (flat_map f xs) (step x (All-head Q x xs all))
+    (parts_fit P Q f step xs (All-tail Q x xs all))
 
 -- what holds of the timed events of a trip with their ids
 numbered_fit : (P : ℕ × TimedEvent → Type 0) (a : ℕ) (run : List TimedEvent)
@@ -47,7 +49,8 @@ numbered_fit : (P : ℕ × TimedEvent → Type 0) (a : ℕ) (run : List TimedEve
 numbered_fit P a [] step all = tt
 numbered_fit P a (at ∷ run) step all = (
   step a at (omega arith) (omega arith) all.0,
-  numbered_fit P (a + 1) run (λ k at low high good. step k at (omega (arith, low)) (omega (arith, high)) good) all.1,
+  numbered_fit P (a + 1) run (λ k at low high good. step k at (omega (arith, low))
+      (omega (arith, high)) good) all.1,
 )
 
 module _ (trip : TripParts) (is : IsTrip trip) where
@@ -59,17 +62,25 @@ module _ (trip : TripParts) (is : IsTrip trip) where
       let ids = is.ids in
       All-from_recursion P (enumerate_from trip.first trip.run)
       (numbered_fit P trip.first trip.run
-      (λ k at above below good. step k at (omega (arith, low, above)) (omega (arith, ids, below)) good)
+      (λ k at above below good. step k at (omega (arith, low, above)) (omega (arith, ids, below))
+      good)
       (recursion_from_All IsTimely trip.run is.timely))
 
-  event_fits : (k : ℕ) (at : TimedEvent) → 1 ≤ k → k ≤ 100000 → IsTimely at → EventFits (day_event trip.start (k, at))
+  event_fits : (k : ℕ) (at : TimedEvent) → 1 ≤ k → k ≤ 100000 → IsTimely at
+      → EventFits (day_event trip.start (k, at))
   event_fits k at low high good =
       let early = is.early in
       let soon = good.soon in (
         id_in k low (omega (arith, high)),
         (
           good.fits.0,
-          (good.fits.1.0, (time_in (trip.start + at.minutes) (omega (arith, early, soon)), (good.fits.1.1.0, tt))),
+          (
+            good.fits.1.0,
+            (
+              time_in (trip.start + at.minutes) (omega (arith, early, soon)),
+              (good.fits.1.1.0, tt),
+            ),
+          ),
         ),
       )
 
@@ -78,7 +89,8 @@ module _ (trip : TripParts) (is : IsTrip trip) where
       All-map EventFits (day_event trip.start) (enumerate_from trip.first trip.run)
       (run_fits (λ at. EventFits (day_event trip.start at)) event_fits)
 
-copy_fits : (activity : PeriodicActivity) → InColumns activities_p_columns (periodic_activity_cells activity)
+copy_fits : (activity : PeriodicActivity) → InColumns activities_p_columns
+    (periodic_activity_cells activity)
     → (from to : ℕ) → (pos 1 ≤ℤ pos from) × (pos from ≤ℤ pos 1000000000)
     → (pos 1 ≤ℤ pos to) × (pos to ≤ℤ pos 1000000000) → PlainFits (copy_of activity from to)
 copy_fits activity fits from to first second = (
@@ -86,18 +98,21 @@ copy_fits activity fits from to first second = (
   (fits.0, (fits.1.0, (first, (second, (fits.1.1.1.1.0, (fits.1.1.1.1.1.0, tt)))))),
 )
 
-way_fits : (way : Option PeriodicActivity) → IfSome way (λ way. InColumns activities_p_columns (periodic_activity_cells way))
+way_fits : (way : Option PeriodicActivity) → IfSome way
+    (λ way. InColumns activities_p_columns (periodic_activity_cells way))
     → (k : ℕ) → 1 ≤ k → k ≤ 100000 → All PlainFits (way_from k way)
 way_fits None fits k low high = All-nil PlainFits
 way_fits (Some activity) fits k low high =
     All-cons PlainFits (copy_of activity k (k + 1)) []
-    (copy_fits activity fits k (k + 1) (id_in k low (omega (arith, high))) (id_in (k + 1) (omega (arith, low)) (omega (arith, high))))
+    (copy_fits activity fits k (k + 1) (id_in k low (omega (arith, high)))
+    (id_in (k + 1) (omega (arith, low)) (omega (arith, high))))
     (All-nil PlainFits)
 
 trip_ways_fit : (trip : TripParts) → IsTrip trip → All PlainFits (trip_ways trip)
 trip_ways_fit trip is =
     parts_fit PlainFits (λ (at : ℕ × TimedEvent). All PlainFits (way_from at.0 at.1.way))
-    (λ (at : ℕ × TimedEvent). way_from at.0 at.1.way) (λ at all. all) (enumerate_from trip.first trip.run)
+    (λ (at : ℕ × TimedEvent). way_from at.0 at.1.way) (λ at all. all)
+    (enumerate_from trip.first trip.run)
     (run_fits trip is (λ (at : ℕ × TimedEvent). All PlainFits (way_from at.0 at.1.way))
     (λ k at low high good. way_fits at.way good.way_fits k low high))
 
@@ -107,7 +122,8 @@ module _ (trips : List TripParts) (are : All IsTrip trips) where
   events_fit = parts_fit EventFits IsTrip trip_events trip_events_fit trips are
 
   module _ (network : TimedParts) (between : All (IsBetween network) network.activities) where
-    from_fit : (activity : PeriodicActivity) → IsBetween network activity → (tail : ExpandedEvent) → EventFits tail
+    from_fit : (activity : PeriodicActivity) → IsBetween network activity → (tail : ExpandedEvent)
+        → EventFits tail
         → All PlainFits (changes_from network (day_events trips) activity tail)
     from_fit activity is tail fits =
         All-map PlainFits (λ (head : ExpandedEvent). copy_of activity tail.id head.id)
@@ -120,7 +136,8 @@ module _ (trips : List TripParts) (are : All IsTrip trips) where
     change_fit : (activity : PeriodicActivity) → IsBetween network activity
         → All PlainFits (change_copies network (day_events trips) activity)
     change_fit activity is =
-        parts_fit PlainFits EventFits (changes_from network (day_events trips) activity) (from_fit activity is)
+        parts_fit PlainFits EventFits (changes_from network (day_events trips) activity)
+        (from_fit activity is)
         (filter (is_copy activity.from) (day_events trips))
         (All-filter (is_copy activity.from) EventFits (day_events trips) events_fit)
 
@@ -128,11 +145,14 @@ module _ (trips : List TripParts) (are : All IsTrip trips) where
     plain_fit =
         All-append PlainFits (day_ways trips) (day_changes network (day_events trips))
         (parts_fit PlainFits IsTrip trip_ways trip_ways_fit trips are)
-        (parts_fit PlainFits (IsBetween network) (change_copies network (day_events trips)) change_fit
-        (filter is_change network.activities) (All-filter is_change (IsBetween network) network.activities between))
+        (parts_fit PlainFits (IsBetween network) (change_copies network (day_events trips))
+        change_fit
+        (filter is_change network.activities)
+        (All-filter is_change (IsBetween network) network.activities between))
 
     -- those of activities
-    pub activities_fit : length (day_activities network trips) ≤ 500000 → All ActivityFits (day_activities network trips)
+    pub activities_fit : length (day_activities network trips) ≤ 500000
+        → All ActivityFits (day_activities network trips)
     unfolding day_activities
     activities_fit few =
         let plain = day_ways trips ++ day_changes network (day_events trips) in
@@ -140,8 +160,10 @@ module _ (trips : List TripParts) (are : All IsTrip trips) where
         let within : k < length plain = omega (arith, h, length-enumerate_from 1 plain) in
         let count = length-map (enumerate_from 1 plain) with_number in
         let same = length-enumerate_from 1 plain in
-        subst (λ at. ActivityFits (with_number at)) (sym (get_or-enumerate_from 1 plain k d within))
-        (id_in (1 + k) (omega arith) (omega (arith, within, count, same, few)), (plain_fit k d.1 within).1))
+        subst (λ at. ActivityFits (with_number at)) (sym (get_or-enumerate_from 1 plain k d within)) (
+          id_in (1 + k) (omega arith) (omega (arith, within, count, same, few)),
+          (plain_fit k d.1 within).1,
+        ))
 
 -- those of trips
 trip_fits : (trip : TripParts) → IsTrip trip → InColumns trips_columns (trip_cells (trip_row trip))
@@ -161,7 +183,8 @@ trip_fits trip is =
         (
           first.fits.1.1.0,
           (
-            time_in (trip.start + (get_or trip.run 0 no_timed).minutes) (omega (arith, early, soon)),
+            time_in (trip.start + (get_or trip.run 0 no_timed).minutes)
+                (omega (arith, early, soon)),
             (
               id_in (trip.first + last) (omega (arith, low)) (omega (arith, ids, some)),
               (
@@ -169,7 +192,8 @@ trip_fits trip is =
                 (
                   end.fits.1.1.0,
                   (
-                    time_in (trip.start + (get_or trip.run last no_timed).minutes) (omega (arith, early, later)),
+                    time_in (trip.start + (get_or trip.run last no_timed).minutes)
+                        (omega (arith, early, later)),
                     (first.fits.1.1.1.0, tt),
                   ),
                 ),
@@ -184,4 +208,5 @@ pub trips_fit : (trips : List TripParts) → All IsTrip trips
     → All (λ row. InColumns trips_columns (trip_cells row)) (trip_rows trips)
 trips_fit trips are =
     All-map (λ row. InColumns trips_columns (trip_cells row)) trip_row trips
-    (All-weaker IsTrip (λ trip. InColumns trips_columns (trip_cells (trip_row trip))) trip_fits trips are)
+    (All-weaker IsTrip (λ trip. InColumns trips_columns (trip_cells (trip_row trip))) trip_fits
+    trips are)

@@ -1,12 +1,10 @@
 -- The changes of a day go forward between its events.
-use Rattle.std.proofs.Common.{◌≡◌, ℕ, ◌+◌, ◌-◌, ◌<◌, ◌≤◌, ◌==◌, arith, Bool, true, false, ◌&&◌, not, cond, All, List, [], ◌∷◌, ◌++◌, length, map, filter, get_or, refl, ap, subst, sym, ◌∙◌}
+use Rattle.std.proofs.Common.{◌≡◌, ℕ, ◌+◌, ◌-◌, ◌≤◌, ◌==◌, arith, Bool, true, false, ◌&&◌, not, cond, All, List, [], ◌∷◌, map, filter, get_or, refl, ap, subst, sym, ◌∙◌}
 use Rattle.std.specs.List.{flat_map, enumerate_from, AllByRecursion}
 use Rattle.std.proofs.lemmas.Bool.{eqb-true}
 use Rattle.std.proofs.lemmas.List.Elements.{recursion_from_All}
 use Rattle.event_tables.specs.declared.activity_kind.ActivityKind.{ActivityKind}
 use Rattle.event_tables.specs.declared.activity_kind.ActivityKind.TheVariants as activity
-use Rattle.event_tables.specs.declared.event_kind.EventKind.{EventKind}
-use Rattle.event_tables.specs.declared.expanded_activity.ExpandedActivity.{ExpandedActivity}
 use Rattle.event_tables.specs.declared.expanded_event.ExpandedEvent.{ExpandedEvent}
 use Rattle.event_tables.specs.declared.periodic_activity.PeriodicActivity.{PeriodicActivity}
 use Rattle.event_tables.specs.declared.periodic_event.PeriodicEvent.{PeriodicEvent}
@@ -14,8 +12,7 @@ use Rattle.event_tables.specs.ExpandedFiles.{IsExpandedActivity}
 use Rattle.event_tables.specs.Kinds.{is_arrival, is_sync}
 use Rattle.event_tables.specs.PeriodicRuns.{joins}
 use Rattle.event_tables.specs.Places.{AreNumbered}
-use Rattle.event_tables.specs.RunRules.{is_placed, same_kind}
-use Rattle.roll_out.specs.declared.timed_event.TimedEvent.{TimedEvent}
+use Rattle.event_tables.specs.RunRules.{same_kind}
 use Rattle.roll_out.specs.DayActivities.{change_copies, changes_from, copy_of, day_changes, is_change, is_copy, is_head}
 use Rattle.roll_out.specs.DayTrips.{TripParts, day_event, day_events, trip_events}
 use Rattle.roll_out.specs.TimedRuns.{TimedParts, minutes_of, no_event, timed_from, minutes_on, way_on}
@@ -24,7 +21,6 @@ use Rattle.roll_out.proofs.GoodRuns.{IsFit, IsIn, no_true}
 use Rattle.roll_out.proofs.ListedEvents.{IsListed}
 use Rattle.roll_out.proofs.PlacedEvents.{known_ends_is}
 use Rattle.roll_out.proofs.RolledTrips.{IsRolled, append_all}
-use Rattle.roll_out.proofs.SoundPlans.{minutes_are}
 
 -- an event of the day is of the kind and at the stop of its periodic event
 pub record IsOf (network : TimedParts) (event : ExpandedEvent) : Type 0 where
@@ -35,7 +31,8 @@ pub record IsOf (network : TimedParts) (event : ExpandedEvent) : Type 0 where
 
 module _ (network : TimedParts) where
   run_of : (start n minutes : ℕ) (run : List PeriodicEvent) → AllByRecursion (IsIn network) run
-      → AllByRecursion (IsOf network) (map (day_event start) (enumerate_from n (timed_from network minutes run)))
+      → AllByRecursion (IsOf network) (map (day_event start)
+      (enumerate_from n (timed_from network minutes run)))
   unfolding timed_from
   run_of start n minutes [] within = tt
   run_of start n minutes (event ∷ run) within = (
@@ -43,9 +40,11 @@ module _ (network : TimedParts) where
     run_of start (n + 1) (minutes + minutes_on network (way_on network event run)) run within.1,
   )
 
-  trip_of : (trip : TripParts) → IsRolled network trip → AllByRecursion (IsOf network) (trip_events trip)
+  trip_of : (trip : TripParts) → IsRolled network trip
+      → AllByRecursion (IsOf network) (trip_events trip)
   trip_of trip rolled =
-      subst (λ run. AllByRecursion (IsOf network) (map (day_event trip.start) (enumerate_from trip.first run)))
+      subst (λ run. AllByRecursion (IsOf network)
+      (map (day_event trip.start) (enumerate_from trip.first run)))
       (sym rolled.is) (run_of trip.start trip.first 0 rolled.periodic rolled.good.within)
 
   pub events_of_trips : (trips : List TripParts) → AllByRecursion (IsRolled network) trips
@@ -55,13 +54,14 @@ module _ (network : TimedParts) where
       append_all (IsOf network) (trip_events trip) (day_events trips) (trip_of trip rolled.0)
       (events_of_trips trips rolled.1)
 
-pub both_all : {X : Type 0} (P Q : X → Type 0) (xs : List X) → AllByRecursion P xs → AllByRecursion Q xs
+pub both_all : {X : Type 0} (P Q : X → Type 0) (xs : List X) → AllByRecursion P xs
+    → AllByRecursion Q xs
     → AllByRecursion (λ x. P x × Q x) xs
 both_all P Q [] first second = tt
 both_all P Q (x ∷ xs) first second = ((first.0, second.0), both_all P Q xs first.1 second.1)
 
 -- those that pass a test, with the test
-passing_all : {X : Type 0} (P : X → Type 0) (p : X → Bool) (xs : List X) → AllByRecursion P xs
+pub passing_all : {X : Type 0} (P : X → Type 0) (p : X → Bool) (xs : List X) → AllByRecursion P xs
     → AllByRecursion (λ x. P x × (p x ≡ true)) (filter p xs)
 passing_all P p [] all = tt
 passing_all P p (x ∷ xs) all = by (p x) refl (passing_all P p xs all.1)
@@ -71,28 +71,32 @@ passing_all P p (x ∷ xs) all = by (p x) refl (passing_all P p xs all.1)
     by true is rest = ((all.0, is), rest)
     by false is rest = rest
 
-pub mapped_from : {A X : Type 0} (P : X → Type 0) (Q : A → Type 0) (f : A → X) → ((x : A) → Q x → P (f x)) → (xs : List A)
+pub mapped_from : {A X : Type 0} (P : X → Type 0) (Q : A → Type 0) (f : A → X)
+    → ((x : A) → Q x → P (f x)) → (xs : List A)
     → AllByRecursion Q xs → AllByRecursion P (map f xs)
 mapped_from P Q f step [] all = tt
 mapped_from P Q f step (x ∷ xs) all = (step x all.0, mapped_from P Q f step xs all.1)
 
-parts_from : {A X : Type 0} (P : X → Type 0) (Q : A → Type 0) (f : A → List X)
-    → ((x : A) → Q x → AllByRecursion P (f x)) → (xs : List A) → AllByRecursion Q xs → AllByRecursion P (flat_map f xs)
+pub parts_from : {A X : Type 0} (P : X → Type 0) (Q : A → Type 0) (f : A → List X)
+    → ((x : A) → Q x → AllByRecursion P (f x)) → (xs : List A) → AllByRecursion Q xs
+    → AllByRecursion P (flat_map f xs)
 parts_from P Q f step [] all = tt
 parts_from P Q f step (x ∷ xs) all =
     append_all P (f x) (flat_map f xs) (step x all.0) (parts_from P Q f step xs all.1)
 
-both_true : (a b : Bool) → (a && b) ≡ true → (a ≡ true) × (b ≡ true)
+pub both_true : (a b : Bool) → (a && b) ≡ true → (a ≡ true) × (b ≡ true)
 both_true true b all = (refl, all)
 both_true false b all = no_true all
 
-change_no_sync : (kind : ActivityKind) → same_kind kind activity.Change ≡ true → is_sync kind ≡ false
+change_no_sync : (kind : ActivityKind) → same_kind kind activity.Change ≡ true → is_sync kind
+    ≡ false
 change_no_sync activity.Sync is = no_true is
 change_no_sync activity.Drive is = refl
 change_no_sync activity.Wait is = refl
 change_no_sync activity.Change is = refl
 
-joins_as : (kind : ActivityKind) (event next : PeriodicEvent) → same_kind kind activity.Change ≡ true
+joins_as : (kind : ActivityKind) (event next : PeriodicEvent) → same_kind kind activity.Change
+    ≡ true
     → joins kind event next ≡ true → joins activity.Change event next ≡ true
 joins_as activity.Change event next is joined = joined
 joins_as activity.Drive event next is joined = no_true is
@@ -107,13 +111,15 @@ not_true true is = no_true is
 change_ends : (event next : PeriodicEvent) → joins activity.Change event next ≡ true
     → (is_arrival event.kind ≡ true) × (is_arrival next.kind ≡ false)
 change_ends event next joined =
-    let outer = both_true (is_arrival event.kind && not (is_arrival next.kind) && event.stop == next.stop) _ joined in
+    let outer = both_true (is_arrival event.kind && not (is_arrival next.kind)
+    && event.stop == next.stop) _ joined in
     let inner = both_true (is_arrival event.kind && not (is_arrival next.kind)) _ outer.0 in
     let ends = both_true (is_arrival event.kind) (not (is_arrival next.kind)) inner.0 in
     (ends.0, not_true (is_arrival next.kind) ends.1)
 
 module _ (network : TimedParts) (some : 1 ≤ network.period) (short : network.period ≤ 720)
-    (numbered : AreNumbered (λ event. event.id) network.events) (fit : All (IsFit network) network.activities)
+    (numbered : AreNumbered (λ event. event.id) network.events)
+    (fit : All (IsFit network) network.activities)
     (events : List ExpandedEvent) (listed : AllByRecursion (IsListed events) events)
     (of : AllByRecursion (IsOf network) events) where
   abbrev Known : ExpandedEvent → Type 0
@@ -122,17 +128,20 @@ module _ (network : TimedParts) (some : 1 ≤ network.period) (short : network.p
   known : AllByRecursion Known events
   known = both_all (IsListed events) (IsOf network) events listed of
 
-  one_change : (way : PeriodicActivity) → IsFit network way → same_kind way.kind activity.Change ≡ true
-      → (tail : ExpandedEvent) → Known tail → tail.periodic ≡ way.from → (head : ExpandedEvent) → Known head
+  one_change : (way : PeriodicActivity) → IsFit network way → same_kind way.kind activity.Change
+      ≡ true
+      → (tail : ExpandedEvent) → Known tail → tail.periodic ≡ way.from → (head : ExpandedEvent)
+      → Known head
       → head.periodic ≡ way.to → head.time ≡ tail.time + minutes_of network way
       → IsExpandedActivity events (copy_of way tail.id head.id)
   one_change way is changes tail from is_from head to is_to later =
       let sound = is.between.sound in
       let joined = joins_as way.kind (get_or network.events (way.from - 1) no_event)
-          (get_or network.events (way.to - 1) no_event) changes
-          (known_ends_is network.events numbered way no_event (sound.from.0, sound.from.1) (sound.to.0, sound.to.1) ∙ is.placed) in
+      (get_or network.events (way.to - 1) no_event) changes
+      (known_ends_is network.events numbered way no_event (sound.from.0, sound.from.1)
+      (sound.to.0, sound.to.1) ∙ is.placed) in
       let ends = change_ends (get_or network.events (way.from - 1) no_event)
-          (get_or network.events (way.to - 1) no_event) joined in
+      (get_or network.events (way.to - 1) no_event) joined in
       let arrives : is_arrival tail.kind ≡ true =
       ap is_arrival (from.1.kind ∙ ap (λ (event : PeriodicEvent). event.kind) (sym from.1.is)
       ∙ ap (λ k. (get_or network.events (k - 1) no_event).kind) is_from) ∙ ends.0 in
@@ -148,16 +157,20 @@ module _ (network : TimedParts) (some : 1 ≤ network.period) (short : network.p
             (changes_stand tail head arrives departs (omega (arith, later)));
       }
 
-  change_all : (way : PeriodicActivity) → IsFit network way → same_kind way.kind activity.Change ≡ true
+  change_all : (way : PeriodicActivity) → IsFit network way → same_kind way.kind activity.Change
+      ≡ true
       → AllByRecursion (IsExpandedActivity events) (change_copies network events way)
   change_all way is changes =
       parts_from (IsExpandedActivity events) (λ tail. Known tail × (is_copy way.from tail ≡ true))
       (changes_from network events way) (λ tail from.
-      mapped_from (IsExpandedActivity events) (λ head. Known head × (is_head network way tail head ≡ true))
+      mapped_from (IsExpandedActivity events)
+      (λ head. Known head × (is_head network way tail head ≡ true))
       (λ (head : ExpandedEvent). copy_of way tail.id head.id) (λ head to.
       let parts = both_true (is_copy way.to head) _ to.1 in
-      one_change way is changes tail from.0 (eqb-true _ _ from.1) head to.0 (eqb-true _ _ parts.0) (eqb-true _ _ parts.1))
-      (filter (is_head network way tail) events) (passing_all Known (is_head network way tail) events known))
+      one_change way is changes tail from.0 (eqb-true _ _ from.1) head to.0 (eqb-true _ _ parts.0)
+      (eqb-true _ _ parts.1))
+      (filter (is_head network way tail) events)
+      (passing_all Known (is_head network way tail) events known))
       (filter (is_copy way.from) events) (passing_all Known (is_copy way.from) events known)
 
   -- the changes are accepted

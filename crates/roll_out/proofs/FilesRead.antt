@@ -1,8 +1,10 @@
 -- The timetable of a bundle, from what each of its inputs gives.
-use Rattle.std.proofs.Common.{◌≡◌, ℕ, List, [], ◌∷◌, ◌++◌, ap, subst, sym, ◌∙◌}
+use Rattle.std.proofs.Common.{◌≡◌, ℕ, List, [], ◌++◌, map, ap, subst, sym, ◌∙◌}
 use Rattle.giv_files.specs.declared.file_id.FileId.TheVariants as file
 use Rattle.giv_files.specs.declared.refusal.StageFault.{StageFault}
-use Rattle.giv_files.specs.Inputs.{Refuses, input_faults, records_of}
+use Rattle.giv_files.specs.declared.row_why.RowWhy.TheVariants as why
+use Rattle.giv_files.specs.Columns.{activities_p_columns, events_p_columns}
+use Rattle.giv_files.specs.Inputs.{Refuses, input_faults, or_else, records_of}
 use Rattle.giv_files.specs.Settings.{BundleParts}
 use Rattle.giv_files.specs.StageCalls.{input_text}
 use Rattle.giv_files.proofs.Inputs.{refused_append}
@@ -13,15 +15,18 @@ use Rattle.event_tables.specs.declared.periodic_time.PeriodicTime.{PeriodicTime}
 use Rattle.event_tables.specs.PeriodicFiles.{periodic_activity_input, periodic_event_ids, periodic_event_input, periodic_time_input}
 use Rattle.pesp_model.specs.PespTexts.{activities_of, events_of, problem_faults}
 use Rattle.pesp_model.proofs.Texts.{activity_faults, refused_events}
-use Rattle.roll_out.specs.RolloutStage.{file_faults, network_in, period_in, times_in}
+use Rattle.roll_out.specs.RolloutStage.{faults_at, file_faults, network_in, period_in, rollout_faults, run_faults, times_in}
+use Rattle.event_tables.specs.RunRules.{KeepRunRules}
 
 module _ (bundle : BundleParts) (none : file_faults bundle ≡ []) where
   -- where the texts have no fault, each of them has none
   pub events_fine : input_faults periodic_event_input (input_text bundle 0) ≡ []
   unfolding problem_faults
-  events_fine = front_none _ _ (front_none (problem_faults (input_text bundle 0) (input_text bundle 1)) _ none)
+  events_fine = front_none _ _ (front_none (problem_faults (input_text bundle 0)
+      (input_text bundle 1)) _ none)
 
-  pub activities_fine : input_faults (periodic_activity_input (periodic_event_ids (network_in bundle).events))
+  pub activities_fine : input_faults (periodic_activity_input
+      (periodic_event_ids (network_in bundle).events))
       (input_text bundle 1) ≡ []
   unfolding problem_faults
   activities_fine =
@@ -34,12 +39,14 @@ module _ (bundle : BundleParts) (none : file_faults bundle ≡ []) where
 module _ (bundle : BundleParts) where
   -- a text of events that is refused
   pub events_refused : (fault : StageFault)
-      → Refuses (input_faults periodic_event_input (input_text bundle 0)) fault → Refuses (file_faults bundle) fault
+      → Refuses (input_faults periodic_event_input (input_text bundle 0)) fault
+      → Refuses (file_faults bundle) fault
   events_refused fault by =
       refused_append (problem_faults (input_text bundle 0) (input_text bundle 1)) _ fault
       (refused_events (input_text bundle 0) (input_text bundle 1) fault by)
 
-  module _ (events : List PeriodicEvent) (none : input_faults periodic_event_input (input_text bundle 0) ≡ [])
+  module _ (events : List PeriodicEvent) (none : input_faults periodic_event_input
+      (input_text bundle 0) ≡ [])
       (are : events ≡ records_of periodic_event_input (input_text bundle 0)) where
     same_events : events ≡ events_of (input_text bundle 0)
     unfolding events_of
@@ -47,47 +54,86 @@ module _ (bundle : BundleParts) where
 
     -- one of activities
     pub activities_refused : (fault : StageFault)
-        → Refuses (input_faults (periodic_activity_input (periodic_event_ids events)) (input_text bundle 1)) fault
+        → Refuses (input_faults (periodic_activity_input (periodic_event_ids events))
+        (input_text bundle 1)) fault
         → Refuses (file_faults bundle) fault
     activities_refused fault by =
         refused_append (problem_faults (input_text bundle 0) (input_text bundle 1)) _ fault
         (subst (λ some. Refuses some fault)
         (activity_faults (input_text bundle 0) (input_text bundle 1) events none are) by)
 
-    module _ (fine : input_faults (periodic_activity_input (periodic_event_ids events)) (input_text bundle 1) ≡ [])
+    module _ (fine : input_faults (periodic_activity_input (periodic_event_ids events))
+        (input_text bundle 1) ≡ [])
         (period : ℕ) (is : period ≡ period_in bundle) where
-      times_same : input_faults (periodic_time_input file.TimesP period (periodic_event_ids events)) (input_text bundle 2)
+      times_same : input_faults (periodic_time_input file.TimesP period
+          (periodic_event_ids events)) (input_text bundle 2)
           ≡ file_faults bundle
       times_same =
-          ap (λ some. input_faults (periodic_time_input file.TimesP period (periodic_event_ids some)) (input_text bundle 2))
+          ap (λ some. input_faults (periodic_time_input file.TimesP period
+          (periodic_event_ids some)) (input_text bundle 2))
           same_events
           ∙ ap (λ some. input_faults (periodic_time_input file.TimesP some
           (periodic_event_ids (events_of (input_text bundle 0)))) (input_text bundle 2)) is
           ∙ ap (λ first. first ++ input_faults (times_in bundle) (input_text bundle 2))
-          (sym (sym (activity_faults (input_text bundle 0) (input_text bundle 1) events none are) ∙ fine))
+          (sym (sym (activity_faults (input_text bundle 0) (input_text bundle 1) events none are)
+          ∙ fine))
 
       -- one of times
       pub times_refused : (fault : StageFault)
-          → Refuses (input_faults (periodic_time_input file.TimesP period (periodic_event_ids events)) (input_text bundle 2)) fault
+          → Refuses (input_faults (periodic_time_input file.TimesP period
+          (periodic_event_ids events)) (input_text bundle 2)) fault
           → Refuses (file_faults bundle) fault
       times_refused fault by = subst (λ some. Refuses some fault) times_same by
 
       -- texts without a fault
-      pub all_fine : input_faults (periodic_time_input file.TimesP period (periodic_event_ids events)) (input_text bundle 2) ≡ []
+      pub all_fine : input_faults (periodic_time_input file.TimesP period
+          (periodic_event_ids events)) (input_text bundle 2) ≡ []
           → file_faults bundle ≡ []
       all_fine none = sym times_same ∙ none
 
       pub network_is : (rows : List PeriodicActivity) (times : List PeriodicTime)
-          → rows ≡ records_of (periodic_activity_input (periodic_event_ids events)) (input_text bundle 1)
-          → times ≡ records_of (periodic_time_input file.TimesP period (periodic_event_ids events)) (input_text bundle 2)
-          → record { period = period; events = events; activities = rows; times = times } ≡ network_in bundle
+          → rows ≡ records_of (periodic_activity_input (periodic_event_ids events))
+          (input_text bundle 1)
+          → times ≡ records_of (periodic_time_input file.TimesP period (periodic_event_ids events))
+          (input_text bundle 2)
+          → record { period = period; events = events; activities = rows; times = times }
+          ≡ network_in bundle
       unfolding activities_of
       network_is rows times read told =
-          let same_rows : rows ≡ activities_of (events_of (input_text bundle 0)) (input_text bundle 1) =
-          read ∙ ap (λ some. records_of (periodic_activity_input (periodic_event_ids some)) (input_text bundle 1)) same_events in
+          let same_rows : rows ≡ activities_of (events_of (input_text bundle 0))
+          (input_text bundle 1) =
+          read ∙ ap (λ some. records_of (periodic_activity_input (periodic_event_ids some))
+          (input_text bundle 1)) same_events in
           let same_times : times ≡ records_of (times_in bundle) (input_text bundle 2) =
           told
-          ∙ ap (λ some. records_of (periodic_time_input file.TimesP period (periodic_event_ids some)) (input_text bundle 2)) same_events
+          ∙ ap (λ some. records_of (periodic_time_input file.TimesP period
+          (periodic_event_ids some)) (input_text bundle 2)) same_events
           ∙ ap (λ some. records_of (periodic_time_input file.TimesP some
           (periodic_event_ids (events_of (input_text bundle 0)))) (input_text bundle 2)) is in
-          λ i. record { period = is i; events = same_events i; activities = same_rows i; times = same_times i }
+          λ i. record {
+            period = is i;
+            events = same_events i;
+            activities = same_rows i;
+            times =
+                same_times i;
+          }
+
+-- files without a fault by the rules of their kinds, that keep the rules of runs, are no fault of a
+-- bundle
+pub nothing_refused : (bundle : BundleParts)
+    → problem_faults (input_text bundle 0) (input_text bundle 1) ≡ []
+    → input_faults (times_in bundle) (input_text bundle 2) ≡ []
+    → KeepRunRules (network_in bundle).events (network_in bundle).activities
+    → rollout_faults bundle ≡ []
+nothing_refused bundle problem times keep =
+    let first = faults_at file.EventsP events_p_columns (input_text bundle 0) why.BrokenRun in
+    let second = faults_at file.EventsP events_p_columns (input_text bundle 0) why.Unjoined in
+    let third = faults_at file.ActivitiesP activities_p_columns (input_text bundle 1)
+    why.StrayActivity in
+    let ids = λ (events : List PeriodicEvent). map (λ (event : PeriodicEvent). event.id) events in
+    let numbers = λ (rows : List PeriodicActivity). map (λ (row : PeriodicActivity). row.id) rows in
+    let files : file_faults bundle ≡ [] =
+    ap (λ some. some ++ input_faults (times_in bundle) (input_text bundle 2)) problem ∙ times in
+    ap (λ some. or_else some (run_faults bundle)) files
+    ∙ (λ i. first (ids (keep.whole i)) ++ second (ids (keep.joined i))
+    ++ third (numbers (keep.placed i)))

@@ -1,9 +1,9 @@
 -- Events that stand before others in the forward order.
-use Rattle.std.proofs.Common.{◌≡◌, ℕ, ◌+◌, ◌<◌, ◌≤◌, ◌⊎◌, inl, inr, cond, arith, Bool, true, false, List, [], ◌∷◌, Some, refl, ap, sym, ◌∙◌}
+use Rattle.std.proofs.Common.{◌≡◌, ℕ, ◌<◌, ◌≤◌, ◌⊎◌, inl, inr, cond, arith, true, false, List, [], ◌∷◌, Some, refl, ap, sym, ◌∙◌}
 use Rattle.std.specs.Cmp.{nat_cmp_is}
 use Rattle.std.specs.Cmp.Lexicographic.{slice_cmp}
 use Rattle.std.specs.Ordering.{nat_cmp, is_lt}
-use Rattle.std.specs.declared.cmp.Ordering.TheVariants.{Less, Equal, Greater}
+use Rattle.std.specs.declared.cmp.Ordering.TheVariants.{Less, Equal}
 use Rattle.std.proofs.lemmas.Bool.{cases_lt}
 use Rattle.event_tables.specs.declared.event_kind.EventKind.{EventKind}
 use Rattle.event_tables.specs.declared.event_kind.EventKind.TheVariants as kinds
@@ -21,7 +21,8 @@ keys : (t r i u s j : ℕ) → t ≤ u → (t ≡ u → (r < s) ⊎ ((r ≡ s) �
     → is_lt (slice_cmp nat_cmp (t ∷ r ∷ i ∷ []) (u ∷ s ∷ j ∷ [])) ≡ true
 keys t r i u s j soon then_more = by (cases_lt t u)
   where
-    by_rank : t ≡ u → (r < s) ⊎ ((r ≡ s) × (i < j)) → is_lt (slice_cmp nat_cmp (t ∷ r ∷ i ∷ []) (u ∷ s ∷ j ∷ [])) ≡ true
+    by_rank : t ≡ u → (r < s) ⊎ ((r ≡ s) × (i < j))
+        → is_lt (slice_cmp nat_cmp (t ∷ r ∷ i ∷ []) (u ∷ s ∷ j ∷ [])) ≡ true
     by_rank e (inl below) = rw (same t u e, less r s below) refl
     by_rank e (inr more) = rw (same t u e, same r s more.0, less i j more.1) refl
 
@@ -33,18 +34,22 @@ abbrev rank : EventKind → ℕ
 rank kind = cond (is_arrival kind) 0 1
 
 -- a later event
-pub later_stands : (event other : ExpandedEvent) → event.time < other.time → stands_before event other ≡ true
+pub later_stands : (event other : ExpandedEvent) → event.time < other.time
+    → stands_before event other ≡ true
 later_stands event other h =
-    keys event.time (rank event.kind) event.id other.time (rank other.kind) other.id (omega (arith, h))
+    keys event.time (rank event.kind) event.id other.time (rank other.kind) other.id
+    (omega (arith, h))
     (λ e. absurd (omega (arith, h, e)))
 
 after_arrival : (time i j u : ℕ) (kind : EventKind) → time ≤ u → i < j
     → is_lt (slice_cmp nat_cmp (time ∷ 0 ∷ i ∷ []) (u ∷ rank kind ∷ j ∷ [])) ≡ true
-after_arrival time i j u kinds.Departure soon next = keys time 0 i u 1 j soon (λ e. inl (omega arith))
+after_arrival time i j u kinds.Departure soon next = keys time 0 i u 1 j soon
+    (λ e. inl (omega arith))
 after_arrival time i j u kinds.Arrival soon next = keys time 0 i u 0 j soon (λ e. inr (refl, next))
 
 -- an event of a greater id that is not earlier, behind an arrival
-pub waits_stand : (event other : ExpandedEvent) → is_arrival event.kind ≡ true → event.time ≤ other.time
+pub waits_stand : (event other : ExpandedEvent) → is_arrival event.kind ≡ true → event.time
+    ≤ other.time
     → event.id < other.id → stands_before event other ≡ true
 waits_stand event other arrives soon next =
     ap (λ b. is_lt (slice_cmp nat_cmp (event.time ∷ cond b 0 1 ∷ event.id ∷ [])
@@ -52,7 +57,8 @@ waits_stand event other arrives soon next =
     ∙ after_arrival event.time event.id other.id other.time other.kind soon next
 
 -- a departure that is not earlier, behind an arrival
-pub changes_stand : (event other : ExpandedEvent) → is_arrival event.kind ≡ true → is_arrival other.kind ≡ false
+pub changes_stand : (event other : ExpandedEvent) → is_arrival event.kind ≡ true
+    → is_arrival other.kind ≡ false
     → event.time ≤ other.time → stands_before event other ≡ true
 changes_stand event other arrives departs soon =
     ap (λ b. is_lt (slice_cmp nat_cmp (event.time ∷ cond b 0 1 ∷ event.id ∷ [])
@@ -63,7 +69,8 @@ changes_stand event other arrives departs soon =
 
 -- so an activity between them goes forward
 pub forward_between : (events : List ExpandedEvent) (from to : ℕ) (event other : ExpandedEvent)
-    → event_with events from ≡ Some event → event_with events to ≡ Some other → stands_before event other ≡ true
+    → event_with events from ≡ Some event → event_with events to ≡ Some other
+    → stands_before event other ≡ true
     → goes_forward events from to ≡ true
 forward_between events from to event other first second stands =
     ap (λ found. both_pass stands_before found (event_with events to)) first

@@ -1,6 +1,6 @@
 -- Runs and activities that keep the rules of runs.
-use Rattle.std.proofs.Common.{◌≡◌, ℕ, zero, suc, ◌+◌, ◌-◌, ◌%◌, ◌<◌, ◌≤◌, ◌==◌, arith, Bool, true, false, ◌&&◌, ◌||◌, not, cond, All, IfSome, List, [], ◌∷◌, ◌++◌, length, map, filter, drop, get_or, find, Option, Some, None, refl, ap, subst, sym, ◌∙◌}
-use Rattle.std.specs.List.{flat_map, range_with_len, enumerate_from, count_by, zip, sum_by, AllByRecursion}
+use Rattle.std.proofs.Common.{◌≡◌, ℕ, zero, suc, ◌+◌, ◌-◌, ◌%◌, ◌<◌, ◌≤◌, ◌==◌, arith, Bool, true, false, ◌&&◌, ◌||◌, not, cond, All, IfSome, List, [], ◌∷◌, length, map, filter, get_or, find, Some, refl, ap, subst, sym, ◌∙◌}
+use Rattle.std.specs.List.{flat_map, enumerate_from, count_by, AllByRecursion}
 use Rattle.std.proofs.lemmas.Bool.{eqb-true, eqb-false, false≢true}
 use Rattle.std.proofs.lemmas.List.{get_or-map}
 use Rattle.std.proofs.lemmas.List.Elements.{All-from_recursion, recursion_from_All}
@@ -18,8 +18,9 @@ use Rattle.event_tables.specs.PeriodicRuns.{neighbours, runs_of}
 use Rattle.event_tables.specs.Places.{IsOneOf}
 use Rattle.event_tables.specs.RunRules.{KeepRunRules, breaks, broken_in, drives_at_once, is_placed, is_stray, lacks_way, leads, same_kind, unjoined_in, way_on}
 use Rattle.roll_out.specs.Plans.{IsBetween, IsTimed}
-use Rattle.roll_out.specs.TimedRuns.{TimedParts, minutes_of, no_event}
-use Rattle.roll_out.proofs.SoundPlans.{between_all, runs_have, runs_some, runs_whole}
+use Rattle.roll_out.specs.TimedRuns.{TimedParts, no_event}
+use Rattle.roll_out.proofs.SoundPlans.{between_all}
+use Rattle.roll_out.proofs.WholeRuns.{runs_have, runs_some, runs_whole}
 
 pub no_true : {P : Type 0} → false ≡ true → P
 no_true e = absurd (false≢true e)
@@ -39,20 +40,28 @@ pub nothing_mapped : {A X : Type 0} (f : A → X) (xs : List A) → map f xs ≡
 nothing_mapped f [] none = refl
 nothing_mapped f (x ∷ xs) none = absurd (cc)
 
-nothing_passes : {X : Type 0} (p : X → Bool) (xs : List X) → filter p xs ≡ [] → AllByRecursion (λ x. p x ≡ false) xs
+nothing_passes : {X : Type 0} (p : X → Bool) (xs : List X) → filter p xs ≡ []
+    → AllByRecursion (λ x. p x ≡ false) xs
 nothing_passes p [] none = tt
 nothing_passes p (x ∷ xs) none = by (p x) refl (nothing_passes p xs) none
   where
     by : (b : Bool) → p x ≡ b → (filter p xs ≡ [] → AllByRecursion (λ x. p x ≡ false) xs)
-        → cond b (x ∷ filter p xs) (filter p xs) ≡ [] → (p x ≡ false) × AllByRecursion (λ x. p x ≡ false) xs
+        → cond b (x ∷ filter p xs) (filter p xs) ≡ [] → (p x ≡ false)
+        × AllByRecursion (λ x. p x ≡ false) xs
     by true is rest none = absurd (cc)
     by false is rest none = (is, rest none)
 
-no_parts : {A X : Type 0} (f : A → List X) (xs : List A) → flat_map f xs ≡ [] → AllByRecursion (λ x. f x ≡ []) xs
+no_parts : {A X : Type 0} (f : A → List X) (xs : List A) → flat_map f xs ≡ []
+    → AllByRecursion (λ x. f x ≡ []) xs
 no_parts f [] none = tt
-no_parts f (x ∷ xs) none = (front_none (f x) (flat_map f xs) none, no_parts f xs (back_none (f x) (flat_map f xs) none))
+no_parts f (x ∷ xs) none = (
+  front_none (f x) (flat_map f xs) none,
+  no_parts f xs
+      (back_none (f x) (flat_map f xs) none),
+)
 
-get_or_same : {X : Type 0} (xs : List X) (i : ℕ) (d e : X) → i < length xs → get_or xs i d ≡ get_or xs i e
+get_or_same : {X : Type 0} (xs : List X) (i : ℕ) (d e : X) → i < length xs → get_or xs i d
+    ≡ get_or xs i e
 get_or_same [] i d e h = absurd (omega (arith, h))
 get_or_same (x ∷ xs) zero d e h = refl
 get_or_same (x ∷ xs) (suc i) d e h = get_or_same xs i d e (omega (arith, h))
@@ -69,7 +78,8 @@ not_stray : (a b : Bool) → (not a || b) ≡ false → (a ≡ true) × (b ≡ f
 not_stray true b none = (refl, none)
 not_stray false b none = no_false none
 
-pub all_fit : (network : TimedParts) → IsTimed network → filter (is_stray network.events) network.activities ≡ []
+pub all_fit : (network : TimedParts) → IsTimed network
+    → filter (is_stray network.events) network.activities ≡ []
     → All (IsFit network) network.activities
 all_fit network is none = λ i d h.
     let parts = not_stray (is_placed network.events (get_or network.activities i d))
@@ -83,35 +93,42 @@ pub found_passes : {X : Type 0} (p : X → Bool) (xs : List X) → IfSome (find 
 found_passes p [] = tt
 found_passes p (x ∷ xs) = by (p x) refl (found_passes p xs)
   where
-    by : (b : Bool) → p x ≡ b → IfSome (find p xs) (λ x. p x ≡ true) → IfSome (cond b (Some x) (find p xs)) (λ x. p x ≡ true)
+    by : (b : Bool) → p x ≡ b → IfSome (find p xs) (λ x. p x ≡ true)
+        → IfSome (cond b (Some x) (find p xs)) (λ x. p x ≡ true)
     by true is rest = is
     by false is rest = rest
 
 -- something that passes is found
-counted_found : {X : Type 0} (p : X → Bool) (xs : List X) → 1 ≤ count_by p xs → (x : X) × (find p xs ≡ Some x)
+counted_found : {X : Type 0} (p : X → Bool) (xs : List X) → 1 ≤ count_by p xs → (x : X)
+    × (find p xs ≡ Some x)
 counted_found p [] some = absurd (omega (arith, some))
-counted_found {X} p (x ∷ xs) some = by (p x) (counted_found p xs) (subst (λ n. 1 ≤ n) (sum_by-cons (λ x. cond (p x) 1 0) x xs) some)
+counted_found {X} p (x ∷ xs) some = by (p x) (counted_found p xs)
+    (subst (λ n. 1 ≤ n) (sum_by-cons (λ x. cond (p x) 1 0) x xs) some)
   where
-    by : (b : Bool) → (1 ≤ count_by p xs → (y : X) × (find p xs ≡ Some y)) → 1 ≤ cond b 1 0 + count_by p xs
+    by : (b : Bool) → (1 ≤ count_by p xs → (y : X) × (find p xs ≡ Some y)) → 1
+        ≤ cond b 1 0 + count_by p xs
         → (y : X) × (cond b (Some x) (find p xs) ≡ Some y)
     by true rest some = (x, refl)
     by false rest some = rest (omega (arith, some))
 
 -- ---- the kinds of ways on
 
-pub way_no_sync : (kind : EventKind) (way : ActivityKind) → same_kind way (way_on kind) ≡ true → is_sync way ≡ false
+pub way_no_sync : (kind : EventKind) (way : ActivityKind) → same_kind way (way_on kind) ≡ true
+    → is_sync way ≡ false
 way_no_sync kinds.Departure activity.Sync is = no_true is
 way_no_sync kinds.Arrival activity.Sync is = no_true is
 way_no_sync kind activity.Drive is = refl
 way_no_sync kind activity.Wait is = refl
 way_no_sync kind activity.Change is = refl
 
-some_minutes : (drives : Bool) (lower : ℕ) → drives ≡ true → (drives && lower == 0) ≡ false → 1 ≤ lower
+some_minutes : (drives : Bool) (lower : ℕ) → drives ≡ true → (drives && lower == 0) ≡ false → 1
+    ≤ lower
 some_minutes false lower is none = no_true is
 some_minutes true lower is none = let other = eqb-false lower 0 none in omega (arith, other)
 
 -- a way on from a departure takes time
-pub drive_takes : (way : PeriodicActivity) → same_kind way.kind activity.Drive ≡ true → drives_at_once way ≡ false
+pub drive_takes : (way : PeriodicActivity) → same_kind way.kind activity.Drive ≡ true
+    → drives_at_once way ≡ false
     → 1 ≤ way.lower
 drive_takes way is none = some_minutes (same_kind way.kind activity.Drive) way.lower is none
 
@@ -119,7 +136,8 @@ drive_takes way is none = some_minutes (same_kind way.kind activity.Drive) way.l
 
 -- an event of a timetable
 abbrev pub IsIn : TimedParts → PeriodicEvent → Type 0
-IsIn network event = IsOneOf (length network.events) event.id × (get_or network.events (event.id - 1) no_event ≡ event)
+IsIn network event = IsOneOf (length network.events) event.id
+    × (get_or network.events (event.id - 1) no_event ≡ event)
 
 -- a run that goes on by drives and waits, from a departure on
 pub record IsGoodRun (network : TimedParts) (run : List PeriodicEvent) : Type 0 where
@@ -140,7 +158,8 @@ first_turn kinds.Departure odd none = (refl, none)
 first_turn kinds.Arrival odd none = no_false none
 
 good_run : (network : TimedParts) (run : List PeriodicEvent) → 1 ≤ length run → broken_in run ≡ []
-    → unjoined_in network.activities run ≡ [] → AllByRecursion (IsIn network) run → IsGoodRun network run
+    → unjoined_in network.activities run ≡ [] → AllByRecursion (IsIn network) run
+    → IsGoodRun network run
 good_run network [] some whole joined within = absurd (omega (arith, some))
 good_run network (event ∷ []) some whole joined within =
     let turn = first_turn event.kind true (first_breaks event [] whole) in no_false turn.1
@@ -148,29 +167,39 @@ good_run network (event ∷ next ∷ run) some whole joined within =
     let turn = first_turn event.kind _ (first_breaks event (next ∷ run) whole) in
     record { more = omega arith; departs = turn.0; joined = joined; within = within }
 
-module _ (network : TimedParts) (is : IsTimed network) (keep : KeepRunRules network.events network.activities) where
-  in_at : (i : ℕ) (d : PeriodicEvent) → i < length network.events → IsIn network (get_or network.events i d)
+module _ (network : TimedParts) (is : IsTimed network)
+    (keep : KeepRunRules network.events network.activities) where
+  in_at : (i : ℕ) (d : PeriodicEvent) → i < length network.events
+      → IsIn network (get_or network.events i d)
   in_at i d h =
       let at : (get_or network.events i d).id ≡ 1 + i =
       sym (get_or-map (λ (event : PeriodicEvent). event.id) network.events i d 0 h)
       ∙ ap (λ ids. get_or ids i 0) is.events_are.numbered
       ∙ get_or-range_with_len 1 (length network.events) i 0 h in
-      let e : (get_or network.events i d).id - 1 ≡ i = omega (arith, at) in
-      ((omega (arith, at), omega (arith, at, h)), ap (λ k. get_or network.events k no_event) e ∙ get_or_same network.events i no_event d h)
+      let e : (get_or network.events i d).id - 1 ≡ i = omega (arith, at) in (
+        (omega (arith, at), omega (arith, at, h)),
+        ap (λ k. get_or network.events k no_event) e
+            ∙ get_or_same network.events i no_event d h,
+      )
 
-  all_in : AllByRecursion (λ (run : List PeriodicEvent). AllByRecursion (IsIn network) run) (runs_of network.events)
+  all_in : AllByRecursion (λ (run : List PeriodicEvent). AllByRecursion (IsIn network) run)
+      (runs_of network.events)
   all_in = runs_have (IsIn network) (runs_of network.events)
       (subst (AllByRecursion (IsIn network)) (sym (runs_whole network.events))
       (recursion_from_All (IsIn network) network.events in_at))
 
-  good_runs : (runs : List (List PeriodicEvent)) → AllByRecursion (λ (run : List PeriodicEvent). 1 ≤ length run) runs
+  good_runs : (runs : List (List PeriodicEvent))
+      → AllByRecursion (λ (run : List PeriodicEvent). 1 ≤ length run) runs
       → AllByRecursion (λ run. broken_in run ≡ []) runs
       → AllByRecursion (λ run. unjoined_in network.activities run ≡ []) runs
       → AllByRecursion (λ (run : List PeriodicEvent). AllByRecursion (IsIn network) run) runs
       → AllByRecursion (IsGoodRun network) runs
   good_runs [] some whole joined within = tt
-  good_runs (run ∷ runs) some whole joined within =
-      (good_run network run some.0 whole.0 joined.0 within.0, good_runs runs some.1 whole.1 joined.1 within.1)
+  good_runs (run ∷ runs) some whole joined within = (
+    good_run network run some.0 whole.0 joined.0 within.0,
+    good_runs runs some.1 whole.1
+        joined.1 within.1,
+  )
 
   pub runs_good : AllByRecursion (IsGoodRun network) (runs_of network.events)
   runs_good = good_runs (runs_of network.events) (runs_some network.events)
@@ -184,7 +213,8 @@ pub first_joined : (network : TimedParts) (event next : PeriodicEvent) (run : Li
 first_joined network event next run none =
     let kept = (nothing_passes (lacks_way network.activities) (neighbours (event ∷ next ∷ run))
     (nothing_mapped (λ (pair : PeriodicEvent × PeriodicEvent). pair.0) _ none)).0 in
-    counted_found (leads (event, next)) network.activities (once (count_by (leads (event, next)) network.activities) kept)
+    counted_found (leads (event, next)) network.activities
+    (once (count_by (leads (event, next)) network.activities) kept)
   where
     once : (n : ℕ) → not (n == 1) ≡ false → 1 ≤ n
     once n kept = by (n == 1) refl kept

@@ -1,13 +1,12 @@
 -- The trips of a day take time, and each has a start event of its own.
-use Rattle.std.proofs.Common.{◌≡◌, ℕ, ℤ, zero, suc, pos, ◌+◌, ◌-◌, ◌<◌, ◌≤◌, ◌<ℤ◌, nat_le, arith, Bool, true, false, ◌||◌, not, All, List, [], ◌∷◌, ◌++◌, length, map, get_or, find, Option, Some, None, refl, ap, subst, sym, ◌∙◌}
+use Rattle.std.proofs.Common.{◌≡◌, ℕ, ℤ, suc, pos, ◌+◌, ◌-◌, ◌<◌, ◌≤◌, arith, true, false, ◌||◌, not, All, List, [], ◌∷◌, length, map, get_or, find, Some, refl, ap, subst, sym, ◌∙◌}
 use Rattle.std.specs.Cmp.{int_cmp_is}
-use Rattle.std.specs.List.{flat_map, enumerate_from, list_any, AllByRecursion}
+use Rattle.std.specs.List.{AllByRecursion}
 use Rattle.std.specs.List.Sorted.{IsStrictlySortedBy}
-use Rattle.std.specs.Ordering.{int_cmp, int_eq}
+use Rattle.std.specs.Ordering.{int_cmp}
 use Rattle.std.specs.declared.cmp.Ordering.TheVariants.{Less}
-use Rattle.std.proofs.lemmas.Bool.{lt-leb}
 use Rattle.std.proofs.lemmas.Int.{ints}
-use Rattle.std.proofs.lemmas.List.Elements.{All-from_recursion, recursion_from_All}
+use Rattle.std.proofs.lemmas.List.Elements.{All-from_recursion}
 use Rattle.event_tables.specs.declared.event_kind.EventKind.{EventKind}
 use Rattle.event_tables.specs.declared.event_kind.EventKind.TheVariants as kinds
 use Rattle.event_tables.specs.declared.periodic_activity.PeriodicActivity.{PeriodicActivity}
@@ -21,37 +20,44 @@ use Rattle.event_tables.specs.RunRules.{leads, same_kind}
 use Rattle.roll_out.specs.declared.timed_event.TimedEvent.{TimedEvent}
 use Rattle.roll_out.specs.DayTrips.{TripParts, no_timed, numbered_trips, trip_row, trips_of}
 use Rattle.roll_out.specs.RolloutStage.{trip_rows}
-use Rattle.roll_out.specs.TimedRuns.{TimedParts, minutes_of, minutes_on, no_event, timed_from, way_on}
+use Rattle.roll_out.specs.TimedRuns.{TimedParts, minutes_on, no_event, timed_from, way_on}
 use Rattle.roll_out.proofs.FoundOnes.{found_has}
 use Rattle.roll_out.proofs.GoodRuns.{IsFit, IsGoodRun, IsIn, drive_takes, first_joined, found_passes, no_true}
 use Rattle.roll_out.proofs.RolledTrips.{IsRolled, leads_kind}
 use Rattle.roll_out.proofs.SoundPlans.{minutes_are, timed_size}
 use Rattle.std.proofs.Common.{IfSome}
 
-later_minutes : (network : TimedParts) (least minutes : ℕ) (run : List PeriodicEvent) → least ≤ minutes
+later_minutes : (network : TimedParts) (least minutes : ℕ) (run : List PeriodicEvent) → least
+    ≤ minutes
     → AllByRecursion (λ (at : TimedEvent). least ≤ at.minutes) (timed_from network minutes run)
 unfolding timed_from
 later_minutes network least minutes [] low = tt
-later_minutes network least minutes (event ∷ run) low =
-    (low, later_minutes network least (minutes + minutes_on network (way_on network event run)) run (omega (arith, low)))
+later_minutes network least minutes (event ∷ run) low = (
+  low,
+  later_minutes network least (minutes + minutes_on network (way_on network event run)) run
+      (omega (arith, low)),
+)
 
 departure_drives : (kind : EventKind) (way : PeriodicActivity) → is_arrival kind ≡ false
-    → same_kind way.kind (rules.way_on kind) ≡ true → rules.drives_at_once way ≡ false → 1 ≤ way.lower
+    → same_kind way.kind (rules.way_on kind) ≡ true → rules.drives_at_once way ≡ false → 1
+    ≤ way.lower
 departure_drives kinds.Departure way departs is takes = drive_takes way is takes
 departure_drives kinds.Arrival way departs is takes = no_true (sym departs)
 
 module _ (network : TimedParts) (some : 1 ≤ network.period) (short : network.period ≤ 720)
     (fit : All (IsFit network) network.activities) where
-  first_way : (event next : PeriodicEvent) (run : List PeriodicEvent) → is_arrival event.kind ≡ false
+  first_way : (event next : PeriodicEvent) (run : List PeriodicEvent) → is_arrival event.kind
+      ≡ false
       → rules.unjoined_in network.activities (event ∷ next ∷ run) ≡ []
       → 1 ≤ minutes_on network (find (leads (event, next)) network.activities)
   first_way event next run departs joined =
       let found = first_joined network event next run joined in
       let passes = subst (λ way. IfSome way (λ way. leads (event, next) way ≡ true)) found.1
-          (found_passes (leads (event, next)) network.activities) in
+      (found_passes (leads (event, next)) network.activities) in
       let is = subst (λ way. IfSome way (IsFit network)) found.1
-          (found_has (IsFit network) (leads (event, next)) network.activities fit) in
-      let takes = departure_drives event.kind found.0 departs (leads_kind (event, next) found.0 passes) is.takes_time in
+      (found_has (IsFit network) (leads (event, next)) network.activities fit) in
+      let takes = departure_drives event.kind found.0 departs
+      (leads_kind (event, next) found.0 passes) is.takes_time in
       let low = (minutes_are network some short found.0).0 in
       subst (λ way. 1 ≤ minutes_on network way) (sym found.1) (omega (arith, takes, low))
 
@@ -66,18 +72,21 @@ module _ (network : TimedParts) (some : 1 ≤ network.period) (short : network.p
       let rest = timed_from network (0 + minutes_on network way) (next ∷ run) in
       let later = first_way event next run good.departs good.joined in
       let all = All-from_recursion (λ (at : TimedEvent). 1 ≤ at.minutes) rest
-          (later_minutes network 1 (0 + minutes_on network way) (next ∷ run) (omega (arith, later))) in
+      (later_minutes network 1 (0 + minutes_on network way) (next ∷ run) (omega (arith, later))) in
       let size = timed_size network (0 + minutes_on network way) (next ∷ run) in
       let e : suc (length rest) - 1 ≡ suc (length rest - 1) = omega (arith, size) in
       let last = all (length rest - 1) no_timed (omega (arith, size)) in
-      subst (λ k. 0 < (get_or (record { event = event; minutes = 0; way = way } ∷ rest) k no_timed).minutes)
+      subst (λ k. 0 < (get_or (record { event = event; minutes = 0; way = way } ∷ rest) k
+      no_timed).minutes)
       (sym e) (omega (arith, last))
 
   -- a trip ends after it starts
-  pub trip_takes : (trip : TripParts) → IsRolled network trip → (trip_row trip).start.time < (trip_row trip).end.time
+  pub trip_takes : (trip : TripParts) → IsRolled network trip → (trip_row trip).start.time
+      < (trip_row trip).end.time
   trip_takes trip rolled =
-      let takes = subst (λ run. (get_or run 0 no_timed).minutes < (get_or run (length run - 1) no_timed).minutes)
-          (sym rolled.is) (run_takes rolled.periodic rolled.good) in
+      let takes = subst (λ run. (get_or run 0 no_timed).minutes
+      < (get_or run (length run - 1) no_timed).minutes)
+      (sym rolled.is) (run_takes rolled.periodic rolled.good) in
       omega (arith, takes)
 
 -- ---- start events of their own
@@ -121,7 +130,8 @@ module _ (network : TimedParts) where
 
 -- ---- stops
 
-first_of : (network : TimedParts) (P : PeriodicEvent → Type 0) (minutes : ℕ) (run : List PeriodicEvent) → AllByRecursion P run
+first_of : (network : TimedParts) (P : PeriodicEvent → Type 0) (minutes : ℕ)
+    (run : List PeriodicEvent) → AllByRecursion P run
     → AllByRecursion (λ (at : TimedEvent). P at.event) (timed_from network minutes run)
 unfolding timed_from
 first_of network P minutes [] all = tt
@@ -139,21 +149,25 @@ module _ (network : TimedParts) (stops : List ℤ)
       let high = is.0.1 in
       subst AtStop is.1 (at (event.id - 1) no_event (omega (arith, low, high)))
 
-  run_stops : (run : List PeriodicEvent) → AllByRecursion (IsIn network) run → AllByRecursion AtStop run
+  run_stops : (run : List PeriodicEvent) → AllByRecursion (IsIn network) run
+      → AllByRecursion AtStop run
   run_stops [] within = tt
   run_stops (event ∷ run) within = (in_stop event within.0, run_stops run within.1)
 
   -- both ends of a trip are at stops
-  pub trip_stops : (trip : TripParts) → IsRolled network trip → lacks_stop (Some stops) (trip_row trip) ≡ false
+  pub trip_stops : (trip : TripParts) → IsRolled network trip
+      → lacks_stop (Some stops) (trip_row trip) ≡ false
   trip_stops trip rolled =
       let run = timed_from network 0 rolled.periodic in
       let size = timed_size network 0 rolled.periodic in
       let more = rolled.good.more in
       let all = All-from_recursion (λ (at : TimedEvent). AtStop at.event) run
-          (first_of network AtStop 0 rolled.periodic (run_stops rolled.periodic rolled.good.within)) in
-      let first : is_stop stops (get_or run 0 no_timed).event.stop ≡ true = all 0 no_timed (omega (arith, size, more)) in
+      (first_of network AtStop 0 rolled.periodic (run_stops rolled.periodic rolled.good.within)) in
+      let first : is_stop stops (get_or run 0 no_timed).event.stop
+      ≡ true = all 0 no_timed (omega (arith, size, more)) in
       let last : is_stop stops (get_or run (length run - 1) no_timed).event.stop ≡ true =
       all (length run - 1) no_timed (omega (arith, size, more)) in
       subst (λ run. (not (is_stop stops (get_or run 0 no_timed).event.stop)
-      || not (is_stop stops (get_or run (length run - 1) no_timed).event.stop)) ≡ false) (sym rolled.is)
+      || not (is_stop stops (get_or run (length run - 1) no_timed).event.stop)) ≡ false)
+      (sym rolled.is)
       (rw (first, last) refl)

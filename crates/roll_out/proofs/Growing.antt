@@ -1,14 +1,11 @@
 -- Trips, copies and timed events that are added one by one.
-use Rattle.std.proofs.Common.{◌≡◌, ℕ, ◌+◌, ◌*◌, ◌<◌, ◌≤◌, arith, List, [], ◌∷◌, ◌++◌, length, map, take, drop, get_or, refl, ap, sym, ◌∙◌}
-use Rattle.std.specs.List.{flat_map, range_with_len, enumerate_from, sum_by}
+use Rattle.std.proofs.Common.{◌≡◌, ℕ, ◌+◌, ◌*◌, ◌<◌, ◌≤◌, arith, List, [], ◌∷◌, ◌++◌, length, drop, get_or, refl, ap, sym, ◌∙◌}
 use Rattle.std.proofs.lemmas.List.{append_assoc, append-nil, at_drop_more, at_drop_all}
 use Rattle.std.proofs.lemmas.List.Sums.{sum_by-drop_more}
 use Rattle.event_tables.specs.declared.periodic_event.PeriodicEvent.{PeriodicEvent}
 use Rattle.event_tables.specs.declared.periodic_activity.PeriodicActivity.{PeriodicActivity}
 use Rattle.std.proofs.Common.{Option}
-use Rattle.roll_out.specs.declared.copies.Copies.{Copies}
 use Rattle.roll_out.specs.declared.timed_event.TimedEvent.{TimedEvent}
-use Rattle.roll_out.specs.DayTrips.{TripParts}
 use Rattle.roll_out.specs.Plans.{PlanParts, trip_after, copies_at, plan_trips, plan_copies, trips_by, copies_by, event_total}
 use Rattle.roll_out.specs.TimedRuns.{TimedParts, timed_from, way_on, minutes_on}
 
@@ -58,7 +55,8 @@ abbrev pub plan_size : PlanParts → ℕ
 plan_size plan = plan.trips * length plan.run
 
 pub trips_more : (period n : ℕ) (plan : PlanParts) (plans : List PlanParts)
-    → trips_by period n (plan ∷ plans) ≡ plan_trips period n plan ++ trips_by period (n + plan_size plan) plans
+    → trips_by period n (plan ∷ plans) ≡ plan_trips period n plan
+    ++ trips_by period (n + plan_size plan) plans
 unfolding trips_by
 trips_more period n plan plans = refl
 
@@ -81,7 +79,8 @@ module _ (network : TimedParts) where
       record { event = event; minutes = minutes; way = way_on network event run } ∷ []
 
   -- one timed event more
-  pub timed_moved : (run : List PeriodicEvent) (now after all : List TimedEvent) (minutes more i : ℕ)
+  pub timed_moved : (run : List PeriodicEvent) (now after all : List TimedEvent)
+      (minutes more i : ℕ)
       (way : Option PeriodicActivity) (d : PeriodicEvent)
       → now ++ timed_from network minutes (drop i run) ≡ all → i < length run
       → way ≡ way_on network (get_or run i d) (drop (i + 1) run)
@@ -107,7 +106,8 @@ module _ (network : TimedParts) where
   timed_none minutes = refl
 
 -- the ids of what is left
-pub total_left : (plans : List PlanParts) (i n more : ℕ) (plan : PlanParts) (all : ℕ) → i < length plans
+pub total_left : (plans : List PlanParts) (i n more : ℕ) (plan : PlanParts) (all : ℕ) → i
+    < length plans
     → plan ≡ get_or plans i plan → more ≡ plan_size plan
     → n + event_total (drop i plans) ≡ all → n + more + event_total (drop (i + 1) plans) ≡ all
 total_left plans i n more plan all h is sized so_far =

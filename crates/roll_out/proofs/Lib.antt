@@ -3,7 +3,7 @@ mod ChangesAt
 mod DayCells
 mod DayChanges
 mod DayChangesGood
-mod FilesRead
+mod DayInWords
 mod FoundOnes
 mod GoesForward
 mod GoodRuns
@@ -11,7 +11,9 @@ mod GoodTrips
 mod Growing
 mod ListedEvents
 mod Lists
+mod Members
 mod Neighbours
+mod NumberedActivities
 mod OneCopy
 mod PlacedEvents
 mod Rolled
@@ -25,5 +27,7 @@ mod SoundTrips
 mod Spaced
 mod TripsOfDay
 mod WaysCounted
+mod WholeRuns
+pub mod FilesRead
 pub mod RolloutMakes
 pub mod RolloutReads

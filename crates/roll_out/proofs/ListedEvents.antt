@@ -1,5 +1,5 @@
 -- The events of a day are numbered in their order, so each is found by its id.
-use Rattle.std.proofs.Common.{◌≡◌, ℕ, zero, suc, ◌+◌, ◌-◌, ◌<◌, ◌≤◌, arith, All, List, [], ◌∷◌, ◌++◌, length, map, get_or, Some, refl, ap, subst, sym, ◌∙◌}
+use Rattle.std.proofs.Common.{◌≡◌, ℕ, ◌+◌, ◌-◌, ◌<◌, arith, List, [], ◌∷◌, ◌++◌, length, map, get_or, Some, refl, ap, sym, ◌∙◌}
 use Rattle.std.specs.List.{flat_map, range_with_len, enumerate_from, AllByRecursion}
 use Rattle.std.proofs.lemmas.List.{length-append, length-map, map-append, get_or-map}
 use Rattle.std.proofs.lemmas.List.Elements.{recursion_from_All}
@@ -24,7 +24,8 @@ trip_ids start n (at ∷ run) = ap (λ ids. n ∷ ids) (trip_ids start (n + 1) r
 
 pub trip_size : (trip : TripParts) → length (trip_events trip) ≡ length trip.run
 trip_size trip =
-    length-map (enumerate_from trip.first trip.run) (day_event trip.start) ∙ length-enumerate_from trip.first trip.run
+    length-map (enumerate_from trip.first trip.run) (day_event trip.start)
+    ∙ length-enumerate_from trip.first trip.run
 
 day_ids : (n : ℕ) (departures : List (ℕ × List TimedEvent))
     → map id_of (day_events (numbered_trips n departures))
@@ -42,7 +43,8 @@ day_ids n (at ∷ departures) =
     ∙ ap (range_with_len n) (sym size)
 
 -- their ids are their places
-pub events_placed : (network : TimedParts) (day : Day) → AreNumbered (λ event. event.id) (day_events (trips_of network day))
+pub events_placed : (network : TimedParts) (day : Day)
+    → AreNumbered (λ event. event.id) (day_events (trips_of network day))
 unfolding trips_of
 events_placed network day = day_ids 1 _
 
@@ -51,16 +53,19 @@ pub record IsListed (events : List ExpandedEvent) (event : ExpandedEvent) : Type
   pub found : event_with events event.id ≡ Some event
   pub id : IsOneOf (length events) event.id
 
-listed_at : (events : List ExpandedEvent) → AreNumbered (λ event. event.id) events → (i : ℕ) (d : ExpandedEvent)
+listed_at : (events : List ExpandedEvent) → AreNumbered (λ event. event.id) events
+    → (i : ℕ) (d : ExpandedEvent)
     → i < length events → IsListed events (get_or events i d)
 listed_at events are i d h =
     let at : (get_or events i d).id ≡ 1 + i =
     sym (get_or-map id_of events i d 0 h) ∙ ap (λ ids. get_or ids i 0) are
     ∙ get_or-range_with_len 1 (length events) i 0 h in
-    let one : IsOneOf (length events) (get_or events i d).id = (omega (arith, at), omega (arith, at, h)) in
+    let one : IsOneOf (length events) (get_or events i d).id =
+    (omega (arith, at), omega (arith, at, h)) in
     let e : (get_or events i d).id - 1 ≡ i = omega (arith, at) in
     record {
-      found = find_numbered id_of (get_or events i d).id events d are one ∙ ap (λ k. Some (get_or events k d)) e;
+      found = find_numbered id_of (get_or events i d).id events d are one
+          ∙ ap (λ k. Some (get_or events k d)) e;
       id = one;
     }
 
@@ -70,17 +75,20 @@ all_listed events are = recursion_from_All (IsListed events) events (listed_at e
 
 -- ---- what holds of all parts holds of each
 
-pub parts_of_all : {A X : Type 0} (P : X → Type 0) (f : A → List X) (xs : List A) → AllByRecursion P (flat_map f xs)
+pub parts_of_all : {A X : Type 0} (P : X → Type 0) (f : A → List X) (xs : List A)
+    → AllByRecursion P (flat_map f xs)
     → AllByRecursion (λ x. AllByRecursion P (f x)) xs
 parts_of_all P f [] all = tt
 parts_of_all {A} {X} P f (x ∷ xs) all =
     let parts = split (f x) (flat_map f xs) all in (parts.0, parts_of_all P f xs parts.1)
   where
-    split : (xs ys : List X) → AllByRecursion P (xs ++ ys) → AllByRecursion P xs × AllByRecursion P ys
+    split : (xs ys : List X) → AllByRecursion P (xs ++ ys) → AllByRecursion P xs
+        × AllByRecursion P ys
     split [] ys all = (tt, all)
     split (x ∷ xs) ys all = let rest = split xs ys all.1 in ((all.0, rest.0), rest.1)
 
-pub mapped_all : {A X : Type 0} (P : X → Type 0) (f : A → X) (xs : List A) → AllByRecursion P (map f xs)
+pub mapped_all : {A X : Type 0} (P : X → Type 0) (f : A → X) (xs : List A)
+    → AllByRecursion P (map f xs)
     → AllByRecursion (λ x. P (f x)) xs
 mapped_all P f [] all = tt
 mapped_all P f (x ∷ xs) all = (all.0, mapped_all P f xs all.1)

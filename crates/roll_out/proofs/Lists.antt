@@ -1,7 +1,7 @@
 -- Parts of lists, tests of them, and numbers in order.
-use Rattle.std.proofs.Common.{◌≡◌, ℕ, zero, suc, ◌+◌, ◌-◌, ◌<◌, ◌≤◌, arith, Bool, true, false, ◌&&◌, cond, List, [], ◌∷◌, ◌++◌, length, map, filter, refl, ap, sym, ◌∙◌}
+use Rattle.std.proofs.Common.{◌≡◌, ℕ, zero, suc, ◌+◌, ◌-◌, ◌<◌, ◌≤◌, arith, Bool, true, false, ◌&&◌, cond, List, [], ◌∷◌, ◌++◌, map, filter, refl, ap, ◌∙◌}
 use Rattle.std.specs.List.{flat_map, range_with_len}
-use Rattle.std.proofs.lemmas.List.{map-append, append_assoc}
+use Rattle.std.proofs.lemmas.List.{map-append}
 use Rattle.std.proofs.lemmas.List.Elements.{filter-append}
 
 pub filter_parts : {A X : Type 0} (p : X → Bool) (f : A → List X) (xs : List A)
@@ -22,9 +22,11 @@ same_parts f g same [] = refl
 same_parts f g same (x ∷ xs) =
     ap (λ ys. ys ++ flat_map f xs) (same x) ∙ ap (λ ys. g x ++ ys) (same_parts f g same xs)
 
-pub same_map : {A X : Type 0} (f g : A → X) → ((x : A) → f x ≡ g x) → (xs : List A) → map f xs ≡ map g xs
+pub same_map : {A X : Type 0} (f g : A → X) → ((x : A) → f x ≡ g x) → (xs : List A) → map f xs
+    ≡ map g xs
 same_map f g same [] = refl
-same_map f g same (x ∷ xs) = ap (λ y. y ∷ map f xs) (same x) ∙ ap (λ ys. g x ∷ ys) (same_map f g same xs)
+same_map f g same (x ∷ xs) = ap (λ y. y ∷ map f xs) (same x)
+    ∙ ap (λ ys. g x ∷ ys) (same_map f g same xs)
 
 pub filter_map_is : {A X : Type 0} (p : X → Bool) (f : A → X) (xs : List A)
     → filter p (map f xs) ≡ map f (filter (λ x. p (f x)) xs)
@@ -42,7 +44,8 @@ pub filter_both : {X : Type 0} (p q : X → Bool) (xs : List X)
 filter_both p q [] = refl
 filter_both p q (x ∷ xs) = by (filter_both p q xs) (p x)
   where
-    by : filter (λ x. p x && q x) xs ≡ filter q (filter p xs) → (b : Bool) → cond (b && q x) (x ∷ filter (λ x. p x && q x) xs) (filter (λ x. p x && q x) xs)
+    by : filter (λ x. p x && q x) xs ≡ filter q (filter p xs) → (b : Bool)
+        → cond (b && q x) (x ∷ filter (λ x. p x && q x) xs) (filter (λ x. p x && q x) xs)
         ≡ filter q (cond b (x ∷ filter p xs) (filter p xs))
     by rest true = ap (λ ys. cond (q x) (x ∷ ys) ys) rest
     by rest false = rest
@@ -53,7 +56,8 @@ pub parts_where : {A X : Type 0} (p : A → Bool) (f : A → List X) (xs : List 
 parts_where p f [] = refl
 parts_where p f (x ∷ xs) = by (parts_where p f xs) (p x)
   where
-    by : flat_map (λ x. cond (p x) (f x) []) xs ≡ flat_map f (filter p xs) → (b : Bool) → cond b (f x) [] ++ flat_map (λ x. cond (p x) (f x) []) xs
+    by : flat_map (λ x. cond (p x) (f x) []) xs ≡ flat_map f (filter p xs) → (b : Bool)
+        → cond b (f x) [] ++ flat_map (λ x. cond (p x) (f x) []) xs
         ≡ flat_map f (cond b (x ∷ filter p xs) (filter p xs))
     by rest true = ap (λ ys. f x ++ ys) rest
     by rest false = rest
@@ -77,7 +81,8 @@ all_of_range p a (suc n) all =
     ∙ ap (λ rest. a ∷ rest)
     (all_of_range p (a + 1) n (λ k low high. all k (omega (arith, low)) (omega (arith, high))))
 
-pub range_parts : (a m n : ℕ) → range_with_len a (m + n) ≡ range_with_len a m ++ range_with_len (a + m) n
+pub range_parts : (a m n : ℕ) → range_with_len a (m + n) ≡ range_with_len a m
+    ++ range_with_len (a + m) n
 range_parts a zero n =
     let e : zero + n ≡ n = omega arith in
     let f : a ≡ a + zero = omega arith in
@@ -103,7 +108,8 @@ window p from count all fits below inside above =
     ∙ ap (filter p) (range_parts 0 from (count + rest)
     ∙ ap (λ b. range_with_len 0 from ++ range_with_len b (count + rest)) zero_from
     ∙ ap (λ ys. range_with_len 0 from ++ ys) (range_parts from count rest))
-    ∙ filter-append p (range_with_len 0 from) (range_with_len from count ++ range_with_len (from + count) rest)
+    ∙ filter-append p (range_with_len 0 from)
+    (range_with_len from count ++ range_with_len (from + count) rest)
     ∙ ap (λ ys. ys ++ filter p (range_with_len from count ++ range_with_len (from + count) rest))
     (none_of_range p 0 from (λ k low high. below k (omega (arith, high))))
     ∙ filter-append p (range_with_len from count) (range_with_len (from + count) rest)

@@ -1,8 +1,8 @@
 -- The copies of a periodic event among the events of a day.
-use Rattle.std.proofs.Common.{◌≡◌, ℕ, zero, suc, ◌+◌, ◌-◌, ◌*◌, ◌<◌, ◌≤◌, ◌==◌, ◌⊎◌, inl, inr, arith, Bool, true, false, cond, List, [], ◌∷◌, ◌++◌, length, map, filter, get_or, nat_lt, refl, ap, subst, sym, ◌∙◌}
+use Rattle.std.proofs.Common.{◌≡◌, ℕ, zero, suc, ◌+◌, ◌-◌, ◌*◌, ◌<◌, ◌≤◌, ◌⊎◌, inl, inr, arith, Bool, true, false, cond, List, [], ◌∷◌, ◌++◌, length, map, filter, get_or, nat_lt, refl, ap, sym, ◌∙◌}
 use Rattle.std.specs.List.{flat_map, range_with_len, enumerate_from}
 use Rattle.std.proofs.lemmas.Bool.{eq-eqb, ne_eqb, ltb-true, ltb-false}
-use Rattle.std.proofs.lemmas.List.{get_or-map, get_or_append_left, get_or-append_right, map-append, length-append, length-map, append-nil}
+use Rattle.std.proofs.lemmas.List.{get_or-map, get_or_append_left, get_or-append_right, length-append, length-map, append-nil}
 use Rattle.std.proofs.lemmas.List.Concat.{flat_map_single}
 use Rattle.std.proofs.lemmas.List.Elements.{filter-append}
 use Rattle.std.proofs.lemmas.List.Folds.{flat_map-map}
@@ -12,7 +12,7 @@ use Rattle.event_tables.specs.declared.expanded_event.ExpandedEvent.{ExpandedEve
 use Rattle.roll_out.specs.declared.copies.Copies.{Copies}
 use Rattle.roll_out.specs.declared.timed_event.TimedEvent.{TimedEvent}
 use Rattle.roll_out.specs.DayActivities.{is_copy}
-use Rattle.roll_out.specs.DayTrips.{TripParts, day_event, day_events, trip_events, no_timed}
+use Rattle.roll_out.specs.DayTrips.{day_event, day_events, trip_events, no_timed}
 use Rattle.roll_out.specs.Plans.{PlanParts, trip_after, plan_trips, trips_by, copies_at, plan_copies, copies_by, copy_id, copy_time, no_copies}
 use Rattle.roll_out.proofs.Lists.{filter_parts, map_parts, same_parts}
 
@@ -34,14 +34,16 @@ module _ (id start : ℕ) where
       let first : at.event.id ≡ f = let e = are in cc in
       let rest : run_ids run ≡ range_with_len (f + 1) (length run) = let e = are in cc in
       let others = filter (is_copy id) (map (day_event start) (enumerate_from (n + 1) run)) in
-      ap (λ b. cond b (day_event start (n, at) ∷ others) others) (ne_eqb at.event.id id (differs first out))
+      ap (λ b. cond b (day_event start (n, at) ∷ others) others)
+      (ne_eqb at.event.id id (differs first out))
       ∙ no_copy (n + 1) (f + 1) run rest (further out)
     where
       differs : at.event.id ≡ f → ((id < f) ⊎ (f + suc (length run) ≤ id)) → at.event.id ≡ id → ⊥
       differs first (inl low) e = omega (arith, first, low, e)
       differs first (inr high) e = omega (arith, first, high, e)
 
-      further : ((id < f) ⊎ (f + suc (length run) ≤ id)) → ((id < f + 1) ⊎ (f + 1 + length run ≤ id))
+      further : ((id < f) ⊎ (f + suc (length run) ≤ id))
+          → ((id < f + 1) ⊎ (f + 1 + length run ≤ id))
       further (inl low) = inl (omega (arith, low))
       further (inr high) = inr (omega (arith, high))
 
@@ -58,7 +60,8 @@ module _ (id start : ℕ) where
       let e : n ≡ n + zero = omega arith in
       ap (λ b. cond b (day_event start (n, at) ∷ others) others)
       (eq-eqb at.event.id id (omega (arith, first, is)))
-      ∙ ap (λ ys. day_event start (n, at) ∷ ys) (no_copy (n + 1) (f + 1) run rest (inl (omega (arith, is))))
+      ∙ ap (λ ys. day_event start (n, at) ∷ ys)
+      (no_copy (n + 1) (f + 1) run rest (inl (omega (arith, is))))
       ∙ ap (λ k. day_event start (k, at) ∷ []) e
   one_copy n f (suc i) (at ∷ run) are is h =
       let first : at.event.id ≡ f = let e = are in cc in
@@ -95,36 +98,52 @@ module _ (period : ℕ) where
   plan_has : (n f i : ℕ) (plan : PlanParts) → run_ids plan.run ≡ range_with_len f (length plan.run)
       → i < length plan.run
       → map place_of (filter (is_copy (f + i)) (day_events (plan_trips period n plan)))
-      ≡ map (λ k. (copy_id (copies_at n plan (i, get_or plan.run i no_timed)) k,
-      copy_time period (copies_at n plan (i, get_or plan.run i no_timed)) k)) (range_with_len 0 plan.trips)
+      ≡ map (λ k. (
+        copy_id (copies_at n plan (i, get_or plan.run i no_timed)) k,
+        copy_time period (copies_at n plan (i, get_or plan.run i no_timed)) k,
+      )) (range_with_len 0 plan.trips)
   plan_has n f i plan are h =
       ap (λ events. map place_of (filter (is_copy (f + i)) events))
       (flat_map-map trip_events (trip_after period n plan) (range_with_len 0 plan.trips))
-      ∙ ap (map place_of) (filter_parts (is_copy (f + i)) (λ k. trip_events (trip_after period n plan k))
+      ∙ ap (map place_of) (filter_parts (is_copy (f + i))
+      (λ k. trip_events (trip_after period n plan k))
       (range_with_len 0 plan.trips))
-      ∙ map_parts place_of (λ k. filter (is_copy (f + i)) (trip_events (trip_after period n plan k)))
+      ∙ map_parts place_of (λ k. filter (is_copy (f + i))
+      (trip_events (trip_after period n plan k)))
       (range_with_len 0 plan.trips)
-      ∙ same_parts _ (λ k. (copy_id (copies_at n plan (i, get_or plan.run i no_timed)) k,
-      copy_time period (copies_at n plan (i, get_or plan.run i no_timed)) k) ∷ []) one (range_with_len 0 plan.trips)
+      ∙ same_parts _ (λ k. (
+        copy_id (copies_at n plan (i, get_or plan.run i no_timed)) k,
+        copy_time period (copies_at n plan (i, get_or plan.run i no_timed)) k,
+      ) ∷ []) one (range_with_len 0 plan.trips)
       ∙ flat_map_single _ (range_with_len 0 plan.trips)
     where
-      one : (k : ℕ) → map place_of (filter (is_copy (f + i)) (trip_events (trip_after period n plan k)))
-          ≡ (copy_id (copies_at n plan (i, get_or plan.run i no_timed)) k,
-          copy_time period (copies_at n plan (i, get_or plan.run i no_timed)) k) ∷ []
+      one : (k : ℕ) → map place_of (filter (is_copy (f + i))
+          (trip_events (trip_after period n plan k)))
+          ≡ (
+            copy_id (copies_at n plan (i, get_or plan.run i no_timed)) k,
+            copy_time period (copies_at n plan (i, get_or plan.run i no_timed)) k,
+          ) ∷ []
       one k =
           let at = get_or plan.run i no_timed in
           let e : n + k * length plan.run + i ≡ n + i + k * length plan.run = omega arith in
-          let g : plan.start + k * period + at.minutes ≡ plan.start + at.minutes + k * period = omega arith in
-          ap (map place_of) (one_copy (f + i) (plan.start + k * period) (n + k * length plan.run) f i plan.run are refl h)
+          let g : plan.start + k * period + at.minutes
+          ≡ plan.start + at.minutes + k * period = omega arith in
+          ap (map place_of) (one_copy (f + i) (plan.start + k * period) (n + k * length plan.run) f
+          i plan.run are refl h)
           ∙ (λ j. (e j, g j) ∷ [])
 
   -- no copy of an event that is not of the plan
-  plan_lacks : (n f id : ℕ) (plan : PlanParts) → run_ids plan.run ≡ range_with_len f (length plan.run)
-      → ((id < f) ⊎ (f + length plan.run ≤ id)) → filter (is_copy id) (day_events (plan_trips period n plan)) ≡ []
+  plan_lacks : (n f id : ℕ) (plan : PlanParts) → run_ids plan.run
+      ≡ range_with_len f (length plan.run)
+      → ((id < f) ⊎ (f + length plan.run ≤ id))
+      → filter (is_copy id) (day_events (plan_trips period n plan)) ≡ []
   plan_lacks n f id plan are out =
-      ap (filter (is_copy id)) (flat_map-map trip_events (trip_after period n plan) (range_with_len 0 plan.trips))
-      ∙ filter_parts (is_copy id) (λ k. trip_events (trip_after period n plan k)) (range_with_len 0 plan.trips)
-      ∙ same_parts _ (λ k. []) (λ k. no_copy id (plan.start + k * period) (n + k * length plan.run) f plan.run are out)
+      ap (filter (is_copy id)) (flat_map-map trip_events (trip_after period n plan)
+      (range_with_len 0 plan.trips))
+      ∙ filter_parts (is_copy id) (λ k. trip_events (trip_after period n plan k))
+      (range_with_len 0 plan.trips)
+      ∙ same_parts _ (λ k. []) (λ k. no_copy id (plan.start + k * period) (n + k * length plan.run)
+      f plan.run are out)
       (range_with_len 0 plan.trips)
       ∙ none (range_with_len 0 plan.trips)
     where
@@ -139,24 +158,30 @@ module _ (period : ℕ) where
   all_ids plans = flat_map plan_ids plans
 
   -- no copy of an event before those of some plans
-  plans_lack : (n f id : ℕ) (plans : List PlanParts) → all_ids plans ≡ range_with_len f (length (all_ids plans))
+  plans_lack : (n f id : ℕ) (plans : List PlanParts) → all_ids plans
+      ≡ range_with_len f (length (all_ids plans))
       → id < f → filter (is_copy id) (day_events (trips_by period n plans)) ≡ []
   unfolding trips_by
   plans_lack n f id [] are low = refl
   plans_lack n f id (plan ∷ plans) are low =
-      let parts = first_ids (run_ids plan.run) (all_ids plans) f (length (all_ids (plan ∷ plans))) are
+      let parts = first_ids (run_ids plan.run) (all_ids plans) f (length (all_ids (plan ∷ plans)))
+      are
       (sym (length-append (run_ids plan.run) (all_ids plans))) in
       let size = length-map plan.run (λ (at : TimedEvent). at.event.id) in
-      let mine : run_ids plan.run ≡ range_with_len f (length plan.run) = parts.0 ∙ ap (range_with_len f) size in
+      let mine : run_ids plan.run ≡ range_with_len f (length plan.run) = parts.0
+      ∙ ap (range_with_len f) size in
       let later = n + plan.trips * length plan.run in
-      ap (filter (is_copy id)) (flat_map-append trip_events (plan_trips period n plan) (trips_by period later plans))
-      ∙ filter-append (is_copy id) (day_events (plan_trips period n plan)) (day_events (trips_by period later plans))
+      ap (filter (is_copy id)) (flat_map-append trip_events (plan_trips period n plan)
+      (trips_by period later plans))
+      ∙ filter-append (is_copy id) (day_events (plan_trips period n plan))
+      (day_events (trips_by period later plans))
       ∙ ap (λ ys. ys ++ filter (is_copy id) (day_events (trips_by period later plans)))
       (plan_lacks n f id plan mine (inl low))
       ∙ plans_lack later (f + length (run_ids plan.run)) id plans parts.1 (omega (arith, low))
 
   abbrev told : Copies → List (ℕ × ℕ)
-  told copies = map (λ k. (copy_id copies k, copy_time period copies k)) (range_with_len 0 copies.count)
+  told copies = map (λ k. (copy_id copies k, copy_time period copies k))
+      (range_with_len 0 copies.count)
 
   module _ (n f i : ℕ) (plan : PlanParts) (plans : List PlanParts) (later : ℕ)
       (mine : run_ids plan.run ≡ range_with_len f (length plan.run))
@@ -168,15 +193,18 @@ module _ (period : ℕ) where
     others = filter (is_copy (f + i)) (day_events (trips_by period later plans))
 
     size : length (plan_copies n plan) ≡ length plan.run
-    size = length-map (enumerate_from 0 plan.run) (copies_at n plan) ∙ length-enumerate_from 0 plan.run
+    size = length-map (enumerate_from 0 plan.run) (copies_at n plan)
+        ∙ length-enumerate_from 0 plan.run
 
     inside : i < length plan.run
-        → map place_of (firsts ++ others) ≡ told (get_or (plan_copies n plan ++ copies_by later plans) i no_copies)
+        → map place_of (firsts ++ others) ≡ told
+        (get_or (plan_copies n plan ++ copies_by later plans) i no_copies)
     inside h =
         let at = copies_at n plan (i, get_or plan.run i no_timed) in
         let e : 0 + i ≡ i = omega arith in
         let here : get_or (plan_copies n plan ++ copies_by later plans) i no_copies ≡ at =
-        get_or_append_left (plan_copies n plan) (copies_by later plans) no_copies i (omega (arith, size, h))
+        get_or_append_left (plan_copies n plan) (copies_by later plans) no_copies i
+        (omega (arith, size, h))
         ∙ get_or-map (copies_at n plan) (enumerate_from 0 plan.run) i (0, no_timed) no_copies
         (omega (arith, length-enumerate_from 0 plan.run, h))
         ∙ ap (copies_at n plan) (get_or-enumerate_from 0 plan.run i (0, no_timed) h)
@@ -186,27 +214,34 @@ module _ (period : ℕ) where
         ∙ ap (map place_of) (append-nil firsts) ∙ plan_has n f i plan mine h ∙ ap told (sym here)
 
     outside : length plan.run ≤ i
-        → map place_of (filter (is_copy (f + length plan.run + (i - length plan.run))) (day_events (trips_by period later plans)))
+        → map place_of (filter (is_copy (f + length plan.run + (i - length plan.run)))
+        (day_events (trips_by period later plans)))
         ≡ told (get_or (copies_by later plans) (i - length plan.run) no_copies)
-        → map place_of (firsts ++ others) ≡ told (get_or (plan_copies n plan ++ copies_by later plans) i no_copies)
+        → map place_of (firsts ++ others) ≡ told
+        (get_or (plan_copies n plan ++ copies_by later plans) i no_copies)
     outside h next =
         let e : f + i ≡ f + length plan.run + (i - length plan.run) = omega (arith, h) in
-        ap (λ ys. map place_of (ys ++ others)) (plan_lacks n f (f + i) plan mine (inr (omega (arith, h))))
+        ap (λ ys. map place_of (ys ++ others))
+        (plan_lacks n f (f + i) plan mine (inr (omega (arith, h))))
         ∙ ap (λ k. map place_of (filter (is_copy k) (day_events (trips_by period later plans)))) e
         ∙ next
-        ∙ ap told (sym (get_or-append_right (plan_copies n plan) (copies_by later plans) (length plan.run) i no_copies size h))
+        ∙ ap told (sym (get_or-append_right (plan_copies n plan) (copies_by later plans)
+        (length plan.run) i no_copies size h))
 
     either : (b : Bool) → nat_lt i (length plan.run) ≡ b
         → (length plan.run ≤ i
-        → map place_of (filter (is_copy (f + length plan.run + (i - length plan.run))) (day_events (trips_by period later plans)))
+        → map place_of (filter (is_copy (f + length plan.run + (i - length plan.run)))
+        (day_events (trips_by period later plans)))
         ≡ told (get_or (copies_by later plans) (i - length plan.run) no_copies))
-        → map place_of (firsts ++ others) ≡ told (get_or (plan_copies n plan ++ copies_by later plans) i no_copies)
+        → map place_of (firsts ++ others) ≡ told
+        (get_or (plan_copies n plan ++ copies_by later plans) i no_copies)
     either true here next = inside (ltb-true i (length plan.run) here)
     either false here next =
         let h = ltb-false i (length plan.run) here in outside h (next h)
 
   -- the copies of each event of plans are where they are said to be
-  pub copies_are : (n f i : ℕ) (plans : List PlanParts) → all_ids plans ≡ range_with_len f (length (all_ids plans))
+  pub copies_are : (n f i : ℕ) (plans : List PlanParts) → all_ids plans
+      ≡ range_with_len f (length (all_ids plans))
       → i < length (all_ids plans)
       → map place_of (filter (is_copy (f + i)) (day_events (trips_by period n plans)))
       ≡ told (get_or (copies_by n plans) i no_copies)
@@ -215,9 +250,11 @@ module _ (period : ℕ) where
   copies_are n f i (plan ∷ plans) are h =
       let later = n + plan.trips * length plan.run in
       let whole = length-append (run_ids plan.run) (all_ids plans) in
-      let parts = first_ids (run_ids plan.run) (all_ids plans) f (length (all_ids (plan ∷ plans))) are (sym whole) in
+      let parts = first_ids (run_ids plan.run) (all_ids plans) f (length (all_ids (plan ∷ plans)))
+      are (sym whole) in
       let size = length-map plan.run (λ (at : TimedEvent). at.event.id) in
-      let mine : run_ids plan.run ≡ range_with_len f (length plan.run) = parts.0 ∙ ap (range_with_len f) size in
+      let mine : run_ids plan.run ≡ range_with_len f (length plan.run) = parts.0
+      ∙ ap (range_with_len f) size in
       let theirs : all_ids plans ≡ range_with_len (f + length plan.run) (length (all_ids plans)) =
       parts.1 ∙ ap (λ k. range_with_len (f + k) (length (all_ids plans))) size in
       ap (λ events. map place_of (filter (is_copy (f + i)) events))

@@ -18,13 +18,16 @@ or_false : (b : Bool) → (b || false) ≡ b
 or_false true = refl
 or_false false = refl
 
-module _ (p : PeriodicEvent → Bool) (k : ℕ) (only : (x : PeriodicEvent) → (x.id ≡ k → ⊥) → p x ≡ false) where
-  none_with : (a : ℕ) (xs : List PeriodicEvent) → map (λ (x : PeriodicEvent). x.id) xs ≡ range_with_len a (length xs)
+module _ (p : PeriodicEvent → Bool) (k : ℕ) (only : (x : PeriodicEvent) → (x.id ≡ k → ⊥) → p x
+    ≡ false) where
+  none_with : (a : ℕ) (xs : List PeriodicEvent) → map (λ (x : PeriodicEvent). x.id) xs
+      ≡ range_with_len a (length xs)
       → ((k < a) ⊎ (a + length xs ≤ k)) → list_any p xs ≡ false
   none_with a [] are out = refl
   none_with a (x ∷ xs) are out =
       let first : x.id ≡ a = let e = are in cc in
-      let rest : map (λ (x : PeriodicEvent). x.id) xs ≡ range_with_len (a + 1) (length xs) = let e = are in cc in
+      let rest : map (λ (x : PeriodicEvent). x.id) xs
+      ≡ range_with_len (a + 1) (length xs) = let e = are in cc in
       ap (λ b. b || list_any p xs) (only x (differs first out))
       ∙ none_with (a + 1) xs rest (further out)
     where
@@ -41,15 +44,18 @@ module _ (p : PeriodicEvent → Bool) (k : ℕ) (only : (x : PeriodicEvent) → 
       → k ≡ a + i → i < length xs → list_any p xs ≡ p (get_or xs i d)
   any_with a i [] d are at h = absurd (omega (arith, h))
   any_with a zero (x ∷ xs) d are at h =
-      let rest : map (λ (x : PeriodicEvent). x.id) xs ≡ range_with_len (a + 1) (length xs) = let e = are in cc in
+      let rest : map (λ (x : PeriodicEvent). x.id) xs
+      ≡ range_with_len (a + 1) (length xs) = let e = are in cc in
       ap (λ b. p x || b) (none_with (a + 1) xs rest (inl (omega (arith, at)))) ∙ or_false (p x)
   any_with a (suc i) (x ∷ xs) d are at h =
       let first : x.id ≡ a = let e = are in cc in
-      let rest : map (λ (x : PeriodicEvent). x.id) xs ≡ range_with_len (a + 1) (length xs) = let e = are in cc in
+      let rest : map (λ (x : PeriodicEvent). x.id) xs
+      ≡ range_with_len (a + 1) (length xs) = let e = are in cc in
       ap (λ b. b || list_any p xs) (only x (λ e. omega (arith, first, at, e)))
       ∙ any_with (a + 1) i xs d rest (omega (arith, at)) (omega (arith, h))
 
-module _ (events : List PeriodicEvent) (are : AreNumbered (λ event. event.id) events) (at : PeriodicActivity)
+module _ (events : List PeriodicEvent) (are : AreNumbered (λ event. event.id) events)
+    (at : PeriodicActivity)
     (d : PeriodicEvent) where
   abbrev to_any : PeriodicEvent → Bool
   to_any event = list_any (goes_between at event) events
@@ -60,7 +66,8 @@ module _ (events : List PeriodicEvent) (are : AreNumbered (λ event. event.id) e
       (λ next. ap (λ b. b && at.to == next.id && joins at.kind event next)
       (ne_eqb at.from event.id (λ e. other (sym e))))
 
-  other_to : (event next : PeriodicEvent) → (next.id ≡ at.to → ⊥) → goes_between at event next ≡ false
+  other_to : (event next : PeriodicEvent) → (next.id ≡ at.to → ⊥) → goes_between at event next
+      ≡ false
   other_to event next other =
       ap (λ b. at.from == event.id && b && joins at.kind event next)
       (ne_eqb at.to next.id (λ e. other (sym e))) ∙ by (at.from == event.id)
@@ -73,7 +80,8 @@ module _ (events : List PeriodicEvent) (are : AreNumbered (λ event. event.id) e
   pub unknown_from : ((at.from < 1) ⊎ (length events < at.from)) → false ≡ is_placed events at
   unknown_from out = sym (none_with to_any at.from other_from 1 events are (further out))
     where
-      further : ((at.from < 1) ⊎ (length events < at.from)) → ((at.from < 1) ⊎ (1 + length events ≤ at.from))
+      further : ((at.from < 1) ⊎ (length events < at.from))
+          → ((at.from < 1) ⊎ (1 + length events ≤ at.from))
       further (inl low) = inl low
       further (inr high) = inr (omega (arith, high))
 
@@ -81,9 +89,11 @@ module _ (events : List PeriodicEvent) (are : AreNumbered (λ event. event.id) e
   pub unknown_to : ((at.to < 1) ⊎ (length events < at.to)) → false ≡ is_placed events at
   unknown_to out =
       sym (no_any to_any events
-      (λ event. none_with (goes_between at event) at.to (other_to event) 1 events are (further out)))
+      (λ event. none_with (goes_between at event) at.to (other_to event) 1 events are
+      (further out)))
     where
-      further : ((at.to < 1) ⊎ (length events < at.to)) → ((at.to < 1) ⊎ (1 + length events ≤ at.to))
+      further : ((at.to < 1) ⊎ (length events < at.to))
+          → ((at.to < 1) ⊎ (1 + length events ≤ at.to))
       further (inl low) = inl low
       further (inr high) = inr (omega (arith, high))
 
@@ -95,18 +105,21 @@ module _ (events : List PeriodicEvent) (are : AreNumbered (λ event. event.id) e
 
   id_is : (k : ℕ) → 1 ≤ k → k ≤ length events → (get_or events (k - 1) d).id ≡ k
   id_is k low high =
-      sym (get_or-map (λ (event : PeriodicEvent). event.id) events (k - 1) d 0 (omega (arith, low, high)))
+      sym (get_or-map (λ (event : PeriodicEvent). event.id) events (k - 1) d 0
+      (omega (arith, low, high)))
       ∙ ap (λ ids. get_or ids (k - 1) 0) are
       ∙ get_or-range_with_len 1 (length events) (k - 1) 0 (omega (arith, low, high))
       ∙ omega (arith, low)
 
   -- between two events it is placed where its kind may join them
-  pub known_ends_is : (1 ≤ at.from) × (at.from ≤ length events) → (1 ≤ at.to) × (at.to ≤ length events)
+  pub known_ends_is : (1 ≤ at.from) × (at.from ≤ length events) → (1 ≤ at.to)
+      × (at.to ≤ length events)
       → joins at.kind tail head ≡ is_placed events at
   known_ends_is from to =
       sym (any_with to_any at.from other_from 1 (at.from - 1) events d are (omega (arith, from.0))
       (omega (arith, from.0, from.1))
-      ∙ any_with (goes_between at tail) at.to (other_to tail) 1 (at.to - 1) events d are (omega (arith, to.0))
+      ∙ any_with (goes_between at tail) at.to (other_to tail) 1 (at.to - 1) events d are
+      (omega (arith, to.0))
       (omega (arith, to.0, to.1))
       ∙ ap (λ b. b && at.to == head.id && joins at.kind tail head)
       (eq-eqb at.from tail.id (sym (id_is at.from from.0 from.1)))

@@ -1,5 +1,5 @@
 -- What plans come to, where their trips and events are not too many.
-use Rattle.std.proofs.Common.{◌≡◌, ℕ, ◌+◌, ◌<◌, ◌≤◌, arith, All, List, [], ◌∷◌, ◌++◌, length, map, ap, subst, sym, ◌∙◌}
+use Rattle.std.proofs.Common.{◌≡◌, ℕ, ◌+◌, ◌<◌, ◌≤◌, arith, All, List, [], ◌++◌, length, ap, subst, sym, ◌∙◌}
 use Rattle.std.specs.List.{flat_map}
 use Rattle.std.proofs.lemmas.List.{length-append}
 use Rattle.giv_files.specs.declared.counted.Counted.TheVariants as counted
@@ -39,14 +39,18 @@ module _ (network : TimedParts) (plans : List PlanParts) (are : ArePlans network
       trips_long network trips_on count (is ∙ sym (trips_counted network.period 1 plans)) over
 
   -- too many events
-  pub events_refused : (trips count : ℕ) → trips ≡ trip_total plans → trips ≤ 2000 → count ≡ event_total plans
+  pub events_refused : (trips count : ℕ) → trips ≡ trip_total plans → trips ≤ 2000 → count
+      ≡ event_total plans
       → 100000 < count
-      → Refuses (long_lists network trips_on) (fault.Refused (refusal.TooMany counted.ExpandedEvents count))
+      → Refuses (long_lists network trips_on)
+      (fault.Refused (refusal.TooMany counted.ExpandedEvents count))
   events_refused trips count told few is over =
-      events_long network trips_on (omega (arith, told, few, trips_counted network.period 1 plans)) count
+      events_long network trips_on (omega (arith, told, few, trips_counted network.period 1 plans))
+      count
       (is ∙ sym (events_counted network.period 1 plans)) over
 
-  module _ (is : IsTimed network) (trips events : ℕ) (trips_are : trips ≡ trip_total plans) (few_trips : trips ≤ 2000)
+  module _ (is : IsTimed network) (trips events : ℕ) (trips_are : trips ≡ trip_total plans)
+      (few_trips : trips ≤ 2000)
       (events_are : events ≡ event_total plans) (few_events : events ≤ 100000) where
     trips_few : length trips_on ≤ 2000
     trips_few = omega (arith, trips_are, few_trips, trips_counted network.period 1 plans)
@@ -56,7 +60,8 @@ module _ (network : TimedParts) (plans : List PlanParts) (are : ArePlans network
 
     trips_good : All IsTrip trips_on
     trips_good =
-        trips_sound network.period is.short 1 plans are.each (omega arith) (omega (arith, events_are, few_events))
+        trips_sound network.period is.short 1 plans are.each (omega arith)
+        (omega (arith, events_are, few_events))
         (omega (arith, trips_are, few_trips))
 
     pub given_trips : (some : List TripParts) → some ≡ trips_on → All IsTrip some
@@ -67,56 +72,72 @@ module _ (network : TimedParts) (plans : List PlanParts) (are : ArePlans network
 
     pub given_copies : (some : List Copies) → some ≡ copies_on → All AreFew some
     given_copies some same =
-        subst (All AreFew) (sym same) (copies_few 1 plans are.each (omega arith) (omega (arith, events_are, few_events))
+        subst (All AreFew) (sym same) (copies_few 1 plans are.each (omega arith)
+        (omega (arith, events_are, few_events))
         (omega (arith, trips_are, few_trips)))
 
     pub given_each : (some : List Copies) → some ≡ copies_on → length some ≡ length network.events
     given_each some same = ap length same ∙ copies_each network plans are
 
-    changes : flat_map (changes_if network copies_on) network.activities ≡ day_changes network (day_events trips_on)
+    changes : flat_map (changes_if network copies_on) network.activities
+        ≡ day_changes network (day_events trips_on)
     changes = changes_are network plans are (between_all network is)
 
-    counted_as : (some : List TripParts) (copies : List Copies) (ways more : ℕ) → some ≡ trips_on → copies ≡ copies_on
-        → ways ≡ length (day_ways some) → more ≡ length (flat_map (changes_if network copies) network.activities)
+    counted_as : (some : List TripParts) (copies : List Copies) (ways more : ℕ) → some ≡ trips_on
+        → copies ≡ copies_on
+        → ways ≡ length (day_ways some) → more
+        ≡ length (flat_map (changes_if network copies) network.activities)
         → ways + more ≡ length (day_activities network trips_on)
     counted_as some copies ways more same copied first second =
         activities_counted network trips_on ways more (first ∙ ap (λ xs. length (day_ways xs)) same)
-        (second ∙ ap (λ xs. length (flat_map (changes_if network xs) network.activities)) copied ∙ ap length changes)
+        (second ∙ ap (λ xs. length (flat_map (changes_if network xs) network.activities)) copied
+        ∙ ap length changes)
 
     -- too many activities
-    pub activities_refused : (some : List TripParts) (copies : List Copies) (ways more : ℕ) → some ≡ trips_on
+    pub activities_refused : (some : List TripParts) (copies : List Copies) (ways more : ℕ) → some
+        ≡ trips_on
         → copies ≡ copies_on → ways ≡ length (day_ways some)
-        → more ≡ length (flat_map (changes_if network copies) network.activities) → 500000 < ways + more
-        → Refuses (long_lists network trips_on) (fault.Refused (refusal.TooMany counted.ExpandedActivities (ways + more)))
+        → more ≡ length (flat_map (changes_if network copies) network.activities) → 500000
+        < ways + more
+        → Refuses (long_lists network trips_on)
+        (fault.Refused (refusal.TooMany counted.ExpandedActivities (ways + more)))
     activities_refused some copies ways more same copied first second over =
         activities_long network trips_on trips_few events_few (ways + more)
         (counted_as some copies ways more same copied first second) over
 
     -- all lists are made
-    module _ (some others : List TripParts) (copies others_copied : List Copies) (ways more : ℕ) (same : some ≡ trips_on)
+    module _ (some others : List TripParts) (copies others_copied : List Copies) (ways more : ℕ)
+        (same : some ≡ trips_on)
         (copied : copies ≡ copies_on) (first : ways ≡ length (day_ways some))
-        (second : more ≡ length (flat_map (changes_if network copies) network.activities)) (few : ways + more ≤ 500000)
+        (second : more ≡ length (flat_map (changes_if network copies) network.activities))
+        (few : ways + more ≤ 500000)
         (same_others : others ≡ trips_on) (copied_others : others_copied ≡ copies_on) where
       few_activities : length (day_activities network trips_on) ≤ 500000
       few_activities = omega (arith, few, counted_as some copies ways more same copied first second)
 
       pub plain_few : (plain : List ExpandedActivity)
-          → plain ≡ day_ways others ++ flat_map (changes_if network others_copied) network.activities
+          → plain ≡ day_ways others ++ flat_map (changes_if network others_copied)
+          network.activities
           → length plain ≤ 500000
       plain_few plain told =
-          let size = length-append (day_ways others) (flat_map (changes_if network others_copied) network.activities) in
+          let size = length-append (day_ways others)
+          (flat_map (changes_if network others_copied) network.activities) in
           let a = ap (λ xs. length (day_ways xs)) (same_others ∙ sym same) in
-          let b = ap (λ xs. length (flat_map (changes_if network xs) network.activities)) (copied_others ∙ sym copied) in
+          let b = ap (λ xs. length (flat_map (changes_if network xs) network.activities))
+          (copied_others ∙ sym copied) in
           omega (arith, ap length told, size, a, b, first, second, few)
 
       module _ (plain numbered : List ExpandedActivity)
-          (told : plain ≡ day_ways others ++ flat_map (changes_if network others_copied) network.activities)
+          (told : plain ≡ day_ways others ++ flat_map (changes_if network others_copied)
+          network.activities)
           (is_numbered : numbered ≡ with_numbers plain) where
         pub all_activities : numbered ≡ day_activities network trips_on
         all_activities =
             activities_told network trips_on numbered plain is_numbered
-            (told ∙ ap (λ xs. day_ways xs ++ flat_map (changes_if network others_copied) network.activities) same_others
-            ∙ ap (λ xs. day_ways trips_on ++ flat_map (changes_if network xs) network.activities) copied_others
+            (told ∙ ap (λ xs. day_ways xs ++ flat_map (changes_if network others_copied)
+            network.activities) same_others
+            ∙ ap (λ xs. day_ways trips_on ++ flat_map (changes_if network xs) network.activities)
+            copied_others
             ∙ ap (λ xs. day_ways trips_on ++ xs) changes)
 
         pub given_activities : All ActivityFits numbered
@@ -124,21 +145,28 @@ module _ (network : TimedParts) (plans : List PlanParts) (are : ArePlans network
             subst (All ActivityFits) (sym all_activities)
             (activities_fit trips_on trips_good network (between_all network is) few_activities)
 
-      pub given_events : (listed : List ExpandedEvent) → listed ≡ day_events others → All EventFits listed
+      pub given_events : (listed : List ExpandedEvent) → listed ≡ day_events others
+          → All EventFits listed
       given_events listed told =
-          subst (All EventFits) (sym (told ∙ ap day_events same_others)) (events_fit trips_on trips_good)
+          subst (All EventFits) (sym (told ∙ ap day_events same_others))
+          (events_fit trips_on trips_good)
 
-      pub given_rows : (rows : List Trip) → rows ≡ trip_rows others → All (λ row. InColumns trips_columns (trip_cells row)) rows
+      pub given_rows : (rows : List Trip) → rows ≡ trip_rows others
+          → All (λ row. InColumns trips_columns (trip_cells row)) rows
       given_rows rows told =
-          subst (All (λ row. InColumns trips_columns (trip_cells row))) (sym (told ∙ ap trip_rows same_others))
+          subst (All (λ row. InColumns trips_columns (trip_cells row)))
+          (sym (told ∙ ap trip_rows same_others))
           (trips_fit trips_on trips_good)
 
       pub none_refused : long_lists network trips_on ≡ []
       none_refused = none_long network trips_on trips_few events_few few_activities
 
 -- what is made of these lists
-pub made_is : (network : TimedParts) (trips : List TripParts) (made : Made) (events : List ExpandedEvent)
-    (activities : List ExpandedActivity) (rows : List Trip) → made ≡ rollout_made events activities rows
+pub made_is : (network : TimedParts) (trips : List TripParts) (made : Made)
+    (events : List ExpandedEvent)
+    (activities : List ExpandedActivity) (rows : List Trip) → made
+    ≡ rollout_made events activities rows
     → events ≡ day_events trips → activities ≡ day_activities network trips → rows ≡ trip_rows trips
     → made ≡ made_of network trips
-made_is network trips made events activities rows is a b c = is ∙ (λ i. rollout_made (a i) (b i) (c i))
+made_is network trips made events activities rows is a b c = is
+    ∙ (λ i. rollout_made (a i) (b i) (c i))

@@ -1,11 +1,8 @@
 -- Each trip is of a run that goes on by drives and waits, and what follows for its events.
-use Rattle.std.proofs.Common.{◌≡◌, ℕ, zero, suc, ◌+◌, ◌-◌, ◌<◌, ◌≤◌, ◌==◌, arith, Bool, true, false, ◌&&◌, All, IfSome, List, [], ◌∷◌, ◌++◌, length, map, filter, get_or, find, Option, Some, None, refl, ap, subst, sym, ◌∙◌}
-use Rattle.std.specs.List.{flat_map, range_with_len, enumerate_from, AllByRecursion}
-use Rattle.std.proofs.lemmas.List.Elements.{All-from_recursion, recursion_from_All}
-use Rattle.event_tables.specs.declared.activity_kind.ActivityKind.TheVariants as activity
+use Rattle.std.proofs.Common.{◌≡◌, ℕ, ◌+◌, ◌≤◌, arith, Bool, true, false, ◌&&◌, All, IfSome, List, [], ◌∷◌, ◌++◌, length, map, Option, Some, None, refl, ap, subst, sym}
+use Rattle.std.specs.List.{flat_map, enumerate_from, AllByRecursion}
 use Rattle.event_tables.specs.declared.event_kind.EventKind.{EventKind}
 use Rattle.event_tables.specs.declared.event_kind.EventKind.TheVariants as kinds
-use Rattle.event_tables.specs.declared.expanded_activity.ExpandedActivity.{ExpandedActivity}
 use Rattle.event_tables.specs.declared.expanded_event.ExpandedEvent.{ExpandedEvent}
 use Rattle.event_tables.specs.declared.periodic_activity.PeriodicActivity.{PeriodicActivity}
 use Rattle.event_tables.specs.declared.periodic_event.PeriodicEvent.{PeriodicEvent}
@@ -17,16 +14,17 @@ use Rattle.event_tables.specs.RunRules as rules
 use Rattle.event_tables.specs.RunRules.{leads, same_kind}
 use Rattle.roll_out.specs.declared.day.Day.{Day}
 use Rattle.roll_out.specs.declared.timed_event.TimedEvent.{TimedEvent}
-use Rattle.roll_out.specs.DayActivities.{copy_of, day_ways, trip_ways, way_from}
-use Rattle.roll_out.specs.DayTrips.{TripParts, day_event, day_events, departures_of, first_time, numbered_trips, starts, trip_events, trips_of}
+use Rattle.roll_out.specs.DayActivities.{day_ways, trip_ways, way_from}
+use Rattle.roll_out.specs.DayTrips.{TripParts, day_event, departures_of, first_time, numbered_trips, starts, trip_events, trips_of}
 use Rattle.roll_out.specs.TimedRuns.{TimedParts, minutes_of, minutes_on, timed_from, way_on}
 use Rattle.roll_out.proofs.FoundOnes.{found_has}
 use Rattle.roll_out.proofs.GoesForward.{forward_between, later_stands, waits_stand}
-use Rattle.roll_out.proofs.GoodRuns.{IsFit, IsGoodRun, IsIn, drive_takes, found_passes, way_no_sync}
+use Rattle.roll_out.proofs.GoodRuns.{IsFit, IsGoodRun, drive_takes, found_passes, way_no_sync}
 use Rattle.roll_out.proofs.ListedEvents.{IsListed, mapped_all}
 use Rattle.roll_out.proofs.SoundPlans.{minutes_are}
 
-pub append_all : {X : Type 0} (P : X → Type 0) (xs ys : List X) → AllByRecursion P xs → AllByRecursion P ys
+pub append_all : {X : Type 0} (P : X → Type 0) (xs ys : List X) → AllByRecursion P xs
+    → AllByRecursion P ys
     → AllByRecursion P (xs ++ ys)
 append_all P [] ys first second = second
 append_all P (x ∷ xs) ys first second = (first.0, append_all P xs ys first.1 second)
@@ -39,7 +37,8 @@ pub record IsRolled (network : TimedParts) (trip : TripParts) : Type 0 where
 
 -- what starts is of a good run
 abbrev Starts : TimedParts → ℕ × List TimedEvent → Type 0
-Starts network at = (run : List PeriodicEvent) × (at.1 ≡ timed_from network 0 run) × IsGoodRun network run
+Starts network at = (run : List PeriodicEvent) × (at.1 ≡ timed_from network 0 run)
+    × IsGoodRun network run
 
 module _ (network : TimedParts) where
   mapped_start : (run : List PeriodicEvent) → IsGoodRun network run → (times : List ℕ)
@@ -47,15 +46,18 @@ module _ (network : TimedParts) where
   mapped_start run good [] = tt
   mapped_start run good (time ∷ times) = ((run, refl, good), mapped_start run good times)
 
-  departures_good : (day : Day) (runs : List (List PeriodicEvent)) → AllByRecursion (IsGoodRun network) runs
+  departures_good : (day : Day) (runs : List (List PeriodicEvent))
+      → AllByRecursion (IsGoodRun network) runs
       → AllByRecursion (Starts network) (flat_map (departures_of network day) runs)
   departures_good day [] good = tt
   departures_good day (run ∷ runs) good =
-      append_all (Starts network) (departures_of network day run) (flat_map (departures_of network day) runs)
+      append_all (Starts network) (departures_of network day run)
+      (flat_map (departures_of network day) runs)
       (mapped_start run good.0 (starts network.period day (first_time network run)))
       (departures_good day runs good.1)
 
-  numbered_rolled : (n : ℕ) (departures : List (ℕ × List TimedEvent)) → AllByRecursion (Starts network) departures
+  numbered_rolled : (n : ℕ) (departures : List (ℕ × List TimedEvent))
+      → AllByRecursion (Starts network) departures
       → AllByRecursion (IsRolled network) (numbered_trips n departures)
   unfolding numbered_trips
   numbered_rolled n [] good = tt
@@ -71,7 +73,8 @@ module _ (network : TimedParts) where
 
 -- ---- drives and waits
 
-pub leads_kind : (pair : PeriodicEvent × PeriodicEvent) (way : PeriodicActivity) → leads pair way ≡ true
+pub leads_kind : (pair : PeriodicEvent × PeriodicEvent) (way : PeriodicActivity) → leads pair way
+    ≡ true
     → same_kind way.kind (rules.way_on pair.0.kind) ≡ true
 leads_kind pair way is = front (same_kind way.kind (rules.way_on pair.0.kind)) _ _ is
   where
@@ -84,15 +87,38 @@ module _ (network : TimedParts) (some : 1 ≤ network.period) (short : network.p
   abbrev Listed : ℕ × TimedEvent → Type 0
   Listed at = IsListed events (day_event start at)
 
-  stands : (event next : PeriodicEvent) (way : PeriodicActivity) (n minutes : ℕ) (on after : Option PeriodicActivity)
+  stands : (event next : PeriodicEvent) (way : PeriodicActivity) (n minutes : ℕ)
+      (on after : Option PeriodicActivity)
       → leads (event, next) way ≡ true → IsFit network way
       → stands_before (day_event start (n, record { event = event; minutes = minutes; way = on }))
-      (day_event start (n + 1, record { event = next; minutes = minutes + minutes_of network way; way = after })) ≡ true
+      (day_event start (
+        n + 1,
+        record {
+          event = next;
+          minutes = minutes + minutes_of network way;
+          way = after;
+        },
+      )) ≡ true
   stands event next way n minutes on after leading is = by event.kind refl
     where
       by : (kind : EventKind) → event.kind ≡ kind
-          → stands_before (day_event start (n, record { event = event; minutes = minutes; way = on }))
-          (day_event start (n + 1, record { event = next; minutes = minutes + minutes_of network way; way = after })) ≡ true
+          → stands_before (day_event start (
+            n,
+            record {
+              event = event;
+              minutes = minutes;
+              way = on;
+            },
+          ))
+          (day_event start (
+            n + 1,
+            record {
+              event = next;
+              minutes = minutes + minutes_of network
+                  way;
+              way = after;
+            },
+          )) ≡ true
       by kinds.Departure departs =
           let low = (minutes_are network some short way).0 in
           let takes = drive_takes way
@@ -100,18 +126,43 @@ module _ (network : TimedParts) (some : 1 ≤ network.period) (short : network.p
           (leads_kind (event, next) way leading)) is.takes_time in
           later_stands
           (day_event start (n, record { event = event; minutes = minutes; way = on }))
-          (day_event start (n + 1, record { event = next; minutes = minutes + minutes_of network way; way = after }))
+          (day_event start (
+            n + 1,
+            record {
+              event = next;
+              minutes = minutes + minutes_of network
+                  way;
+              way = after;
+            },
+          ))
           (omega (arith, low, takes))
       by kinds.Arrival arrives =
           waits_stand
           (day_event start (n, record { event = event; minutes = minutes; way = on }))
-          (day_event start (n + 1, record { event = next; minutes = minutes + minutes_of network way; way = after }))
+          (day_event start (
+            n + 1,
+            record {
+              event = next;
+              minutes = minutes + minutes_of network
+                  way;
+              way = after;
+            },
+          ))
           (ap is_arrival arrives) (omega arith) (omega arith)
 
-  one_way : (event next : PeriodicEvent) (n minutes : ℕ) (on after : Option PeriodicActivity) (way : Option PeriodicActivity)
+  one_way : (event next : PeriodicEvent) (n minutes : ℕ) (on after : Option PeriodicActivity)
+      (way : Option PeriodicActivity)
       → IfSome way (λ way. leads (event, next) way ≡ true) → IfSome way (IsFit network)
       → Listed (n, record { event = event; minutes = minutes; way = on })
-      → Listed (n + 1, record { event = next; minutes = minutes + minutes_on network way; way = after })
+      → Listed (
+        n + 1,
+        record {
+          event = next;
+          minutes = minutes + minutes_on network way;
+          way =
+              after;
+        },
+      )
       → AllByRecursion (IsExpandedActivity events) (way_from n way)
   one_way event next n minutes on after None leading is here there = tt
   one_way event next n minutes on after (Some way) leading is here there = (
@@ -122,7 +173,15 @@ module _ (network : TimedParts) (some : 1 ≤ network.period) (short : network.p
       no_sync = way_no_sync event.kind way.kind (leads_kind (event, next) way leading);
       forward = forward_between events n (n + 1)
           (day_event start (n, record { event = event; minutes = minutes; way = on }))
-          (day_event start (n + 1, record { event = next; minutes = minutes + minutes_of network way; way = after }))
+          (day_event start (
+            n + 1,
+            record {
+              event = next;
+              minutes = minutes + minutes_of network
+                  way;
+              way = after;
+            },
+          ))
           here.found there.found
           (stands event next way n minutes on after leading is);
     },
@@ -132,7 +191,8 @@ module _ (network : TimedParts) (some : 1 ≤ network.period) (short : network.p
   run_ways : (run : List PeriodicEvent) (n minutes : ℕ)
       → AllByRecursion Listed (enumerate_from n (timed_from network minutes run))
       → AllByRecursion (IsExpandedActivity events)
-      (flat_map (λ (at : ℕ × TimedEvent). way_from at.0 at.1.way) (enumerate_from n (timed_from network minutes run)))
+      (flat_map (λ (at : ℕ × TimedEvent). way_from at.0 at.1.way)
+      (enumerate_from n (timed_from network minutes run)))
   unfolding timed_from
   run_ways [] n minutes listed = tt
   run_ways (event ∷ []) n minutes listed = tt
@@ -148,14 +208,18 @@ module _ (network : TimedParts) (some : 1 ≤ network.period) (short : network.p
 
 module _ (network : TimedParts) (some : 1 ≤ network.period) (short : network.period ≤ 720)
     (fit : All (IsFit network) network.activities) (events : List ExpandedEvent) where
-  trip_ways_good : (trip : TripParts) → IsRolled network trip → AllByRecursion (IsListed events) (trip_events trip)
+  trip_ways_good : (trip : TripParts) → IsRolled network trip
+      → AllByRecursion (IsListed events) (trip_events trip)
       → AllByRecursion (IsExpandedActivity events) (trip_ways trip)
   trip_ways_good trip rolled listed =
-      let each = mapped_all (IsListed events) (day_event trip.start) (enumerate_from trip.first trip.run) listed in
+      let each = mapped_all (IsListed events) (day_event trip.start)
+      (enumerate_from trip.first trip.run) listed in
       subst (λ run. AllByRecursion (IsExpandedActivity events)
-      (flat_map (λ (at : ℕ × TimedEvent). way_from at.0 at.1.way) (enumerate_from trip.first run))) (sym rolled.is)
+      (flat_map (λ (at : ℕ × TimedEvent). way_from at.0 at.1.way) (enumerate_from trip.first run)))
+      (sym rolled.is)
       (run_ways network some short fit events trip.start rolled.periodic trip.first 0
-      (subst (λ run. AllByRecursion (λ at. IsListed events (day_event trip.start at)) (enumerate_from trip.first run))
+      (subst (λ run. AllByRecursion (λ at. IsListed events (day_event trip.start at))
+      (enumerate_from trip.first run))
       rolled.is each))
 
   -- the drives and waits of trips are accepted

@@ -1,5 +1,5 @@
 -- The files of a day are accepted by the rules of their kinds.
-use Rattle.std.proofs.Common.{◌≡◌, ℕ, ℤ, pos, ◌+◌, ◌<◌, ◌≤◌, ◌||◌, cond, not, nat_le, arith, Bool, true, false, All, List, [], ◌∷◌, ◌++◌, length, map, Option, Some, None, refl, ap, subst, sym, ◌∙◌}
+use Rattle.std.proofs.Common.{◌≡◌, ℕ, ℤ, ◌+◌, ◌<◌, ◌≤◌, cond, not, arith, false, All, List, [], ◌∷◌, ◌++◌, length, map, Option, None, refl, ap, subst, sym, ◌∙◌}
 use Rattle.std.specs.List.{AllByRecursion, list_any, range_with_len}
 use Rattle.std.specs.List.Sorted.{IsStrictlySortedBy}
 use Rattle.std.specs.Ordering.{int_cmp, int_eq}
@@ -35,7 +35,8 @@ use Rattle.roll_out.proofs.RolloutCalls.{under_limit}
 
 module _ {X : Type 0} (id : X → ℕ) (rules : List (RowRule X)) (Good : X → Type 0)
     (keeps : (before : List X) (row : X) → Good row → broken_whys rules before row ≡ []) where
-  places_keep : (before rows : List X) → map id rows ≡ range_with_len (length before + 1) (length rows)
+  places_keep : (before rows : List X) → map id rows
+      ≡ range_with_len (length before + 1) (length rows)
       → AllByRecursion Good rows → KeepRules (own_place id ∷ rules) before rows
   places_keep before [] are good = tt
   places_keep before (row ∷ rows) are good =
@@ -57,16 +58,23 @@ is_known count id is =
     ∙ rw (ne_eqb id 0 (λ e. omega (arith, e, is.0)), le-ltb count id is.1) refl
 
 -- what the rows stand for
-event_records : (events : List ExpandedEvent) → records expanded_event_input (rows_by expanded_event_cells events) ≡ events
+event_records : (events : List ExpandedEvent)
+    → records expanded_event_input (rows_by expanded_event_cells events) ≡ events
 event_records [] = refl
 event_records (row ∷ rows) = rw (expanded_event_same row, event_records rows) refl
 
 activity_records : (events : List ExpandedEvent) (activities : List ExpandedActivity)
-    → records (expanded_activity_input events) (rows_by expanded_activity_cells activities) ≡ activities
+    → records (expanded_activity_input events) (rows_by expanded_activity_cells activities)
+    ≡ activities
 activity_records events [] = refl
-activity_records events (row ∷ rows) = rw (expanded_activity_same row, activity_records events rows) refl
+activity_records events (row ∷ rows) = rw (
+  expanded_activity_same row,
+  activity_records events
+      rows,
+) refl
 
-trip_records : (stops : Option (List ℤ)) (trips : List Trip) → records (trip_input stops) (rows_by trip_cells trips) ≡ trips
+trip_records : (stops : Option (List ℤ)) (trips : List Trip)
+    → records (trip_input stops) (rows_by trip_cells trips) ≡ trips
 trip_records stops [] = refl
 trip_records stops (row ∷ rows) = rw (trip_same row, trip_records stops rows) refl
 
@@ -75,7 +83,8 @@ any_good [] = tt
 any_good (x ∷ xs) = (tt, any_good xs)
 
 -- a text of events that are numbered and not too many
-pub events_accepted : (events : List ExpandedEvent) (text : List ℕ) → AreNumbered (λ event. event.id) events
+pub events_accepted : (events : List ExpandedEvent) (text : List ℕ)
+    → AreNumbered (λ event. event.id) events
     → length events ≤ 100000 → ReadsBack events_x_columns (rows_by expanded_event_cells events) text
     → input_faults expanded_event_input text ≡ []
 events_accepted events text are few back =
@@ -85,7 +94,8 @@ events_accepted events text are few back =
     (under_limit counted.ExpandedEvents 100000 (records expanded_event_input rows)
     (subst (λ some. length some ≤ 100000) (sym same) few))
     (subst (KeepRules expanded_event_input.row_rules []) (sym same)
-    (places_keep (λ (event : ExpandedEvent). event.id) [] (λ event. Unit {0}) (λ before row good. refl) [] events are
+    (places_keep (λ (event : ExpandedEvent). event.id) [] (λ event. Unit {0})
+    (λ before row good. refl) [] events are
     (any_good events)))
     (λ at is. refl)
 
@@ -97,7 +107,8 @@ module _ (events : List ExpandedEvent) (are : AreNumbered (λ event. event.id) e
   there : (id : ℕ) → IsOneOf (length events) id → is_none_of (expanded_event_ids events) id ≡ false
   there id is = ap (λ ids. is_none_of ids id) are ∙ is_known (length events) id is
 
-  activity_keeps : (before : List ExpandedActivity) (row : ExpandedActivity) → IsExpandedActivity events row
+  activity_keeps : (before : List ExpandedActivity) (row : ExpandedActivity)
+      → IsExpandedActivity events row
       → broken_whys rest before row ≡ []
   activity_keeps before row is =
       rw (
@@ -121,7 +132,8 @@ module _ (events : List ExpandedEvent) (are : AreNumbered (λ event. event.id) e
       (under_limit counted.ExpandedActivities 500000 (records (expanded_activity_input events) rows)
       (subst (λ some. length some ≤ 500000) (sym same) few))
       (subst (KeepRules (expanded_activity_input events).row_rules []) (sym same)
-      (places_keep (λ (row : ExpandedActivity). row.id) rest (IsExpandedActivity events) activity_keeps [] activities
+      (places_keep (λ (row : ExpandedActivity). row.id) rest (IsExpandedActivity events)
+      activity_keeps [] activities
       placed good))
       (λ at is. refl)
 
@@ -129,14 +141,17 @@ module _ (stops : Option (List ℤ)) where
   abbrev pub TripGood : Trip → Type 0
   TripGood trip = (lacks_stop stops trip ≡ false) × (trip.start.time < trip.end.time)
 
-  trip_keeps : (before : List Trip) (row : Trip) → list_any (λ other. int_eq (start_id row) (start_id other)) before ≡ false
+  trip_keeps : (before : List Trip) (row : Trip)
+      → list_any (λ other. int_eq (start_id row) (start_id other)) before ≡ false
       → TripGood row → broken_whys (trip_rules stops) before row ≡ []
-  trip_keeps before row fresh good = rw (fresh, good.0, lt-leb row.end.time row.start.time good.1) refl
+  trip_keeps before row fresh good = rw (fresh, good.0, lt-leb row.end.time row.start.time good.1)
+      refl
 
   -- a text of trips
   pub trips_accepted : (trips : List Trip) (text : List ℕ) → length trips ≤ 2000
       → IsStrictlySortedBy int_cmp (map start_id trips) → AllByRecursion TripGood trips
-      → ReadsBack trips_columns (rows_by trip_cells trips) text → input_faults (trip_input stops) text ≡ []
+      → ReadsBack trips_columns (rows_by trip_cells trips) text
+      → input_faults (trip_input stops) text ≡ []
   trips_accepted trips text few rise good back =
       let rows = rows_by trip_cells trips in
       let same = trip_records stops trips in
@@ -158,7 +173,8 @@ reads_as kinds of rows table text told back = (
       ∙ map-map of (λ (row : TableRow). row.cells) table ∙ told,
 )
 
-module _ (rows : List ExpandedEvent) (fit : All (λ row. InColumns events_x_columns (expanded_event_cells row)) rows) where
+module _ (rows : List ExpandedEvent) (fit : All
+    (λ row. InColumns events_x_columns (expanded_event_cells row)) rows) where
   pub events_back : ReadsBack events_x_columns (rows_by expanded_event_cells rows)
       (file_text expanded_event_header events_x_columns expanded_event_cells rows)
   events_back =
@@ -170,7 +186,8 @@ module _ (rows : List ExpandedEvent) (fit : All (λ row. InColumns events_x_colu
 
   pub events_again : ReadsAs events_x_columns expanded_event_input.read rows
       (file_text expanded_event_header events_x_columns expanded_event_cells rows)
-  events_again = reads_as events_x_columns expanded_event_input.read rows (rows_by expanded_event_cells rows) _
+  events_again = reads_as events_x_columns expanded_event_input.read rows
+      (rows_by expanded_event_cells rows) _
       (event_records rows) events_back
 
 module _ (rows : List ExpandedActivity)
@@ -178,7 +195,8 @@ module _ (rows : List ExpandedActivity)
   pub activities_back : ReadsBack activities_x_columns (rows_by expanded_activity_cells rows)
       (file_text expanded_activity_header activities_x_columns expanded_activity_cells rows)
   activities_back =
-      written_back expanded_activity_header activities_x_columns (rows_by expanded_activity_cells rows)
+      written_back expanded_activity_header activities_x_columns
+      (rows_by expanded_activity_cells rows)
       (omega arith) (columns_written activities_x_columns refl)
       (All-map (λ (row : TableRow). InColumns activities_x_columns row.cells)
       (λ row. record { number = 0; cells = expanded_activity_cells row }) rows fit)
@@ -190,7 +208,8 @@ module _ (rows : List ExpandedActivity)
       (rows_by expanded_activity_cells rows) _ (activity_records [] rows) activities_back
 
 module _ (rows : List Trip) (fit : All (λ row. InColumns trips_columns (trip_cells row)) rows) where
-  pub trips_back : ReadsBack trips_columns (rows_by trip_cells rows) (file_text trip_header trips_columns trip_cells rows)
+  pub trips_back : ReadsBack trips_columns (rows_by trip_cells rows)
+      (file_text trip_header trips_columns trip_cells rows)
   trips_back =
       written_back trip_header trips_columns (rows_by trip_cells rows)
       (omega arith) (columns_written trips_columns refl)
@@ -198,5 +217,7 @@ module _ (rows : List Trip) (fit : All (λ row. InColumns trips_columns (trip_ce
       (λ row. record { number = 0; cells = trip_cells row }) rows fit)
       (refl, plain_header trip_header refl)
 
-  pub trips_again : ReadsAs trips_columns (trip_input None).read rows (file_text trip_header trips_columns trip_cells rows)
-  trips_again = reads_as trips_columns (trip_input None).read rows (rows_by trip_cells rows) _ (trip_records None rows) trips_back
+  pub trips_again : ReadsAs trips_columns (trip_input None).read rows
+      (file_text trip_header trips_columns trip_cells rows)
+  trips_again = reads_as trips_columns (trip_input None).read rows (rows_by trip_cells rows) _
+      (trip_records None rows) trips_back

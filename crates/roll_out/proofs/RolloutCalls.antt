@@ -1,5 +1,5 @@
 -- The stage that rolls a timetable out, from what its parts give.
-use Rattle.std.proofs.Common.{◌≡◌, ℕ, ◌+◌, ◌<◌, ◌≤◌, cond, arith, List, [], ◌∷◌, ◌++◌, length, map, refl, ap, subst, sym, ◌∙◌, Ok, Err, Result, slice_get}
+use Rattle.std.proofs.Common.{◌≡◌, ℕ, ◌+◌, ◌<◌, ◌≤◌, cond, arith, List, [], ◌∷◌, ◌++◌, length, ap, subst, sym, ◌∙◌, Ok, Err, Result, slice_get}
 use Rattle.std.specs.List.{enumerate_from}
 use Rattle.std.proofs.lemmas.Bool.{lt-ltb, le-ltb}
 use Rattle.std.proofs.lemmas.List.{append_assoc, append-nil, length-append, length-map}
@@ -23,7 +23,8 @@ use Rattle.roll_out.specs.RolloutStage.{file_faults, long_lists, made_of, networ
 use Rattle.roll_out.specs.TimedRuns.{TimedParts}
 
 -- what is refused of some faults is refused of them before others
-refused_before : (all others : List Refusal) (why : StageFault) → Refuses all why → Refuses (or_else all others) why
+refused_before : (all others : List Refusal) (why : StageFault) → Refuses all why
+    → Refuses (or_else all others) why
 refused_before [] others (fault.Refused reason) h = cc
 refused_before (first ∷ more) others (fault.Refused reason) h = h
 refused_before all others fault.NoMemory h = tt
@@ -44,7 +45,8 @@ module _ {X : Type 0} (what : Counted) (most : ℕ) (rows : List X) where
   -- and one that is not, is not
   pub under_limit : length rows ≤ most → limit_faults (row_limit what most ∷ []) rows ≡ []
   under_limit few =
-      ap (λ b. cond b (refusal.TooMany what (length rows) ∷ []) [] ++ []) (le-ltb most (length rows) few)
+      ap (λ b. cond b (refusal.TooMany what (length rows) ∷ []) [] ++ [])
+      (le-ltb most (length rows) few)
 
 -- ---- lists that are too long
 
@@ -75,7 +77,8 @@ module _ (network : TimedParts) (trips : List TripParts) where
     no_trips = under_limit counted.Trips 2000 trips few_trips
 
     pub events_long : (count : ℕ) → count ≡ length events → 100000 < count
-        → Refuses (long_lists network trips) (fault.Refused (refusal.TooMany counted.ExpandedEvents count))
+        → Refuses (long_lists network trips)
+        (fault.Refused (refusal.TooMany counted.ExpandedEvents count))
     events_long count is over =
         ap (λ all. slice_get all 0) (ap (λ some. (some ++ long_events) ++ long_activities) no_trips
         ∙ over_limit counted.ExpandedEvents 100000 events long_activities count is over)
@@ -90,7 +93,8 @@ module _ (network : TimedParts) (trips : List TripParts) where
           ∙ ap (λ some. some ++ long_activities) no_events
 
       pub activities_long : (count : ℕ) → count ≡ length activities → 500000 < count
-          → Refuses (long_lists network trips) (fault.Refused (refusal.TooMany counted.ExpandedActivities count))
+          → Refuses (long_lists network trips)
+          (fault.Refused (refusal.TooMany counted.ExpandedActivities count))
       activities_long count is over =
           ap (λ all. slice_get all 0) (only ∙ sym (append-nil long_activities)
           ∙ over_limit counted.ExpandedActivities 500000 activities [] count is over)
@@ -118,7 +122,8 @@ module _ (network : TimedParts) (trips : List TripParts) where
 
 module _ (bundle : BundleParts) where
   -- a text that is refused
-  pub file_refused : (why : StageFault) → Refuses (file_faults bundle) why → StageGives (rollout_stage bundle) (Err why)
+  pub file_refused : (why : StageFault) → Refuses (file_faults bundle) why
+      → StageGives (rollout_stage bundle) (Err why)
   unfolding rollout_stage
   file_refused why h =
       stage_refused _ _ why (refused_before (rollout_faults bundle) _ why
@@ -126,28 +131,33 @@ module _ (bundle : BundleParts) where
 
   module _ (none : file_faults bundle ≡ []) where
     -- a rule of runs that is broken
-    pub rule_refused : (why : StageFault) → Refuses (run_faults bundle) why → StageGives (rollout_stage bundle) (Err why)
+    pub rule_refused : (why : StageFault) → Refuses (run_faults bundle) why
+        → StageGives (rollout_stage bundle) (Err why)
     unfolding rollout_stage
     rule_refused why h =
         stage_refused _ _ why (refused_before (rollout_faults bundle) _ why
-        (subst (λ all. Refuses all why) (sym (behind_none (file_faults bundle) (run_faults bundle) none)) h))
+        (subst (λ all. Refuses all why) (sym
+        (behind_none (file_faults bundle) (run_faults bundle) none)) h))
 
     -- and else what the trips come to
-    pub rolled : run_faults bundle ≡ [] → (network : TimedParts) (trips : List TripParts) → network ≡ network_in bundle
+    pub rolled : run_faults bundle ≡ [] → (network : TimedParts) (trips : List TripParts) → network
+        ≡ network_in bundle
         → trips ≡ trips_in bundle → (result : Result Made StageFault)
         → UnlessFault (long_lists network trips) (λ made. made ≡ made_of network trips) result
         → StageGives (rollout_stage bundle) result
     unfolding rollout_stage
     rolled kept network trips is are (Ok made) h =
-        let left = behind_none (rollout_faults bundle) (long_lists (network_in bundle) (trips_in bundle))
-            (behind_none (file_faults bundle) (run_faults bundle) none ∙ kept) in
+        let left = behind_none (rollout_faults bundle)
+        (long_lists (network_in bundle) (trips_in bundle))
+        (behind_none (file_faults bundle) (run_faults bundle) none ∙ kept) in
         let same : long_lists network trips ≡ long_lists (network_in bundle) (trips_in bundle) =
         ap (λ n. long_lists n trips) is ∙ ap (long_lists (network_in bundle)) are in
         stage_made _ _ made (left ∙ sym same ∙ h.0)
         (h.1 ∙ ap (λ n. made_of n trips) is ∙ ap (made_of (network_in bundle)) are)
     rolled kept network trips is are (Err why) h =
-        let left = behind_none (rollout_faults bundle) (long_lists (network_in bundle) (trips_in bundle))
-            (behind_none (file_faults bundle) (run_faults bundle) none ∙ kept) in
+        let left = behind_none (rollout_faults bundle)
+        (long_lists (network_in bundle) (trips_in bundle))
+        (behind_none (file_faults bundle) (run_faults bundle) none ∙ kept) in
         let same : long_lists network trips ≡ long_lists (network_in bundle) (trips_in bundle) =
         ap (λ n. long_lists n trips) is ∙ ap (long_lists (network_in bundle)) are in
         stage_refused _ _ why (subst (λ all. Refuses all why) (same ∙ sym left) h)

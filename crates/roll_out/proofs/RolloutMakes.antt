@@ -12,7 +12,7 @@ use Rattle.giv_files.specs.declared.row_why.RowWhy.{RowWhy}
 use Rattle.giv_files.specs.declared.row_why.RowWhy.TheVariants as why
 use Rattle.giv_files.specs.declared.stage.Stage.TheVariants as stage
 use Rattle.giv_files.specs.Columns.{activities_p_columns, events_p_columns}
-use Rattle.giv_files.specs.Inputs.{Limit, input_faults, limit_faults, or_else, row_limit}
+use Rattle.giv_files.specs.Inputs.{Limit, input_faults, limit_faults, row_limit}
 use Rattle.giv_files.specs.MadeLists.{MakesAs, ids_of}
 use Rattle.giv_files.specs.NamedFiles.{NamesOnly}
 use Rattle.giv_files.specs.Settings.{BundleParts}
@@ -54,13 +54,16 @@ lists_name test network trips =
     (length_names test counted.ExpandedEvents 100000 (day_events trips)))
     (length_names test counted.ExpandedActivities 500000 (day_activities network trips))
 
-rows_name : (test : FileId → Bool) (file : FileId) → test file ≡ true → (columns : List ColumnKind) (text : List ℕ)
+rows_name : (test : FileId → Bool) (file : FileId) → test file ≡ true
+    → (columns : List ColumnKind) (text : List ℕ)
     (why : RowWhy) (ids : List ℕ) → AllName test (faults_at file columns text why ids)
 rows_name test file named columns text why [] = tt
-rows_name test file named columns text why (id ∷ ids) = (named, rows_name test file named columns text why ids)
+rows_name test file named columns text why (id ∷ ids) =
+    (named, rows_name test file named columns text why ids)
 
 -- a refusal by a row names the file of periodic events, of periodic activities or of periodic times
-pub rollout_stage_names : (test : FileId → Bool) → test file.EventsP ≡ true → test file.ActivitiesP ≡ true
+pub rollout_stage_names : (test : FileId → Bool) → test file.EventsP ≡ true → test file.ActivitiesP
+    ≡ true
     → test file.TimesP ≡ true → (bundle : BundleParts) (reason : Refusal)
     → rollout_stage bundle ≡ Err reason → NamesOnly test reason
 unfolding rollout_stage problem_faults
@@ -72,14 +75,16 @@ rollout_stage_names test events activities times bundle reason is =
     let third = input_faults (times_in bundle) (input_text bundle 2) in
     let files : AllName test (file_faults bundle) =
     names_both test (first ++ second) third
-    (names_both test first second (input_names test periodic_event_input (input_text bundle 0) events)
+    (names_both test first second (input_names test periodic_event_input (input_text bundle 0)
+    events)
     (input_names test (periodic_activity_input ids) (input_text bundle 1) activities))
     (input_names test (times_in bundle) (input_text bundle 2) times) in
     let broken = faults_at file.EventsP events_p_columns (input_text bundle 0) why.BrokenRun
     (map event_id (broken_events network.events)) in
     let unjoined = faults_at file.EventsP events_p_columns (input_text bundle 0) why.Unjoined
     (map event_id (unjoined_events network.events network.activities)) in
-    let stray = faults_at file.ActivitiesP activities_p_columns (input_text bundle 1) why.StrayActivity
+    let stray = faults_at file.ActivitiesP activities_p_columns (input_text bundle 1)
+    why.StrayActivity
     (map activity_id (stray_activities network.events network.activities)) in
     let runs : AllName test (run_faults bundle) =
     names_both test (broken ++ unjoined) stray
@@ -92,7 +97,8 @@ rollout_stage_names test events activities times bundle reason is =
     (lists_name test network (trips_in bundle))) is
 
 -- and where the inputs have no fault, no refusal names a file
-pub rollout_names_none : (test : FileId → Bool) (bundle : BundleParts) (reason : Refusal) → rollout_faults bundle ≡ []
+pub rollout_names_none : (test : FileId → Bool) (bundle : BundleParts) (reason : Refusal)
+    → rollout_faults bundle ≡ []
     → rollout_stage bundle ≡ Err reason → NamesOnly test reason
 unfolding rollout_stage
 rollout_names_none test bundle reason none is =

@@ -1,88 +1,59 @@
 -- The files of a day that are made, read again, are right.
-use Rattle.std.proofs.Common.{◌≡◌, ℕ, ℤ, ◌+◌, ◌<◌, ◌≤◌, arith, All, List, [], ◌∷◌, ◌++◌, length, map, filter, Option, Some, None, refl, ap, subst, sym, ◌∙◌, Ok, Err, Result}
+use Rattle.std.proofs.Common.{◌≡◌, ℕ, ℤ, ◌≤◌, arith, All, List, [], ◌∷◌, ◌++◌, length, map, Option, Some, None, refl, ap, subst, sym, ◌∙◌, Ok, Err, Result}
 use Rattle.std.specs.Prelude.{IfOk}
 use Rattle.std.specs.List.{AllByRecursion, enumerate_from, range_with_len}
-use Rattle.std.proofs.lemmas.List.{length-append, length-map}
+use Rattle.std.proofs.lemmas.List.{length-map}
 use Rattle.std.proofs.lemmas.List.FromFn.{length-enumerate_from}
 use Rattle.giv_files.specs.declared.counted.Counted.TheVariants as counted
 use Rattle.giv_files.specs.declared.file_id.FileId.TheVariants as file
 use Rattle.giv_files.specs.declared.key.Key.TheVariants as key
 use Rattle.giv_files.specs.declared.made.Made.{Made}
-use Rattle.giv_files.specs.declared.refusal.Refusal.{Refusal}
 use Rattle.giv_files.specs.declared.refusal.StageFault.{StageFault}
 use Rattle.giv_files.specs.declared.row_why.RowWhy.TheVariants as why
 use Rattle.giv_files.specs.declared.stage.Stage.TheVariants as stage
 use Rattle.giv_files.specs.Columns.{activities_p_columns, activities_x_columns, events_p_columns, events_x_columns, trips_columns}
-use Rattle.giv_files.specs.Inputs.{input_faults, limit_faults, or_else, row_limit}
-use Rattle.giv_files.specs.Settings.{BundleParts, Fits, SettingsFit, amount}
+use Rattle.giv_files.specs.Inputs.{input_faults, limit_faults, row_limit}
+use Rattle.giv_files.specs.Settings.{BundleParts, Fits, SettingsFit}
 use Rattle.giv_files.specs.StageCalls.{StageGives, input_text}
 use Rattle.giv_files.proofs.Inputs.{limits_sound}
 use Rattle.giv_files.proofs.Ranges.{front_none, back_none}
 use Rattle.giv_files.proofs.SettingFacts.{amount_within}
 use Rattle.giv_files.proofs.StageCalls.{made_unless, none_unless}
-use Rattle.event_tables.specs.declared.expanded_activity.ExpandedActivity.{ExpandedActivity}
-use Rattle.event_tables.specs.declared.expanded_event.ExpandedEvent.{ExpandedEvent}
-use Rattle.event_tables.specs.declared.periodic_event.PeriodicEvent.{PeriodicEvent}
-use Rattle.event_tables.specs.declared.trip.Trip.{Trip}
 use Rattle.event_tables.specs.Cells.{expanded_activity_cells, expanded_event_cells, trip_cells}
 use Rattle.event_tables.specs.ExpandedFiles.{IsExpandedActivity, expanded_activity_input}
 use Rattle.event_tables.specs.Headers.{expanded_activity_header, expanded_event_header, trip_header}
-use Rattle.event_tables.specs.PeriodicFiles.{periodic_activity_input, periodic_event_ids, periodic_time_input}
+use Rattle.event_tables.specs.PeriodicFiles.{periodic_activity_input, periodic_time_input}
 use Rattle.event_tables.specs.PeriodicRuns.{runs_of}
 use Rattle.event_tables.specs.Places.{AreNumbered}
 use Rattle.event_tables.specs.RowsOfTables.{file_text}
-use Rattle.event_tables.specs.RunRules.{KeepRunRules, broken_events, is_stray, stray_activities, unjoined_events}
-use Rattle.event_tables.specs.Trips.{lacks_stop}
+use Rattle.event_tables.specs.RunRules.{KeepRunRules, broken_events, stray_activities, unjoined_events}
 use Rattle.event_tables.proofs.SoundFiles.{periodic_activities_sound, periodic_events_sound}
 use Rattle.event_tables.proofs.SoundTimes.{periodic_times_sound}
 use Rattle.pesp_model.specs.PespTexts.{activities_of, events_of}
-use Rattle.roll_out.specs.declared.day.Day.{Day}
 use Rattle.roll_out.specs.DayActivities.{day_activities, day_changes, day_ways, with_number}
-use Rattle.roll_out.specs.DayTrips.{TripParts, day_events, trip_events, trip_row, trips_of}
-use Rattle.roll_out.specs.Plans.{ArePlans, IsDay, IsTimed, IsTrip, PlanParts, event_total, plan_of, trip_total, trips_by}
+use Rattle.roll_out.specs.DayTrips.{TripParts, day_events, trip_events, trip_row}
+use Rattle.roll_out.specs.Plans.{IsDay, IsTimed, IsTrip, PlanParts, plan_of, trips_by}
 use Rattle.roll_out.specs.RightRollout.{AtStops, RolloutIsAccepted, RolloutIsRight}
 use Rattle.roll_out.specs.RolloutStage.{activities_in, day_in, events_in, faults_at, file_faults, long_lists, made_of, network_in, period_in, rollout_faults, rollout_stage, run_faults, trip_rows, trips_in}
 use Rattle.roll_out.specs.TimedRuns.{TimedParts}
 use Rattle.roll_out.proofs.DayCells.{activities_fit, events_fit, trips_fit}
-use Rattle.roll_out.proofs.DayChangesGood.{IsOf, changes_good, events_of_trips, mapped_from}
+use Rattle.roll_out.proofs.DayChangesGood.{changes_good, events_of_trips, mapped_from}
+use Rattle.roll_out.proofs.DayInWords.{changes_are_those, trips_are_those}
 use Rattle.roll_out.proofs.FilesRead.{activities_fine, events_fine, times_fine}
-use Rattle.roll_out.proofs.GoodRuns.{IsFit, IsGoodRun, all_fit, nothing_mapped, runs_good}
-use Rattle.roll_out.proofs.GoodTrips.{start_id, starts_rise, trip_stops, trip_takes}
+use Rattle.roll_out.proofs.GoodRuns.{IsFit, all_fit, nothing_mapped, runs_good}
+use Rattle.roll_out.proofs.GoodTrips.{starts_rise, trip_stops, trip_takes}
 use Rattle.roll_out.proofs.ListedEvents.{IsListed, all_listed, events_placed, parts_of_all}
 use Rattle.roll_out.proofs.RolledTrips.{IsRolled, append_all, trips_rolled, ways_good}
 use Rattle.roll_out.proofs.RolloutAccepted.{TripGood, activities_accepted, activities_again, activities_back, events_accepted, events_again, events_back, trips_accepted, trips_again, trips_back}
-use Rattle.roll_out.proofs.RuleRows.{activity_id, event_id, none_first}
+use Rattle.roll_out.proofs.NumberedActivities.{numbered_good, numbers_are}
+use Rattle.roll_out.proofs.RuleRows.{activity_id, event_id, none_behind, none_first}
 use Rattle.roll_out.proofs.SoundPlans.{between_all, plans_are}
 use Rattle.roll_out.proofs.SoundTrips.{events_counted, trips_counted, trips_sound}
 use Rattle.roll_out.proofs.TripsOfDay.{trips_are}
 
-none_behind : (all others : List Refusal) → or_else all others ≡ [] → others ≡ []
-none_behind [] others none = none
-none_behind (first ∷ more) others none = absurd (cc)
-
--- activities with their places as ids
-numbers_are : (n : ℕ) (plain : List ExpandedActivity)
-    → map (λ (row : ExpandedActivity). row.id) (map with_number (enumerate_from n plain)) ≡ range_with_len n (length plain)
-numbers_are n [] = refl
-numbers_are n (row ∷ plain) = ap (λ ids. n ∷ ids) (numbers_are (n + 1) plain)
-
-numbered_good : (events : List ExpandedEvent) (n : ℕ) (plain : List ExpandedActivity)
-    → AllByRecursion (IsExpandedActivity events) plain
-    → AllByRecursion (IsExpandedActivity events) (map with_number (enumerate_from n plain))
-numbered_good events n [] good = tt
-numbered_good events n (row ∷ plain) good = (
-  record {
-    from = good.0.from;
-    to = good.0.to;
-    in_order = good.0.in_order;
-    no_sync = good.0.no_sync;
-    forward = good.0.forward;
-  },
-  numbered_good events (n + 1) plain good.1,
-)
-
 module _ (bundle : BundleParts) (own : bundle.stage ≡ stage.Rollout) (fits : Fits bundle)
-    (none : rollout_faults bundle ≡ []) (short : long_lists (network_in bundle) (trips_in bundle) ≡ []) where
+    (none : rollout_faults bundle ≡ []) (short : long_lists (network_in bundle) (trips_in bundle)
+    ≡ []) where
   abbrev network : TimedParts
   network = network_in bundle
 
@@ -93,12 +64,15 @@ module _ (bundle : BundleParts) (own : bundle.stage ≡ stage.Rollout) (fits : F
   setting_fits = subst (λ of. SettingsFit of bundle.settings) own fits.settings
 
   period_within : (1 ≤ period_in bundle) × (period_in bundle ≤ 720)
-  period_within = amount_within stage.Rollout bundle.settings key.PeriodLength _ _ setting_fits refl refl refl
+  period_within = amount_within stage.Rollout bundle.settings key.PeriodLength _ _ setting_fits
+      refl refl refl
 
   day_within : IsDay (day_in bundle)
   day_within = (
-    (amount_within stage.Rollout bundle.settings key.DmEarliestTime _ _ setting_fits refl refl refl).1,
-    (amount_within stage.Rollout bundle.settings key.DmLatestTime _ _ setting_fits refl refl refl).1,
+    (amount_within stage.Rollout bundle.settings key.DmEarliestTime _ _ setting_fits refl refl
+        refl).1,
+    (amount_within stage.Rollout bundle.settings key.DmLatestTime _ _ setting_fits refl refl
+        refl).1,
   )
 
   files_none : file_faults bundle ≡ []
@@ -113,16 +87,19 @@ module _ (bundle : BundleParts) (own : bundle.stage ≡ stage.Rollout) (fits : F
   is_timed =
       let are = periodic_events_sound (input_text bundle 0) (events_fine bundle files_none) in
       let count = length (events_of (input_text bundle 0)) in
-      let activities = subst (λ ids. input_faults (periodic_activity_input ids) (input_text bundle 1) ≡ []) are.numbered
-          (activities_fine bundle files_none) in
-      let times = subst (λ ids. input_faults (periodic_time_input file.TimesP (period_in bundle) ids) (input_text bundle 2) ≡ [])
-          are.numbered (times_fine bundle files_none) in
+      let activities = subst (λ ids. input_faults (periodic_activity_input ids)
+      (input_text bundle 1) ≡ []) are.numbered
+      (activities_fine bundle files_none) in
+      let times = subst (λ ids. input_faults
+      (periodic_time_input file.TimesP (period_in bundle) ids) (input_text bundle 2) ≡ [])
+      are.numbered (times_fine bundle files_none) in
       record {
         some = period_within.0;
         short = period_within.1;
         events_are = are;
         activities_are = periodic_activities_sound count (input_text bundle 1) activities;
-        times_are = periodic_times_sound file.TimesP (period_in bundle) count (input_text bundle 2) times;
+        times_are = periodic_times_sound file.TimesP (period_in bundle) count (input_text bundle 2)
+            times;
       }
 
   -- it keeps the rules of runs
@@ -132,7 +109,8 @@ module _ (bundle : BundleParts) (own : bundle.stage ≡ stage.Rollout) (fits : F
       (map event_id (broken_events network.events)) in
       let unjoined = faults_at file.EventsP events_p_columns (input_text bundle 0) why.Unjoined
       (map event_id (unjoined_events network.events network.activities)) in
-      let stray = faults_at file.ActivitiesP activities_p_columns (input_text bundle 1) why.StrayActivity
+      let stray = faults_at file.ActivitiesP activities_p_columns (input_text bundle 1)
+      why.StrayActivity
       (map activity_id (stray_activities network.events network.activities)) in
       let front : broken ++ unjoined ≡ [] = front_none (broken ++ unjoined) stray runs_none in
       record {
@@ -156,16 +134,19 @@ module _ (bundle : BundleParts) (own : bundle.stage ≡ stage.Rollout) (fits : F
   few_trips = (limits_sound (row_limit counted.Trips 2000) [] trips
       (front_none (limit_faults (row_limit counted.Trips 2000 ∷ []) trips)
       (limit_faults (row_limit counted.ExpandedEvents 100000 ∷ []) (events_in bundle))
-      (front_none _ (limit_faults (row_limit counted.ExpandedActivities 500000 ∷ []) (activities_in bundle)) short))).0
+      (front_none _ (limit_faults (row_limit counted.ExpandedActivities 500000 ∷ [])
+      (activities_in bundle)) short))).0
 
   few_events : length (events_in bundle) ≤ 100000
   few_events = (limits_sound (row_limit counted.ExpandedEvents 100000) [] (events_in bundle)
       (back_none (limit_faults (row_limit counted.Trips 2000 ∷ []) trips)
       (limit_faults (row_limit counted.ExpandedEvents 100000 ∷ []) (events_in bundle))
-      (front_none _ (limit_faults (row_limit counted.ExpandedActivities 500000 ∷ []) (activities_in bundle)) short))).0
+      (front_none _ (limit_faults (row_limit counted.ExpandedActivities 500000 ∷ [])
+      (activities_in bundle)) short))).0
 
   few_activities : length (activities_in bundle) ≤ 500000
-  few_activities = (limits_sound (row_limit counted.ExpandedActivities 500000) [] (activities_in bundle)
+  few_activities = (limits_sound (row_limit counted.ExpandedActivities 500000) []
+      (activities_in bundle)
       (back_none (limit_faults (row_limit counted.Trips 2000 ∷ []) trips
       ++ limit_faults (row_limit counted.ExpandedEvents 100000 ∷ []) (events_in bundle)) _ short)).0
 
@@ -179,7 +160,13 @@ module _ (bundle : BundleParts) (own : bundle.stage ≡ stage.Rollout) (fits : F
   sound = subst (All IsTrip) planned
       (trips_sound network.period period_within.1 1 plans
       (plans_are network is_timed (day_in bundle) day_within).each (omega arith)
-      (omega (arith, few_events, events_counted network.period 1 plans, ap (λ some. length (day_events some)) planned))
+      (omega (
+        arith,
+        few_events,
+        events_counted network.period 1 plans,
+        ap
+            (λ some. length (day_events some)) planned,
+      ))
       (omega (arith, few_trips, trips_counted network.period 1 plans, ap length planned)))
 
   -- ---- what they have keeps the rules of their kinds
@@ -190,12 +177,15 @@ module _ (bundle : BundleParts) (own : bundle.stage ≡ stage.Rollout) (fits : F
   listed : AllByRecursion (IsListed (events_in bundle)) (events_in bundle)
   listed = all_listed (events_in bundle) numbered
 
-  plain_good : AllByRecursion (IsExpandedActivity (events_in bundle)) (day_ways trips ++ day_changes network (events_in bundle))
+  plain_good : AllByRecursion (IsExpandedActivity (events_in bundle))
+      (day_ways trips ++ day_changes network (events_in bundle))
   plain_good =
-      append_all (IsExpandedActivity (events_in bundle)) (day_ways trips) (day_changes network (events_in bundle))
+      append_all (IsExpandedActivity (events_in bundle)) (day_ways trips)
+      (day_changes network (events_in bundle))
       (ways_good network period_within.0 period_within.1 fit (events_in bundle) trips rolled
       (parts_of_all (IsListed (events_in bundle)) trip_events trips listed))
-      (changes_good network period_within.0 period_within.1 is_timed.events_are.numbered fit (events_in bundle) listed
+      (changes_good network period_within.0 period_within.1 is_timed.events_are.numbered fit
+      (events_in bundle) listed
       (events_of_trips network trips rolled))
 
   activities_good : AllByRecursion (IsExpandedActivity (events_in bundle)) (activities_in bundle)
@@ -207,25 +197,34 @@ module _ (bundle : BundleParts) (own : bundle.stage ≡ stage.Rollout) (fits : F
   activities_placed =
       let plain = day_ways trips ++ day_changes network (events_in bundle) in
       numbers_are 1 plain
-      ∙ ap (range_with_len 1) (sym (length-map (enumerate_from 1 plain) with_number ∙ length-enumerate_from 1 plain))
+      ∙ ap (range_with_len 1) (sym (length-map (enumerate_from 1 plain) with_number
+      ∙ length-enumerate_from 1 plain))
 
-  trips_good : (stops : Option (List ℤ)) → AtStops stops network.events → AllByRecursion (TripGood stops) (trip_rows trips)
+  trips_good : (stops : Option (List ℤ)) → AtStops stops network.events
+      → AllByRecursion (TripGood stops) (trip_rows trips)
   trips_good None at =
       mapped_from (TripGood None) (IsRolled network) trip_row
-      (λ trip is. (refl, trip_takes network period_within.0 period_within.1 fit trip is)) trips rolled
+      (λ trip is. (refl, trip_takes network period_within.0 period_within.1 fit trip is)) trips
+      rolled
   trips_good (Some stops) at =
       mapped_from (TripGood (Some stops)) (IsRolled network) trip_row
-      (λ trip is. (trip_stops network stops at trip is, trip_takes network period_within.0 period_within.1 fit trip is))
+      (λ trip is. (
+        trip_stops network stops at trip is,
+        trip_takes network period_within.0
+            period_within.1 fit trip is,
+      ))
       trips rolled
 
   -- ---- the files
 
   abbrev events_text : List ℕ
-  events_text = file_text expanded_event_header events_x_columns expanded_event_cells (events_in bundle)
+  events_text = file_text expanded_event_header events_x_columns expanded_event_cells
+      (events_in bundle)
 
   abbrev activities_text : List ℕ
   activities_text =
-      file_text expanded_activity_header activities_x_columns expanded_activity_cells (activities_in bundle)
+      file_text expanded_activity_header activities_x_columns expanded_activity_cells
+      (activities_in bundle)
 
   abbrev trips_text : List ℕ
   trips_text = file_text trip_header trips_columns trip_cells (trip_rows trips)
@@ -238,9 +237,11 @@ module _ (bundle : BundleParts) (own : bundle.stage ≡ stage.Rollout) (fits : F
   files_accepted = record {
     events_fine = events_accepted (events_in bundle) events_text numbered few_events
         (events_back (events_in bundle) (events_fit trips sound));
-    activities_fine = subst (λ some. input_faults (expanded_activity_input some) activities_text ≡ [])
+    activities_fine = subst (λ some. input_faults (expanded_activity_input some) activities_text
+        ≡ [])
         (sym (events_again (events_in bundle) (events_fit trips sound)).1)
-        (activities_accepted (events_in bundle) numbered (activities_in bundle) activities_text activities_placed
+        (activities_accepted (events_in bundle) numbered (activities_in bundle) activities_text
+        activities_placed
         few_activities activities_good (activities_back (activities_in bundle)
         (activities_fit trips sound network (between_all network is_timed) few_activities)));
     trips_fine = λ stops at. trips_accepted stops (trip_rows trips) trips_text rows_few
@@ -259,17 +260,22 @@ module _ (bundle : BundleParts) (own : bundle.stage ≡ stage.Rollout) (fits : F
     reads_activities = activities_again (activities_in bundle)
         (activities_fit trips sound network (between_all network is_timed) few_activities);
     reads_trips = trips_again (trip_rows trips) (trips_fit trips sound);
+    all_trips = trips_are_those network is_timed (day_in bundle) day_within;
+    all_changes = changes_are_those network (events_in bundle);
     accepted = files_accepted;
   }
 
 -- what the stage makes of inputs without a fault
-pub rollout_is_right : (bundle : BundleParts) (made : Made) → bundle.stage ≡ stage.Rollout → Fits bundle
+pub rollout_is_right : (bundle : BundleParts) (made : Made) → bundle.stage ≡ stage.Rollout
+    → Fits bundle
     → rollout_stage bundle ≡ Ok made → RolloutIsRight bundle made
 unfolding rollout_stage
 rollout_is_right bundle made own fits is =
     let all = none_unless _ _ made is in
-    let none = none_first (rollout_faults bundle) (long_lists (network_in bundle) (trips_in bundle)) all in
-    let short = none_behind (rollout_faults bundle) (long_lists (network_in bundle) (trips_in bundle)) all in
+    let none = none_first (rollout_faults bundle)
+    (long_lists (network_in bundle) (trips_in bundle)) all in
+    let short = none_behind (rollout_faults bundle)
+    (long_lists (network_in bundle) (trips_in bundle)) all in
     subst (RolloutIsRight bundle) (made_unless _ _ made is) (made_right bundle own fits none short)
 
 -- what a call gives that meets the stage

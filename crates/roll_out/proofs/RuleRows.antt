@@ -1,15 +1,12 @@
 -- The rows at which rules of runs are broken.
-use Rattle.std.proofs.Common.{◌≡◌, ℕ, ◌+◌, ◌-◌, ◌<◌, ◌≤◌, arith, Bool, true, false, cond, All, List, [], ◌∷◌, ◌++◌, length, map, filter, drop, get_or, Result, refl, ap, subst, sym, ◌∙◌}
-use Rattle.std.specs.List.{flat_map, range_with_len, enumerate_from, zip, AllByRecursion}
+use Rattle.std.proofs.Common.{◌≡◌, ℕ, ◌+◌, arith, All, List, [], ◌∷◌, ◌++◌, length, map, filter, drop, get_or, Result, refl, ap, subst, sym, ◌∙◌}
+use Rattle.std.specs.List.{flat_map, enumerate_from, zip, AllByRecursion}
 use Rattle.std.proofs.lemmas.List.{length-map, get_or-map}
-use Rattle.std.proofs.lemmas.List.Elements.{All-filter, All-map, All-append, All-nil, All-from_recursion, recursion_from_All}
+use Rattle.std.proofs.lemmas.List.Elements.{All-filter, All-map, All-append, All-nil, All-from_recursion}
 use Rattle.std.proofs.lemmas.List.FromFn.{get_or-range_with_len}
-use Rattle.giv_files.specs.declared.column.ColumnKind.{ColumnKind}
-use Rattle.giv_files.specs.declared.file_id.FileId.{FileId}
 use Rattle.giv_files.specs.declared.file_id.FileId.TheVariants as file
 use Rattle.giv_files.specs.declared.refusal.Refusal.{Refusal}
 use Rattle.giv_files.specs.declared.refusal.StageFault.{StageFault}
-use Rattle.giv_files.specs.declared.row_why.RowWhy.{RowWhy}
 use Rattle.giv_files.specs.declared.row_why.RowWhy.TheVariants as why
 use Rattle.giv_files.specs.Columns.{events_p_columns, activities_p_columns}
 use Rattle.giv_files.specs.Inputs.{Input, Refuses, UnlessFault, cell_faults, input_faults, or_else, records_of}
@@ -31,6 +28,10 @@ pub none_first : (all others : List Refusal) → or_else all others ≡ [] → a
 none_first [] others none = refl
 none_first (first ∷ more) others none = none
 
+pub none_behind : (all others : List Refusal) → or_else all others ≡ [] → others ≡ []
+none_behind [] others none = none
+none_behind (first ∷ more) others none = absurd (cc)
+
 -- a text without a fault has none in its cells
 pub cells_fine : {X : Type 0} (input : Input X) (text : List ℕ) → input_faults input text ≡ []
     → cell_faults input.file input.columns text ≡ []
@@ -40,16 +41,19 @@ cells_fine input text none = none_first (cell_faults input.file input.columns te
 -- and as many records as rows
 pub rows_counted : {X : Type 0} (input : Input X) (text : List ℕ)
     → length (records_of input text) ≡ length (table_of input.columns text)
-rows_counted input text = length-map (table_of input.columns text) (λ (row : TableRow). input.read row.cells)
+rows_counted input text = length-map (table_of input.columns text)
+    (λ (row : TableRow). input.read row.cells)
 
-pub events_counted : (text : List ℕ) → length (events_of text) ≡ length (table_of events_p_columns text)
+pub events_counted : (text : List ℕ) → length (events_of text)
+    ≡ length (table_of events_p_columns text)
 unfolding events_of
 events_counted text = rows_counted periodic_event_input text
 
 pub activities_counted : (events : List PeriodicEvent) (text : List ℕ)
     → length (activities_of events text) ≡ length (table_of activities_p_columns text)
 unfolding activities_of
-activities_counted events text = rows_counted (periodic_activity_input (periodic_event_ids events)) text
+activities_counted events text = rows_counted (periodic_activity_input (periodic_event_ids events))
+    text
 
 -- ---- the ids of the things at which a rule is broken
 
@@ -67,22 +71,28 @@ module _ (P : PeriodicEvent → Type 0) where
 
   broken_have : (run : List PeriodicEvent) → AllByRecursion P run → All P (broken_in run)
   broken_have run all =
-      All-map P (λ (at : ℕ × PeriodicEvent). at.1) (filter (breaks (length run)) (enumerate_from 0 run))
+      All-map P (λ (at : ℕ × PeriodicEvent). at.1)
+      (filter (breaks (length run)) (enumerate_from 0 run))
       (All-filter (breaks (length run)) (λ (at : ℕ × PeriodicEvent). P at.1) (enumerate_from 0 run)
-      (All-from_recursion (λ (at : ℕ × PeriodicEvent). P at.1) (enumerate_from 0 run) (enumerated_have 0 run all)))
+      (All-from_recursion (λ (at : ℕ × PeriodicEvent). P at.1) (enumerate_from 0 run)
+      (enumerated_have 0 run all)))
 
-  unjoined_have : (activities : List PeriodicActivity) (run : List PeriodicEvent) → AllByRecursion P run
+  unjoined_have : (activities : List PeriodicActivity) (run : List PeriodicEvent)
+      → AllByRecursion P run
       → All P (unjoined_in activities run)
   unjoined_have activities run all =
-      All-map P (λ (at : PeriodicEvent × PeriodicEvent). at.0) (filter (lacks_way activities) (neighbours run))
-      (All-filter (lacks_way activities) (λ (at : PeriodicEvent × PeriodicEvent). P at.0) (neighbours run)
+      All-map P (λ (at : PeriodicEvent × PeriodicEvent). at.0)
+      (filter (lacks_way activities) (neighbours run))
+      (All-filter (lacks_way activities) (λ (at : PeriodicEvent × PeriodicEvent). P at.0)
+      (neighbours run)
       (All-from_recursion (λ (at : PeriodicEvent × PeriodicEvent). P at.0) (neighbours run)
       (zipped_have run (drop 1 run) all)))
 
   runs_parts : (part : List PeriodicEvent → List PeriodicEvent)
       → ((run : List PeriodicEvent) → AllByRecursion P run → All P (part run))
       → (runs : List (List PeriodicEvent))
-      → AllByRecursion (λ (run : List PeriodicEvent). AllByRecursion P run) runs → All P (flat_map part runs)
+      → AllByRecursion (λ (run : List PeriodicEvent). AllByRecursion P run) runs
+      → All P (flat_map part runs)
   runs_parts part has [] all = All-nil P
   runs_parts part has (run ∷ runs) all =
       All-append P (part run) (flat_map part runs) (has run all.0) (runs_parts part has runs all.1)
@@ -114,7 +124,8 @@ pub stray_ids : (events : List PeriodicEvent) (activities : List PeriodicActivit
     → All (IsOneOf (length activities)) (map activity_id (stray_activities events activities))
 stray_ids events activities numbered =
     All-map (IsOneOf (length activities)) activity_id (stray_activities events activities)
-    (All-filter (is_stray events) (λ activity. IsOneOf (length activities) activity.id) activities (λ i d h.
+    (All-filter (is_stray events) (λ activity. IsOneOf (length activities) activity.id) activities
+    (λ i d h.
     let at : (get_or activities i d).id ≡ 1 + i =
     sym (get_or-map activity_id activities i d 0 h) ∙ ap (λ ids. get_or ids i 0) numbered
     ∙ get_or-range_with_len 1 (length activities) i 0 h in
@@ -130,30 +141,36 @@ module _ (bundle : BundleParts) where
   unjoined ids = faults_at file.EventsP events_p_columns (input_text bundle 0) why.Unjoined ids
 
   abbrev stray : List ℕ → List Refusal
-  stray ids = faults_at file.ActivitiesP activities_p_columns (input_text bundle 1) why.StrayActivity ids
+  stray ids = faults_at file.ActivitiesP activities_p_columns (input_text bundle 1)
+      why.StrayActivity ids
 
   abbrev broken_at : List ℕ
   broken_at = map event_id (broken_events (network_in bundle).events)
 
   abbrev unjoined_at : List ℕ
-  unjoined_at = map event_id (unjoined_events (network_in bundle).events (network_in bundle).activities)
+  unjoined_at = map event_id (unjoined_events (network_in bundle).events
+      (network_in bundle).activities)
 
   abbrev stray_at : List ℕ
-  stray_at = map activity_id (stray_activities (network_in bundle).events (network_in bundle).activities)
+  stray_at = map activity_id (stray_activities (network_in bundle).events
+      (network_in bundle).activities)
 
   -- a broken run
-  pub run_refused : (ids : List ℕ) (fault : StageFault) → ids ≡ broken_at → Refuses (broken ids) fault
+  pub run_refused : (ids : List ℕ) (fault : StageFault) → ids ≡ broken_at
+      → Refuses (broken ids) fault
       → Refuses (run_faults bundle) fault
   run_refused ids fault are by =
       refused_append (broken broken_at ++ unjoined unjoined_at) (stray stray_at) fault
-      (refused_append (broken broken_at) (unjoined unjoined_at) fault (subst (λ some. Refuses (broken some) fault) are by))
+      (refused_append (broken broken_at) (unjoined unjoined_at) fault
+      (subst (λ some. Refuses (broken some) fault) are by))
 
   module _ (first : List ℕ) (first_are : first ≡ broken_at) (first_none : first ≡ []) where
     no_broken : broken broken_at ≡ []
     no_broken = ap broken (sym first_are ∙ first_none)
 
     -- an event that is not joined
-    pub event_refused : (ids : List ℕ) (fault : StageFault) → ids ≡ unjoined_at → Refuses (unjoined ids) fault
+    pub event_refused : (ids : List ℕ) (fault : StageFault) → ids ≡ unjoined_at
+        → Refuses (unjoined ids) fault
         → Refuses (run_faults bundle) fault
     event_refused ids fault are by =
         refused_append (broken broken_at ++ unjoined unjoined_at) (stray stray_at) fault
@@ -173,5 +190,6 @@ module _ (bundle : BundleParts) where
           → UnlessFault (run_faults bundle) (λ _. run_faults bundle ≡ []) result
       activities_told ids result are by =
           let same = ap stray are ∙ only_stray in
-          UnlessFault-weaker (stray ids) (run_faults bundle) (λ _. ids ≡ []) (λ _. run_faults bundle ≡ [])
+          UnlessFault-weaker (stray ids) (run_faults bundle) (λ _. ids ≡ [])
+          (λ _. run_faults bundle ≡ [])
           result same (λ _ none. sym same ∙ ap stray none) by

@@ -1,19 +1,21 @@
 -- Runs that are read from the left.
 use Rattle.std.proofs.Common.{◌≡◌, ℕ, suc, ◌==◌, ◌-◌, ◌+◌, ◌<◌, ◌≤◌, arith, Bool, true, false, cond, List, [], ◌∷◌, ◌++◌, length, take, drop, get_or, refl, ap, sym, ◌∙◌}
-use Rattle.std.specs.List.{flat_map}
 use Rattle.std.proofs.lemmas.List.{append_assoc, drop_more, drop_all, take_more, take_all}
 use Rattle.std.proofs.lemmas.Bool.{eqb-true}
 use Rattle.event_tables.specs.declared.periodic_event.PeriodicEvent.{PeriodicEvent}
 use Rattle.event_tables.specs.PeriodicRuns.{same_run, before_runs, runs_of}
 
--- events with the last of them before runs: the first run goes on with them where it agrees with the last
-abbrev pub onto : PeriodicEvent → List PeriodicEvent → List (List PeriodicEvent) → List (List PeriodicEvent)
+-- events with the last of them before runs: the first run goes on with them where it agrees with
+-- the last
+abbrev pub onto : PeriodicEvent → List PeriodicEvent → List (List PeriodicEvent)
+    → List (List PeriodicEvent)
 onto last some ((next ∷ run) ∷ runs) =
     cond (same_run last next) ((some ++ next ∷ run) ∷ runs) (some ∷ (next ∷ run) ∷ runs)
 onto last some runs = some ∷ runs
 
 -- one event more
-pub onto_more : (last next : PeriodicEvent) (some : List PeriodicEvent) (runs : List (List PeriodicEvent))
+pub onto_more : (last next : PeriodicEvent) (some : List PeriodicEvent)
+    (runs : List (List PeriodicEvent))
     → same_run last next ≡ true
     → onto last some (before_runs next runs) ≡ onto next (some ++ next ∷ []) runs
 onto_more last next some [] same =
@@ -24,16 +26,19 @@ onto_more last next some ((event ∷ run) ∷ runs) same = by (same_run next eve
   where
     by : (b : Bool)
         → onto last some (cond b ((next ∷ event ∷ run) ∷ runs) ((next ∷ []) ∷ (event ∷ run) ∷ runs))
-        ≡ cond b (((some ++ next ∷ []) ++ event ∷ run) ∷ runs) ((some ++ next ∷ []) ∷ (event ∷ run) ∷ runs)
+        ≡ cond b (((some ++ next ∷ []) ++ event ∷ run) ∷ runs)
+        ((some ++ next ∷ []) ∷ (event ∷ run) ∷ runs)
     by true =
-        ap (λ b. cond b ((some ++ next ∷ event ∷ run) ∷ runs) (some ∷ (next ∷ event ∷ run) ∷ runs)) same
+        ap (λ b. cond b ((some ++ next ∷ event ∷ run) ∷ runs) (some ∷ (next ∷ event ∷ run) ∷ runs))
+        same
         ∙ ap (λ one. one ∷ runs) (sym (append_assoc some (next ∷ []) (event ∷ run)))
     by false =
         ap (λ b. cond b ((some ++ next ∷ []) ∷ (event ∷ run) ∷ runs)
         (some ∷ (next ∷ []) ∷ (event ∷ run) ∷ runs)) same
 
 -- an event that does not agree ends the run
-pub onto_ends : (last next : PeriodicEvent) (some : List PeriodicEvent) (runs : List (List PeriodicEvent))
+pub onto_ends : (last next : PeriodicEvent) (some : List PeriodicEvent)
+    (runs : List (List PeriodicEvent))
     → same_run last next ≡ false
     → onto last some (before_runs next runs) ≡ some ∷ before_runs next runs
 onto_ends last next some [] other =
@@ -46,7 +51,8 @@ onto_ends last next some ((event ∷ run) ∷ runs) other = by (same_run next ev
         → onto last some (cond b ((next ∷ event ∷ run) ∷ runs) ((next ∷ []) ∷ (event ∷ run) ∷ runs))
         ≡ some ∷ cond b ((next ∷ event ∷ run) ∷ runs) ((next ∷ []) ∷ (event ∷ run) ∷ runs)
     by true =
-        ap (λ b. cond b ((some ++ next ∷ event ∷ run) ∷ runs) (some ∷ (next ∷ event ∷ run) ∷ runs)) other
+        ap (λ b. cond b ((some ++ next ∷ event ∷ run) ∷ runs) (some ∷ (next ∷ event ∷ run) ∷ runs))
+        other
     by false =
         ap (λ b. cond b ((some ++ next ∷ []) ∷ (event ∷ run) ∷ runs)
         (some ∷ (next ∷ []) ∷ (event ∷ run) ∷ runs)) other
@@ -66,27 +72,34 @@ run_begins (event ∷ events) d some = before_onto event (runs_of events)
 
 module _ (events : List PeriodicEvent) (d : PeriodicEvent) where
   module _ (i : ℕ) (here : 1 ≤ i) (inside : i < length events)
-      (so_far : runs_of events ≡ onto (get_or events (i - 1) d) (take i events) (runs_of (drop i events))) where
-    next_is : runs_of (drop i events) ≡ before_runs (get_or events i d) (runs_of (drop (i + 1) events))
+      (so_far : runs_of events ≡ onto (get_or events (i - 1) d) (take i events)
+      (runs_of (drop i events))) where
+    next_is : runs_of (drop i events) ≡ before_runs (get_or events i d)
+        (runs_of (drop (i + 1) events))
     unfolding runs_of
     next_is = ap runs_of (drop_more events i d inside)
 
     -- it goes on with an event that agrees
     pub run_goes_on : same_run (get_or events (i - 1) d) (get_or events i d) ≡ true
-        → runs_of events ≡ onto (get_or events (i + 1 - 1) d) (take (i + 1) events) (runs_of (drop (i + 1) events))
+        → runs_of events ≡ onto (get_or events (i + 1 - 1) d) (take (i + 1) events)
+        (runs_of (drop (i + 1) events))
     run_goes_on same =
         let at : i ≡ i + 1 - 1 = omega arith in
         so_far ∙ ap (onto (get_or events (i - 1) d) (take i events)) next_is
-        ∙ onto_more (get_or events (i - 1) d) (get_or events i d) (take i events) (runs_of (drop (i + 1) events)) same
-        ∙ ap (λ some. onto (get_or events i d) some (runs_of (drop (i + 1) events))) (sym (take_more events i d inside))
-        ∙ ap (λ k. onto (get_or events k d) (take (i + 1) events) (runs_of (drop (i + 1) events))) at
+        ∙ onto_more (get_or events (i - 1) d) (get_or events i d) (take i events)
+        (runs_of (drop (i + 1) events)) same
+        ∙ ap (λ some. onto (get_or events i d) some (runs_of (drop (i + 1) events)))
+        (sym (take_more events i d inside))
+        ∙ ap (λ k. onto (get_or events k d) (take (i + 1) events) (runs_of (drop (i + 1) events)))
+        at
 
     -- and ends at one that does not
     pub run_ends : same_run (get_or events (i - 1) d) (get_or events i d) ≡ false
         → runs_of events ≡ take i events ∷ runs_of (drop i events)
     run_ends other =
         so_far ∙ ap (onto (get_or events (i - 1) d) (take i events)) next_is
-        ∙ onto_ends (get_or events (i - 1) d) (get_or events i d) (take i events) (runs_of (drop (i + 1) events)) other
+        ∙ onto_ends (get_or events (i - 1) d) (get_or events i d) (take i events)
+        (runs_of (drop (i + 1) events)) other
         ∙ ap (λ runs. take i events ∷ runs) (sym next_is)
 
   -- or at the last event
@@ -96,8 +109,10 @@ module _ (events : List PeriodicEvent) (d : PeriodicEvent) where
   unfolding runs_of
   run_over i over so_far =
       so_far
-      ∙ ap (λ rest. onto (get_or events (i - 1) d) (take i events) (runs_of rest)) (drop_all i events over)
-      ∙ ap (λ some. some ∷ []) (take_all i events over ∙ sym (take_all (length events) events (omega arith)))
+      ∙ ap (λ rest. onto (get_or events (i - 1) d) (take i events) (runs_of rest))
+      (drop_all i events over)
+      ∙ ap (λ some. some ∷ []) (take_all i events over
+      ∙ sym (take_all (length events) events (omega arith)))
       ∙ ap (λ rest. take (length events) events ∷ runs_of rest)
       (sym (drop_all (length events) events (omega arith)))
 

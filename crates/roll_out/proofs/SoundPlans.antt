@@ -1,15 +1,14 @@
 -- The plans of the runs of a timetable.
-use Rattle.std.proofs.Common.{◌≡◌, ℕ, suc, ◌+◌, ◌*◌, ◌-◌, ◌/◌, ◌<◌, ◌≤◌, ◌≤ℤ◌, pos, nat_le, unsigned_abs, arith, Bool, true, false, cond, All, IfSome, List, [], ◌∷◌, ◌++◌, length, map, get_or, find, Option, Some, None, refl, ap, subst, sym, ◌∙◌}
-use Rattle.std.specs.List.{flat_map, range_with_len, AllByRecursion}
-use Rattle.std.proofs.lemmas.List.{length-map, length-append, map-append, append_assoc}
-use Rattle.std.proofs.lemmas.List.Elements.{All-nil, All-cons, All-head, All-tail, All-map, All-weaker, All-append, recursion_from_All, All-from_recursion}
-use Rattle.std.proofs.lemmas.List.Folds.{flat_map-map}
+use Rattle.std.proofs.Common.{◌≡◌, ℕ, suc, ◌+◌, ◌*◌, ◌-◌, ◌/◌, ◌<◌, ◌≤◌, ◌≤ℤ◌, pos, nat_le, unsigned_abs, arith, Bool, true, false, cond, All, IfSome, List, [], ◌∷◌, ◌++◌, length, map, get_or, Option, Some, None, refl, ap, subst, sym, ◌∙◌}
+use Rattle.std.specs.List.{flat_map, AllByRecursion}
+use Rattle.std.proofs.lemmas.List.{length-map, map-append}
+use Rattle.std.proofs.lemmas.List.Elements.{recursion_from_All, All-from_recursion}
 use Rattle.giv_files.specs.Columns.{events_p_columns, activities_p_columns}
 use Rattle.giv_files.specs.Writing.{InColumns}
 use Rattle.event_tables.specs.declared.periodic_activity.PeriodicActivity.{PeriodicActivity}
 use Rattle.event_tables.specs.declared.periodic_event.PeriodicEvent.{PeriodicEvent}
 use Rattle.event_tables.specs.Cells.{periodic_event_cells, periodic_activity_cells}
-use Rattle.event_tables.specs.PeriodicRuns.{same_run, before_runs, runs_of}
+use Rattle.event_tables.specs.PeriodicRuns.{runs_of}
 use Rattle.event_tables.specs.RunRules.{leads}
 use Rattle.roll_out.specs.declared.day.Day.{Day}
 use Rattle.roll_out.specs.declared.timed_event.TimedEvent.{TimedEvent}
@@ -24,94 +23,25 @@ use Rattle.std.proofs.lemmas.Grind.{div_ceil_times}
 use Rattle.std.proofs.lemmas.List.{get_or-map}
 use Rattle.std.proofs.lemmas.List.FromFn.{get_or-range_with_len}
 use Rattle.roll_out.proofs.FoundOnes.{found_has}
-use Rattle.roll_out.proofs.Lists.{same_parts}
-
--- ---- runs
-
-abbrev whole_run : List PeriodicEvent → List PeriodicEvent
-whole_run run = run
-
-before_whole : (event : PeriodicEvent) (runs : List (List PeriodicEvent))
-    → flat_map whole_run (before_runs event runs) ≡ event ∷ flat_map whole_run runs
-before_whole event [] = refl
-before_whole event ([] ∷ runs) = refl
-before_whole event ((next ∷ run) ∷ runs) = by (same_run event next)
-  where
-    by : (b : Bool) → flat_map whole_run (cond b ((event ∷ next ∷ run) ∷ runs) ((event ∷ []) ∷ (next ∷ run) ∷ runs))
-        ≡ event ∷ flat_map whole_run ((next ∷ run) ∷ runs)
-    by true = refl
-    by false = refl
-
--- the runs of events are all of them
-pub runs_whole : (events : List PeriodicEvent) → flat_map whole_run (runs_of events) ≡ events
-unfolding runs_of
-runs_whole [] = refl
-runs_whole (event ∷ events) =
-    before_whole event (runs_of events) ∙ ap (λ some. event ∷ some) (runs_whole events)
-
-before_some : (event : PeriodicEvent) (runs : List (List PeriodicEvent))
-    → AllByRecursion (λ (run : List PeriodicEvent). 1 ≤ length run) runs
-    → AllByRecursion (λ (run : List PeriodicEvent). 1 ≤ length run) (before_runs event runs)
-before_some event [] all = (omega arith, tt)
-before_some event ([] ∷ runs) all = (omega arith, all)
-before_some event ((next ∷ run) ∷ runs) all = by (same_run event next)
-  where
-    by : (b : Bool) → AllByRecursion (λ (run : List PeriodicEvent). 1 ≤ length run)
-        (cond b ((event ∷ next ∷ run) ∷ runs) ((event ∷ []) ∷ (next ∷ run) ∷ runs))
-    by true = (omega arith, all.1)
-    by false = (omega arith, all)
-
--- each run has an event
-pub runs_some : (events : List PeriodicEvent)
-    → AllByRecursion (λ (run : List PeriodicEvent). 1 ≤ length run) (runs_of events)
-unfolding runs_of
-runs_some [] = tt
-runs_some (event ∷ events) = before_some event (runs_of events) (runs_some events)
-
--- and each has no more than all
-pub runs_short : (runs : List (List PeriodicEvent)) (most : ℕ) → length (flat_map whole_run runs) ≤ most
-    → AllByRecursion (λ (run : List PeriodicEvent). length run ≤ most) runs
-runs_short [] most few = tt
-runs_short (run ∷ runs) most few =
-    let step = length-append run (flat_map whole_run runs) in
-    (omega (arith, step, few), runs_short runs most (omega (arith, step, few)))
-
--- no more runs than events
-pub runs_few : (runs : List (List PeriodicEvent))
-    → AllByRecursion (λ (run : List PeriodicEvent). 1 ≤ length run) runs
-    → length runs ≤ length (flat_map whole_run runs)
-runs_few [] some = omega arith
-runs_few (run ∷ runs) some =
-    let step = length-append run (flat_map whole_run runs) in
-    let rest = runs_few runs some.1 in
-    let one = some.0 in
-    omega (arith, step, rest, one)
-
--- what holds of all events holds of those of each run
-pub runs_have : (P : PeriodicEvent → Type 0) (runs : List (List PeriodicEvent)) → AllByRecursion P (flat_map whole_run runs)
-    → AllByRecursion (λ (run : List PeriodicEvent). AllByRecursion P run) runs
-runs_have P [] all = tt
-runs_have P (run ∷ runs) all =
-    let parts = split run (flat_map whole_run runs) all in (parts.0, runs_have P runs parts.1)
-  where
-    split : (xs ys : List PeriodicEvent) → AllByRecursion P (xs ++ ys) → AllByRecursion P xs × AllByRecursion P ys
-    split [] ys all = (tt, all)
-    split (x ∷ xs) ys all = let rest = split xs ys all.1 in ((all.0, rest.0), rest.1)
+use Rattle.roll_out.proofs.WholeRuns.{runs_few, runs_have, runs_short, runs_some, runs_whole, whole_run}
 
 -- ---- timed events
 
 timed_ids : (network : TimedParts) (minutes : ℕ) (run : List PeriodicEvent)
-    → map (λ (at : TimedEvent). at.event.id) (timed_from network minutes run) ≡ map (λ (event : PeriodicEvent). event.id) run
+    → map (λ (at : TimedEvent). at.event.id) (timed_from network minutes run)
+    ≡ map (λ (event : PeriodicEvent). event.id) run
 unfolding timed_from
 timed_ids network minutes [] = refl
 timed_ids network minutes (event ∷ run) =
-    ap (λ ids. event.id ∷ ids) (timed_ids network (minutes + minutes_on network (way_on network event run)) run)
+    ap (λ ids. event.id ∷ ids) (timed_ids network
+    (minutes + minutes_on network (way_on network event run)) run)
 
 pub timed_size : (network : TimedParts) (minutes : ℕ) (run : List PeriodicEvent)
     → length (timed_from network minutes run) ≡ length run
 unfolding timed_from
 timed_size network minutes [] = refl
-timed_size network minutes (event ∷ run) = ap (λ n. suc n) (timed_size network (minutes + minutes_on network (way_on network event run)) run)
+timed_size network minutes (event ∷ run) = ap (λ n. suc n)
+    (timed_size network (minutes + minutes_on network (way_on network event run)) run)
 
 -- ---- minutes
 
@@ -121,7 +51,8 @@ upper_low lower upper order high = omega (arith, ints, order, high)
 module _ (network : TimedParts) (some : 1 ≤ network.period) (short : network.period ≤ 720) where
   -- an activity takes its lower bound, and less than a period more
   pub minutes_are : (activity : PeriodicActivity)
-      → (activity.lower ≤ minutes_of network activity) × (minutes_of network activity < activity.lower + network.period)
+      → (activity.lower ≤ minutes_of network activity)
+      × (minutes_of network activity < activity.lower + network.period)
   minutes_are activity =
       let from = time_at network activity.from in
       let to = time_at network activity.to in
@@ -133,15 +64,18 @@ module _ (network : TimedParts) (some : 1 ≤ network.period) (short : network.p
       (omega (arith, is), omega (arith, is, small))
 
   low_enough : (activity : PeriodicActivity) → IsBetween network activity → activity.lower ≤ 100000
-  low_enough activity is = upper_low activity.lower activity.upper is.sound.in_order is.fits.1.1.1.1.1.0.1
+  low_enough activity is = upper_low activity.lower activity.upper is.sound.in_order
+      is.fits.1.1.1.1.1.0.1
 
-  minutes_short : (activity : PeriodicActivity) → IsBetween network activity → minutes_of network activity ≤ 100720
+  minutes_short : (activity : PeriodicActivity) → IsBetween network activity
+      → minutes_of network activity ≤ 100720
   minutes_short activity is =
       let few = minutes_are activity in
       let low = low_enough activity is in
       omega (arith, few.1, low, short)
 
-  way_short : (way : Option PeriodicActivity) → IfSome way (IsBetween network) → minutes_on network way ≤ 100720
+  way_short : (way : Option PeriodicActivity) → IfSome way (IsBetween network)
+      → minutes_on network way ≤ 100720
   way_short None is = omega arith
   way_short (Some activity) is = minutes_short activity is
 
@@ -152,13 +86,16 @@ module _ (network : TimedParts) (some : 1 ≤ network.period) (short : network.p
 
   module _ (between : All (IsBetween network) network.activities) where
     -- the activity that leads on is one between the events
-    pub way_between : (event : PeriodicEvent) (run : List PeriodicEvent) → IfSome (way_on network event run) (IsBetween network)
+    pub way_between : (event : PeriodicEvent) (run : List PeriodicEvent)
+        → IfSome (way_on network event run) (IsBetween network)
     way_between event [] = tt
     way_between event (next ∷ run) =
         found_has (IsBetween network) (leads (event, next)) network.activities between
 
-    pub timely : (run : List PeriodicEvent) (minutes n : ℕ) → minutes ≤ 100720 * n → n + length run ≤ 4000
-        → AllByRecursion (λ (event : PeriodicEvent). InColumns events_p_columns (periodic_event_cells event)) run
+    pub timely : (run : List PeriodicEvent) (minutes n : ℕ) → minutes ≤ 100720 * n → n + length run
+        ≤ 4000
+        → AllByRecursion (λ (event : PeriodicEvent). InColumns events_p_columns
+        (periodic_event_cells event)) run
         → AllByRecursion IsTimely (timed_from network minutes run)
     unfolding timed_from
     timely [] minutes n soon few fit = tt
@@ -167,16 +104,23 @@ module _ (network : TimedParts) (some : 1 ≤ network.period) (short : network.p
         let is = way_between event run in
         let more = way_short way is in (
           record { fits = fit.0; way_fits = way_fits way is; soon = omega (arith, soon, few) },
-          timely run (minutes + minutes_on network way) (n + 1) (omega (arith, soon, more)) (omega (arith, few)) fit.1,
+          timely run (minutes + minutes_on network way) (n + 1) (omega (arith, soon, more))
+              (omega (arith, few)) fit.1,
         )
 
 -- ---- plans
 
-pub between_all : (network : TimedParts) → IsTimed network → All (IsBetween network) network.activities
-between_all network is = λ i d h. record { sound = is.activities_are.each i d h; fits = is.activities_are.fit i d h }
+pub between_all : (network : TimedParts) → IsTimed network
+    → All (IsBetween network) network.activities
+between_all network is = λ i d h. record {
+  sound = is.activities_are.each i d h;
+  fits =
+      is.activities_are.fit i d h;
+}
 
 module _ (network : TimedParts) (is : IsTimed network) where
-  id_in : (i : ℕ) (d : PeriodicEvent) → i < length network.events → IsOneOf (length network.events) (get_or network.events i d).id
+  id_in : (i : ℕ) (d : PeriodicEvent) → i < length network.events
+      → IsOneOf (length network.events) (get_or network.events i d).id
   id_in i d h =
       let at : (get_or network.events i d).id ≡ 1 + i =
       sym (get_or-map (λ (event : PeriodicEvent). event.id) network.events i d 0 h)
@@ -191,36 +135,48 @@ module _ (network : TimedParts) (is : IsTimed network) where
   whole = runs_whole network.events
 
   pub runs_in : AllByRecursion (λ (run : List PeriodicEvent). length run ≤ 4000) all_runs
-  runs_in = runs_short all_runs 4000 (let few = is.events_are.few in omega (arith, ap length whole, few))
+  runs_in = runs_short all_runs 4000 (let few = is.events_are.few in omega
+      (arith, ap length whole, few))
 
   pub ids_in : AllByRecursion (λ (run : List PeriodicEvent). AllByRecursion
       (λ (event : PeriodicEvent). IsOneOf (length network.events) event.id) run) all_runs
   ids_in = runs_have (λ (event : PeriodicEvent). IsOneOf (length network.events) event.id) all_runs
-      (subst (AllByRecursion (λ (event : PeriodicEvent). IsOneOf (length network.events) event.id)) (sym whole)
-      (recursion_from_All (λ (event : PeriodicEvent). IsOneOf (length network.events) event.id) network.events id_in))
+      (subst (AllByRecursion (λ (event : PeriodicEvent). IsOneOf (length network.events) event.id))
+      (sym whole)
+      (recursion_from_All (λ (event : PeriodicEvent). IsOneOf (length network.events) event.id)
+      network.events id_in))
 
   fits_in : AllByRecursion (λ (run : List PeriodicEvent). AllByRecursion
-      (λ (event : PeriodicEvent). InColumns events_p_columns (periodic_event_cells event)) run) all_runs
-  fits_in = runs_have (λ (event : PeriodicEvent). InColumns events_p_columns (periodic_event_cells event)) all_runs
-      (subst (AllByRecursion (λ (event : PeriodicEvent). InColumns events_p_columns (periodic_event_cells event))) (sym whole)
-      (recursion_from_All (λ (event : PeriodicEvent). InColumns events_p_columns (periodic_event_cells event)) network.events is.events_are.fit))
+      (λ (event : PeriodicEvent). InColumns events_p_columns (periodic_event_cells event)) run)
+      all_runs
+  fits_in = runs_have (λ (event : PeriodicEvent). InColumns events_p_columns
+      (periodic_event_cells event)) all_runs
+      (subst (AllByRecursion (λ (event : PeriodicEvent). InColumns events_p_columns
+      (periodic_event_cells event))) (sym whole)
+      (recursion_from_All (λ (event : PeriodicEvent). InColumns events_p_columns
+      (periodic_event_cells event)) network.events is.events_are.fit))
 
   -- the runs have some events, and not too many
-  pub runs_sized : All (λ (run : List PeriodicEvent). (1 ≤ length run) × (length run ≤ 4000)) all_runs
+  pub runs_sized : All (λ (run : List PeriodicEvent). (1 ≤ length run) × (length run ≤ 4000))
+      all_runs
   runs_sized = λ i d h. (
-    All-from_recursion (λ (run : List PeriodicEvent). 1 ≤ length run) all_runs (runs_some network.events) i d h,
+    All-from_recursion (λ (run : List PeriodicEvent). 1 ≤ length run) all_runs
+        (runs_some network.events) i d h,
     All-from_recursion (λ (run : List PeriodicEvent). length run ≤ 4000) all_runs runs_in i d h,
   )
 
   -- and these are those of the timetable
-  pub runs_there : All (λ (run : List PeriodicEvent). All (λ event. IsOneOf (length network.events) event.id) run) all_runs
+  pub runs_there : All (λ (run : List PeriodicEvent). All
+      (λ event. IsOneOf (length network.events) event.id) run) all_runs
   runs_there = λ i d h.
-      All-from_recursion (λ (event : PeriodicEvent). IsOneOf (length network.events) event.id) (get_or all_runs i d)
+      All-from_recursion (λ (event : PeriodicEvent). IsOneOf (length network.events) event.id)
+      (get_or all_runs i d)
       (All-from_recursion (λ (run : List PeriodicEvent). AllByRecursion
-      (λ (event : PeriodicEvent). IsOneOf (length network.events) event.id) run) all_runs ids_in i d h)
+      (λ (event : PeriodicEvent). IsOneOf (length network.events) event.id) run) all_runs ids_in i
+      d h)
 
 module _ (network : TimedParts) (is : IsTimed network) (day : Day) (in_week : IsDay day) where
-  time_in : (id : ℕ) → 1 ≤ id → id ≤ length network.events → time_at network id < network.period
+  pub time_in : (id : ℕ) → 1 ≤ id → id ≤ length network.events → time_at network id < network.period
   time_in id low high =
       is.times_are.in_period (id - 1) no_time (omega (arith, low, high, is.times_are.each_event))
 
@@ -237,14 +193,16 @@ module _ (network : TimedParts) (is : IsTimed network) (day : Day) (in_week : Is
       by : (b : Bool) → cond b ((day.latest - start) / network.period + 1) 0 ≤ 10081
       by true =
           let parts = div-add-mod' (day.latest - start) network.period in
-          let more = mul-le ((day.latest - start) / network.period) 1 ((day.latest - start) / network.period)
-              network.period (omega arith) is.some in
+          let more = mul-le ((day.latest - start) / network.period) 1
+          ((day.latest - start) / network.period)
+          network.period (omega arith) is.some in
           let end = in_week.1 in
           omega (arith, parts, more, end)
       by false = omega arith
 
   plan_sound : (run : List PeriodicEvent) → 1 ≤ length run → length run ≤ 4000
-      → AllByRecursion (λ (event : PeriodicEvent). InColumns events_p_columns (periodic_event_cells event)) run
+      → AllByRecursion (λ (event : PeriodicEvent). InColumns events_p_columns
+      (periodic_event_cells event)) run
       → AllByRecursion (λ (event : PeriodicEvent). IsOneOf (length network.events) event.id) run
       → IsPlan (plan_of network day run)
   plan_sound [] some few fit ids = absurd (omega (arith, some))
@@ -255,7 +213,8 @@ module _ (network : TimedParts) (is : IsTimed network) (day : Day) (in_week : Is
         some = omega (arith, size, some);
         early = start_early (time_at network event.id) time;
         timely = All-from_recursion IsTimely (timed_from network 0 (event ∷ run))
-            (timely network is.some is.short (between_all network is) (event ∷ run) 0 0 (omega arith)
+            (timely network is.some is.short (between_all network is) (event ∷ run) 0 0
+            (omega arith)
             (omega (arith, few)) fit);
         short = omega (arith, size, few);
         few = count_few (first_start network.period day (time_at network event.id));
@@ -274,11 +233,13 @@ module _ (network : TimedParts) (is : IsTimed network) (day : Day) (in_week : Is
       (plan_sound run some.0 few.0 fit.0 ids.0, plans_sound runs some.1 few.1 fit.1 ids.1)
 
   plan_ids : (runs : List (List PeriodicEvent))
-      → flat_map (λ (plan : PlanParts). map (λ (at : TimedEvent). at.event.id) plan.run) (map (plan_of network day) runs)
+      → flat_map (λ (plan : PlanParts). map (λ (at : TimedEvent). at.event.id) plan.run)
+      (map (plan_of network day) runs)
       ≡ map (λ (event : PeriodicEvent). event.id) (flat_map whole_run runs)
   plan_ids [] = refl
   plan_ids (run ∷ runs) =
-      ap (λ ids. ids ++ flat_map (λ (plan : PlanParts). map (λ (at : TimedEvent). at.event.id) plan.run)
+      ap (λ ids. ids ++ flat_map (λ (plan : PlanParts). map (λ (at : TimedEvent). at.event.id)
+      plan.run)
       (map (plan_of network day) runs)) (timed_ids network 0 run)
       ∙ ap (λ ids. map (λ (event : PeriodicEvent). event.id) run ++ ids) (plan_ids runs)
       ∙ sym (map-append (λ (event : PeriodicEvent). event.id) run (flat_map whole_run runs))
@@ -287,10 +248,20 @@ module _ (network : TimedParts) (is : IsTimed network) (day : Day) (in_week : Is
   pub plans_are : ArePlans network (map (plan_of network day) (runs_of network.events))
   plans_are = record {
     each = All-from_recursion IsPlan (map (plan_of network day) (runs_of network.events))
-        (plans_sound (runs_of network.events) (runs_some network.events) (runs_in network is) (fits_in network is) (ids_in network is));
+        (plans_sound (runs_of network.events) (runs_some network.events) (runs_in network is)
+        (fits_in network is) (ids_in network is));
     few =
         let less = runs_few (runs_of network.events) (runs_some network.events) in
         let few = is.events_are.few in
-        omega (arith, length-map (runs_of network.events) (plan_of network day), less, ap length (runs_whole network.events), few);
-    placed = plan_ids (runs_of network.events) ∙ ap (map (λ (event : PeriodicEvent). event.id)) (runs_whole network.events) ∙ is.events_are.numbered;
+        omega (
+          arith,
+          length-map (runs_of network.events) (plan_of network day),
+          less,
+          ap length
+              (runs_whole network.events),
+          few,
+        );
+    placed = plan_ids (runs_of network.events)
+        ∙ ap (map (λ (event : PeriodicEvent). event.id)) (runs_whole network.events)
+        ∙ is.events_are.numbered;
   }

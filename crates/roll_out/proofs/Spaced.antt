@@ -1,5 +1,5 @@
 -- Times that are whole periods apart.
-use Rattle.std.proofs.Common.{◌≡◌, ℕ, ◌+◌, ◌-◌, ◌*◌, ◌/◌, ◌%◌, ◌==◌, ◌<◌, ◌≤◌, nat_le, arith, Bool, true, false, ◌&&◌, cond, List, [], ◌∷◌, ◌++◌, length, map, filter, min, refl, ap, sym, ◌∙◌}
+use Rattle.std.proofs.Common.{◌≡◌, ℕ, ◌+◌, ◌-◌, ◌*◌, ◌/◌, ◌%◌, ◌==◌, ◌<◌, ◌≤◌, nat_le, arith, Bool, true, false, ◌&&◌, cond, [], ◌∷◌, map, filter, refl, ap, sym, ◌∙◌}
 use Rattle.std.specs.Int.{div_ceil}
 use Rattle.std.specs.List.{range_with_len}
 use Rattle.std.proofs.lemmas.Bool.{eq-eqb, ne_eqb, le-leb, lt-leb, leb-true, leb-false}
@@ -66,14 +66,16 @@ module _ (period time : ℕ) (some : 1 ≤ period) (copies : Copies) where
         let only : (k : ℕ) → copy_time period copies k ≡ time → k ≡ place =
         λ k e. sym (plain k) ∙ ap (λ n. n / period) (sym (after_is k e)) in
         ap (map (copy_id copies)) (sym (window at place 1 copies.count (omega (arith, near))
-        (λ k below. ne_eqb (copy_time period copies k) time (λ e. let is = only k e in omega (arith, is, below)))
+        (λ k below. ne_eqb (copy_time period copies k) time
+        (λ e. let is = only k e in omega (arith, is, below)))
         (λ k low high.
         let is : k ≡ place = omega (arith, low, high) in
         eq-eqb (copy_time period copies k) time
         (ap (λ n. copies.start + n * period) is ∙ omega (arith, same, late)))
-        (λ k above. ne_eqb (copy_time period copies k) time (λ e. let is = only k e in omega (arith, is, above)))))
+        (λ k above. ne_eqb (copy_time period copies k) time
+        (λ e. let is = only k e in omega (arith, is, above)))))
 
-div_low : (a b period : ℕ) → 1 ≤ period → a * period ≤ b → a ≤ b / period
+pub div_low : (a b period : ℕ) → 1 ≤ period → a * period ≤ b → a ≤ b / period
 div_low a b period some h = by (nat_le a (b / period)) refl
   where
     by : (c : Bool) → nat_le a (b / period) ≡ c → a ≤ b / period
@@ -201,7 +203,8 @@ module _ (period : ℕ) (some : 1 ≤ period) (day : Day) (time : ℕ) where
   from_first n =
       let e : skipped ≡ skipped + 0 = omega arith in
       ap (λ a. map at_time (range_with_len a n)) e ∙ shifted at_time skipped 0 n
-      ∙ same_map (λ k. at_time (skipped + k)) (λ k. start + k * period) later_ones (range_with_len 0 n)
+      ∙ same_map (λ k. at_time (skipped + k)) (λ k. start + k * period) later_ones
+      (range_with_len 0 n)
 
   passing : (b : Bool) → nat_le start day.latest ≡ b
       → filter tests (range_with_len 0 all) ≡ range_with_len skipped (start_count period day start)

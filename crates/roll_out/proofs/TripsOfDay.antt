@@ -1,15 +1,14 @@
 -- The trips of plans are those of the day.
 use Rattle.std.proofs.Common.{◌≡◌, ℕ, zero, suc, ◌+◌, ◌*◌, ◌≤◌, arith, List, [], ◌∷◌, ◌++◌, length, map, refl, ap, sym, ◌∙◌}
 use Rattle.std.specs.List.{flat_map, range_with_len, sum_by}
-use Rattle.std.proofs.lemmas.List.{map-append}
 use Rattle.std.proofs.lemmas.List.Sums.{sum_by-cons}
 use Rattle.std.proofs.lemmas.Simd.{map-map}
 use Rattle.event_tables.specs.declared.periodic_event.PeriodicEvent.{PeriodicEvent}
 use Rattle.event_tables.specs.PeriodicRuns.{runs_of}
 use Rattle.roll_out.specs.declared.day.Day.{Day}
 use Rattle.roll_out.specs.declared.timed_event.TimedEvent.{TimedEvent}
-use Rattle.roll_out.specs.DayTrips.{TripParts, departures_of, first_time, numbered_trips, starts, trips_of}
-use Rattle.roll_out.specs.Plans.{PlanParts, first_start, start_count, plan_of, plan_trips, trip_after, trips_by}
+use Rattle.roll_out.specs.DayTrips.{departures_of, first_time, numbered_trips, trips_of}
+use Rattle.roll_out.specs.Plans.{PlanParts, first_start, plan_of, plan_trips, trip_after, trips_by}
 use Rattle.roll_out.specs.TimedRuns.{TimedParts, timed_from}
 use Rattle.roll_out.proofs.Spaced.{starts_are}
 
@@ -20,7 +19,8 @@ abbrev size_of : Departures → ℕ
 size_of departures = sum_by (λ (at : ℕ × List TimedEvent). length at.1) departures
 
 numbered_append : (n : ℕ) (some others : Departures)
-    → numbered_trips n (some ++ others) ≡ numbered_trips n some ++ numbered_trips (n + size_of some) others
+    → numbered_trips n (some ++ others) ≡ numbered_trips n some
+    ++ numbered_trips (n + size_of some) others
 unfolding numbered_trips
 numbered_append n [] others =
     let e : n ≡ n + size_of [] = omega arith in ap (λ k. numbered_trips k others) e
@@ -42,16 +42,20 @@ module _ (network : TimedParts) (day : Day) (some : 1 ≤ network.period) where
     unfolding numbered_trips
     spread n a zero = refl
     spread n a (suc count) =
-        let e : n + a * length plan.run + length plan.run ≡ n + (a + 1) * length plan.run = grind arith in
-        ap (λ k. trip_after network.period n plan a ∷ numbered_trips k (map departs (range_with_len (a + 1) count))) e
+        let e : n + a * length plan.run + length plan.run
+        ≡ n + (a + 1) * length plan.run = grind arith in
+        ap (λ k. trip_after network.period n plan a
+        ∷ numbered_trips k (map departs (range_with_len (a + 1) count))) e
         ∙ ap (λ rest. trip_after network.period n plan a ∷ rest) (spread n (a + 1) count)
 
-    spread_size : (a count : ℕ) → size_of (map departs (range_with_len a count)) ≡ count * length plan.run
+    spread_size : (a count : ℕ) → size_of (map departs (range_with_len a count))
+        ≡ count * length plan.run
     spread_size a zero = omega arith
     spread_size a (suc count) =
         let step = sum_by-cons (λ (at : ℕ × List TimedEvent). length at.1) (departs a)
-            (map departs (range_with_len (a + 1) count)) in
-        let one : suc count * length plan.run ≡ length plan.run + count * length plan.run = grind arith in
+        (map departs (range_with_len (a + 1) count)) in
+        let one : suc count * length plan.run
+        ≡ length plan.run + count * length plan.run = grind arith in
         let rest = spread_size (a + 1) count in
         omega (arith, step, one, rest)
 
@@ -78,7 +82,8 @@ module _ (network : TimedParts) (day : Day) (some : 1 ≤ network.period) where
       numbered_append n (departures_of network day run) (flat_map (departures_of network day) runs)
       ∙ ap (λ k. numbered_trips n (departures_of network day run)
       ++ numbered_trips (n + k) (flat_map (departures_of network day) runs)) size
-      ∙ ap (λ trips. trips ++ numbered_trips (n + plan.trips * length plan.run) (flat_map (departures_of network day) runs))
+      ∙ ap (λ trips. trips ++ numbered_trips (n + plan.trips * length plan.run)
+      (flat_map (departures_of network day) runs))
       (ap (numbered_trips n) (departures_are run)
       ∙ ap (λ k. numbered_trips k (map (departs plan) (range_with_len 0 plan.trips))) e
       ∙ spread plan n 0 plan.trips)
@@ -86,6 +91,7 @@ module _ (network : TimedParts) (day : Day) (some : 1 ≤ network.period) where
       (day_trips (n + plan.trips * length plan.run) runs)
 
   -- the trips of the plans of all runs
-  pub trips_are : trips_by network.period 1 (map (plan_of network day) (runs_of network.events)) ≡ trips_of network day
+  pub trips_are : trips_by network.period 1 (map (plan_of network day) (runs_of network.events))
+      ≡ trips_of network day
   unfolding trips_of
   trips_are = sym (day_trips 1 (runs_of network.events))

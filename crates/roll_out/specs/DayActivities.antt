@@ -6,7 +6,6 @@ use Rattle.event_tables.specs.declared.expanded_activity.ExpandedActivity.{Expan
 use Rattle.event_tables.specs.declared.expanded_event.ExpandedEvent.{ExpandedEvent}
 use Rattle.event_tables.specs.declared.periodic_activity.PeriodicActivity.{PeriodicActivity}
 use Rattle.event_tables.specs.RunRules.{same_kind}
-use Rattle.roll_out.specs.declared.timed_event.TimedEvent.{TimedEvent}
 use Rattle.roll_out.specs.DayTrips.{TripParts, day_events}
 use Rattle.roll_out.specs.TimedRuns.{TimedParts, minutes_of}
 

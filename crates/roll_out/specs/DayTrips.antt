@@ -1,7 +1,6 @@
 -- The trips of a day, and their events: each run of a timetable, once for each period.
-use Rattle.std.specs.Prelude.{ℕ, ◌≡◌, ◌+◌, ◌-◌, ◌*◌, ◌/◌, ◌%◌, ◌≤◌, nat_le, Bool, ◌&&◌, List, [], ◌∷◌, length, map, filter, get_or, None, Contains}
+use Rattle.std.specs.Prelude.{ℕ, ◌+◌, ◌-◌, ◌*◌, ◌/◌, nat_le, Bool, ◌&&◌, List, [], ◌∷◌, length, map, filter, get_or, None}
 use Rattle.std.specs.List.{flat_map, range_with_len, enumerate_from}
-use Rattle.event_tables.specs.declared.event_kind.EventKind.TheVariants as event_kind
 use Rattle.event_tables.specs.declared.expanded_event.ExpandedEvent.{ExpandedEvent}
 use Rattle.event_tables.specs.declared.periodic_event.PeriodicEvent.{PeriodicEvent}
 use Rattle.event_tables.specs.declared.trip.Trip.{Trip}

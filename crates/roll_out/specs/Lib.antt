@@ -1,4 +1,5 @@
 pub mod DayActivities
+pub mod DayInWords
 pub mod DayTrips
 pub mod Plans
 pub mod RightRollout

@@ -11,7 +11,9 @@ use Rattle.event_tables.specs.Cells.{expanded_event, expanded_activity, trip}
 use Rattle.event_tables.specs.ExpandedFiles.{expanded_event_input, expanded_activity_input}
 use Rattle.event_tables.specs.RowsOfTables.{ReadsAs}
 use Rattle.event_tables.specs.Trips.{is_stop, trip_input}
-use Rattle.roll_out.specs.RolloutStage.{network_in, trips_in, events_in, activities_in, rollout_faults, trip_rows}
+use Rattle.roll_out.specs.DayActivities.{day_changes}
+use Rattle.roll_out.specs.DayInWords.{AreChangesOf, AreTripsOf}
+use Rattle.roll_out.specs.RolloutStage.{network_in, day_in, trips_in, events_in, activities_in, rollout_faults, trip_rows}
 
 -- the periodic events are at stops, where these are known
 abbrev pub AtStops : Option (List ℤ) → List PeriodicEvent → Type 0
@@ -21,16 +23,20 @@ AtStops (Some stops) events = All (λ event. is_stop stops event.stop ≡ true) 
 -- The files of a day are accepted by the rules of their kinds: events are numbered in their order;
 -- activities go forward between them, with bounds in order, and none is a sync; trips have start
 -- events of their own, end after they start, and are at stops wherever the periodic events are.
-pub record RolloutIsAccepted (periodic : List PeriodicEvent) (events activities trips : List ℕ) : Type 0 where
+pub record RolloutIsAccepted (periodic : List PeriodicEvent)
+    (events activities trips : List ℕ) : Type 0 where
   pub events_fine : input_faults expanded_event_input events ≡ []
   pub activities_fine : input_faults
       (expanded_activity_input (records_of expanded_event_input events)) activities ≡ []
   pub trips_fine : (stops : Option (List ℤ)) → AtStops stops periodic
       → input_faults (trip_input stops) trips ≡ []
 
--- The files that are made are right: the inputs have no fault, and there are three files. Read again,
+-- The files that are made are right: the inputs have no fault, and there are three files. Read
+-- again,
 -- they have the events of the trips of the day over the inputs, the activities between these, and
--- the trips, and no fault by the rules of their kinds.
+-- the trips, and no fault by the rules of their kinds. The trips are those of each run at each of
+-- its
+-- starts, and the changes all those between their events.
 pub record RolloutFilesAreRight (bundle : BundleParts) (files : List MadeFile) : Type 0 where
   pub inputs : rollout_faults bundle ≡ []
   pub events : List ℕ
@@ -43,6 +49,9 @@ pub record RolloutFilesAreRight (bundle : BundleParts) (files : List MadeFile) :
   pub reads_activities : ReadsAs activities_x_columns expanded_activity (activities_in bundle)
       activities
   pub reads_trips : ReadsAs trips_columns trip (trip_rows (trips_in bundle)) trips
+  pub all_trips : AreTripsOf (network_in bundle) (day_in bundle) (trips_in bundle)
+  pub all_changes : AreChangesOf (network_in bundle) (events_in bundle)
+      (day_changes (network_in bundle) (events_in bundle))
   pub accepted : RolloutIsAccepted (network_in bundle).events events activities trips
 
 -- what is made is right

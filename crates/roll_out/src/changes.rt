@@ -3,7 +3,7 @@ ghost use Rattle.std.specs.Prelude.{◌≡◌, ◌≤◌, ◌<◌, ◌++◌, len
 ghost use Rattle.std.specs.Option.{option_to_list};
 ghost use Rattle.std.specs.List.{flat_map};
 ghost use Rattle.roll_out.specs.DayActivities.{copy_of, is_change};
-ghost use Rattle.roll_out.specs.Plans.{AreFew, IsBetween, changes_at, changes_by, changes_if, copies_with};
+ghost use Rattle.roll_out.specs.Plans.{AreFew, IsBetween, changes_by, changes_if};
 
 use crate::copies::Copies;
 use crate::network::TimedNetwork;

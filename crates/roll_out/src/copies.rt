@@ -1,5 +1,5 @@
 // Where the copies of periodic events are among the events of a day.
-ghost use Rattle.std.specs.Prelude.{◌≡◌, ◌+◌, ◌≤◌, ◌<◌, ◌++◌, length, All, IfOk, OnOk};
+ghost use Rattle.std.specs.Prelude.{◌≡◌, ◌+◌, ◌≤◌, ◌<◌, ◌++◌, All, IfOk, OnOk};
 ghost use Rattle.std.specs.Option.{option_to_list};
 ghost use Rattle.roll_out.specs.Plans.{AreFew, IsPlan, copies_by, copy_id, copy_time, event_total, ids_at, plan_copies, trip_total};
 

@@ -2,7 +2,6 @@
 ghost use Rattle.std.specs.Prelude.{◌≡◌, ◌≤◌};
 ghost use Rattle.giv_files.specs.declared.stage.Stage.TheVariants as stages;
 ghost use Rattle.giv_files.specs.Settings.{Fits};
-ghost use Rattle.roll_out.specs.DayTrips.{first_time};
 ghost use Rattle.roll_out.specs.Plans.{IsDay, first_start, start_count};
 ghost use Rattle.roll_out.specs.RolloutStage.{day_in};
 

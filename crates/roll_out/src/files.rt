@@ -21,7 +21,8 @@ pub(crate) fn rollout_made(
     activities: &[ExpandedActivity],
     trips: &[Trip],
 ) -> Result<Made, NoMemory>
-    requires events { All (λ row. InColumns events_x_columns (expanded_event_cells row)) events.now }
+    requires events { All
+        (λ row. InColumns events_x_columns (expanded_event_cells row)) events.now }
     requires activities { All (λ row. InColumns activities_x_columns
         (expanded_activity_cells row)) activities.now }
     requires trips { All (λ row. InColumns trips_columns (trip_cells row)) trips.now }

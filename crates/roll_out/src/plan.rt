@@ -1,8 +1,8 @@
 // Runs with their times, and how often they start in a day.
-ghost use Rattle.std.specs.Prelude.{◌≡◌, ◌+◌, ◌≤◌, ◌∷◌, drop, length, map, find, All, IfOk, IfSome};
-ghost use Rattle.std.specs.List.{flat_map};
-ghost use Rattle.roll_out.specs.Plans.{IsBetween, IsDay, IsPlan, IsTimed, event_total, plan_of, trip_total};
+ghost use Rattle.std.specs.Prelude.{◌≡◌, ◌+◌, ◌≤◌, length, map, find, All, IfOk, IfSome};
+ghost use Rattle.roll_out.specs.Plans.{IsBetween, IsDay, plan_of};
 ghost use Rattle.roll_out.specs.TimedRuns.{timed_from, minutes_on, way_on};
+ghost use Rattle.event_tables.specs.Places.{IsOneOf};
 ghost use Rattle.event_tables.specs.RunRules.{leads};
 
 use crate::day::Day;
@@ -15,8 +15,8 @@ use plan_num::NoMemory;
 use std::alloc::Global;
 use std::marker::Model;
 
-/// The events of a run with their minutes, the time of its first start in a day, and how many starts
-/// there are. Contracts see it as these three.
+/// The events of a run with their minutes, the time of its first start in a day, and how many
+/// starts there are. Contracts see it as these three.
 #[derive(Debug, Drop)]
 pub(crate) struct RunPlan {
     events: Vec<TimedEvent>,
@@ -65,7 +65,7 @@ pub(crate) fn run_plans(
 ) -> Result<Vec<RunPlan>, NoMemory>
     requires day { IsDay day.now }
     requires runs { All (λ run. (1 ≤ length run) × (length run ≤ 4000)) runs.now }
-    requires there { All (All (λ event. (1 ≤ event.id) × (event.id ≤ length network.now.events))) runs.now }
+    requires there { All (All (λ event. IsOneOf (length network.now.events) event.id)) runs.now }
     ensures { IfOk result (λ plans. plans.items ≡ map (plan_of network.now day.now) runs.now) }
 {
     let mut plans = Vec::new(alloc);
@@ -85,7 +85,7 @@ fn run_plan(
     requires day { IsDay day.now }
     requires some { 1 ≤ length run.now }
     requires few { length run.now ≤ 4000 }
-    requires there { All (λ event. (1 ≤ event.id) × (event.id ≤ length network.now.events)) run.now }
+    requires there { All (λ event. IsOneOf (length network.now.events) event.id) run.now }
     ensures { IfOk result (λ plan. plan ≡ plan_of network.now day.now run.now) }
 {
     let events = timed_events(alloc, network, run)?;

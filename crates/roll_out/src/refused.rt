@@ -1,5 +1,5 @@
 // Refusals by the rules of runs, and of lists that would be too long.
-ghost use Rattle.std.specs.Prelude.{◌≡◌, ◌<◌, ◌≤◌, ◌^◌, [], length, Some, slice_get, IfErr, IfOk, All};
+ghost use Rattle.std.specs.Prelude.{◌≡◌, ◌<◌, ◌^◌, [], length, Some, All};
 ghost use Rattle.giv_files.specs.declared.counted.Counted.{Counted};
 ghost use Rattle.giv_files.specs.declared.refusal.Refusal.TheVariants as refusals;
 ghost use Rattle.giv_files.specs.declared.refusal.StageFault.TheVariants as faults;
@@ -13,9 +13,7 @@ ghost use Rattle.pesp_model.specs.PespTexts.{activities_of, events_of};
 ghost use Rattle.roll_out.specs.RolloutStage.{faults_at};
 
 use event_tables::PeriodicEvent;
-use giv_files::{
-    ColumnKind, Counted, FileId, Refusal, RowWhy, StageFault, columns, read_input,
-};
+use giv_files::{ColumnKind, Counted, FileId, Refusal, RowWhy, StageFault, columns, read_input};
 use std::alloc::Global;
 
 /// Refuses the row of the first of some periodic events by their ids, if there is one.
@@ -47,7 +45,14 @@ pub(crate) fn no_activity_at(
     ensures { UnlessFault (faults_at files.ActivitiesP activities_p_columns text.now why ids.now)
         (λ _. ids.now ≡ []) result }
 {
-    none_at(alloc, FileId::ActivitiesP, text, &columns!(ActivitiesP), why, ids)
+    none_at(
+        alloc,
+        FileId::ActivitiesP,
+        text,
+        &columns!(ActivitiesP),
+        why,
+        ids,
+    )
 }
 
 // Refuses the row of the first of some ids, which are places of rows, from 1.
@@ -62,7 +67,8 @@ fn none_at<const C: usize>(
     requires narrow { C < 2 ^ 32 }
     requires read { cell_faults file kinds.now text.now ≡ [] }
     requires there { All (IsOneOf (length (table_of kinds.now text.now))) ids.now }
-    ensures { UnlessFault (faults_at file kinds.now text.now why ids.now) (λ _. ids.now ≡ []) result }
+    ensures { UnlessFault (faults_at file kinds.now text.now why ids.now)
+        (λ _. ids.now ≡ []) result }
 {
     match ids.first() {
         None => Ok(()),

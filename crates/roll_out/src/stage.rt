@@ -1,12 +1,11 @@
 // The stage that rolls a timetable out over a day.
-ghost use Rattle.std.specs.Prelude.{◌≡◌, ◌≤◌, [], length, map, All, IfOk};
+ghost use Rattle.std.specs.Prelude.{◌≡◌, [], IfOk};
 ghost use Rattle.giv_files.specs.declared.stage.Stage.TheVariants as stages;
 ghost use Rattle.giv_files.specs.Inputs.{UnlessFault};
 ghost use Rattle.giv_files.specs.Settings.{Fits};
 ghost use Rattle.giv_files.specs.StageCalls.{StageGives, TakesSteps};
 ghost use Rattle.event_tables.specs.PeriodicRuns.{runs_of};
-ghost use Rattle.roll_out.specs.DayTrips.{trips_of};
-ghost use Rattle.roll_out.specs.Plans.{ArePlans, IsDay, IsPlan, plan_of, trips_by};
+ghost use Rattle.roll_out.specs.Plans.{ArePlans, trips_by};
 ghost use Rattle.roll_out.specs.RightRollout.{RolloutIsRight};
 ghost use Rattle.roll_out.specs.RolloutStage.{file_faults, long_lists, made_of, network_in, rollout_stage, run_faults};
 
@@ -31,8 +30,8 @@ const MOST_EVENTS: usize = 100_000;
 
 const MOST_ACTIVITIES: usize = 500_000;
 
-/// The trips of a day, their events and the activities between them, from the settings and the texts
-/// of periodic events, activities and times. It takes one step.
+/// The trips of a day, their events and the activities between them, from the settings and the
+/// texts of periodic events, activities and times. It takes one step.
 pub fn make_rollout<L: Ledger>(
     alloc: Global,
     bundle: &Bundle,

@@ -1,5 +1,5 @@
 // The trips of a day, and their events.
-ghost use Rattle.std.specs.Prelude.{◌≡◌, ◌+◌, ◌*◌, ◌≤◌, ◌<◌, ◌++◌, length, map, All, IfOk, OnOk};
+ghost use Rattle.std.specs.Prelude.{◌≡◌, ◌+◌, ◌*◌, ◌≤◌, ◌<◌, ◌++◌, length, All, IfOk, OnOk};
 ghost use Rattle.roll_out.specs.DayTrips.{day_events, day_event, trip_events, trip_end_at, trip_row};
 ghost use Rattle.roll_out.specs.Plans.{IsPlan, IsTrip, event_total, plan_trips, trip_total, trips_by};
 ghost use Rattle.roll_out.specs.RolloutStage.{trip_rows};

@@ -24,12 +24,14 @@ use Rattle.event_activity.proofs.EanNames.{ean_names_network}
 use Rattle.event_activity.proofs.EanReads.{ean_is_right}
 use Rattle.pesp_search.proofs.TimetableMakes.{timetable_names_none, timetable_stage_makes}
 use Rattle.pesp_search.proofs.TimetableReads.{timetable_is_right}
+use Rattle.roll_out.proofs.RolloutMakes.{rollout_names_none, rollout_stage_makes}
+use Rattle.roll_out.proofs.RolloutReads.{rollout_is_right}
 use Rattle.stage_driver.specs.Built.{built, stage_function, run_stage}
 use Rattle.stage_driver.specs.Chain.{stage_place}
 use Rattle.stage_driver.specs.Hand.{is_hand, is_hand_file}
 use Rattle.stage_driver.specs.Right.{IsRightAs}
 use Rattle.stage_driver.proofs.OneLook.{AreRightOver, bundle_over, loads_accepted, costs_accepted}
-use Rattle.stage_driver.proofs.OneLook.{concept_accepted, periodic_accepted}
+use Rattle.stage_driver.proofs.OneLook.{concept_accepted, day_accepted, periodic_accepted}
 
 -- the stages that are built and run before one
 abbrev pub earlier : Stage → List Stage
@@ -60,6 +62,7 @@ stage_laws stage.Cost = record { makes = cost_stage_makes; right = costs_are_rig
 stage_laws stage.Concept = record { makes = concept_stage_makes; right = concept_is_right; refuses = λ values look reason right. concept_stage_names is_hand_file refl refl refl (bundle_over values look stage.Concept) (loads_accepted values look right.0) (costs_accepted values look right.1.0) reason }
 stage_laws stage.Ean = record { makes = ean_stage_makes; right = ean_is_right; refuses = λ values look reason right. ean_names_network is_hand_file refl refl (bundle_over values look stage.Ean) reason (concept_accepted values look right.1.1.0) }
 stage_laws stage.Timetable = record { makes = timetable_stage_makes; right = timetable_is_right; refuses = λ values look reason right. timetable_names_none is_hand_file (bundle_over values look stage.Timetable) reason (periodic_accepted values look right.1.1.1.0) }
+stage_laws stage.Rollout = record { makes = rollout_stage_makes; right = rollout_is_right; refuses = λ values look reason right. rollout_names_none is_hand_file (bundle_over values look stage.Rollout) reason (day_accepted values look right.1.1.1.0 right.1.1.1.1.0) }
 stage_laws _ = record { makes = λ bundle made is. absurd (cc); right = λ bundle made same fits is. absurd (cc); refuses = λ values look reason _ is. not_built _ reason refl is }
 
 -- the same of what is made of a bundle

@@ -5,10 +5,13 @@ use Rattle.giv_files.specs.declared.file_id.FileId.TheVariants as file
 use Rattle.giv_files.specs.declared.made.MadeFile.{MadeFile}
 use Rattle.giv_files.specs.declared.stage.Stage.{Stage}
 use Rattle.giv_files.specs.declared.stage.Stage.TheVariants as stage
+use Rattle.giv_files.specs.declared.key.Key.TheVariants as key
 use Rattle.giv_files.specs.Inputs.{input_faults}
+use Rattle.giv_files.specs.Keys.{stage_keys}
 use Rattle.giv_files.specs.MadeLists.{MakesAs, ids_of}
-use Rattle.giv_files.specs.Settings.{BundleParts}
+use Rattle.giv_files.specs.Settings.{BundleParts, amount}
 use Rattle.giv_files.specs.Stages.{stage_inputs}
+use Rattle.config_keys.specs.Config.{part_of}
 use Rattle.demand_load.specs.RightLoads.{LoadFilesAreRight}
 use Rattle.ptn_network.specs.Loads.{load_input}
 use Rattle.ptn_network.specs.Networks.{NetworkParts, network_of}
@@ -16,9 +19,12 @@ use Rattle.line_pool.specs.PoolCosts.{pool_cost_input}
 use Rattle.line_pool.specs.Pools.{concept_faults, pool_of}
 use Rattle.line_pool.specs.RightCosts.{CostFilesAreRight}
 use Rattle.line_search.specs.RightConcepts.{ConceptFilesAreRight, mark_files}
+use Rattle.event_tables.specs.PeriodicFiles.{periodic_event_ids, periodic_time_input}
 use Rattle.event_activity.specs.RightEan.{EanFilesAreRight, EanIsAccepted}
-use Rattle.pesp_model.specs.PespTexts.{events_of, problem_faults}
+use Rattle.pesp_model.specs.PespTexts.{activities_of, events_of, problem_faults}
+use Rattle.pesp_search.specs.RightTimetables.{TimetableFilesAreRight}
 use Rattle.pesp_search.specs.TimetableStage.{timetable_faults}
+use Rattle.roll_out.specs.RolloutStage.{rollout_faults, times_in}
 use Rattle.stage_driver.specs.Chain.{bundle_for, chosen}
 use Rattle.stage_driver.specs.Checks.{first_text}
 use Rattle.stage_driver.specs.Right.{IsRightAs}
@@ -107,3 +113,29 @@ module _ (values : List ℤ) (look : FileId → List ℕ) where
       let accepted = subst (λ text. EanIsAccepted text (look file.ActivitiesP)) both.0
       (subst (EanIsAccepted right.events) both.1 right.accepted) in
       rw (accepted.events_fine, accepted.activities_fine) refl
+
+  -- the period is the same for each stage that has it
+  same_period : amount (part_of values stage.Timetable) key.PeriodLength
+      ≡ amount (part_of values stage.Rollout) key.PeriodLength
+  unfolding stage_keys
+  same_period = refl
+
+  times_accepted : IsRightOver values look stage.Timetable
+      → input_faults (times_in (bundle_over values look stage.Rollout)) (look file.TimesP) ≡ []
+  times_accepted times =
+      let right : TimetableFilesAreRight (bundle_over values look stage.Timetable) (files_over look times.ids) = times.right in
+      subst (λ text. input_faults (times_in (bundle_over values look stage.Rollout)) text ≡ [])
+      (first_own look file.TimesP times.ids right.text [] right.one)
+      (subst (λ period. input_faults (periodic_time_input file.TimesP period (periodic_event_ids (events_of (look file.EventsP)))) right.text ≡ [])
+      same_period right.accepted)
+
+  pub day_accepted : IsRightOver values look stage.Ean → IsRightOver values look stage.Timetable
+      → rollout_faults (bundle_over values look stage.Rollout) ≡ []
+  unfolding events_of activities_of
+  day_accepted ean times =
+      let right : EanFilesAreRight (bundle_over values look stage.Ean) (files_over look ean.ids) = ean.right in
+      let both = both_own look file.EventsP file.ActivitiesP ean.ids right.events right.activities right.both in
+      let accepted = subst (λ text. EanIsAccepted text (look file.ActivitiesP)) both.0
+      (subst (EanIsAccepted right.events) both.1 right.accepted) in
+      let runs = accepted.runs_fine in
+      rw (periodic_accepted ean, times_accepted times) (rw (runs.whole, runs.joined, runs.placed) refl)

@@ -7,7 +7,8 @@ use Rattle.roll_out.proofs.changes.count_copies.Goals as goal
 pub loop-earlier-preserved : goal.loop-earlier-preserved
 loop-earlier-preserved c = record {
   told = parts_counted (changes_at c.args.network.now c.args.copies.now c.args.activity.now)
-      c.loop-earlier.earlier c.loop-earlier.count c.count_of-count.result c.loop-earlier.invariant.told
+      c.loop-earlier.earlier c.loop-earlier.count c.count_of-count.result
+      c.loop-earlier.invariant.told
       (c.count_of-count.ensures.count
       ∙ change_size c.args.network.now c.args.copies.now c.args.activity.now c.loop-earlier.earlier
       (option_to_list c.id_at.result) c.period-period.result c.time.result

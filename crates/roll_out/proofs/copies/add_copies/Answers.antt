@@ -1,4 +1,4 @@
-use Rattle.std.proofs.Common.{◌≡◌, ◌+◌, ◌++◌, length, map, take, get_or, ap, sym, arith, ◌∙◌}
+use Rattle.std.proofs.Common.{◌+◌, ◌++◌, length, map, take, get_or, ap, sym, arith, ◌∙◌}
 use Rattle.std.specs.List.{enumerate_from}
 use Rattle.roll_out.specs.DayTrips.{no_timed}
 use Rattle.roll_out.specs.Plans.{copies_at}
@@ -19,8 +19,10 @@ loop-place-preserved c =
     c.loop-place.invariant
     (copies_is c.args.first c.loop-place.place _ _ _ (get_or run c.loop-place.place no_timed)
     c.args.plan.now (ap length c.events-run.ensures)
-    (ap (λ n. n + (get_or c.events-run.result.now c.loop-place.place no_timed).minutes) c.start-start.ensures
-    ∙ ap (λ some. c.args.plan.now.start + (get_or some c.loop-place.place no_timed).minutes) c.events-run.ensures)
+    (ap (λ n. n + (get_or c.events-run.result.now c.loop-place.place no_timed).minutes)
+    c.start-start.ensures
+    ∙ ap (λ some. c.args.plan.now.start + (get_or some c.loop-place.place no_timed).minutes)
+    c.events-run.ensures)
     c.trips-count.ensures) c.in_ok-push.ensures.items
     ∙ ap (λ some. old ++ map f some) (sym more)
 

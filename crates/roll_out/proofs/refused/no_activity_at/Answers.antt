@@ -7,6 +7,13 @@ use Rattle.roll_out.proofs.refused.no_activity_at.Goals as goal
 pub none_at-requires : goal.none_at-requires
 none_at-requires c = (
   omega arith,
-  (lit< tt, (cells_fine (periodic_activity_input (periodic_event_ids c.args.events.now)) c.args.text.now c.requires.read,
-  subst (λ n. All (IsOneOf n) c.args.ids.now) (activities_counted c.args.events.now c.args.text.now) c.requires.there)),
+  (
+    lit< tt,
+    (
+      cells_fine (periodic_activity_input (periodic_event_ids c.args.events.now)) c.args.text.now
+          c.requires.read,
+      subst (λ n. All (IsOneOf n) c.args.ids.now)
+          (activities_counted c.args.events.now c.args.text.now) c.requires.there,
+    ),
+  ),
 )

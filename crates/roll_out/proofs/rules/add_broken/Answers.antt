@@ -16,12 +16,14 @@ loop-place-preserved c =
     let passed : c.breaks.result ≡ test (0 + place, get_or run place no_event) =
     c.breaks.ensures ∙ ap (λ k. test (k, get_or run place no_event)) (sym zero_place) in
     added_test old c.loop-place.ids.items c.add_if.new.ids.items test (λ at. at.1)
-    (take place (enumerate_from 0 run)) (0 + place, get_or run place no_event) c.loop-place.invariant
+    (take place (enumerate_from 0 run)) (0 + place, get_or run place no_event)
+    c.loop-place.invariant
     c.breaks.result passed c.in_ok-add_if.ensures
     ∙ ap (λ some. old ++ ids_where test (λ at. at.1) some) (sym more)
 
 pub returns : goal.returns
 returns c =
     c.loop-place.invariant
-    ∙ ap (λ some. c.args.ids.now.items ++ ids_where (breaks (length c.args.run.now)) (λ at. at.1) some)
+    ∙ ap (λ some. c.args.ids.now.items ++ ids_where (breaks (length c.args.run.now)) (λ at. at.1)
+    some)
     (enumerated_all 0 c.args.run.now c.loop-place.place (omega (arith, c.loop-place-test.false)))

@@ -1,4 +1,4 @@
-use Rattle.std.proofs.Common.{◌++◌, ◌-◌, length, take, get_or, ap, sym, arith, ◌∙◌}
+use Rattle.std.proofs.Common.{◌++◌, ◌-◌, take, get_or, ap, sym, arith, ◌∙◌}
 use Rattle.event_tables.specs.PeriodicRuns.{neighbours}
 use Rattle.event_tables.specs.RunRules.{lacks_way}
 use Rattle.roll_out.specs.TimedRuns.{no_event}
@@ -21,5 +21,6 @@ loop-place-preserved c =
 pub returns : goal.returns
 returns c =
     c.loop-place.invariant
-    ∙ ap (λ some. c.args.ids.now.items ++ ids_where (lacks_way c.args.activities.now) (λ pair. pair.0) some)
+    ∙ ap (λ some. c.args.ids.now.items ++ ids_where (lacks_way c.args.activities.now)
+    (λ pair. pair.0) some)
     (neighbours_all c.args.run.now c.loop-place.place c.loop-place-test.false)

@@ -6,5 +6,6 @@ use Rattle.roll_out.proofs.run.runs_of.Goals as goal
 pub returns : goal.returns
 returns c =
     sym (append-nil c.loop-rest.runs.items)
-    ∙ ap (λ ys. c.loop-rest.runs.items ++ ys) (sym (no_runs c.loop-rest.rest.now (sym c.loop-rest-test.ensures)))
+    ∙ ap (λ ys. c.loop-rest.runs.items ++ ys)
+    (sym (no_runs c.loop-rest.rest.now (sym c.loop-rest-test.ensures)))
     ∙ c.loop-rest.invariant

@@ -32,7 +32,8 @@ returns-in_err-no_event_at c =
     let are = c.deref.ensures.value ∙ c.in_ok-broken.ensures
     ∙ ap (λ runs. map event_id (flat_map broken_in runs)) c.requires.runs
     ∙ ap (λ n. map event_id (broken_events n.events)) c.requires.network in
-    rw (p.1, p.2) (run_refused c.args.bundle.now c.deref.result.now c.in_err-no_event_at.field-0.0 are
+    rw (p.1, p.2) (run_refused c.args.bundle.now c.deref.result.now c.in_err-no_event_at.field-0.0
+    are
     (rw c.input-text.ensures at c.in_err-no_event_at.ensures))
 
 pub no_event_at-requires-2-clause-read : goal.no_event_at-requires-2-clause-read
@@ -44,7 +45,8 @@ no_event_at-requires-2-clause-there c =
     let events = c.args.network.now.events in
     let activities = c.args.network.now.activities in
     let are = c.deref-2.ensures.value ∙ c.in_ok-unjoined.ensures
-    ∙ ap (λ some. map event_id (flat_map (unjoined_in some) c.args.runs.now)) c.activities.ensures.activities
+    ∙ ap (λ some. map event_id (flat_map (unjoined_in some) c.args.runs.now))
+    c.activities.ensures.activities
     ∙ ap (λ runs. map event_id (flat_map (unjoined_in activities) runs)) c.requires.runs in
     let same = ap (λ n. length n.events) c.requires.network
     ∙ ap (λ text. length (events_of text)) (sym c.input-text.ensures) in
@@ -60,10 +62,13 @@ returns-in_err-no_event_at-2 c =
     ∙ ap (λ runs. map event_id (flat_map broken_in runs)) c.requires.runs
     ∙ ap (λ n. map event_id (broken_events n.events)) c.requires.network in
     let are = c.deref-2.ensures.value ∙ c.in_ok-unjoined.ensures
-    ∙ ap (λ some. map event_id (flat_map (unjoined_in some) c.args.runs.now)) c.activities.ensures.activities
-    ∙ ap (λ runs. map event_id (flat_map (unjoined_in c.args.network.now.activities) runs)) c.requires.runs
+    ∙ ap (λ some. map event_id (flat_map (unjoined_in some) c.args.runs.now))
+    c.activities.ensures.activities
+    ∙ ap (λ runs. map event_id (flat_map (unjoined_in c.args.network.now.activities) runs))
+    c.requires.runs
     ∙ ap (λ n. map event_id (unjoined_events n.events n.activities)) c.requires.network in
-    rw (p.1, p.2) (event_refused c.args.bundle.now c.deref.result.now first c.in_ok-no_event_at.ensures.1
+    rw (p.1, p.2) (event_refused c.args.bundle.now c.deref.result.now first
+    c.in_ok-no_event_at.ensures.1
     c.deref-2.result.now c.in_err-no_event_at-2.field-0.0 are
     (rw c.input-text.ensures at c.in_err-no_event_at-2.ensures))
 
@@ -77,12 +82,17 @@ no_activity_at-requires-clause-there c =
     let events = c.args.network.now.events in
     let activities = c.args.network.now.activities in
     let are = c.deref-3.ensures.value ∙ c.in_ok-stray.ensures
-    ∙ ap (λ some. map activity_id (stray_activities some c.activities-2.result.now)) c.events-events.ensures.events
-    ∙ ap (λ some. map activity_id (stray_activities events some)) c.activities-2.ensures.activities in
+    ∙ ap (λ some. map activity_id (stray_activities some c.activities-2.result.now))
+    c.events-events.ensures.events
+    ∙ ap (λ some. map activity_id (stray_activities events some))
+    c.activities-2.ensures.activities in
     let same = ap (λ n. length n.activities) c.requires.network
-    ∙ ap (λ n. length (activities_of n.events (input_text c.args.bundle.now 1))) (sym c.requires.network)
-    ∙ ap (λ some. length (activities_of some (input_text c.args.bundle.now 1))) (sym c.events-events.ensures.events)
-    ∙ ap (λ text. length (activities_of c.events-events.result.now text)) (sym c.input-text-2.ensures) in
+    ∙ ap (λ n. length (activities_of n.events (input_text c.args.bundle.now 1)))
+    (sym c.requires.network)
+    ∙ ap (λ some. length (activities_of some (input_text c.args.bundle.now 1)))
+    (sym c.events-events.ensures.events)
+    ∙ ap (λ text. length (activities_of c.events-events.result.now text))
+    (sym c.input-text-2.ensures) in
     subst (λ n. All (IsOneOf n) c.deref-3.result.now) same
     (subst (All (IsOneOf (length activities))) (sym are)
     (stray_ids events activities c.events-events.ensures.sound.activities_are.numbered))
@@ -93,12 +103,16 @@ returns c =
     ∙ ap (λ runs. map event_id (flat_map broken_in runs)) c.requires.runs
     ∙ ap (λ n. map event_id (broken_events n.events)) c.requires.network in
     let second = c.deref-2.ensures.value ∙ c.in_ok-unjoined.ensures
-    ∙ ap (λ some. map event_id (flat_map (unjoined_in some) c.args.runs.now)) c.activities.ensures.activities
-    ∙ ap (λ runs. map event_id (flat_map (unjoined_in c.args.network.now.activities) runs)) c.requires.runs
+    ∙ ap (λ some. map event_id (flat_map (unjoined_in some) c.args.runs.now))
+    c.activities.ensures.activities
+    ∙ ap (λ runs. map event_id (flat_map (unjoined_in c.args.network.now.activities) runs))
+    c.requires.runs
     ∙ ap (λ n. map event_id (unjoined_events n.events n.activities)) c.requires.network in
     let are = c.deref-3.ensures.value ∙ c.in_ok-stray.ensures
-    ∙ ap (λ some. map activity_id (stray_activities some c.activities-2.result.now)) c.events-events.ensures.events
-    ∙ ap (λ some. map activity_id (stray_activities c.args.network.now.events some)) c.activities-2.ensures.activities
+    ∙ ap (λ some. map activity_id (stray_activities some c.activities-2.result.now))
+    c.events-events.ensures.events
+    ∙ ap (λ some. map activity_id (stray_activities c.args.network.now.events some))
+    c.activities-2.ensures.activities
     ∙ ap (λ n. map activity_id (stray_activities n.events n.activities)) c.requires.network in
     activities_told c.args.bundle.now c.deref.result.now first c.in_ok-no_event_at.ensures.1
     c.deref-2.result.now second c.in_ok-no_event_at-2.ensures.1 c.deref-3.result.now

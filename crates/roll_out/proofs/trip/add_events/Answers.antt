@@ -1,4 +1,4 @@
-use Rattle.std.proofs.Common.{◌≡◌, ◌+◌, ◌++◌, length, map, take, get_or, ap, sym, arith, ◌∙◌}
+use Rattle.std.proofs.Common.{◌+◌, ◌++◌, length, map, take, get_or, ap, sym, arith, ◌∙◌}
 use Rattle.std.specs.List.{enumerate_from}
 use Rattle.roll_out.specs.DayTrips.{day_event, no_timed}
 use Rattle.roll_out.proofs.Added.{enumerated_more, enumerated_all, added_one}
@@ -17,12 +17,18 @@ loop-place-preserved c =
     (first + c.loop-place.place, get_or run c.loop-place.place no_timed) _
     c.loop-place.invariant
     (c.day_event.ensures
-    ∙ ap (λ n. day_event n (c.first-first.result + c.loop-place.place,
-    get_or c.run-run.result.now c.loop-place.place no_timed)) c.start-start.ensures
-    ∙ ap (λ n. day_event c.args.trip.now.start (n + c.loop-place.place,
-    get_or c.run-run.result.now c.loop-place.place no_timed)) c.first-first.ensures
-    ∙ ap (λ some. day_event c.args.trip.now.start (first + c.loop-place.place,
-    get_or some c.loop-place.place no_timed)) c.run-run.ensures) c.in_ok-push.ensures.items
+    ∙ ap (λ n. day_event n (
+      c.first-first.result + c.loop-place.place,
+      get_or c.run-run.result.now c.loop-place.place no_timed,
+    )) c.start-start.ensures
+    ∙ ap (λ n. day_event c.args.trip.now.start (
+      n + c.loop-place.place,
+      get_or c.run-run.result.now c.loop-place.place no_timed,
+    )) c.first-first.ensures
+    ∙ ap (λ some. day_event c.args.trip.now.start (
+      first + c.loop-place.place,
+      get_or some c.loop-place.place no_timed,
+    )) c.run-run.ensures) c.in_ok-push.ensures.items
     ∙ ap (λ some. old ++ map f some) (sym more)
 
 pub returns : goal.returns

@@ -1,4 +1,4 @@
-use Rattle.std.proofs.Common.{◌≡◌, ◌++◌, length, map, ap, sym, arith, ◌∙◌}
+use Rattle.std.proofs.Common.{◌++◌, length, map, ap, sym, arith, ◌∙◌}
 use Rattle.std.specs.List.{range_with_len}
 use Rattle.roll_out.specs.Plans.{trip_after}
 use Rattle.roll_out.proofs.Added.{added_one, range_more}

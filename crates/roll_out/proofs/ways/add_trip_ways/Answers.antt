@@ -1,4 +1,4 @@
-use Rattle.std.proofs.Common.{◌≡◌, ℕ, ◌+◌, ◌++◌, length, take, get_or, ap, sym, arith, ◌∙◌}
+use Rattle.std.proofs.Common.{ℕ, ◌+◌, ◌++◌, length, take, get_or, ap, sym, arith, ◌∙◌}
 use Rattle.std.specs.List.{enumerate_from, flat_map}
 use Rattle.roll_out.specs.declared.timed_event.TimedEvent.{TimedEvent}
 use Rattle.roll_out.specs.DayActivities.{way_from}
@@ -28,6 +28,7 @@ loop-place-preserved c =
 pub returns : goal.returns
 returns c =
     c.loop-place.invariant
-    ∙ ap (λ some. c.args.activities.now.items ++ flat_map (λ (at : ℕ × TimedEvent). way_from at.0 at.1.way) some)
+    ∙ ap (λ some. c.args.activities.now.items
+    ++ flat_map (λ (at : ℕ × TimedEvent). way_from at.0 at.1.way) some)
     (enumerated_all c.args.trip.now.first c.args.trip.now.run c.loop-place.place
     (omega (arith, ap length c.run-run.ensures, c.loop-place-test.false)))

@@ -45,10 +45,15 @@ returns-clause-read c =
     (input_text c.args.bundle.now 1) ≡ []) same rows.0 in (
       all_fine c.args.bundle.now c.deref-2.result.now read.0 (c.deref-2.ensures.value ∙ read.1)
           fine c.period_of-period.result c.period_of-period.ensures.value times.0,
-      ap (λ some. record { period = c.period_of-period.result; events = some;
-      activities = c.in_ok-activities.activities.items; times = c.in_ok-times.times.items })
-      (sym c.deref-2.ensures.value)
-      ∙ network_is c.args.bundle.now c.deref-2.result.now read.0 (c.deref-2.ensures.value ∙ read.1)
+      ap (λ some. record {
+        period = c.period_of-period.result;
+        events = some;
+        activities = c.in_ok-activities.activities.items;
+        times = c.in_ok-times.times.items;
+      })
+          (sym c.deref-2.ensures.value)
+          ∙ network_is c.args.bundle.now c.deref-2.result.now read.0
+          (c.deref-2.ensures.value ∙ read.1)
           fine c.period_of-period.result c.period_of-period.ensures.value
           c.in_ok-activities.activities.items c.in_ok-times.times.items
           (rows.1 ∙ ap (λ some. records_of (periodic_activity_input (periodic_event_ids some))

@@ -1,0 +1,30 @@
+-- Activities with their places as ids.
+use Rattle.std.proofs.Common.{◌≡◌, ℕ, ◌+◌, List, [], ◌∷◌, length, map, refl, ap}
+use Rattle.std.specs.List.{AllByRecursion, enumerate_from, range_with_len}
+use Rattle.event_tables.specs.declared.expanded_activity.ExpandedActivity.{ExpandedActivity}
+use Rattle.event_tables.specs.declared.expanded_event.ExpandedEvent.{ExpandedEvent}
+use Rattle.event_tables.specs.ExpandedFiles.{IsExpandedActivity}
+use Rattle.roll_out.specs.DayActivities.{with_number}
+
+-- their ids are these places
+pub numbers_are : (n : ℕ) (plain : List ExpandedActivity)
+    → map (λ (row : ExpandedActivity). row.id) (map with_number (enumerate_from n plain))
+    ≡ range_with_len n (length plain)
+numbers_are n [] = refl
+numbers_are n (row ∷ plain) = ap (λ ids. n ∷ ids) (numbers_are (n + 1) plain)
+
+-- an activity is accepted whatever its number
+pub numbered_good : (events : List ExpandedEvent) (n : ℕ) (plain : List ExpandedActivity)
+    → AllByRecursion (IsExpandedActivity events) plain
+    → AllByRecursion (IsExpandedActivity events) (map with_number (enumerate_from n plain))
+numbered_good events n [] good = tt
+numbered_good events n (row ∷ plain) good = (
+  record {
+    from = good.0.from;
+    to = good.0.to;
+    in_order = good.0.in_order;
+    no_sync = good.0.no_sync;
+    forward = good.0.forward;
+  },
+  numbered_good events (n + 1) plain good.1,
+)
