@@ -1,0 +1,5 @@
+mod DeadLookups
+pub mod Following
+pub mod Linking
+mod Tried
+mod TripTexts

@@ -1,0 +1,7 @@
+use Rattle.std.proofs.Common.{◌≡◌, true, Some, sym, ◌∙◌, ap, is_some, refl}
+use Rattle.vehicle_model.proofs.Following.{some_of, follow_of}
+use Rattle.vehicle_model.proofs.trips.Trips.may_follow.Goals as goal
+
+pub returns-clause-follows : goal.returns-clause-follows
+returns-clause-follows c = follow_of c.args.self.now c.args.i c.args.j c.link_minutes.result c.is_some.result
+    c.is_some.ensures c.link_minutes.ensures.follows c.link_minutes.ensures.all

@@ -1,0 +1,6 @@
+pub mod DeadTables
+pub mod PlanFaults
+pub mod Plans
+pub mod ReadSchedules
+pub mod Schedules
+pub mod Trips
