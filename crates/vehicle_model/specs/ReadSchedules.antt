@@ -64,14 +64,9 @@ follows_empty None row = false
 follows_empty (Some before) row = is_empty_row before && is_next_row before row
 
 -- a trip that is there, and has not come before
-abbrev pub is_new : List ℕ → Option ℕ → Bool
-is_new seen None = false
-is_new seen (Some i) = not (list_any (nat_eq i) seen)
-
--- the row of a trip begins a vehicle, or stands behind an empty ride, and its trip is new
-abbrev pub trip_fits : TripsParts → Reading → ScheduleRow → Bool
-trip_fits trips read row = (begins read.before row || follows_empty read.before row)
-    && is_new read.seen (trip_in trips row)
+abbrev pub is_new : (ℕ → Bool) → Option ℕ → Bool
+is_new has_come None = false
+is_new has_come (Some i) = not (has_come i)
 
 -- an empty ride leaves where and when a trip ends, and has line 0
 abbrev pub leaves : Trip → Trip → Bool
@@ -100,57 +95,74 @@ leads_to trips (Some i) row (Some after) = (after.vehicle == row.vehicle) && is_
     && is_ride trips i row.run (trip_in trips after)
 leads_to trips _ row _ = false
 
--- the last of the trips that rows repeat
+-- the row of a trip begins a vehicle, or stands behind an empty ride, and its trip is new
+abbrev pub trip_fits : TripsParts → Option ScheduleRow → (ℕ → Bool) → ScheduleRow → Bool
+trip_fits trips before has_come row =
+    (begins before row || follows_empty before row) && is_new has_come (trip_in trips row)
+
+-- the row of an empty ride stands between two trips of its vehicle
+abbrev pub empty_fits : TripsParts → Option ScheduleRow → Option ℕ → ScheduleRow → Option ScheduleRow
+    → Bool
+empty_fits trips before last row after = follows_trip before row && leads_to trips last row after
+
+-- a row has the form that is due behind another row, where some trips have come and one of them last,
+-- and before the row behind it
+abbrev pub row_fits : TripsParts → Option ScheduleRow → Option ℕ → (ℕ → Bool) → ScheduleRow
+    → Option ScheduleRow → Bool
+row_fits trips before last has_come row after = (row.circulation == row.vehicle)
+    && (if is_empty_row row then empty_fits trips before last row after
+        else trip_fits trips before has_come row)
+
+-- the last of the trips that rows repeat, and whether they repeat one
 abbrev pub last_seen : Reading → Option ℕ
 last_seen read = slice_get read.seen 0
 
--- the row of an empty ride stands between two trips of its vehicle
-abbrev pub empty_fits : TripsParts → Reading → ScheduleRow → Option ScheduleRow → Bool
-empty_fits trips read row after =
-    follows_trip read.before row && leads_to trips (last_seen read) row after
+abbrev pub has_seen : Reading → ℕ → Bool
+has_seen read i = list_any (nat_eq i) read.seen
 
--- a row has the form that is due behind some rows and before the row behind it
+-- a row has the form that is due behind some rows, and before the row behind it
 abbrev pub has_form : TripsParts → Reading → ScheduleRow → Option ScheduleRow → Bool
-has_form trips read row after = (row.circulation == row.vehicle)
-    && (if is_empty_row row then empty_fits trips read row after else trip_fits trips read row)
+has_form trips read row after =
+    row_fits trips read.before (last_seen read) (has_seen read) row after
 
 -- the first of some rows
 abbrev pub first_row : List (Numbered ScheduleRow) → Option ScheduleRow
 first_row rows = option_map (λ at. at.row) (slice_get rows 0)
 
--- every trip is among some
-abbrev pub are_all : TripsParts → List ℕ → Bool
-are_all trips seen =
-    list_all (λ i. list_any (nat_eq i) seen) (range_with_len 0 (length trips.trips))
+-- every trip has come
+abbrev pub all_come : TripsParts → (ℕ → Bool) → Bool
+all_come trips has_come = list_all has_come (range_with_len 0 (length trips.trips))
 
 -- every fault of the form of rows, where some were read before: at each row that has not the form
 -- that is due, by its number, and at row 0, where some trip has no row
 unfoldable pub form_faults : TripsParts → Reading → List (Numbered ScheduleRow) → List PlanFault
-form_faults trips read [] = if are_all trips read.seen then [] else fault.Trips 0 ∷ []
+form_faults trips read [] = if all_come trips (has_seen read) then [] else fault.Trips 0 ∷ []
 form_faults trips read (at ∷ rows) =
     (if has_form trips read at.row (first_row rows) then [] else fault.Trips at.number ∷ [])
     ++ form_faults trips (one_more trips read at.row) rows
 
 -- the link from a trip to another, where no vehicle begins between them
-abbrev pub link_across : Bool → Option ℕ → Option ℕ → List (ℕ × ℕ)
-link_across false (Some i) (Some j) = (i, j) ∷ []
-link_across _ _ _ = []
+abbrev pub link_of : Bool → Option ℕ → Option ℕ → Option (ℕ × ℕ)
+link_of false (Some i) (Some j) = Some (i, j)
+link_of _ _ _ = None
 
 -- the link to the trip of a row from the trip before it
-abbrev pub link_to : TripsParts → Reading → ScheduleRow → List (ℕ × ℕ)
-link_to trips read row =
-    link_across (begins read.before row) (last_seen read) (trip_in trips row)
+abbrev pub link_to : TripsParts → Reading → ScheduleRow → Option (ℕ × ℕ)
+link_to trips read row = link_of (begins read.before row) (last_seen read) (trip_in trips row)
 
 -- the links of rows, in their order, where some were read before
 unfoldable pub links_in : TripsParts → Reading → List ScheduleRow → List (ℕ × ℕ)
 links_in trips read [] = []
 links_in trips read (row ∷ rows) =
-    link_to trips read row ++ links_in trips (one_more trips read row) rows
+    option_to_list (link_to trips read row) ++ links_in trips (one_more trips read row) rows
 
--- the links whose second trip may not follow the first
+-- the second trip of a link may not follow the first
+abbrev pub is_late : TripsParts → ℕ × ℕ → Bool
+is_late trips link = not (is_some (link_minutes trips link.0 link.1))
+
+-- the links of which this holds
 abbrev pub follow_faults : TripsParts → List (ℕ × ℕ) → List PlanFault
-follow_faults trips links = map (λ link. fault.Follow link.1)
-    (filter (λ link. not (is_some (link_minutes trips link.0 link.1))) links)
+follow_faults trips links = map (λ link. fault.Follow link.1) (filter (is_late trips) links)
 
 -- some faults, and others where there are none of them
 abbrev pub or_others : {X : Type 0} → List X → List X → List X

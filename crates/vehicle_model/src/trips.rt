@@ -1,14 +1,16 @@
 // Trips over a network.
-ghost use Rattle.std.specs.Prelude.{ℕ, ◌≡◌, ◌≤◌, ◌<◌, ◌↔◌, ◌*◌, ◌≤ℤ◌, pos, neg_ℤ, true, length, map, is_some, unsigned_abs, Some, IfOk, IfSome};
+ghost use Rattle.std.specs.Prelude.{ℕ, ◌≡◌, ◌≤◌, ◌<◌, ◌↔◌, ◌+◌, ◌*◌, ◌≤ℤ◌, pos, neg_ℤ, true, length, map, position, is_some, unsigned_abs, Some, IfOk, IfSome};
 ghost use Rattle.event_tables.specs.Trips.{AreTrips as AreTripRows};
 ghost use Rattle.giv_files.specs.Inputs.{UnlessFault};
 ghost use Rattle.ptn_network.specs.Networks.{IsNetwork};
 ghost use Rattle.ptn_network.specs.Walks.{edge_time, IsLeastSum};
+ghost use Rattle.vehicle_model.specs.ReadSchedules.{same_run, trip_in};
 ghost use Rattle.vehicle_model.specs.Schedules.{trip_of, dead_between};
 ghost use Rattle.vehicle_model.specs.Trips.{trips_of, trips_faults, link_minutes, links_of, gain_of, if_in_time, start_stop, end_stop, MayFollow, AreTrips};
 
 use crate::dead_times::DeadTimes;
-use event_tables::Trip;
+use crate::row_form::{is_empty_row, same_run};
+use event_tables::{ScheduleRow, Trip};
 use giv_files::StageFault;
 use plan_num::NoMemory;
 use ptn_network::Network;
@@ -165,12 +167,34 @@ impl Trips {
         self.rows[i]
     }
 
-    /// What the trips cost where no trip follows another, in millionths.
-    pub fn cost_alone(&self) -> i128
-        ensures cost { result ≡ pos (self.now.vehicle * length self.now.trips) }
-        ensures high { result ≤ℤ pos 2000000000000000 }
+    /// The number of the trip that a row of a schedule repeats.
+    pub(crate) fn number_of(&self, row: &ScheduleRow) -> Option<usize>
+        ensures value { result ≡ trip_in self.now row.now }
+        ensures within { IfSome result (λ i. i < length self.now.trips) }
     {
-        i128::from(self.vehicle) * self.rows.len() as i128
+        if is_empty_row(row) {
+            None
+        } else {
+            self.number_of_run(&row.run)
+        }
+    }
+
+    // The number of a trip.
+    fn number_of_run(&self, run: &Trip) -> Option<usize>
+        ensures value { result ≡ position (same_run run.now) self.now.trips }
+        ensures within { IfSome result (λ i. i < length self.now.trips) }
+    {
+        self.rows.iter().position(|trip| same_run(run, trip))
+    }
+
+    /// What so many vehicles and dead minutes cost, in millionths.
+    pub fn cost_of(&self, vehicles: usize, minutes: u64) -> i128
+        requires few { vehicles ≤ 2000 }
+        requires small { minutes ≤ 20000000000000000 }
+        ensures { result ≡ pos (self.now.vehicle * vehicles + self.now.empty * minutes) }
+    {
+        i128::from(self.vehicle) * vehicles as i128
+            + i128::from(self.empty) * i128::from(minutes)
     }
 
     // Dead minutes from a trip to another, where they leave time for the turnover.
