@@ -69,9 +69,9 @@ one_less q taken from (suc n) low high free = by_number from taken
 
 pub count_most : (p : ℕ → Bool) (from n : ℕ) → count p from n ≤ n
 count_most p from zero = omega arith
-count_most p from (suc n) = split (p from) (count_next p from n)
+count_most p from (suc n) = split (p from) (count_next p from n) (count_most p (from + 1) n)
   where
     split : (b : Bool) → count p from (suc n) ≡ one_if b + count p (from + 1) n
-        → count p from (suc n) ≤ suc n
-    split true e = omega (arith, e, count_most p (from + 1) n)
-    split false e = omega (arith, e, count_most p (from + 1) n)
+        → count p (from + 1) n ≤ n → count p from (suc n) ≤ suc n
+    split true e rest = omega (arith, e, rest)
+    split false e rest = omega (arith, e, rest)

@@ -8,7 +8,7 @@ use Rattle.ptn_network.specs.declared.edge.Edge.{Edge}
 use Rattle.ptn_network.specs.Walks.{edge_time, IsLeastSum}
 use Rattle.vehicle_model.specs.DeadTables.{AreDeadMinutes}
 use Rattle.vehicle_model.specs.Schedules.{trip_of, no_trip, dead_between}
-use Rattle.vehicle_model.specs.Trips.{TripsParts, MayFollow, start_stop, end_stop, dead_minutes, if_in_time, link_between, link_minutes, gain_of, links_of}
+use Rattle.vehicle_model.specs.Trips.{TripsParts, AreTrips, MayFollow, start_stop, end_stop, dead_minutes, if_in_time, link_between, link_minutes, gain_of, links_of}
 
 -- the trip of a number
 pub trip_at : (trips : TripsParts) (i : ℕ) → i < length trips.trips
@@ -191,3 +191,11 @@ follow_of trips i j None is same may all = (
   (λ found. absurd (none-some found.0 (all found.0 found.1))),
 )
 follow_of trips i j (Some minutes) is same may all = ((λ h. (minutes, may)), (λ found. same))
+
+-- a trip that may follow starts later
+pub starts_later : (trips : TripsParts) → AreTrips trips → (i j minutes : ℕ)
+    → link_minutes trips i j ≡ Some minutes
+    → (trip_of trips i).start.time < (trip_of trips j).start.time
+starts_later trips are i j minutes e =
+    let link = is_link trips i j minutes e in
+    omega (arith, link.in_time, (are.rows.each i no_trip link.from).takes_time)

@@ -6,7 +6,11 @@ pub mod Counting
 pub mod Following
 pub mod Linking
 mod PlanTexts
+mod PlanBack
+mod PlanRead
 mod Reading
+mod Repeated
 pub mod Totals
+mod Tours
 mod Tried
 mod TripTexts

@@ -118,6 +118,12 @@ last_come : (seen : List ℕ) (i : ℕ) → slice_get seen 0 ≡ Some i → list
 last_come [] i e = absurd (none-some i e)
 last_come (first ∷ seen) i e = ap (λ b. b || list_any (nat_eq i) seen) (eq-eqb i first (sym (same_Some first i e)))
 
+-- without a trip there is no link
+pub no_link : (b : Bool) (last : Option ℕ) → link_of b last None ≡ None
+no_link true last = refl
+no_link false None = refl
+no_link false (Some i) = refl
+
 -- ---- a row more
 
 module _ (trips : TripsParts) (read : Reading) (links : List (ℕ × ℕ)) (reader : ReaderParts) (knows : Knows trips read links reader) where
@@ -223,11 +229,6 @@ module _ (trips : TripsParts) (read : Reading) (links : List (ℕ × ℕ)) (read
   }
 
   -- ---- by cases
-
-  no_link : (b : Bool) (last : Option ℕ) → link_of b last None ≡ None
-  no_link true last = refl
-  no_link false None = refl
-  no_link false (Some i) = refl
 
   module _ (row : ScheduleRow) (after : Option ScheduleRow) (form : has_form trips read row after ≡ true) where
     -- the link of a row can be added
