@@ -10,7 +10,9 @@ mod PlanBack
 mod PlanRead
 mod Reading
 mod Repeated
+mod RowsFit
 pub mod Totals
 mod Tours
 mod Tried
+mod VehicleRows
 mod TripTexts

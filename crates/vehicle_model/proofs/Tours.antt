@@ -73,6 +73,15 @@ by_bool : {P : Type 0} (b : Bool) → (b ≡ true → P) → (b ≡ false → P)
 by_bool true yes_it no_it = yes_it refl
 by_bool false yes_it no_it = no_it refl
 
+-- a tour that goes on
+pub tour_first : (plan : List (Option ℕ)) (fuel i : ℕ) → 0 < fuel
+    → tour fuel plan (Some i) ≡ i ∷ tour (fuel - 1) plan (next plan i)
+unfolding tour
+tour_first plan zero i some = absurd (omega (arith, some))
+tour_first plan (suc fuel) i some =
+    let same : fuel ≡ suc fuel - 1 = omega arith in
+    ap (λ k. i ∷ tour k plan (next plan i)) same
+
 -- what each number of a range passes, all pass
 all_in_range : (p : ℕ → Bool) (from k : ℕ) → ((i : ℕ) → from ≤ i → i < from + k → p i ≡ true)
     → list_all p (range_with_len from k) ≡ true
@@ -244,13 +253,6 @@ module _ (trips : TripsParts) (plan : List (Option ℕ)) (are : AreTrips trips) 
               closed.on found.0 i found.1 (before found.0 found.1))
           (λ h. firsts i h within)
 
-  tour_first : (fuel i : ℕ) → 0 < fuel → tour fuel plan (Some i) ≡ i ∷ tour (fuel - 1) plan (next plan i)
-  unfolding tour
-  tour_first zero i some = absurd (omega (arith, some))
-  tour_first (suc fuel) i some =
-      let same : fuel ≡ suc fuel - 1 = omega arith in
-      ap (λ k. i ∷ tour k plan (next plan i)) same
-
   new_tours : (from k : ℕ) (seen : List ℕ) (linked : List (Option ℕ)) → from + k ≡ n
       → IsClosed seen linked
       → ((s : ℕ) → is_next plan s ≡ false → s < from → has seen s ≡ true)
@@ -310,7 +312,7 @@ module _ (trips : TripsParts) (plan : List (Option ℕ)) (are : AreTrips trips) 
       one_tour h new behind = subst
           (λ (first : List ℕ). AreTours n plan seen linked (first ∷ map (λ first. tour n plan (Some first))
               (filter (λ j. not (is_next plan j)) (range_with_len (from + 1) k))))
-          (sym (tour_first n from (omega (arith, all))))
+          (sym (tour_first plan n from (omega (arith, all))))
           (
             record { within = omega (arith, all); new = new },
             tour_behind (λ seen_all links. AreTours n plan seen_all links (map (λ first. tour n plan (Some first))

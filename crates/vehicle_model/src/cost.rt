@@ -24,8 +24,8 @@ pub fn plan_cost(trips: &Trips, plan: &Plan) -> i128
     trips.cost_of(trips.len() - links, minutes)
 }
 
-// The dead minutes of a link.
-fn minutes_of(trips: &Trips, i: usize, j: usize) -> u64
+/// The dead minutes of a link.
+pub(crate) fn minutes_of(trips: &Trips, i: usize, j: usize) -> u64
     requires { is_some (link_minutes trips.now i j) ≡ true }
     ensures value { link_minutes trips.now i j ≡ Some result }
     ensures small { result ≤ 10000000000000 }
