@@ -1,5 +1,5 @@
 -- Trips that have come, one after the other.
-use Rattle.std.proofs.Common.{◌≡◌, ℕ, suc, zero, ◌+◌, ◌-◌, ◌<◌, ◌&&◌, Bool, true, List, ◌∷◌, sym, ap, ◌∙◌, arith}
+use Rattle.std.proofs.Common.{◌≡◌, ℕ, suc, ◌+◌, ◌-◌, ◌<◌, ◌&&◌, Bool, true, ap, ◌∙◌, arith}
 use Rattle.std.specs.List.{list_all, range_with_len}
 
 -- where the first of some numbers passes, all pass where the rest does
@@ -8,4 +8,4 @@ pub come_more : (p : ℕ → Bool) (i n : ℕ) (all : Bool) → i < n → p i �
 come_more p i n all within passes is =
     let left : n - i ≡ suc (n - (i + 1)) = omega arith in
     is ∙ ap (λ k. list_all p (range_with_len i k)) left
-        ∙ ap (λ b. b && list_all p (range_with_len (i + 1) (n - (i + 1)))) passes
+    ∙ ap (λ b. b && list_all p (range_with_len (i + 1) (n - (i + 1)))) passes

@@ -1,12 +1,9 @@
 -- A reader behind some of the rows of a table, one row more, and behind all of them.
-use Rattle.std.proofs.Common.{◌≡◌, ℕ, zero, suc, ◌+◌, ◌<◌, ◌≤◌, not, is_some, Bool, true, false, cond, List, [], ◌∷◌, ◌++◌, length, map, filter, drop, get_or, slice_get, slice_set, Option, Some, None, IfSome, option_map, Result, Ok, Err, IfOk, refl, ap, sym, ◌∙◌, subst, arith, append_assoc}
-use Rattle.std.specs.List.{list_all, range_with_len}
+use Rattle.std.proofs.Common.{◌≡◌, ℕ, zero, suc, ◌+◌, ◌<◌, ◌≤◌, Bool, true, false, cond, List, [], ◌∷◌, ◌++◌, length, map, filter, drop, get_or, slice_get, Option, Some, None, IfSome, option_map, Result, Err, IfOk, refl, ap, sym, ◌∙◌, subst, arith, append_assoc}
 use Rattle.std.specs.Option.{option_to_list}
-use Rattle.std.proofs.Math.ListN.{get_or-map}
 use Rattle.std.proofs.Math.Seq.{drop-cons}
-use Rattle.std.proofs.lemmas.Bool.{false≢true}
 use Rattle.std.proofs.lemmas.List.{append-nil, drop_all, drop-map, length-map}
-use Rattle.std.proofs.lemmas.Option.{none-some, slice_get-map}
+use Rattle.std.proofs.lemmas.Option.{none-some}
 use Rattle.std.proofs.lemmas.Simd.{map-map}
 use Rattle.event_tables.specs.declared.schedule_row.ScheduleRow.{ScheduleRow}
 use Rattle.event_tables.specs.Cells.{schedule_row}
@@ -16,8 +13,8 @@ use Rattle.giv_files.specs.Tables.{TableRow, no_row, row_number}
 use Rattle.vehicle_model.specs.declared.plan_fault.PlanFault.{PlanFault}
 use Rattle.vehicle_model.specs.declared.plan_fault.PlanFault.TheVariants as fault
 use Rattle.vehicle_model.specs.Plans.{next, IsPlan}
-use Rattle.vehicle_model.specs.ReadSchedules.{Reading, nothing_read, one_more, trip_in, begins, last_seen, has_seen, row_fits, has_form, first_row, all_come, form_faults, link_of, link_to, links_in, is_late, follow_faults, or_others, row_faults, plan_by, PlanGives}
-use Rattle.vehicle_model.specs.Readers.{ReaderParts, has_come, after_link, after_trip, after_row, late_of, CanLink, Knows, IsBehind, unless_late, finished}
+use Rattle.vehicle_model.specs.ReadSchedules.{nothing_read, one_more, trip_in, begins, last_seen, row_fits, has_form, first_row, all_come, form_faults, link_of, link_to, links_in, is_late, follow_faults, or_others, row_faults, plan_by, PlanGives}
+use Rattle.vehicle_model.specs.Readers.{ReaderParts, has_come, after_link, after_trip, after_row, CanLink, Knows, IsBehind, unless_late, finished}
 use Rattle.vehicle_model.specs.Trips.{TripsParts, links_of}
 use Rattle.vehicle_model.proofs.Following.{gain_there}
 use Rattle.vehicle_model.proofs.Reading.{links_can, knows_more}
@@ -32,9 +29,9 @@ module _ (trips : TripsParts) (rows : List (Numbered ScheduleRow)) (i : ℕ) (re
   form_is row after =
       ap (λ before. row_fits trips before reader.last (has_come reader) row after) behind.knows.before
       ∙ ap (λ last. row_fits trips behind.read.before last (has_come reader) row after)
-          behind.knows.last
+      behind.knows.last
       ∙ ap (λ come. row_fits trips behind.read.before (last_seen behind.read) come row after)
-          (λ t k. behind.knows.come k t)
+      (λ t k. behind.knows.come k t)
 
   module _ (at : Numbered ScheduleRow) (rest : List (Numbered ScheduleRow)) (is : drop i rows ≡ at ∷ rest) where
     forms_here : form_faults trips nothing_read rows
@@ -49,9 +46,9 @@ module _ (trips : TripsParts) (rows : List (Numbered ScheduleRow)) (i : ℕ) (re
     refused fits =
         let form = sym (form_is at.row (first_row rest)) ∙ fits in
         ap (λ all. slice_get (or_others all
-            (follow_faults trips (links_in trips nothing_read (map (λ one. one.row) rows)))) 0)
-            (forms_here ∙ ap (λ b. cond b [] (fault.Trips at.number ∷ [])
-                ++ form_faults trips (one_more trips behind.read at.row) rest) form)
+        (follow_faults trips (links_in trips nothing_read (map (λ one. one.row) rows)))) 0)
+        (forms_here ∙ ap (λ b. cond b [] (fault.Trips at.number ∷ [])
+        ++ form_faults trips (one_more trips behind.read at.row) rest) form)
 
     module _ (fits : row_fits trips reader.before reader.last (has_come reader) at.row (first_row rest) ≡ true) where
       form : has_form trips behind.read at.row (first_row rest) ≡ true
@@ -68,18 +65,18 @@ module _ (trips : TripsParts) (rows : List (Numbered ScheduleRow)) (i : ℕ) (re
       links_here = behind.linked
           ∙ ap (λ some. behind.links ++ links_in trips behind.read (map (λ one. one.row) some)) is
           ∙ sym (append_assoc behind.links (option_to_list (link_to trips behind.read at.row))
-              (links_in trips (one_more trips behind.read at.row) (map (λ one. one.row) rest)))
+          (links_in trips (one_more trips behind.read at.row) (map (λ one. one.row) rest)))
 
       pub taken : (next : ℕ) → drop next rows ≡ rest
           → IsBehind trips rows next (after_row at.row (after_trip (trip_in trips at.row)
-              (after_link trips (link_of (begins reader.before at.row) reader.last (trip_in trips at.row)) reader)))
+          (after_link trips (link_of (begins reader.before at.row) reader.last (trip_in trips at.row)) reader)))
       taken next same = record {
         read = one_more trips behind.read at.row;
         links = behind.links ++ option_to_list (link_to trips behind.read at.row);
         knows = knows_more trips behind.read behind.links reader behind.knows at.row (first_row rest) form;
         forms = forms_here
             ∙ ap (λ b. cond b [] (fault.Trips at.number ∷ [])
-                ++ form_faults trips (one_more trips behind.read at.row) rest) form
+            ++ form_faults trips (one_more trips behind.read at.row) rest) form
             ∙ ap (form_faults trips (one_more trips behind.read at.row)) (sym same);
         linked = links_here ∙ ap (λ some.
             (behind.links ++ option_to_list (link_to trips behind.read at.row))
@@ -127,7 +124,7 @@ module _ (trips : TripsParts) (rows : List (Numbered ScheduleRow)) (i : ℕ) (re
         split true None come is = (
           faults_all ∙ ap (λ b. or_others (cond b [] (fault.Trips 0 ∷ [])) (follow_faults trips behind.links)) come
               ∙ ap (map (λ (link : ℕ × ℕ). fault.Follow link.1))
-                  (none_of (filter (is_late trips) behind.links) (sym behind.knows.late ∙ is)),
+              (none_of (filter (is_late trips) behind.links) (sym behind.knows.late ∙ is)),
           behind.knows.plan ∙ ap (plan_by (length trips.trips)) (sym links_all),
         )
         split true (Some k) come is = ap (λ all. slice_get all 0)
@@ -219,12 +216,12 @@ module _ (trips : TripsParts) (table : List TableRow) (i : ℕ) (reader : Reader
       → PlanGives (row_faults trips (numbered_by schedule_row table))
       (plan_by (length trips.trips) (links_in trips nothing_read (records_by schedule_row table))) read
   table_ends read is = subst (PlanGives (row_faults trips (numbered_by schedule_row table))
-          (plan_by (length trips.trips) (links_in trips nothing_read (records_by schedule_row table)))) (sym is)
+      (plan_by (length trips.trips) (links_in trips nothing_read (records_by schedule_row table)))) (sym is)
       (subst (λ some. PlanGives (row_faults trips (numbered_by schedule_row table))
-          (plan_by (length trips.trips) (links_in trips nothing_read some)) (finished trips reader))
-          (without_numbers table)
-          (ends trips (numbered_by schedule_row table) i reader behind
-              (drop_all i (numbered_by schedule_row table) (omega (arith, past, length-map table row_of)))))
+      (plan_by (length trips.trips) (links_in trips nothing_read some)) (finished trips reader))
+      (without_numbers table)
+      (ends trips (numbered_by schedule_row table) i reader behind
+      (drop_all i (numbered_by schedule_row table) (omega (arith, past, length-map table row_of)))))
 
   pub table_plans : (read : Result (List (Option ℕ)) PlanFault) → read ≡ finished trips reader
       → IfOk read (IsPlan (links_of trips))

@@ -1,14 +1,12 @@
 -- What a plan costs, by the gains of its links.
-use Rattle.std.proofs.Common.{◌≡◌, ◌≢◌, ℕ, ℤ, zero, suc, pos, ◌+◌, ◌*◌, ◌<◌, ◌≤◌, ◌+ℤ◌, ◌-ℤ◌, ◌==◌, ◌||◌, Bool, true, false, not, cond, ◌-◌, List, [], ◌∷◌, length, drop, filter, is_some, Option, Some, None, option_map, unwrap_or, refl, ap, sym, ◌∙◌, subst, arith}
-use Rattle.std.specs.List.{range_with_len}
-use Rattle.std.proofs.lemmas.Bool.{eq-eqb, ne_eqb}
+use Rattle.std.proofs.Common.{◌≡◌, ℕ, ℤ, suc, pos, ◌+◌, ◌*◌, ◌<◌, ◌≤◌, ◌+ℤ◌, ◌-ℤ◌, true, false, not, ◌-◌, List, [], ◌∷◌, length, drop, is_some, Option, Some, None, option_map, unwrap_or, refl, ap, sym, ◌∙◌, subst, arith}
 use Rattle.std.proofs.lemmas.Int.{ints}
 use Rattle.std.proofs.lemmas.List.{drop_all}
 use Rattle.vehicle_model.specs.Plans.{next, is_next, starts, plan_links, plan_minutes, plan_cost, plan_gain, IsPlan}
 use Rattle.vehicle_model.specs.Trips.{TripsParts, link_minutes, gain_of, links_of}
 use Rattle.vehicle_model.proofs.Counting.{count, but_one, all_count, one_less}
 use Rattle.vehicle_model.proofs.Following.{some_of, links_within, gain_there}
-use Rattle.vehicle_model.proofs.Linking.{by_number, never_next}
+use Rattle.vehicle_model.proofs.Linking.{never_next}
 use Rattle.vehicle_model.proofs.Totals.{links_from, gains_from, minutes_from, gains_more, minutes_more, alone_count, alone_minutes, linked_count, linked_minutes}
 
 -- ---- vehicles and links are as many as trips
@@ -30,11 +28,11 @@ free_and_linked n from [] are = omega (arith, all_count (λ k. true) 0 n (λ k. 
 free_and_linked n from (None ∷ plan) are = free_and_linked n (from + 1) plan (rest_apart n None plan are)
 free_and_linked n from (Some j ∷ plan) are =
     let new : is_next plan j ≡ false = never_next plan j
-        (λ i e. absurd (omega (arith, are.once (suc i) 0 j e refl))) in
+    (λ i e. absurd (omega (arith, are.once (suc i) 0 j e refl))) in
     let less : count (but_one (is_next plan) j) 0 n + 1 ≡ count (λ k. not (is_next plan k)) 0 n =
-        one_less (is_next plan) j 0 n (omega arith) (omega (arith, are.within 0 j refl)) new in
+    one_less (is_next plan) j 0 n (omega arith) (omega (arith, are.within 0 j refl)) new in
     let rest : count (λ k. not (is_next plan k)) 0 n + length (links_from (from + 1) plan) ≡ n =
-        free_and_linked n (from + 1) plan (rest_apart n (Some j) plan are) in
+    free_and_linked n (from + 1) plan (rest_apart n (Some j) plan are) in
     omega (arith, less, rest)
 
 -- ---- minutes and gains
@@ -53,19 +51,19 @@ gain_and_minutes trips from (None ∷ plan) may =
     shifted a b = omega arith
 gain_and_minutes trips from (Some j ∷ plan) may =
     let has = some_of (link_minutes trips from j)
-        (subst (λ k. is_some (link_minutes trips k j) ≡ true) (plain from) (may 0 j refl)) in
+    (subst (λ k. is_some (link_minutes trips k j) ≡ true) (plain from) (may 0 j refl)) in
     let value : unwrap_or (link_minutes trips from j) 0 ≡ has.0 = ap (λ at. unwrap_or at 0) has.1 in
     let gain : unwrap_or ((links_of trips).gain from j) (pos 0) ≡ gain_of trips has.0 =
-        ap (λ at. unwrap_or (option_map (gain_of trips) at) (pos 0)) has.1 in
+    ap (λ at. unwrap_or (option_map (gain_of trips) at) (pos 0)) has.1 in
     let rest : gains_from (links_of trips).gain (from + 1) plan
-            ≡ pos (trips.vehicle * length (links_from (from + 1) plan))
-            -ℤ pos (trips.empty * minutes_from (link_minutes trips) (from + 1) plan) =
-        gain_and_minutes trips (from + 1) plan
-            (λ i k e. subst (λ at. is_some (link_minutes trips at k) ≡ true) (shifted from i) (may (suc i) k e)) in
+    ≡ pos (trips.vehicle * length (links_from (from + 1) plan))
+    -ℤ pos (trips.empty * minutes_from (link_minutes trips) (from + 1) plan) =
+    gain_and_minutes trips (from + 1) plan
+    (λ i k e. subst (λ at. is_some (link_minutes trips at k) ≡ true) (shifted from i) (may (suc i) k e)) in
     gains_more (links_of trips).gain from j plan
-        ∙ added (links_from (from + 1) plan) has.0 (minutes_from (link_minutes trips) (from + 1) plan) gain rest
-            (minutes_more (link_minutes trips) from j plan
-                ∙ ap (λ m. m + minutes_from (link_minutes trips) (from + 1) plan) value)
+    ∙ added (links_from (from + 1) plan) has.0 (minutes_from (link_minutes trips) (from + 1) plan) gain rest
+    (minutes_more (link_minutes trips) from j plan
+    ∙ ap (λ m. m + minutes_from (link_minutes trips) (from + 1) plan) value)
   where
     plain : (a : ℕ) → a + 0 ≡ a
     plain a = omega arith
@@ -80,7 +78,7 @@ gain_and_minutes trips from (Some j ∷ plan) may =
         → gain +ℤ rest ≡ pos (trips.vehicle * suc (length links)) -ℤ pos (trips.empty * all)
     added links minutes before {gain} {rest} {all} e f g =
         let more : trips.empty * all ≡ trips.empty * minutes + trips.empty * before =
-            ap (λ m. trips.empty * m) g ∙ omega arith in
+        ap (λ m. trips.empty * m) g ∙ omega arith in
         let one : trips.vehicle * suc (length links) ≡ trips.vehicle + trips.vehicle * length links = omega arith in
         omega (arith, ints, e, f, more, one)
 
@@ -100,12 +98,12 @@ pub cost_by_gain : (trips : TripsParts) (plan : List (Option ℕ)) → IsPlan (l
 cost_by_gain trips plan is =
     let count = starts_and_links trips plan is in
     let all : trips.vehicle * length trips.trips
-            ≡ trips.vehicle * length (starts plan) + trips.vehicle * length (plan_links plan) =
-        ap (λ n. trips.vehicle * n) (sym count) ∙ omega arith in
+    ≡ trips.vehicle * length (starts plan) + trips.vehicle * length (plan_links plan) =
+    ap (λ n. trips.vehicle * n) (sym count) ∙ omega arith in
     let gain : plan_gain (links_of trips) plan ≡ pos (trips.vehicle * length (plan_links plan))
-            -ℤ pos (trips.empty * plan_minutes trips plan) =
-        gain_and_minutes trips 0 plan (λ i j e. subst (λ k. is_some (link_minutes trips k j) ≡ true) (plain i)
-            (sym (gain_there trips i j) ∙ is.follow i j e)) in
+    -ℤ pos (trips.empty * plan_minutes trips plan) =
+    gain_and_minutes trips 0 plan (λ i j e. subst (λ k. is_some (link_minutes trips k j) ≡ true) (plain i)
+    (sym (gain_there trips i j) ∙ is.follow i j e)) in
     omega (arith, ints, all, gain)
   where
     plain : (a : ℕ) → a ≡ 0 + a
@@ -148,9 +146,9 @@ module _ (trips : TripsParts) (plan : List (Option ℕ)) (i links minutes : ℕ)
       let none : drop i plan ≡ [] = drop_all i plan past in
       let no_links : length (links_from i (drop i plan)) ≡ 0 = ap (λ rest. length (links_from i rest)) none in
       let no_minutes : minutes_from (link_minutes trips) i (drop i plan) ≡ 0 =
-          ap (minutes_from (link_minutes trips) i) none in
+      ap (minutes_from (link_minutes trips) i) none in
       let vehicles : all - links ≡ length (starts plan) =
-          omega (arith, counted, starts_and_links trips plan is, sums.count, no_links) in
+      omega (arith, counted, starts_and_links trips plan is, sums.count, no_links) in
       let same : minutes ≡ plan_minutes trips plan = omega (arith, sums.sum, no_minutes) in
       ap (λ n. trips.vehicle * n + trips.empty * minutes) vehicles
-          ∙ ap (λ n. trips.vehicle * length (starts plan) + trips.empty * n) same
+      ∙ ap (λ n. trips.vehicle * length (starts plan) + trips.empty * n) same

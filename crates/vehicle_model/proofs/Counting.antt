@@ -27,7 +27,7 @@ same_count p q from zero same = refl
 same_count p q from (suc n) same =
     let first : one_if (p from) ≡ one_if (q from) = ap one_if (same from (omega arith)) in
     let rest : count p (from + 1) n ≡ count q (from + 1) n =
-        same_count p q (from + 1) n (λ k h. same k (omega (arith, h))) in
+    same_count p q (from + 1) n (λ k h. same k (omega (arith, h))) in
     omega (arith, count_next p from n, count_next q from n, first, rest)
 
 pub all_count : (p : ℕ → Bool) (from n : ℕ) → ((k : ℕ) → p k ≡ true) → count p from n ≡ n
@@ -52,17 +52,17 @@ pub one_less : (q : ℕ → Bool) (taken from n : ℕ) → from ≤ taken → ta
 one_less q taken from zero low high free = absurd (omega (arith, low, high))
 one_less q taken from (suc n) low high free = by_number from taken
     (λ is.
-        let first : one_if (but_one q taken from) ≡ 0 = ap one_if (taken_out q taken from is) in
-        let passed : one_if (not (q from)) ≡ 1 = ap (λ k. one_if (not (q k))) is ∙ ap (λ b. one_if (not b)) free in
-        let rest : count (but_one q taken) (from + 1) n ≡ count (λ k. not (q k)) (from + 1) n =
-            same_count (but_one q taken) (λ k. not (q k)) (from + 1) n
-            (λ k h. other_than q taken k (λ e. ne-of h is e)) in
-        omega (arith, count_next (but_one q taken) from n, count_next (λ k. not (q k)) from n, first, passed, rest))
+    let first : one_if (but_one q taken from) ≡ 0 = ap one_if (taken_out q taken from is) in
+    let passed : one_if (not (q from)) ≡ 1 = ap (λ k. one_if (not (q k))) is ∙ ap (λ b. one_if (not b)) free in
+    let rest : count (but_one q taken) (from + 1) n ≡ count (λ k. not (q k)) (from + 1) n =
+    same_count (but_one q taken) (λ k. not (q k)) (from + 1) n
+    (λ k h. other_than q taken k (λ e. ne-of h is e)) in
+    omega (arith, count_next (but_one q taken) from n, count_next (λ k. not (q k)) from n, first, passed, rest))
     (λ ne.
-        let first : one_if (but_one q taken from) ≡ one_if (not (q from)) = ap one_if (other_than q taken from ne) in
-        let rest : count (but_one q taken) (from + 1) n + 1 ≡ count (λ k. not (q k)) (from + 1) n =
-            one_less q taken (from + 1) n (omega (arith, low, ne)) (omega (arith, high)) free in
-        omega (arith, count_next (but_one q taken) from n, count_next (λ k. not (q k)) from n, first, rest))
+    let first : one_if (but_one q taken from) ≡ one_if (not (q from)) = ap one_if (other_than q taken from ne) in
+    let rest : count (but_one q taken) (from + 1) n + 1 ≡ count (λ k. not (q k)) (from + 1) n =
+    one_less q taken (from + 1) n (omega (arith, low, ne)) (omega (arith, high)) free in
+    omega (arith, count_next (but_one q taken) from n, count_next (λ k. not (q k)) from n, first, rest))
   where
     ne-of : {a b k : ℕ} → a + 1 ≤ k → a ≡ b → k ≡ b → ⊥
     ne-of h is e = omega (arith, h, is, e)

@@ -7,7 +7,7 @@ use Rattle.std.proofs.lemmas.List.FromFn.{get_or-range_with_len, length-range_wi
 use Rattle.std.proofs.lemmas.Option.{slice_get-map, slice_get-get_or, get_or_from_slice_get, same_Some}
 use Rattle.event_tables.specs.declared.trip.Trip.{Trip}
 use Rattle.ptn_network.specs.Networks.{NetworkParts}
-use Rattle.ptn_network.specs.Walks.{edge_time, least_sum, least_sums, IsLeastSum}
+use Rattle.ptn_network.specs.Walks.{edge_time, least_sum, IsLeastSum}
 use Rattle.vehicle_model.specs.DeadTables.{DeadTable, AreTimesFrom, HasTimesFrom, IsDeadTable, AreDeadMinutes}
 use Rattle.vehicle_model.specs.Schedules.{no_trip}
 use Rattle.vehicle_model.specs.Trips.{start_stop, end_stop}
@@ -41,11 +41,10 @@ time_at network from to times at are within here =
     let stops = range_with_len 0 (length network.stops) in
     let told : ℕ → Option ℤ = λ stop. option_map pos (least_sum network edge_time from stop) in
     let place : slice_get stops to ≡ Some to =
-        slice_get-get_or stops to 0 (subst (λ n. to < n) (sym (length-range_with_len 0 (length network.stops))) within)
-        ∙ ap Some (get_or-range_with_len 0 (length network.stops) to 0 within ∙ omega arith) in
+    slice_get-get_or stops to 0 (subst (λ n. to < n) (sym (length-range_with_len 0 (length network.stops))) within)
+    ∙ ap Some (get_or-range_with_len 0 (length network.stops) to 0 within ∙ omega arith) in
     let is : Some at ≡ Some (told to) =
-        sym here ∙ ap (λ some. slice_get some to) are.sums ∙ slice_get-map told stops to ∙ ap (option_map told) place in
-    (
+    sym here ∙ ap (λ some. slice_get some to) are.sums ∙ slice_get-map told stops to ∙ ap (option_map told) place in (
       ap (option_map unsigned_abs) (same_Some at (told to) is) ∙ least_back (least_sum network edge_time from to),
       subst (λ some. IsLeastSum network.edges edge_time from to (option_map unsigned_abs some))
           (get_or_from_slice_get times to at None here) (are.least to within),
@@ -75,7 +74,7 @@ found network trips table i j is in_ends in_starts from to from_is to_is at at_i
   within = subst (λ stop. stop < length network.stops) (sym to_is) (is.starts_within j to in_starts);
   are = subst (HasTimesFrom network from) (same ∙ has)
       (subst (λ stop. HasTimesFrom network stop (get_or table.times stop None)) (sym from_is)
-          (is.times i from in_ends));
+      (is.times i from in_ends));
 }
   where
     inside : from < length table.times
@@ -96,12 +95,17 @@ told network trips i j from to times at minutes is here told_as =
           ∙ ap (least_sum network edge_time (end_stop network (get_or trips i no_trip))) is.to_is;
       least = subst (λ stop. IsLeastSum network.edges edge_time (end_stop network (get_or trips i no_trip)) stop minutes) is.to_is
           (subst (λ stop. IsLeastSum network.edges edge_time stop to minutes) is.from_is
-              (subst (IsLeastSum network.edges edge_time from to) (sym told_as) found_at.1));
+          (subst (IsLeastSum network.edges edge_time from to) (sym told_as) found_at.1));
     }
 
 -- there are times to each stop
 pub times_size : (network : NetworkParts) (from : ℕ) (times : List (Option ℤ)) (to : ℕ)
     → AreTimesFrom network from times → to < length network.stops → to < length times
 times_size network from times to are within =
-    omega (arith, within, ap length are.sums, length-range_with_len 0 (length network.stops),
-        length-map (range_with_len 0 (length network.stops)) (λ stop. option_map pos (least_sum network edge_time from stop)))
+    omega (
+      arith,
+      within,
+      ap length are.sums,
+      length-range_with_len 0 (length network.stops),
+      length-map (range_with_len 0 (length network.stops)) (λ stop. option_map pos (least_sum network edge_time from stop)),
+    )

@@ -1,14 +1,13 @@
 -- Which trip may follow which, by the numbers of trips; what links gain at most.
-use Rattle.std.proofs.Common.{◌≡◌, ◌↔◌, ℕ, ℤ, pos, ◌+◌, ◌*◌, ◌<◌, ◌≤◌, ◌≤ℤ◌, ◌-ℤ◌, nat_le, Bool, true, false, cond, List, length, slice_get, get_or, is_some, Option, Some, None, option_map, option_and_then, IfSome, refl, ap, sym, ◌∙◌, subst, arith}
+use Rattle.std.proofs.Common.{◌≡◌, ◌↔◌, ℕ, ℤ, pos, ◌+◌, ◌<◌, ◌≤◌, ◌≤ℤ◌, nat_le, Bool, true, false, cond, List, length, slice_get, is_some, Option, Some, None, option_map, option_and_then, IfSome, refl, ap, sym, ◌∙◌, subst, arith}
 use Rattle.std.proofs.lemmas.Bool.{false≢true, leb-true, le-leb}
 use Rattle.std.proofs.lemmas.Int.{ints}
 use Rattle.std.proofs.lemmas.Option.{none-some, same_Some, slice_get-get_or, slice_get_within, get_or_from_slice_get}
 use Rattle.event_tables.specs.declared.trip.Trip.{Trip}
 use Rattle.ptn_network.specs.declared.edge.Edge.{Edge}
 use Rattle.ptn_network.specs.Walks.{edge_time, IsLeastSum}
-use Rattle.vehicle_model.specs.DeadTables.{AreDeadMinutes}
 use Rattle.vehicle_model.specs.Schedules.{trip_of, no_trip, dead_between}
-use Rattle.vehicle_model.specs.Trips.{TripsParts, AreTrips, MayFollow, start_stop, end_stop, dead_minutes, if_in_time, link_between, link_minutes, gain_of, links_of}
+use Rattle.vehicle_model.specs.Trips.{TripsParts, AreTrips, MayFollow, start_stop, end_stop, if_in_time, link_between, link_minutes, gain_of, links_of}
 
 -- the trip of a number
 pub trip_at : (trips : TripsParts) (i : ℕ) → i < length trips.trips
@@ -20,9 +19,9 @@ pub link_is : (trips : TripsParts) (i j : ℕ) → i < length trips.trips → j 
     → link_minutes trips i j ≡ link_between trips (trip_of trips i) (trip_of trips j)
 link_is trips i j from to =
     ap (λ at. option_and_then (λ before. option_and_then (λ after. link_between trips before after)
-        (slice_get trips.trips j)) at) (trip_at trips i from)
+    (slice_get trips.trips j)) at) (trip_at trips i from)
     ∙ ap (λ at. option_and_then (λ after. link_between trips (trip_of trips i) after) at)
-        (trip_at trips j to)
+    (trip_at trips j to)
 
 -- the same by the dead minutes between them
 pub link_some : (trips : TripsParts) (i j minutes : ℕ) → i < length trips.trips
@@ -74,7 +73,7 @@ both_there trips i j minutes e = first (slice_get trips.trips i) refl e
 
     first : (at : Option Trip) → slice_get trips.trips i ≡ at
         → option_and_then (λ before. option_and_then (λ after. link_between trips before after)
-            (slice_get trips.trips j)) at ≡ Some minutes
+        (slice_get trips.trips j)) at ≡ Some minutes
         → (i < length trips.trips) × (j < length trips.trips)
     first None is f = absurd (none-some minutes f)
     first (Some before) is f =
@@ -85,7 +84,7 @@ pub is_link : (trips : TripsParts) (i j minutes : ℕ) → link_minutes trips i 
 is_link trips i j minutes e =
     let there = both_there trips i j minutes e in
     let parts = in_time_is trips (trip_of trips i) (trip_of trips j) (dead_between trips i j) minutes
-        (sym (link_is trips i j there.0 there.1) ∙ e) in
+    (sym (link_is trips i j there.0 there.1) ∙ e) in
     record { from = there.0; to = there.1; dead = parts.0; in_time = parts.1 }
 
 -- an option that has something
@@ -144,7 +143,7 @@ one_least edges weight from to (Some other) least has is =
     ap Some (omega (arith, has.1 is.0.0 is.0.1, is.1 has.0.0 has.0.1, is.0.2, has.0.2))
 
 module _ (trips : TripsParts) (i j : ℕ) (from : i < length trips.trips) (to : j < length trips.trips) (least : IsLeastSum trips.network.edges edge_time
-        (end_stop trips.network (trip_of trips i)) (start_stop trips.network (trip_of trips j)) (dead_between trips i j)) where
+    (end_stop trips.network (trip_of trips i)) (start_stop trips.network (trip_of trips j)) (dead_between trips i j)) where
   -- a link that has minutes may follow
   pub may_follow : (minutes : ℕ) → link_minutes trips i j ≡ Some minutes → MayFollow trips i j minutes
   may_follow minutes e =
@@ -165,16 +164,16 @@ module _ (trips : TripsParts) (i j : ℕ) (from : i < length trips.trips) (to : 
       let before = get_or_from_slice_get trips.trips i may.before no_trip may.before_at in
       let after = get_or_from_slice_get trips.trips j may.after no_trip may.after_at in
       let near = subst (λ trip. IsLeastSum trips.network.edges edge_time
-          (end_stop trips.network trip) (start_stop trips.network may.after) (Some minutes)) (sym before) may.least in
+      (end_stop trips.network trip) (start_stop trips.network may.after) (Some minutes)) (sym before) may.least in
       let nearer = subst (λ trip. IsLeastSum trips.network.edges edge_time
-          (end_stop trips.network (trip_of trips i)) (start_stop trips.network trip) (Some minutes)) (sym after) near in
+      (end_stop trips.network (trip_of trips i)) (start_stop trips.network trip) (Some minutes)) (sym after) near in
       let dead = one_least trips.network.edges edge_time (end_stop trips.network (trip_of trips i))
-          (start_stop trips.network (trip_of trips j)) (dead_between trips i j) minutes least nearer in
+      (start_stop trips.network (trip_of trips j)) (dead_between trips i j) minutes least nearer in
       let time = subst (λ trip. (trip_of trips i).end.time + trips.turnover + minutes ≤ trip.start.time) (sym after)
-          (subst (λ trip. trip.end.time + trips.turnover + minutes ≤ may.after.start.time) (sym before) may.in_time) in
+      (subst (λ trip. trip.end.time + trips.turnover + minutes ≤ may.after.start.time) (sym before) may.in_time) in
       link_is trips i j from to
-          ∙ ap (option_and_then (if_in_time trips (trip_of trips i) (trip_of trips j))) dead
-          ∙ ap (λ b. cond b (Some minutes) None) (le-leb _ _ time)
+      ∙ ap (option_and_then (if_in_time trips (trip_of trips i) (trip_of trips j))) dead
+      ∙ ap (λ b. cond b (Some minutes) None) (le-leb _ _ time)
 
   -- an option that is the minutes of the link
   pub all_follow : (at : Option ℕ) → at ≡ link_minutes trips i j → IfSome at (MayFollow trips i j)

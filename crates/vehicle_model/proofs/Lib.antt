@@ -6,13 +6,13 @@ pub mod Counting
 pub mod Following
 pub mod Linking
 mod PlanTexts
-mod PlanBack
+pub mod PlanBack
 mod PlanRead
 mod Reading
 mod Repeated
-mod RowsFit
+pub mod RowsFit
 pub mod Totals
-mod Tours
+pub mod Tours
 mod Tried
-mod VehicleRows
+pub mod VehicleRows
 mod TripTexts

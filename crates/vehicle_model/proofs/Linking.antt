@@ -1,6 +1,6 @@
 -- What a link leaves of a plan: the successor of each trip, and which trips are successors.
-use Rattle.std.proofs.Common.{◌≡◌, ◌≢◌, ◌⊎◌, inl, inr, ℕ, zero, suc, ◌<◌, ◌==◌, ◌||◌, Bool, true, false, List, [], ◌∷◌, length, get_or, slice_set, replicate, Option, Some, None, refl, ap, sym, ◌∙◌, subst, arith, get_or-set_same, get_or-set_other, eq-eqb}
-use Rattle.std.proofs.lemmas.Bool.{false≢true, eqb-true, or_parts}
+use Rattle.std.proofs.Common.{◌≡◌, ◌≢◌, ◌⊎◌, inl, inr, ℕ, zero, suc, ◌<◌, ◌||◌, Bool, true, false, List, [], ◌∷◌, length, slice_set, replicate, Option, Some, None, refl, ap, sym, ◌∙◌, subst, arith, get_or-set_same, get_or-set_other, eq-eqb}
+use Rattle.std.proofs.lemmas.Bool.{false≢true, eqb-true}
 use Rattle.std.proofs.lemmas.Bool.Decides.{eqb_tells}
 use Rattle.std.proofs.lemmas.List.{length-set}
 use Rattle.std.proofs.lemmas.Option.{none-some, same_Some}
@@ -9,9 +9,9 @@ use Rattle.vehicle_model.specs.Plans.{next, is_next, is_trip, AreSuccessors}
 -- two numbers are the same, or not
 pub by_number : {P : Type 0} (a b : ℕ) → (a ≡ b → P) → (a ≢ b → P) → P
 by_number {P} a b same apart = elim (eqb_tells a b) as (λ _. P) [
-    inl e ↦ same e.1
+  | inl e ↦ same e.1
   | inr e ↦ apart e.1
-  ]
+]
 
 -- ---- a plan without a link
 
@@ -98,9 +98,9 @@ module _ (plan : List (Option ℕ)) (i j : ℕ) (within : i < length plan) where
       → is_next (slice_set plan i (Some j)) k ≡ false
   not_linked k apart none = never_next (slice_set plan i (Some j)) k
       (λ other e. elim (next_before other k e) as (λ _. ⊥) [
-          inl new ↦ apart new.1
+        | inl new ↦ apart new.1
         | inr old ↦ not_next plan other k none old
-        ])
+      ])
 
   -- a plan stays one in which no trip follows two
   pub linked : AreSuccessors plan → j < length plan → is_next plan j ≡ false
@@ -108,17 +108,17 @@ module _ (plan : List (Option ℕ)) (i j : ℕ) (within : i < length plan) where
   linked are to free = record {
     within = λ other k e. elim (next_before other k e) as
         (λ _. k < length (slice_set plan i (Some j))) [
-            inl new ↦ omega (arith, length-set plan i (Some j), new.1)
+          | inl new ↦ omega (arith, length-set plan i (Some j), new.1)
           | inr old ↦ omega (arith, length-set plan i (Some j), are.within other k old)
-          ];
+        ];
     once = λ one other k e f. elim (next_before one k e) as (λ _. one ≡ other) [
-        inl new ↦ elim (next_before other k f) as (λ _. one ≡ other) [
-            inl same ↦ new.0 ∙ sym same.0
-          | inr old ↦ absurd (not_next plan other j free (old ∙ ap Some new.1))
-          ]
+      | inl new ↦ elim (next_before other k f) as (λ _. one ≡ other) [
+        | inl same ↦ new.0 ∙ sym same.0
+        | inr old ↦ absurd (not_next plan other j free (old ∙ ap Some new.1))
+      ]
       | inr was ↦ elim (next_before other k f) as (λ _. one ≡ other) [
-            inl new ↦ absurd (not_next plan one j free (was ∙ ap Some new.1))
-          | inr old ↦ are.once one other k was old
-          ]
-      ];
+        | inl new ↦ absurd (not_next plan one j free (was ∙ ap Some new.1))
+        | inr old ↦ are.once one other k was old
+      ]
+    ];
   }

@@ -1,16 +1,16 @@
 -- The rows of a plan are read as the plan.
-use Rattle.std.proofs.Common.{◌≡◌, ◌≢◌, ℕ, zero, suc, ◌+◌, ◌<◌, ◌==◌, ◌&&◌, ◌||◌, not, nat_eq, is_some, Bool, true, false, cond, List, [], ◌∷◌, ◌++◌, length, map, filter, fold, get_or, position, replicate, slice_get, slice_set, Option, Some, None, IfSome, option_map, unwrap_or, refl, ap, sym, ◌∙◌, subst, arith}
-use Rattle.std.specs.List.{list_any, list_all, range_with_len}
+use Rattle.std.proofs.Common.{◌≡◌, ℕ, ◌+◌, ◌<◌, ◌==◌, ◌&&◌, ◌||◌, not, Bool, true, false, cond, List, [], ◌∷◌, ◌++◌, length, filter, fold, replicate, slice_get, slice_set, Option, Some, None, IfSome, unwrap_or, refl, ap, sym, ◌∙◌, subst, arith}
+use Rattle.std.specs.List.{list_all, range_with_len}
 use Rattle.std.specs.Option.{option_to_list}
 use Rattle.std.proofs.lemmas.Bool.{ne_eqb}
 use Rattle.event_tables.specs.declared.schedule_row.ScheduleRow.{ScheduleRow}
 use Rattle.event_tables.specs.declared.trip.Trip.{Trip}
-use Rattle.event_tables.specs.Schedules.{is_empty_row, is_trip_row}
+use Rattle.event_tables.specs.Schedules.{is_trip_row}
 use Rattle.vehicle_model.specs.Plans.{next, IsPlan}
-use Rattle.vehicle_model.specs.ReadSchedules.{Reading, nothing_read, one_more, trip_in, same_run, begins, last_vehicle, follows_trip, follows_empty, is_next_row, is_new, leaves, takes, goes_to, is_ride, leads_to, last_seen, has_seen, has_form, all_come, link_of, link_to, links_in, is_late}
-use Rattle.vehicle_model.specs.Schedules.{trip_of, dead_between, empty_ride, trip_row, empty_row, rows_behind, vehicle_rows, rows_from, plan_rows, tours}
-use Rattle.vehicle_model.specs.Trips.{TripsParts, AreTrips, link_minutes, links_of}
-use Rattle.vehicle_model.proofs.Following.{links_within, gain_there}
+use Rattle.vehicle_model.specs.ReadSchedules.{Reading, nothing_read, one_more, trip_in, begins, last_vehicle, follows_trip, follows_empty, is_new, leaves, takes, goes_to, is_ride, leads_to, last_seen, has_seen, has_form, all_come, link_of, link_to, links_in, is_late}
+use Rattle.vehicle_model.specs.Schedules.{trip_of, dead_between, empty_ride, trip_row, empty_row, rows_behind, rows_from, plan_rows, tours}
+use Rattle.vehicle_model.specs.Trips.{TripsParts, AreTrips, links_of}
+use Rattle.vehicle_model.proofs.Following.{gain_there}
 use Rattle.vehicle_model.proofs.Reading.{no_link}
 use Rattle.vehicle_model.proofs.Repeated.{both_true, same_number, end_itself, repeats}
 use Rattle.vehicle_model.proofs.Tours.{IsFresh, AreBehind, AreTours, tours_are}
@@ -65,7 +65,7 @@ read_row trips plan read linked row rows link form is in_time rest = record {
     filters None late h = h
     filters (Some at) late h =
         ap (λ b. cond b (at ∷ filter (is_late trips) (links_in trips (one_more trips read row) rows))
-            (filter (is_late trips) (links_in trips (one_more trips read row) rows))) late ∙ h
+        (filter (is_late trips) (links_in trips (one_more trips read row) rows))) late ∙ h
 
 either_true : {a : Bool} (b : Bool) → a ≡ true → (a || b) ≡ true
 either_true {a} b e = ap (λ c. c || b) e
@@ -84,18 +84,18 @@ module _ (trips : TripsParts) (plan : List (Option ℕ)) (are : AreTrips trips) 
 
   trip_formed : (read : Reading) (vehicle number i : ℕ) (after : Option ScheduleRow) → IsFresh n plan read.seen i
       → (begins read.before (trip_row trips vehicle number i)
-          || follows_empty read.before (trip_row trips vehicle number i)) ≡ true
+      || follows_empty read.before (trip_row trips vehicle number i)) ≡ true
       → has_form trips read (trip_row trips vehicle number i) after ≡ true
   trip_formed read vehicle number i after fresh place =
       both_true (same_number vehicle) (both_true place
-          (ap (is_new (has_seen read)) (trip_is vehicle number i fresh.within) ∙ ap not fresh.new))
+      (ap (is_new (has_seen read)) (trip_is vehicle number i fresh.within) ∙ ap not fresh.new))
 
   seen_is : (read : Reading) (vehicle number i : ℕ) → i < n
       → one_more trips read (trip_row trips vehicle number i)
       ≡ record { before = Some (trip_row trips vehicle number i); seen = i ∷ read.seen }
   seen_is read vehicle number i within =
       ap (λ at. record { before = Some (trip_row trips vehicle number i); seen = option_to_list at ++ read.seen })
-          (trip_is vehicle number i within)
+      (trip_is vehicle number i within)
 
   -- the row of an empty ride
   ride_takes : (minutes : Option ℕ) (before after : Trip) → takes minutes (empty_ride before after (unwrap_or minutes 0)) ≡ true
@@ -116,23 +116,23 @@ module _ (trips : TripsParts) (plan : List (Option ℕ)) (are : AreTrips trips) 
       → has_form trips read (empty_row trips vehicle (number + 1) i j) (Some (trip_row trips vehicle (number + 2) j)) ≡ true
   ride_formed read before vehicle number i j before_is kind vehicle_is number_is last within =
       both_true (same_number vehicle) (both_true
-          (ap (λ at. follows_trip at (empty_row trips vehicle (number + 1) i j)) before_is
-              ∙ both_true kind (both_true (ap (λ v. vehicle == v) vehicle_is ∙ same_number vehicle)
-                  (ap (λ k. (number + 1) == (k + 1)) number_is ∙ same_number (number + 1))))
-          (ap (λ at. leads_to trips at (empty_row trips vehicle (number + 1) i j) (Some (trip_row trips vehicle (number + 2) j))) last
-              ∙ both_true (both_true (same_number vehicle) refl)
-                  (ap (is_ride trips i (empty_row trips vehicle (number + 1) i j).run) (trip_is vehicle (number + 2) j within)
-                      ∙ both_true (ride_leaves i j (unwrap_or (dead_between trips i j) 0)) (ride_goes i j))))
+      (ap (λ at. follows_trip at (empty_row trips vehicle (number + 1) i j)) before_is
+      ∙ both_true kind (both_true (ap (λ v. vehicle == v) vehicle_is ∙ same_number vehicle)
+      (ap (λ k. (number + 1) == (k + 1)) number_is ∙ same_number (number + 1))))
+      (ap (λ at. leads_to trips at (empty_row trips vehicle (number + 1) i j) (Some (trip_row trips vehicle (number + 2) j))) last
+      ∙ both_true (both_true (same_number vehicle) refl)
+      (ap (is_ride trips i (empty_row trips vehicle (number + 1) i j).run) (trip_is vehicle (number + 2) j within)
+      ∙ both_true (ride_leaves i j (unwrap_or (dead_between trips i j) 0)) (ride_goes i j))))
 
   -- a vehicle from a trip on
   vehicle_read : (Rest : List ℕ → List (Option ℕ) → Type 0) (rows : List ScheduleRow) (vehicle : ℕ)
       → ((read : Reading) (linked : List (Option ℕ)) → last_vehicle read.before ≡ vehicle → Rest read.seen linked
-          → AreRead trips plan read linked rows)
+      → AreRead trips plan read linked rows)
       → (more : List ℕ) (number i : ℕ) (seen : List ℕ) (linked : List (Option ℕ)) (before : ScheduleRow)
       → is_trip_row before ≡ true → before.vehicle ≡ vehicle → before.number ≡ number
       → AreBehind n plan Rest (i ∷ seen) linked i more
       → AreRead trips plan (record { before = Some before; seen = i ∷ seen }) linked
-          (rows_behind trips vehicle number i more ++ rows)
+      (rows_behind trips vehicle number i more ++ rows)
   unfolding rows_behind
   vehicle_read Rest rows vehicle rest [] number i seen linked before kind vehicle_is number_is are_behind =
       rest (record { before = Some before; seen = i ∷ seen }) linked vehicle_is are_behind
@@ -146,20 +146,20 @@ module _ (trips : TripsParts) (plan : List (Option ℕ)) (are : AreTrips trips) 
       let apart : begins (Some ride) row ≡ false = ap (λ b. b && ((number + 2) == 1)) (ne_eqb vehicle (vehicle + 1) (λ e. one_apart e)) in
       let number_more : (number + 2) ≡ ((number + 1) + 1) = omega arith in
       read_row trips plan read linked ride (row ∷ (rows_behind trips vehicle (number + 2) j more ++ rows)) None
-          (ride_formed read before vehicle number i j refl kind vehicle_is number_is refl fresh.within)
-          (no_link (begins (Some before) ride) (Some i))
-          tt
-          (read_row trips plan riding linked row (rows_behind trips vehicle (number + 2) j more ++ rows) (Some (i, j))
-              (trip_formed riding vehicle (number + 2) j (slice_get (rows_behind trips vehicle (number + 2) j more ++ rows) 0) fresh
-                  (second_true (begins (Some ride) row) (both_true (same_number vehicle)
-                      (ap (λ k. (number + 2) == k) (sym number_more) ∙ same_number (number + 2)))))
-              (ap (λ b. link_of b (Some i) (trip_in trips row)) apart
-                  ∙ ap (link_of false (Some i)) (trip_is vehicle (number + 2) j fresh.within))
-              (ap not (sym (gain_there trips i j) ∙ is.follow i j next_is))
-              (subst (λ some. AreRead trips plan some (slice_set linked i (Some j)) (rows_behind trips vehicle (number + 2) j more ++ rows))
-                  (sym (seen_is riding vehicle (number + 2) j fresh.within))
-                  (vehicle_read Rest rows vehicle rest more (number + 2) j (i ∷ seen) (slice_set linked i (Some j)) row
-                      refl refl refl are_behind.2)))
+      (ride_formed read before vehicle number i j refl kind vehicle_is number_is refl fresh.within)
+      (no_link (begins (Some before) ride) (Some i))
+      tt
+      (read_row trips plan riding linked row (rows_behind trips vehicle (number + 2) j more ++ rows) (Some (i, j))
+      (trip_formed riding vehicle (number + 2) j (slice_get (rows_behind trips vehicle (number + 2) j more ++ rows) 0) fresh
+      (second_true (begins (Some ride) row) (both_true (same_number vehicle)
+      (ap (λ k. (number + 2) == k) (sym number_more) ∙ same_number (number + 2)))))
+      (ap (λ b. link_of b (Some i) (trip_in trips row)) apart
+      ∙ ap (link_of false (Some i)) (trip_is vehicle (number + 2) j fresh.within))
+      (ap not (sym (gain_there trips i j) ∙ is.follow i j next_is))
+      (subst (λ some. AreRead trips plan some (slice_set linked i (Some j)) (rows_behind trips vehicle (number + 2) j more ++ rows))
+      (sym (seen_is riding vehicle (number + 2) j fresh.within))
+      (vehicle_read Rest rows vehicle rest more (number + 2) j (i ∷ seen) (slice_set linked i (Some j)) row
+      refl refl refl are_behind.2)))
     where
       one_apart : vehicle ≡ vehicle + 1 → ⊥
       one_apart e = omega (arith, e)
@@ -175,17 +175,17 @@ module _ (trips : TripsParts) (plan : List (Option ℕ)) (are : AreTrips trips) 
   tours_read ((i ∷ trip_numbers) ∷ more) vehicle read linked next_one are_tours =
       let row : ScheduleRow = trip_row trips vehicle 1 i in
       let starts : begins read.before row ≡ true =
-          both_true (ap (λ v. vehicle == v) next_one ∙ same_number vehicle) refl in
+      both_true (ap (λ v. vehicle == v) next_one ∙ same_number vehicle) refl in
       read_row trips plan read linked row (rows_behind trips vehicle 1 i trip_numbers ++ rows_from trips (vehicle + 1) more) None
-          (trip_formed read vehicle 1 i (slice_get (rows_behind trips vehicle 1 i trip_numbers ++ rows_from trips (vehicle + 1) more) 0)
-              are_tours.0 (either_true (follows_empty read.before row) starts))
-          (ap (λ b. link_of b (last_seen read) (trip_in trips row)) starts)
-          tt
-          (subst (λ some. AreRead trips plan some linked (rows_behind trips vehicle 1 i trip_numbers ++ rows_from trips (vehicle + 1) more))
-              (sym (seen_is read vehicle 1 i are_tours.0.within))
-              (vehicle_read (λ all links. AreTours n plan all links more) (rows_from trips (vehicle + 1) more) vehicle
-                  (λ behind links same rest. tours_read more (vehicle + 1) behind links (ap (λ v. v + 1) same) rest)
-                  trip_numbers 1 i read.seen linked row refl refl refl are_tours.1))
+      (trip_formed read vehicle 1 i (slice_get (rows_behind trips vehicle 1 i trip_numbers ++ rows_from trips (vehicle + 1) more) 0)
+      are_tours.0 (either_true (follows_empty read.before row) starts))
+      (ap (λ b. link_of b (last_seen read) (trip_in trips row)) starts)
+      tt
+      (subst (λ some. AreRead trips plan some linked (rows_behind trips vehicle 1 i trip_numbers ++ rows_from trips (vehicle + 1) more))
+      (sym (seen_is read vehicle 1 i are_tours.0.within))
+      (vehicle_read (λ all links. AreTours n plan all links more) (rows_from trips (vehicle + 1) more) vehicle
+      (λ behind links same rest. tours_read more (vehicle + 1) behind links (ap (λ v. v + 1) same) rest)
+      trip_numbers 1 i read.seen linked row refl refl refl are_tours.1))
 
   -- the rows of a plan
   pub plan_read : AreRead trips plan nothing_read (replicate n None) (plan_rows trips plan)

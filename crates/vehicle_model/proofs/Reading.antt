@@ -1,8 +1,8 @@
 -- What a reader of a schedule knows behind each row.
-use Rattle.std.proofs.Common.{◌≡◌, ◌≢◌, ℕ, zero, suc, ◌+◌, ◌<◌, ◌≤◌, ◌==◌, ◌&&◌, ◌||◌, nat_eq, not, is_some, Bool, true, false, cond, List, [], ◌∷◌, ◌++◌, length, map, filter, fold, get_or, slice_get, slice_set, replicate, position, Option, Some, None, IfSome, option_map, refl, ap, sym, ◌∙◌, subst, arith, eq-eqb, inl, inr, get_or-set_same, get_or-set_other}
+use Rattle.std.proofs.Common.{◌≡◌, ◌≢◌, ℕ, zero, suc, ◌<◌, ◌==◌, ◌||◌, nat_eq, not, is_some, Bool, true, false, cond, List, [], ◌∷◌, ◌++◌, length, filter, get_or, slice_get, slice_set, replicate, position, Option, Some, None, IfSome, option_map, refl, ap, sym, ◌∙◌, subst, arith, eq-eqb, inl, inr, get_or-set_same, get_or-set_other}
 use Rattle.std.specs.List.{list_any}
 use Rattle.std.specs.Option.{option_to_list}
-use Rattle.std.proofs.lemmas.Bool.{false≢true, ne_eqb, and_parts, or_parts, not-false}
+use Rattle.std.proofs.lemmas.Bool.{false≢true, ne_eqb, and_parts, or_parts}
 use Rattle.std.proofs.lemmas.List.{length-set, length-replicate, append-nil}
 use Rattle.std.proofs.lemmas.List.Sums.{fold_push}
 use Rattle.std.proofs.lemmas.List.Quantifiers.{position-Some}
@@ -11,10 +11,10 @@ use Rattle.event_tables.specs.declared.schedule_row.ScheduleRow.{ScheduleRow}
 use Rattle.event_tables.specs.Schedules.{is_empty_row}
 use Rattle.vehicle_model.specs.Plans.{next, is_next, AreSuccessors}
 use Rattle.vehicle_model.specs.ReadSchedules.{Reading, nothing_read, one_more, trip_in, begins, is_new, last_seen, has_seen, row_fits, has_form, trip_fits, empty_fits, follows_empty, same_run, link_of, link_to, plan_by, is_late}
-use Rattle.vehicle_model.specs.Readers.{ReaderParts, has_come, IsOver, late_after, after_link, after_trip, after_row, late_of, CanLink, Knows}
+use Rattle.vehicle_model.specs.Readers.{ReaderParts, late_after, after_link, after_trip, after_row, late_of, CanLink, Knows}
 use Rattle.vehicle_model.specs.Schedules.{no_trip}
 use Rattle.vehicle_model.specs.Trips.{TripsParts, link_minutes}
-use Rattle.vehicle_model.proofs.Linking.{by_number, none_next, none_linked, next_is, next_in, next_before, not_linked, linked, never_next}
+use Rattle.vehicle_model.proofs.Linking.{by_number, none_next, none_linked, next_in, next_before, not_linked, linked, never_next}
 
 -- ---- before all rows
 
@@ -61,9 +61,9 @@ first_late trips link (first ∷ links) = split (is_late trips first) (first_lat
   where
     split : (b : Bool) → late_of trips (links ++ link ∷ []) ≡ late_after trips link.0 link.1 (late_of trips links)
         → option_map (λ (at : ℕ × ℕ). at.1) (slice_get (cond b (first ∷ filter (is_late trips) (links ++ link ∷ []))
-            (filter (is_late trips) (links ++ link ∷ []))) 0)
+        (filter (is_late trips) (links ++ link ∷ []))) 0)
         ≡ late_after trips link.0 link.1 (option_map (λ (at : ℕ × ℕ). at.1)
-            (slice_get (cond b (first ∷ filter (is_late trips) links) (filter (is_late trips) links)) 0))
+        (slice_get (cond b (first ∷ filter (is_late trips) links) (filter (is_late trips) links)) 0))
     split true rest = refl
     split false rest = rest
 
@@ -101,7 +101,7 @@ new_trip trips before last come row after j fits is = split (is_empty_row row) r
     split true e = absurd (none-some j (sym (ap (λ b. cond b None (position (same_run row.run) trips.trips)) e) ∙ is))
     split false e =
         let fits_trip = sym (ap (λ b. cond b (empty_fits trips before last row after) (trip_fits trips before come row)) e)
-            ∙ (and_parts (row.circulation == row.vehicle) _ fits).1 in
+        ∙ (and_parts (row.circulation == row.vehicle) _ fits).1 in
         told (trip_in trips row) is (and_parts (begins before row || follows_empty before row) _ fits_trip).1
 
 -- a trip is one of the trips
@@ -142,10 +142,10 @@ module _ (trips : TripsParts) (read : Reading) (links : List (ℕ × ℕ)) (read
     come_more : (k : ℕ) → get_or (slice_set reader.come j true) k false ≡ ((k == j) || has_seen read k)
     come_more k = by_number k j
         (λ same. ap (λ i. get_or (slice_set reader.come j true) i false) same
-            ∙ get_or-set_same reader.come j true false (omega (arith, knows.over.come, trip_within trips row j is))
-            ∙ sym (ap (λ b. b || has_seen read k) (eq-eqb k j same)))
+        ∙ get_or-set_same reader.come j true false (omega (arith, knows.over.come, trip_within trips row j is))
+        ∙ sym (ap (λ b. b || has_seen read k) (eq-eqb k j same)))
         (λ apart. get_or-set_other reader.come j k true false apart ∙ knows.come k
-            ∙ sym (ap (λ b. b || has_seen read k) (ne_eqb k j apart)))
+        ∙ sym (ap (λ b. b || has_seen read k) (ne_eqb k j apart)))
 
     -- it comes without a link, or with one
     pub comes : (links_after : List (ℕ × ℕ)) (plan : List (Option ℕ)) (late : Option ℕ)
@@ -154,7 +154,7 @@ module _ (trips : TripsParts) (read : Reading) (links : List (ℕ × ℕ)) (read
         → ((k : ℕ) → k ≢ j → has_seen read k ≡ false → (next plan k ≡ None) × (is_next plan k ≡ false))
         → (late ≡ None → (i k : ℕ) → next plan i ≡ Some k → is_some (link_minutes trips i k) ≡ true)
         → Knows trips (record { before = Some row; seen = j ∷ read.seen }) links_after
-            (record { before = Some row; last = Some j; come = slice_set reader.come j true; plan = plan; late = late })
+        (record { before = Some row; last = Some j; come = slice_set reader.come j true; plan = plan; late = late })
     comes links_after plan late size plan_is late_is are free unseen follow = record {
       over = record {
         come = length-set reader.come j true ∙ knows.over.come;
@@ -194,8 +194,13 @@ module _ (trips : TripsParts) (read : Reading) (links : List (ℕ × ℕ)) (read
       }
 
       pub behind_link : Knows trips (record { before = Some row; seen = j ∷ read.seen }) (links ++ (i, j) ∷ [])
-          (record { before = Some row; last = Some j; come = slice_set reader.come j true; plan = slice_set reader.plan i (Some j);
-            late = late_after trips i j reader.late })
+          (record {
+            before = Some row;
+            last = Some j;
+            come = slice_set reader.come j true;
+            plan = slice_set reader.plan i (Some j);
+            late = late_after trips i j reader.late;
+          })
       behind_link = comes (links ++ (i, j) ∷ []) (slice_set reader.plan i (Some j)) (late_after trips i j reader.late)
           (length-set reader.plan i (Some j) ∙ knows.over.plan)
           (ap (λ plan. slice_set plan i (Some j)) knows.plan ∙ sym (plan_more (length trips.trips) links i j))
@@ -207,11 +212,11 @@ module _ (trips : TripsParts) (read : Reading) (links : List (ℕ × ℕ)) (read
             not_linked reader.plan i j within k apart (knows.unseen k h).1,
           ))
           (λ none one k e.
-              let parts = none_late trips i j reader.late none in
-              elim (next_before reader.plan i j within one k e) as (λ _. is_some (link_minutes trips one k) ≡ true) [
-                inl at ↦ ap (λ n. is_some (link_minutes trips n k)) at.0 ∙ ap (λ n. is_some (link_minutes trips i n)) at.1 ∙ parts.1
-              | inr was ↦ knows.follow parts.0 one k was
-              ])
+          let parts = none_late trips i j reader.late none in
+          elim (next_before reader.plan i j within one k e) as (λ _. is_some (link_minutes trips one k) ≡ true) [
+            | inl at ↦ ap (λ n. is_some (link_minutes trips n k)) at.0 ∙ ap (λ n. is_some (link_minutes trips i n)) at.1 ∙ parts.1
+            | inr was ↦ knows.follow parts.0 one k was
+          ])
 
   -- a row without a trip
   pub passed : (row : ScheduleRow) → Knows trips (record { before = Some row; seen = read.seen }) (links ++ []) (after_row row reader)
@@ -246,13 +251,13 @@ module _ (trips : TripsParts) (read : Reading) (links : List (ℕ × ℕ)) (read
     -- and behind the row it is known what was read
     pub knows_more : Knows trips (one_more trips read row) (links ++ option_to_list (link_to trips read row))
         (after_row row (after_trip (trip_in trips row) (after_link trips
-            (link_of (begins reader.before row) reader.last (trip_in trips row)) reader)))
+        (link_of (begins reader.before row) reader.last (trip_in trips row)) reader)))
     knows_more = subst
         (λ link. Knows trips (one_more trips read row) (links ++ option_to_list link)
-            (after_row row (after_trip (trip_in trips row) (after_link trips
-                (link_of (begins reader.before row) reader.last (trip_in trips row)) reader))))
+        (after_row row (after_trip (trip_in trips row) (after_link trips
+        (link_of (begins reader.before row) reader.last (trip_in trips row)) reader))))
         (ap (λ before. link_of (begins before row) reader.last (trip_in trips row)) knows.before
-            ∙ ap (λ last. link_of (begins read.before row) last (trip_in trips row)) knows.last)
+        ∙ ap (λ last. link_of (begins read.before row) last (trip_in trips row)) knows.last)
         (split (begins reader.before row) reader.last (trip_in trips row) refl refl)
       where
         After : Option (ℕ × ℕ) → Option ℕ → Type 0

@@ -1,6 +1,6 @@
 -- The row of a trip repeats that trip.
-use Rattle.std.proofs.Common.{◌≡◌, ◌≢◌, ℕ, ◌<◌, ◌≤◌, ◌==◌, ◌&&◌, Bool, true, false, cond, List, length, map, get_or, position, nat_lt, Option, Some, None, refl, ap, sym, ◌∙◌, arith, eq-eqb}
-use Rattle.std.proofs.lemmas.Bool.{false≢true, eqb-true, eqb-false, and_parts, lt-ltb}
+use Rattle.std.proofs.Common.{◌≡◌, ℕ, ◌<◌, ◌==◌, ◌&&◌, Bool, true, false, cond, List, length, map, get_or, position, nat_lt, Some, None, refl, ap, sym, ◌∙◌, arith, eq-eqb}
+use Rattle.std.proofs.lemmas.Bool.{eqb-true, and_parts, lt-ltb}
 use Rattle.std.proofs.lemmas.Bool.Decides.{Decides-eqb}
 use Rattle.std.proofs.lemmas.List.{length-map, get_or-map}
 use Rattle.std.proofs.lemmas.List.Sums.{position_or_len_is}
@@ -29,7 +29,7 @@ same_start a b h =
     let ends = (and_parts (same_end a.start b.start && same_end a.end b.end) _ h).0 in
     let start = (and_parts (same_end a.start b.start) _ ends).0 in
     let three = (and_parts ((a.start.event == b.start.event) && (a.start.periodic == b.start.periodic)
-        && (a.start.stop == b.start.stop)) _ start).0 in
+    && (a.start.stop == b.start.stop)) _ start).0 in
     let two = (and_parts ((a.start.event == b.start.event) && (a.start.periodic == b.start.periodic)) _ three).0 in
     eqb-true a.start.event b.start.event (and_parts (a.start.event == b.start.event) _ two).0
 

@@ -1,11 +1,9 @@
 -- The rows of a plan are in the ranges of their columns.
-use Rattle.std.proofs.Common.{◌≡◌, ℕ, zero, suc, pos, ◌+◌, ◌*◌, ◌<◌, ◌≤◌, ◌≤ℤ◌, List, [], ◌∷◌, ◌++◌, length, map, filter, not, replicate, slice_set, get_or, All, Option, Some, None, unwrap_or, refl, ap, sym, ◌∙◌, subst, arith}
-use Rattle.std.specs.List.{range_with_len}
+use Rattle.std.proofs.Common.{◌≡◌, ℕ, zero, suc, pos, ◌+◌, ◌*◌, ◌<◌, ◌≤◌, ◌≤ℤ◌, List, [], ◌∷◌, ◌++◌, length, not, replicate, slice_set, get_or, All, Option, Some, None, unwrap_or, refl, ap, sym, ◌∙◌, arith}
 use Rattle.std.proofs.lemmas.Int.{ints}
 use Rattle.std.proofs.lemmas.List.{length-map}
 use Rattle.std.proofs.lemmas.List.Elements.{All-nil, All-cons, All-map}
 use Rattle.event_tables.specs.declared.schedule_row.ScheduleRow.{ScheduleRow}
-use Rattle.event_tables.specs.declared.trip.Trip.{Trip}
 use Rattle.event_tables.specs.Cells.{trip_cells, schedule_cells}
 use Rattle.giv_files.specs.Columns.{trips_columns, schedule_columns}
 use Rattle.giv_files.specs.Writing.{InColumns}
@@ -34,8 +32,7 @@ module _ (trips : TripsParts) (plan : List (Option ℕ)) (are : AreTrips trips) 
   trip_fits : (vehicle number i : ℕ) → 1 ≤ vehicle → vehicle ≤ 10000 → 1 ≤ number → number ≤ 10000 → i < n
       → Fits (trip_row trips vehicle number i)
   trip_fits vehicle number i v_low v_high low high within =
-      let fit = cells_fit i within in
-      (
+      let fit = cells_fit i within in (
         id_small vehicle v_low v_high,
         (
           id_small vehicle v_low v_high,
@@ -61,8 +58,7 @@ module _ (trips : TripsParts) (plan : List (Option ℕ)) (are : AreTrips trips) 
       let link = is_link trips i j found.0 found.1 in
       let minutes : unwrap_or (dead_between trips i j) 0 ≡ found.0 = ap (λ at. unwrap_or at 0) link.dead in
       let soon : (trip_of trips i).end.time + unwrap_or (dead_between trips i j) 0 ≤ (trip_of trips j).start.time =
-          omega (arith, minutes, link.in_time) in
-      (
+      omega (arith, minutes, link.in_time) in (
         id_small vehicle v_low v_high,
         (
           id_small vehicle v_low v_high,
@@ -89,14 +85,14 @@ module _ (trips : TripsParts) (plan : List (Option ℕ)) (are : AreTrips trips) 
   behind_fits Rest rows vehicle low high rest [] number i seen linked within few behind = rest seen linked behind
   behind_fits Rest rows vehicle low high rest (j ∷ more) number i seen linked within few behind =
       All-cons Fits (empty_row trips vehicle (number + 1) i j)
-          (trip_row trips vehicle (number + 2) j ∷ (rows_behind trips vehicle (number + 2) j more ++ rows))
-          (ride_fits vehicle (number + 1) i j low high (omega arith) (omega (arith, few)) within behind.0.within behind.1)
-          (All-cons Fits (trip_row trips vehicle (number + 2) j)
-              (rows_behind trips vehicle (number + 2) j more ++ rows)
-              (trip_fits vehicle (number + 2) j low high (omega arith) (omega (arith, few)) behind.0.within)
-              (behind_fits Rest rows vehicle low high rest more (number + 2) j (j ∷ seen)
-                  (slice_set linked i (Some j)) behind.0.within
-                  (omega (arith, few)) behind.2))
+      (trip_row trips vehicle (number + 2) j ∷ (rows_behind trips vehicle (number + 2) j more ++ rows))
+      (ride_fits vehicle (number + 1) i j low high (omega arith) (omega (arith, few)) within behind.0.within behind.1)
+      (All-cons Fits (trip_row trips vehicle (number + 2) j)
+      (rows_behind trips vehicle (number + 2) j more ++ rows)
+      (trip_fits vehicle (number + 2) j low high (omega arith) (omega (arith, few)) behind.0.within)
+      (behind_fits Rest rows vehicle low high rest more (number + 2) j (j ∷ seen)
+      (slice_set linked i (Some j)) behind.0.within
+      (omega (arith, few)) behind.2))
 
   from_fits : (list : List (List ℕ)) (vehicle : ℕ) (seen : List ℕ) (linked : List (Option ℕ)) → 1 ≤ vehicle
       → vehicle + length list ≤ 10000 → All (λ trip_numbers. length trip_numbers ≤ 2000) list
@@ -106,14 +102,14 @@ module _ (trips : TripsParts) (plan : List (Option ℕ)) (are : AreTrips trips) 
   from_fits ([] ∷ more) vehicle seen linked low few short are_tours = elim are_tours [ ]
   from_fits ((i ∷ trip_numbers) ∷ more) vehicle seen linked low few short are_tours =
       All-cons Fits (trip_row trips vehicle 1 i)
-          (rows_behind trips vehicle 1 i trip_numbers ++ rows_from trips (vehicle + 1) more)
-          (trip_fits vehicle 1 i low (omega (arith, few)) (omega arith) (omega arith) are_tours.0.within)
-          (behind_fits (λ all links. AreTours n plan all links more) (rows_from trips (vehicle + 1) more) vehicle low
-              (omega (arith, few))
-              (λ all links rest. from_fits more (vehicle + 1) all links (omega arith) (omega (arith, few))
-                  (λ k d h. short (suc k) d (omega (arith, h))) rest)
-              trip_numbers 1 i (i ∷ seen) linked are_tours.0.within
-              (omega (arith, short 0 [] (omega arith))) are_tours.1)
+      (rows_behind trips vehicle 1 i trip_numbers ++ rows_from trips (vehicle + 1) more)
+      (trip_fits vehicle 1 i low (omega (arith, few)) (omega arith) (omega arith) are_tours.0.within)
+      (behind_fits (λ all links. AreTours n plan all links more) (rows_from trips (vehicle + 1) more) vehicle low
+      (omega (arith, few))
+      (λ all links rest. from_fits more (vehicle + 1) all links (omega arith) (omega (arith, few))
+      (λ k d h. short (suc k) d (omega (arith, h))) rest)
+      trip_numbers 1 i (i ∷ seen) linked are_tours.0.within
+      (omega (arith, short 0 [] (omega arith))) are_tours.1)
 
   tour_short : (fuel : ℕ) (at : Option ℕ) → length (tour fuel plan at) ≤ fuel
   unfolding tour
@@ -123,8 +119,13 @@ module _ (trips : TripsParts) (plan : List (Option ℕ)) (are : AreTrips trips) 
 
   pub plan_fits : All Fits (plan_rows trips plan)
   plan_fits = from_fits (tours plan) 1 [] (replicate n None) (omega arith)
-      (omega (arith, length-map (starts plan) (λ first. tour n plan (Some first)),
-          count_most (λ j. not (is_next plan j)) 0 n, is.each, are.rows.few))
+      (omega (
+        arith,
+        length-map (starts plan) (λ first. tour n plan (Some first)),
+        count_most (λ j. not (is_next plan j)) 0 n,
+        is.each,
+        are.rows.few,
+      ))
       (All-map (λ trip_numbers. length trip_numbers ≤ 2000) (λ first. tour n plan (Some first)) (starts plan)
-          (λ k d h. omega (arith, tour_short n (Some (get_or (starts plan) k d)), is.each, are.rows.few)))
+      (λ k d h. omega (arith, tour_short n (Some (get_or (starts plan) k d)), is.each, are.rows.few)))
       (tours_are trips plan are is)

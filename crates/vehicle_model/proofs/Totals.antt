@@ -1,5 +1,5 @@
 -- Sums of numbers, and the links of a plan from a trip on.
-use Rattle.std.proofs.Common.{◌≡◌, ℕ, ℤ, zero, suc, pos, ◌+◌, ◌<◌, ◌+ℤ◌, List, [], ◌∷◌, length, map, sum, fold, drop, filter_map, get_or, Option, Some, None, option_map, unwrap_or, refl, ap, sym, ◌∙◌, arith}
+use Rattle.std.proofs.Common.{◌≡◌, ℕ, ℤ, suc, pos, ◌+◌, ◌<◌, ◌+ℤ◌, List, [], ◌∷◌, length, map, sum, fold, drop, filter_map, Option, Some, None, option_map, unwrap_or, ap, ◌∙◌, arith}
 use Rattle.std.specs.List.{enumerate_from}
 use Rattle.std.proofs.Math.Seq.{drop-cons}
 use Rattle.std.proofs.lemmas.Int.{ints}
@@ -12,18 +12,18 @@ total_from : (start : ℤ) (numbers : List ℤ)
 total_from start [] = omega (arith, ints)
 total_from start (first ∷ numbers) =
     let one : fold (λ sum number. sum +ℤ number) (start +ℤ first) numbers
-            ≡ (start +ℤ first) +ℤ total numbers =
-        total_from (start +ℤ first) numbers in
+    ≡ (start +ℤ first) +ℤ total numbers =
+    total_from (start +ℤ first) numbers in
     let two : fold (λ sum number. sum +ℤ number) (pos 0 +ℤ first) numbers
-            ≡ (pos 0 +ℤ first) +ℤ total numbers =
-        total_from (pos 0 +ℤ first) numbers in
+    ≡ (pos 0 +ℤ first) +ℤ total numbers =
+    total_from (pos 0 +ℤ first) numbers in
     omega (arith, ints, one, two)
 
 -- a sum of one number more
 pub total_more : (first : ℤ) (numbers : List ℤ) → total (first ∷ numbers) ≡ first +ℤ total numbers
 total_more first numbers =
     let one : total (first ∷ numbers) ≡ (pos 0 +ℤ first) +ℤ total numbers =
-        total_from (pos 0 +ℤ first) numbers in
+    total_from (pos 0 +ℤ first) numbers in
     omega (arith, ints, one)
 
 -- ---- the links of a plan from a trip on
@@ -63,7 +63,7 @@ rest_is : (plan : List (Option ℕ)) (i : ℕ) (at : Option ℕ) → i < length 
 rest_is plan i at within is =
     let one_more : suc i ≡ i + 1 = omega arith in
     drop-cons plan i None within ∙ ap (λ first. first ∷ drop (suc i) plan) is
-        ∙ ap (λ n. at ∷ drop n plan) one_more
+    ∙ ap (λ n. at ∷ drop n plan) one_more
 
 module _ (minutes : ℕ → ℕ → Option ℕ) (plan : List (Option ℕ)) (i : ℕ) (within : i < length plan) where
   -- a trip without a successor has no link

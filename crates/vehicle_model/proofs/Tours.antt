@@ -1,15 +1,15 @@
 -- The tours of a plan: each trip stands in one of them, once, and behind it the one that its vehicle
 -- runs next.
-use Rattle.std.proofs.Common.{◌≡◌, ◌≢◌, ◌⊎◌, inl, inr, ℕ, zero, suc, ◌+◌, ◌-◌, ◌<◌, ◌≤◌, ◌==◌, ◌||◌, ◌&&◌, nat_eq, Bool, true, false, not, cond, is_some, List, [], ◌∷◌, length, map, filter, get_or, slice_set, replicate, Option, Some, None, refl, ap, sym, ◌∙◌, subst, arith, eq-eqb}
+use Rattle.std.proofs.Common.{◌≡◌, ◌≢◌, ◌⊎◌, inl, inr, ℕ, zero, suc, ◌+◌, ◌-◌, ◌<◌, ◌≤◌, ◌==◌, ◌||◌, ◌&&◌, nat_eq, Bool, true, false, not, cond, List, [], ◌∷◌, length, map, filter, slice_set, replicate, Option, Some, None, refl, ap, sym, ◌∙◌, subst, arith, eq-eqb}
 use Rattle.std.specs.List.{list_any, list_all, range_with_len}
-use Rattle.std.proofs.lemmas.Bool.{false≢true, ne_eqb, or_parts, eqb-true}
+use Rattle.std.proofs.lemmas.Bool.{false≢true, ne_eqb, or_parts}
 use Rattle.std.proofs.lemmas.List.{length-set, length-replicate}
 use Rattle.std.proofs.lemmas.Option.{none-some, same_Some}
-use Rattle.vehicle_model.specs.Plans.{next, is_next, starts, IsPlan}
+use Rattle.vehicle_model.specs.Plans.{next, is_next, IsPlan}
 use Rattle.vehicle_model.specs.Schedules.{trip_of, tour, tours}
 use Rattle.vehicle_model.specs.Trips.{TripsParts, AreTrips, links_of}
-use Rattle.vehicle_model.proofs.Counting.{count, but_one, one_less, count_most}
-use Rattle.vehicle_model.proofs.Following.{some_of, is_link, links_within, gain_there, starts_later}
+use Rattle.vehicle_model.proofs.Counting.{count, one_less, count_most}
+use Rattle.vehicle_model.proofs.Following.{some_of, links_within, gain_there, starts_later}
 use Rattle.vehicle_model.proofs.Linking.{by_number, next_found, followed, none_next, next_is, next_in}
 
 -- whether a trip is among some
@@ -162,8 +162,8 @@ module _ (trips : TripsParts) (plan : List (Option ℕ)) (are : AreTrips trips) 
       on = λ p j e h. has_cases seen i p h
           (λ at. absurd (none-some j (sym last ∙ sym (ap (next plan) at) ∙ e)))
           (λ was. elim (it.on p j e was) as (λ _. has (i ∷ seen) j ≡ true) [
-            inl there ↦ has_more seen i j there
-          | inr at ↦ ap (has (i ∷ seen)) at ∙ has_first seen i
+            | inl there ↦ has_more seen i j there
+            | inr at ↦ ap (has (i ∷ seen)) at ∙ has_first seen i
           ]);
       size = it.size;
       same = λ p h. has_cases seen i p h
@@ -193,8 +193,8 @@ module _ (trips : TripsParts) (plan : List (Option ℕ)) (are : AreTrips trips) 
         on = λ p k f h. has_cases seen i p h
             (λ at. inr (same_Some k j (sym f ∙ ap (next plan) at ∙ e)))
             (λ was. elim (it.on p k f was) as (λ _. (has (i ∷ seen) k ≡ true) ⊎ (k ≡ j)) [
-              inl there ↦ inl (has_more seen i k there)
-            | inr at ↦ inl (ap (has (i ∷ seen)) at ∙ has_first seen i)
+              | inl there ↦ inl (has_more seen i k there)
+              | inr at ↦ inl (ap (has (i ∷ seen)) at ∙ has_first seen i)
             ]);
         size = length-set linked i (Some j) ∙ it.size;
         same = λ p h. has_cases seen i p h
@@ -213,7 +213,7 @@ module _ (trips : TripsParts) (plan : List (Option ℕ)) (are : AreTrips trips) 
       (linked : List (Option ℕ)) (i : ℕ) → IsOpen seen linked i → left n (i ∷ seen) ≤ fuel
       → ((s : ℕ) → is_next plan s ≡ false → has (i ∷ seen) s ≡ base s)
       → ((all : List ℕ) (links : List (Option ℕ)) → IsClosed all links
-          → ((s : ℕ) → is_next plan s ≡ false → has all s ≡ base s) → Rest all links)
+      → ((s : ℕ) → is_next plan s ≡ false → has all s ≡ base s) → Rest all links)
       → AreBehind n plan Rest (i ∷ seen) linked i (tour fuel plan (next plan i))
   unfolding tour
   tour_behind Rest base zero seen linked i it enough firsts rest =
@@ -221,14 +221,17 @@ module _ (trips : TripsParts) (plan : List (Option ℕ)) (are : AreTrips trips) 
     where
       ends : (at : Option ℕ) → next plan i ≡ at → Rest (i ∷ seen) linked
       ends None e = rest (i ∷ seen) linked (closes seen linked i it e) firsts
-      ends (Some j) e = absurd (omega (arith, enough,
-          one_left n (i ∷ seen) j (next_within i j e).1 (fresh seen linked i it j e)))
+      ends (Some j) e = absurd (omega (
+        arith,
+        enough,
+        one_left n (i ∷ seen) j (next_within i j e).1 (fresh seen linked i it j e),
+      ))
   tour_behind Rest base (suc fuel) seen linked i it enough firsts rest =
       step (next plan i) refl (λ j e. tour_behind Rest base fuel (i ∷ seen) (slice_set linked i (Some j)) j
-          (goes_on seen linked i it j e)
-          (omega (arith, enough, one_left n (i ∷ seen) j (next_within i j e).1 (fresh seen linked i it j e)))
-          (λ s h. has_other (i ∷ seen) j s (λ at. not_both (next_found plan i j e) (sym (ap (is_next plan) at) ∙ h)) ∙ firsts s h)
-          rest)
+      (goes_on seen linked i it j e)
+      (omega (arith, enough, one_left n (i ∷ seen) j (next_within i j e).1 (fresh seen linked i it j e)))
+      (λ s h. has_other (i ∷ seen) j s (λ at. not_both (next_found plan i j e) (sym (ap (is_next plan) at) ∙ h)) ∙ firsts s h)
+      rest)
     where
       step : (at : Option ℕ) → next plan i ≡ at
           → ((j : ℕ) → next plan i ≡ Some j → AreBehind n plan Rest (j ∷ i ∷ seen) (slice_set linked i (Some j)) j (tour fuel plan (next plan j)))
@@ -245,12 +248,12 @@ module _ (trips : TripsParts) (plan : List (Option ℕ)) (are : AreTrips trips) 
   all_there seen linked closed firsts zero i soon within = absurd (omega (arith, soon))
   all_there seen linked closed firsts (suc bound) i soon within =
       first_or_not (λ p e. all_there seen linked closed firsts bound p
-          (omega (arith, later p i e, soon)) (next_within p i e).0)
+      (omega (arith, later p i e, soon)) (next_within p i e).0)
     where
       first_or_not : ((p : ℕ) → next plan p ≡ Some i → has seen p ≡ true) → has seen i ≡ true
       first_or_not before = by_bool (is_next plan i)
           (λ h. let found = followed plan i h in
-              closed.on found.0 i found.1 (before found.0 found.1))
+          closed.on found.0 i found.1 (before found.0 found.1))
           (λ h. firsts i h within)
 
   new_tours : (from k : ℕ) (seen : List ℕ) (linked : List (Option ℕ)) → from + k ≡ n
@@ -258,7 +261,7 @@ module _ (trips : TripsParts) (plan : List (Option ℕ)) (are : AreTrips trips) 
       → ((s : ℕ) → is_next plan s ≡ false → s < from → has seen s ≡ true)
       → ((s : ℕ) → is_next plan s ≡ false → from ≤ s → has seen s ≡ false)
       → AreTours n plan seen linked (map (λ first. tour n plan (Some first))
-          (filter (λ j. not (is_next plan j)) (range_with_len from k)))
+      (filter (λ j. not (is_next plan j)) (range_with_len from k)))
   new_tours from zero seen linked all closed done open_still = (
     all_in_range (has seen) 0 n (λ i low high. all_there seen linked closed
         (λ s h within. done s h (omega (arith, within, all)))
@@ -277,23 +280,23 @@ module _ (trips : TripsParts) (plan : List (Option ℕ)) (are : AreTrips trips) 
               (suc (trip_of trips p).start.time) p (omega arith) (next_within p j e).0) h)
   new_tours from (suc k) seen linked all closed done open_still =
       by_bool (is_next plan from)
-          (λ h. subst (λ b. AreTours n plan seen linked (map (λ first. tour n plan (Some first))
-              (cond (not b) (from ∷ filter (λ j. not (is_next plan j)) (range_with_len (from + 1) k))
-                  (filter (λ j. not (is_next plan j)) (range_with_len (from + 1) k))))) (sym h)
-              (new_tours (from + 1) k seen linked (omega (arith, all)) closed
-                  (λ s f low. by_number s from (λ at. absurd (not_both (ap (is_next plan) at ∙ h) f))
-                      (λ apart. done s f (omega (arith, low, apart))))
-                  (λ s f low. open_still s f (omega (arith, low)))))
-          (λ h. subst (λ b. AreTours n plan seen linked (map (λ first. tour n plan (Some first))
-              (cond (not b) (from ∷ filter (λ j. not (is_next plan j)) (range_with_len (from + 1) k))
-                  (filter (λ j. not (is_next plan j)) (range_with_len (from + 1) k))))) (sym h)
-              (one_tour h (open_still from h (omega arith))
-                  (λ seen_all links shut firsts. new_tours (from + 1) k seen_all links (omega (arith, all)) shut
-                      (λ s f low. firsts s f ∙ by_number s from
-                          (λ at. ap (has (from ∷ seen)) at ∙ has_first seen from)
-                          (λ apart. has_more seen from s (done s f (omega (arith, low, apart)))))
-                      (λ s f low. firsts s f ∙ has_other seen from s (λ at. not_above low at)
-                          ∙ open_still s f (omega (arith, low))))))
+      (λ h. subst (λ b. AreTours n plan seen linked (map (λ first. tour n plan (Some first))
+      (cond (not b) (from ∷ filter (λ j. not (is_next plan j)) (range_with_len (from + 1) k))
+      (filter (λ j. not (is_next plan j)) (range_with_len (from + 1) k))))) (sym h)
+      (new_tours (from + 1) k seen linked (omega (arith, all)) closed
+      (λ s f low. by_number s from (λ at. absurd (not_both (ap (is_next plan) at ∙ h) f))
+      (λ apart. done s f (omega (arith, low, apart))))
+      (λ s f low. open_still s f (omega (arith, low)))))
+      (λ h. subst (λ b. AreTours n plan seen linked (map (λ first. tour n plan (Some first))
+      (cond (not b) (from ∷ filter (λ j. not (is_next plan j)) (range_with_len (from + 1) k))
+      (filter (λ j. not (is_next plan j)) (range_with_len (from + 1) k))))) (sym h)
+      (one_tour h (open_still from h (omega arith))
+      (λ seen_all links shut firsts. new_tours (from + 1) k seen_all links (omega (arith, all)) shut
+      (λ s f low. firsts s f ∙ by_number s from
+      (λ at. ap (has (from ∷ seen)) at ∙ has_first seen from)
+      (λ apart. has_more seen from s (done s f (omega (arith, low, apart)))))
+      (λ s f low. firsts s f ∙ has_other seen from s (λ at. not_above low at)
+      ∙ open_still s f (omega (arith, low))))))
     where
       not_above : {a b : ℕ} → a + 1 ≤ b → b ≡ a → ⊥
       not_above low at = omega (arith, low, at)
@@ -304,16 +307,15 @@ module _ (trips : TripsParts) (plan : List (Option ℕ)) (are : AreTrips trips) 
 
       one_tour : is_next plan from ≡ false → has seen from ≡ false
           → ((seen_all : List ℕ) (links : List (Option ℕ)) → IsClosed seen_all links
-              → ((s : ℕ) → is_next plan s ≡ false → has seen_all s ≡ has (from ∷ seen) s)
-              → AreTours n plan seen_all links (map (λ first. tour n plan (Some first))
-                  (filter (λ j. not (is_next plan j)) (range_with_len (from + 1) k))))
+          → ((s : ℕ) → is_next plan s ≡ false → has seen_all s ≡ has (from ∷ seen) s)
+          → AreTours n plan seen_all links (map (λ first. tour n plan (Some first))
+          (filter (λ j. not (is_next plan j)) (range_with_len (from + 1) k))))
           → AreTours n plan seen linked (tour n plan (Some from) ∷ map (λ first. tour n plan (Some first))
-              (filter (λ j. not (is_next plan j)) (range_with_len (from + 1) k)))
+          (filter (λ j. not (is_next plan j)) (range_with_len (from + 1) k)))
       one_tour h new behind = subst
           (λ (first : List ℕ). AreTours n plan seen linked (first ∷ map (λ first. tour n plan (Some first))
-              (filter (λ j. not (is_next plan j)) (range_with_len (from + 1) k))))
-          (sym (tour_first plan n from (omega (arith, all))))
-          (
+          (filter (λ j. not (is_next plan j)) (range_with_len (from + 1) k))))
+          (sym (tour_first plan n from (omega (arith, all)))) (
             record { within = omega (arith, all); new = new },
             tour_behind (λ seen_all links. AreTours n plan seen_all links (map (λ first. tour n plan (Some first))
                 (filter (λ j. not (is_next plan j)) (range_with_len (from + 1) k))))

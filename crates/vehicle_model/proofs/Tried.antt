@@ -21,8 +21,15 @@ use Rattle.vehicle_model.specs.Schedules.{tour, rows_behind, rows_from, plan_tex
 use Rattle.vehicle_model.specs.ReadSchedules.{form_faults, links_in, plan_faults, plan_of}
 
 abbrev edge : ℕ → ℕ → ℕ → ℕ → Edge
-edge id left right lower = record { id = pos id; left = left; right = right; length = pos 1; lower = pos
-    lower; upper = pos lower }
+edge id left right lower = record {
+  id = pos id;
+  left = left;
+  right = right;
+  length = pos 1;
+  lower = pos
+      lower;
+  upper = pos lower;
+}
 
 -- three stops in a row, and one more without an edge
 abbrev network : NetworkParts
@@ -32,8 +39,12 @@ abbrev event : ℕ → ℕ → ℕ → TripEnd
 event id stop time = record { event = id; periodic = id; stop = stop; time = time }
 
 abbrev trip : ℕ → ℕ → ℕ → ℕ → ℕ → Trip
-trip number from start to end = record { start = event (number * 2) from start; end = event (number * 2 + 1)
-    to end; line = 1 }
+trip number from start to end = record {
+  start = event (number * 2) from start;
+  end = event (number * 2 + 1)
+      to end;
+  line = 1;
+}
 
 abbrev trips : List Trip → ℕ → ℕ → TripsParts
 trips list turnover empty = record { network = network; trips = list; turnover = turnover; vehicle = 100000000; empty = empty }
@@ -111,13 +122,13 @@ abbrev trips_text : List ℕ
 trips_text = codes "1; 1; 1; 0; 4; 4; 3; 11; 1\n5; 1; 1; 20; 8; 4; 3; 31; 1\n"
     ++ codes "9; 5; 3; 0; 12; 8; 1; 11; 1\n13; 5; 3; 20; 16; 8; 1; 31; 1\n"
     ++ codes "17; 9; 1; 0; 18; 10; 2; 4; 2\n19; 9; 1; 20; 20; 10; 2; 24; 2\n"
-        ++ codes "21; 11; 2; 0; 22; 12; 1; 4; 2\n23; 11; 2; 20; 24; 12; 1; 24; 2\n"
+    ++ codes "21; 11; 2; 0; 22; 12; 1; 4; 2\n23; 11; 2; 20; 24; 12; 1; 24; 2\n"
 
 -- a trip for each rule
 broken : trips_faults stops_text edges_text (codes "1; 1; 1; 0; 2; 2; 2; 4; 1\n1; 1; 1; 0; 2; 2; 2; 4; 1\n"
     ++ codes "3; 1; 5; 0; 2; 2; 2; 4; 1\n5; 1; 1; 4; 2; 2; 2; 4; 1\n")
     ≡ refusal.BadRow file.Trips 2 why.RepeatedId ∷ refusal.BadRow file.Trips 3 why.UnknownStop
-        ∷ refusal.BadRow file.Trips 4 why.Backward ∷ []
+    ∷ refusal.BadRow file.Trips 4 why.Backward ∷ []
 unfolding trips_faults network_of network_faults stops_of input_faults row_faults faults by_id table_of
     cells_from cell_of values errors row_whys rows cleaned spelling_of value_of value_at fixed_of whole_of
 broken = refl
@@ -138,17 +149,17 @@ schedule =
     codes "# circulation; vehicle; number; type; start-id; periodic-start-id; start-stop; start-time; end-id; "
     ++ codes "periodic-end-id; end-stop; end-time; line\n"
     ++ codes "1; 1; 1; TRIP; 1; 1; 1; 0; 4; 4; 3; 11; 1\n"
-        ++ codes "1; 1; 2; EMPTY; 4; 4; 3; 11; 13; 5; 3; 11; 0\n"
-        ++ codes "1; 1; 3; TRIP; 13; 5; 3; 20; 16; 8; 1; 31; 1\n"
+    ++ codes "1; 1; 2; EMPTY; 4; 4; 3; 11; 13; 5; 3; 11; 0\n"
+    ++ codes "1; 1; 3; TRIP; 13; 5; 3; 20; 16; 8; 1; 31; 1\n"
     ++ codes "2; 2; 1; TRIP; 9; 5; 3; 0; 12; 8; 1; 11; 1\n"
-        ++ codes "2; 2; 2; EMPTY; 12; 8; 1; 11; 5; 1; 1; 11; 0\n"
-        ++ codes "2; 2; 3; TRIP; 5; 1; 1; 20; 8; 4; 3; 31; 1\n"
+    ++ codes "2; 2; 2; EMPTY; 12; 8; 1; 11; 5; 1; 1; 11; 0\n"
+    ++ codes "2; 2; 3; TRIP; 5; 1; 1; 20; 8; 4; 3; 31; 1\n"
     ++ codes "3; 3; 1; TRIP; 17; 9; 1; 0; 18; 10; 2; 4; 2\n"
-        ++ codes "3; 3; 2; EMPTY; 18; 10; 2; 4; 23; 11; 2; 4; 0\n"
-        ++ codes "3; 3; 3; TRIP; 23; 11; 2; 20; 24; 12; 1; 24; 2\n"
+    ++ codes "3; 3; 2; EMPTY; 18; 10; 2; 4; 23; 11; 2; 4; 0\n"
+    ++ codes "3; 3; 3; TRIP; 23; 11; 2; 20; 24; 12; 1; 24; 2\n"
     ++ codes "4; 4; 1; TRIP; 21; 11; 2; 0; 22; 12; 1; 4; 2\n"
-        ++ codes "4; 4; 2; EMPTY; 22; 12; 1; 4; 19; 9; 1; 4; 0\n"
-        ++ codes "4; 4; 3; TRIP; 19; 9; 1; 20; 20; 10; 2; 24; 2\n"
+    ++ codes "4; 4; 2; EMPTY; 22; 12; 1; 4; 19; 9; 1; 4; 0\n"
+    ++ codes "4; 4; 3; TRIP; 19; 9; 1; 20; 20; 10; 2; 24; 2\n"
 
 written : plan_text eight pairs ≡ schedule
 unfolding plan_text table_text cell_text cell_texts joined digits tour rows_behind rows_from least_sum walks_within
@@ -169,8 +180,11 @@ fine = refl
 -- ---- schedules from any hand, over two trips
 
 -- a text that is no table
-no_table : slice_get (plan_faults (two 1000000) (codes "x\n")) 0 ≡ Some (fault.Row (record { row = 1; why =
-    why.FieldCount 1 }))
+no_table : slice_get (plan_faults (two 1000000) (codes "x\n")) 0 ≡ Some (fault.Row (record {
+  row = 1;
+  why =
+      why.FieldCount 1;
+}))
 unfolding plan_faults form_faults links_in faults errors row_whys least_sum walks_within least_of table_of cells_from cell_of
     values rows cleaned spelling_of value_of value_at fixed_of whole_of
 no_table = refl

@@ -1,5 +1,5 @@
 -- The rows of vehicles, one after the other.
-use Rattle.std.proofs.Common.{◌≡◌, ℕ, zero, suc, ◌+◌, ◌-◌, ◌*◌, ◌<◌, ◌≤◌, not, List, [], ◌∷◌, ◌++◌, length, map, drop, get_or, filter, All, Option, Some, None, Result, Ok, Err, IfOk, refl, ap, sym, ◌∙◌, subst, arith, append_assoc}
+use Rattle.std.proofs.Common.{◌≡◌, ℕ, zero, suc, ◌+◌, ◌-◌, ◌*◌, ◌<◌, ◌≤◌, not, List, [], ◌∷◌, ◌++◌, length, map, drop, get_or, All, Option, Some, None, Result, Ok, Err, IfOk, refl, ap, sym, ◌∙◌, subst, arith, append_assoc}
 use Rattle.std.specs.List.{range_with_len}
 use Rattle.std.proofs.Math.Seq.{drop-cons}
 use Rattle.std.proofs.lemmas.List.{append-nil, drop_all}
@@ -11,7 +11,7 @@ use Rattle.event_tables.specs.RowsOfTables.{ReadsAs}
 use Rattle.giv_files.specs.Columns.{schedule_columns}
 use Rattle.vehicle_model.specs.Plans.{next, is_next, starts, IsPlan}
 use Rattle.vehicle_model.specs.ReadSchedules.{IsReadBack}
-use Rattle.vehicle_model.specs.Schedules.{tour, tours, trip_row, empty_row, rows_behind, vehicle_rows, rows_from, plan_rows}
+use Rattle.vehicle_model.specs.Schedules.{tour, trip_row, empty_row, rows_behind, vehicle_rows, rows_from, plan_rows}
 use Rattle.vehicle_model.specs.Trips.{TripsParts, AreTrips, links_of}
 use Rattle.vehicle_model.proofs.PlanBack.{plan_back}
 use Rattle.vehicle_model.proofs.Tours.{tour_first}
@@ -37,9 +37,9 @@ module _ (trips : TripsParts) (plan : List (Option ℕ)) (vehicle first : ℕ) (
     rows_are =
         ap (λ some. some ++ rows_behind trips vehicle 1 first (tour (length plan - 1) plan (next plan first))) is
         ∙ append_assoc old (trip_row trips vehicle 1 first ∷ [])
-            (rows_behind trips vehicle 1 first (tour (length plan - 1) plan (next plan first)))
+        (rows_behind trips vehicle 1 first (tour (length plan - 1) plan (next plan first)))
         ∙ ap (λ some. old ++ vehicle_rows trips vehicle some)
-            (sym (tour_first plan (length plan) first (omega (arith, within))));
+        (sym (tour_first plan (length plan) first (omega (arith, within))));
   }
 
   module _ (rows : List ScheduleRow) (number last turn : ℕ) (on : AreBehindTurn rows number last turn) where
@@ -52,9 +52,9 @@ module _ (trips : TripsParts) (plan : List (Option ℕ)) (vehicle first : ℕ) (
         let rest : List ℕ = tour (length plan - (turn + 1)) plan (next plan j) in
         let fuel : length plan - turn - 1 ≡ length plan - (turn + 1) = omega arith in
         let goes : tour (length plan - turn) plan (next plan last) ≡ j ∷ rest =
-            ap (tour (length plan - turn) plan) is
-            ∙ tour_first plan (length plan - turn) j (omega (arith, left))
-            ∙ ap (λ k. j ∷ tour k plan (next plan j)) fuel in
+        ap (tour (length plan - turn) plan) is
+        ∙ tour_first plan (length plan - turn) j (omega (arith, left))
+        ∙ ap (λ k. j ∷ tour k plan (next plan j)) fuel in
         let ride : ScheduleRow = empty_row trips vehicle (number + 1) last j in
         let row : ScheduleRow = trip_row trips vehicle (number + 2) j in
         let behind : List ScheduleRow = rows_behind trips vehicle (number + 2) j rest in
@@ -90,7 +90,7 @@ module _ (trips : TripsParts) (plan : List (Option ℕ)) (vehicle first : ℕ) (
     on_end past =
         let fuel : length plan - turn ≡ 0 = omega (arith, past) in
         sym (nothing_behind (tour (length plan - turn) plan (next plan last))
-            (ap (λ k. tour k plan (next plan last)) fuel ∙ none_left (next plan last))) ∙ on.rows_are
+        (ap (λ k. tour k plan (next plan last)) fuel ∙ none_left (next plan last))) ∙ on.rows_are
 
 -- ---- all vehicles
 
@@ -98,7 +98,7 @@ module _ (trips : TripsParts) (plan : List (Option ℕ)) (vehicle first : ℕ) (
 pub starts_within : (plan : List (Option ℕ)) → All (λ j. j < length plan) (starts plan)
 starts_within plan = All-filter (λ j. not (is_next plan j)) (λ j. j < length plan) (range_with_len 0 (length plan))
     (λ k d h. let inside : k < length plan = omega (arith, h, length-range_with_len 0 (length plan)) in
-        omega (arith, get_or-range_with_len 0 (length plan) k d inside, inside))
+    omega (arith, get_or-range_with_len 0 (length plan) k d inside, inside))
 
 module _ (trips : TripsParts) (plan : List (Option ℕ)) where
   -- the rows of vehicles so far, with those of the rest, are those of the plan
@@ -115,13 +115,13 @@ module _ (trips : TripsParts) (plan : List (Option ℕ)) where
       let one : suc index ≡ index + 1 = omega arith in
       let rest : List (List ℕ) = map (λ at. tour (length plan) plan (Some at)) (drop (index + 1) firsts) in
       let goes : drop index firsts ≡ first ∷ drop (index + 1) firsts =
-          drop-cons firsts index first within ∙ ap (λ at. at ∷ drop (suc index) firsts) (sym is)
-              ∙ ap (λ k. first ∷ drop k firsts) one in
+      drop-cons firsts index first within ∙ ap (λ at. at ∷ drop (suc index) firsts) (sym is)
+      ∙ ap (λ k. first ∷ drop k firsts) one in
       ap (λ some. some ++ rows_from trips (index + 1 + 1) rest) added
-          ∙ append_assoc rows (vehicle_rows trips (index + 1) (tour (length plan) plan (Some first)))
-              (rows_from trips (index + 1 + 1) rest)
-          ∙ ap (λ some. rows ++ rows_from trips (index + 1) (map (λ at. tour (length plan) plan (Some at)) some)) (sym goes)
-          ∙ before
+      ∙ append_assoc rows (vehicle_rows trips (index + 1) (tour (length plan) plan (Some first)))
+      (rows_from trips (index + 1 + 1) rest)
+      ∙ ap (λ some. rows ++ rows_from trips (index + 1) (map (λ at. tour (length plan) plan (Some at)) some)) (sym goes)
+      ∙ before
 
   pub vehicles_end : (firsts : List ℕ) (index : ℕ) (rows : List ScheduleRow) → AreBefore firsts index rows
       → length firsts ≤ index → rows ≡ plan_rows trips plan
@@ -129,7 +129,7 @@ module _ (trips : TripsParts) (plan : List (Option ℕ)) where
   vehicles_end firsts index rows before past =
       sym (append-nil rows)
       ∙ ap (λ some. rows ++ rows_from trips (index + 1) (map (λ first. tour (length plan) plan (Some first)) some))
-          (sym (drop_all index firsts past))
+      (sym (drop_all index firsts past))
       ∙ before
 
 -- a text that is read as the rows is read back, if there was memory for it

@@ -111,7 +111,7 @@ abbrev pub row_fits : TripsParts → Option ScheduleRow → Option ℕ → (ℕ 
     → Option ScheduleRow → Bool
 row_fits trips before last has_come row after = (row.circulation == row.vehicle)
     && (if is_empty_row row then empty_fits trips before last row after
-        else trip_fits trips before has_come row)
+    else trip_fits trips before has_come row)
 
 -- the last of the trips that rows repeat, and whether they repeat one
 abbrev pub last_seen : Reading → Option ℕ

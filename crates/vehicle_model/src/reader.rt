@@ -104,7 +104,7 @@ impl Reader {
         requires link { IfSome (link_of (begins self.old.before row.now) self.old.last (trip_in trips.now row.now)) (CanLink self.old.plan) }
         ensures { self.new ≡ after_row row.now (after_trip (trip_in trips.now row.now)
             (after_link trips.now (link_of (begins self.old.before row.now) self.old.last
-                (trip_in trips.now row.now)) self.old)) }
+            (trip_in trips.now row.now)) self.old)) }
     {
         let trip = trips.number_of(row);
         let link = link_of(begins(self.before, row), self.last, trip);

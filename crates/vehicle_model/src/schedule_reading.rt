@@ -31,7 +31,7 @@ fn read_rows(alloc: Global, table: &Table<13>, trips: &Trips) -> Result<Plan, Pl
     requires { All (λ row. AreSmall row.cells) table.now }
     ensures read { PlanGives (row_faults trips.now (numbered_by schedule_row table.now))
         (plan_by (length trips.now.trips)
-            (links_in trips.now nothing_read (records_by schedule_row table.now))) result }
+        (links_in trips.now nothing_read (records_by schedule_row table.now))) result }
     ensures plan { IfOk result (IsPlan (links_of trips.now)) }
 {
     let mut reader = Reader::new(alloc, trips)?;

@@ -69,7 +69,7 @@ impl Trips {
         requires empty { (pos 0 ≤ℤ empty) × (empty ≤ℤ pos 1000000000000) }
         ensures { UnlessFault (trips_faults stops.now edges.now trips.now)
             (λ made. made ≡ trips_of stops.now edges.now trips.now (unsigned_abs turnover)
-                (unsigned_abs vehicle) (unsigned_abs empty)) result }
+            (unsigned_abs vehicle) (unsigned_abs empty)) result }
     {
         let network = Network::from_texts(alloc, stops, edges)?;
         let ids = stop_ids(alloc, &network)?;
@@ -193,8 +193,7 @@ impl Trips {
         requires small { minutes ≤ 20000000000000000 }
         ensures { result ≡ pos (self.now.vehicle * vehicles + self.now.empty * minutes) }
     {
-        i128::from(self.vehicle) * vehicles as i128
-            + i128::from(self.empty) * i128::from(minutes)
+        i128::from(self.vehicle) * vehicles as i128 + i128::from(self.empty) * i128::from(minutes)
     }
 
     // Dead minutes from a trip to another, where they leave time for the turnover.

@@ -1,4 +1,3 @@
-use Rattle.std.proofs.Common.{sym, subst, Err}
 use Rattle.std.proofs.lemmas.Result.{err_from_is_err_and}
 use Rattle.giv_files.specs.Columns.{schedule_columns}
 use Rattle.giv_files.specs.Reading.{table_of}
@@ -9,7 +8,7 @@ pub returns-in_err-table-clause-read : goal.returns-in_err-table-clause-read
 returns-in_err-table-clause-read c =
     let p = err_from_is_err_and c.from_residual.result c.from_residual.ensures.1 in
     rw (p.1, p.2) (no_table c.args.trips.now c.args.bytes.now
-        (table_of schedule_columns c.args.bytes.now) c.in_err-table.field-0.0 c.in_err-table.ensures)
+    (table_of schedule_columns c.args.bytes.now) c.in_err-table.field-0.0 c.in_err-table.ensures)
 
 pub read_rows-requires : goal.read_rows-requires
 read_rows-requires c =

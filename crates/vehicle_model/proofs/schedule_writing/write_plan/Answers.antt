@@ -16,7 +16,7 @@ pub returns-clause-text : goal.returns-clause-text
 unfolding plan_text
 returns-clause-text c = subst (λ some. IfOk c.schedule_text.result (λ text. text ≡ some))
     (ap (file_text schedule_header schedule_columns schedule_cells)
-        (c.deref.ensures.value ∙ c.in_ok-rows.ensures.rows))
+    (c.deref.ensures.value ∙ c.in_ok-rows.ensures.rows))
     c.schedule_text.ensures.text
 
 pub returns-clause-back : goal.returns-clause-back

@@ -1,4 +1,4 @@
-use Rattle.std.proofs.Common.{◌≡◌, replicate, None, sym, subst}
+use Rattle.std.proofs.Common.{sym, subst}
 use Rattle.vehicle_model.specs.Plans.{AreSuccessors}
 use Rattle.vehicle_model.proofs.Linking.{none_linked}
 use Rattle.vehicle_model.proofs.plan.Plan.empty.Goals as goal

@@ -11,8 +11,8 @@ loop-i-preserved c =
     let count : c.len-i-end.result ≡ length c.self.inside.come.items = search rules in
     let within : c.loop-i.i < length c.self.inside.come.items = omega (arith, count, c.loop-i-test.true) in
     let passes : get_or c.self.inside.come.items c.loop-i.i false ≡ true =
-        get_or_default come i false c.index.result.now within ∙ sym c.index.ensures ∙ c.if-not-index.false in
+    get_or_default come i false c.index.result.now within ∙ sym c.index.ensures ∙ c.if-not-index.false in
     come_more (has_come c.args.self.now) i (length c.args.self.now.come) _
-        (subst (λ (reader : ReaderParts). c.loop-i.i < length reader.come) c.self.view_is within)
-        (subst (λ (reader : ReaderParts). has_come reader c.loop-i.i ≡ true) c.self.view_is passes)
-        c.loop-i.invariant
+    (subst (λ (reader : ReaderParts). c.loop-i.i < length reader.come) c.self.view_is within)
+    (subst (λ (reader : ReaderParts). has_come reader c.loop-i.i ≡ true) c.self.view_is passes)
+    c.loop-i.invariant

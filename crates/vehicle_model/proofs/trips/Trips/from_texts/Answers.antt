@@ -1,4 +1,4 @@
-use Rattle.std.proofs.Common.{◌≡◌, Some, sym, subst, ◌∙◌, arith, ap, w64, unsigned_abs}
+use Rattle.std.proofs.Common.{Some, sym, subst, ◌∙◌, ap, w64, unsigned_abs}
 use Rattle.std.proofs.lemmas.Int.{to_z-of_z}
 use Rattle.std.proofs.lemmas.Result.{err_from_is_err_and}
 use Rattle.event_tables.specs.Trips.{AreTrips as AreTripRows}
@@ -23,10 +23,10 @@ returns-in_err-rows c =
     c.from_residual-in_err-rows.ensures.1 in
     let network = c.in_ok-network.ensures in
     rw (p.1, p.2) (subst (λ all. Refuses all c.in_err-rows.field-0.0)
-        (rows_faults c.args.stops.now c.args.edges.now c.args.trips.now c.in_ok-network.network
-            network.0 network.1 c.deref.result.now
-            (c.deref.ensures.value ∙ c.in_ok-ids.ensures.ids))
-        c.in_err-rows.ensures.read)
+    (rows_faults c.args.stops.now c.args.edges.now c.args.trips.now c.in_ok-network.network
+    network.0 network.1 c.deref.result.now
+    (c.deref.ensures.value ∙ c.in_ok-ids.ensures.ids))
+    c.in_err-rows.ensures.read)
 
 pub invariant_of-result : goal.invariant_of-result
 invariant_of-result c = (
@@ -36,13 +36,13 @@ invariant_of-result c = (
         (c.deref.ensures.value ∙ c.in_ok-ids.ensures.ids) c.in_ok-rows.ensures.sound;
     short_turnover = abs_small c.args.turnover 10000 _ c.requires.turnover.0 c.requires.turnover.1
         (c.unsigned_abs.ensures.value
-            ∙ ap unsigned_abs (to_z-of_z w64 c.args.turnover c.ranges.turnover));
+        ∙ ap unsigned_abs (to_z-of_z w64 c.args.turnover c.ranges.turnover));
     cheap_vehicle = abs_small c.args.vehicle 1000000000000 _ c.requires.vehicle.0
         c.requires.vehicle.1 (c.unsigned_abs-2.ensures.value
-            ∙ ap unsigned_abs (to_z-of_z w64 c.args.vehicle c.ranges.vehicle));
+        ∙ ap unsigned_abs (to_z-of_z w64 c.args.vehicle c.ranges.vehicle));
     cheap_minutes = abs_small c.args.empty 1000000000000 _ c.requires.empty.0
         c.requires.empty.1 (c.unsigned_abs-3.ensures.value
-            ∙ ap unsigned_abs (to_z-of_z w64 c.args.empty c.ranges.empty));
+        ∙ ap unsigned_abs (to_z-of_z w64 c.args.empty c.ranges.empty));
   },
   subst (λ rows. IsDeadTable c.in_ok-network.network rows c.in_ok-dead.dead) c.deref-2.ensures.value
       c.in_ok-dead.ensures,
@@ -59,10 +59,10 @@ returns c =
           network.0 network.1 c.deref.result.now ids c.in_ok-rows.rows.items
           c.unsigned_abs.result c.unsigned_abs-2.result c.unsigned_abs-3.result rows.1
           ∙ settings_are c.args.stops.now c.args.edges.now c.args.trips.now
-              (c.unsigned_abs.ensures.value
-                  ∙ ap unsigned_abs (to_z-of_z w64 c.args.turnover c.ranges.turnover))
-              (c.unsigned_abs-2.ensures.value
-                  ∙ ap unsigned_abs (to_z-of_z w64 c.args.vehicle c.ranges.vehicle))
-              (c.unsigned_abs-3.ensures.value
-                  ∙ ap unsigned_abs (to_z-of_z w64 c.args.empty c.ranges.empty)),
+          (c.unsigned_abs.ensures.value
+          ∙ ap unsigned_abs (to_z-of_z w64 c.args.turnover c.ranges.turnover))
+          (c.unsigned_abs-2.ensures.value
+          ∙ ap unsigned_abs (to_z-of_z w64 c.args.vehicle c.ranges.vehicle))
+          (c.unsigned_abs-3.ensures.value
+          ∙ ap unsigned_abs (to_z-of_z w64 c.args.empty c.ranges.empty)),
     )

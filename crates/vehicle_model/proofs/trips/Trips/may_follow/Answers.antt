@@ -1,5 +1,4 @@
-use Rattle.std.proofs.Common.{◌≡◌, true, Some, sym, ◌∙◌, ap, is_some, refl}
-use Rattle.vehicle_model.proofs.Following.{some_of, follow_of}
+use Rattle.vehicle_model.proofs.Following.{follow_of}
 use Rattle.vehicle_model.proofs.trips.Trips.may_follow.Goals as goal
 
 pub returns-clause-follows : goal.returns-clause-follows
