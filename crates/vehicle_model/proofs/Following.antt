@@ -1,0 +1,200 @@
+-- Which trip may follow which, by the numbers of trips; what links gain at most.
+use Rattle.std.proofs.Common.{◌≡◌, ◌↔◌, ℕ, ℤ, pos, ◌+◌, ◌<◌, ◌≤◌, ◌≤ℤ◌, nat_le, Bool, true, false, cond, List, length, slice_get, is_some, Option, Some, None, option_map, option_and_then, IfSome, refl, ap, sym, ◌∙◌, subst, arith}
+use Rattle.std.proofs.lemmas.Bool.{false≢true, leb-true, le-leb}
+use Rattle.std.proofs.lemmas.Int.{ints}
+use Rattle.std.proofs.lemmas.Option.{none-some, same_Some, slice_get-get_or, slice_get_within, get_or_from_slice_get}
+use Rattle.event_tables.specs.declared.trip.Trip.{Trip}
+use Rattle.ptn_network.specs.declared.edge.Edge.{Edge}
+use Rattle.ptn_network.specs.Walks.{edge_time, IsLeastSum}
+use Rattle.vehicle_model.specs.Schedules.{trip_of, no_trip, dead_between}
+use Rattle.vehicle_model.specs.Trips.{TripsParts, AreTrips, MayFollow, start_stop, end_stop, if_in_time, link_between, link_minutes, gain_of, links_of}
+
+-- the trip of a number
+pub trip_at : (trips : TripsParts) (i : ℕ) → i < length trips.trips
+    → slice_get trips.trips i ≡ Some (trip_of trips i)
+trip_at trips i within = slice_get-get_or trips.trips i no_trip within
+
+-- the link between two trips, by what they are
+pub link_is : (trips : TripsParts) (i j : ℕ) → i < length trips.trips → j < length trips.trips
+    → link_minutes trips i j ≡ link_between trips (trip_of trips i) (trip_of trips j)
+link_is trips i j from to =
+    ap (λ at. option_and_then (λ before. option_and_then (λ after. link_between trips before after)
+    (slice_get trips.trips j)) at) (trip_at trips i from)
+    ∙ ap (λ at. option_and_then (λ after. link_between trips (trip_of trips i) after) at)
+    (trip_at trips j to)
+
+-- the same by the dead minutes between them
+pub link_some : (trips : TripsParts) (i j minutes : ℕ) → i < length trips.trips
+    → j < length trips.trips → dead_between trips i j ≡ Some minutes
+    → link_minutes trips i j ≡ if_in_time trips (trip_of trips i) (trip_of trips j) minutes
+link_some trips i j minutes from to dead = link_is trips i j from to
+    ∙ ap (option_and_then (if_in_time trips (trip_of trips i) (trip_of trips j))) dead
+
+pub link_none : (trips : TripsParts) (i j : ℕ) → i < length trips.trips → j < length trips.trips
+    → dead_between trips i j ≡ None → link_minutes trips i j ≡ None
+link_none trips i j from to dead = link_is trips i j from to
+    ∙ ap (option_and_then (if_in_time trips (trip_of trips i) (trip_of trips j))) dead
+
+-- what is known of a link: both trips are there, and there is time between them
+pub record IsLink (trips : TripsParts) (i j minutes : ℕ) : Type 0 where
+  pub from : i < length trips.trips
+  pub to : j < length trips.trips
+  pub dead : dead_between trips i j ≡ Some minutes
+  pub in_time : (trip_of trips i).end.time + trips.turnover + minutes
+      ≤ (trip_of trips j).start.time
+
+in_time_is : (trips : TripsParts) (before after : Trip) (dead : Option ℕ) (minutes : ℕ)
+    → option_and_then (if_in_time trips before after) dead ≡ Some minutes
+    → (dead ≡ Some minutes) × (before.end.time + trips.turnover + minutes ≤ after.start.time)
+in_time_is trips before after None minutes e = absurd (none-some minutes e)
+in_time_is trips before after (Some dead) minutes e =
+    split (nat_le (before.end.time + trips.turnover + dead) after.start.time) refl e
+  where
+    split : (b : Bool) → nat_le (before.end.time + trips.turnover + dead) after.start.time ≡ b
+        → cond b (Some dead) None ≡ Some minutes
+        → (Some dead ≡ Some minutes)
+        × (before.end.time + trips.turnover + minutes ≤ after.start.time)
+    split false is f = absurd (none-some minutes f)
+    split true is f = (
+      f,
+      subst (λ m. before.end.time + trips.turnover + m ≤ after.start.time)
+          (same_Some dead minutes f) (leb-true _ _ is),
+    )
+
+both_there : (trips : TripsParts) (i j minutes : ℕ) → link_minutes trips i j ≡ Some minutes
+    → (i < length trips.trips) × (j < length trips.trips)
+both_there trips i j minutes e = first (slice_get trips.trips i) refl e
+  where
+    second : (before : Trip) (at : Option Trip) → slice_get trips.trips j ≡ at
+        → option_and_then (λ after. link_between trips before after) at ≡ Some minutes
+        → j < length trips.trips
+    second before None is f = absurd (none-some minutes f)
+    second before (Some after) is f = slice_get_within trips.trips j after is
+
+    first : (at : Option Trip) → slice_get trips.trips i ≡ at
+        → option_and_then (λ before. option_and_then (λ after. link_between trips before after)
+        (slice_get trips.trips j)) at ≡ Some minutes
+        → (i < length trips.trips) × (j < length trips.trips)
+    first None is f = absurd (none-some minutes f)
+    first (Some before) is f =
+        (slice_get_within trips.trips i before is, second before (slice_get trips.trips j) refl f)
+
+pub is_link : (trips : TripsParts) (i j minutes : ℕ) → link_minutes trips i j ≡ Some minutes
+    → IsLink trips i j minutes
+is_link trips i j minutes e =
+    let there = both_there trips i j minutes e in
+    let parts = in_time_is trips (trip_of trips i) (trip_of trips j) (dead_between trips i j) minutes
+    (sym (link_is trips i j there.0 there.1) ∙ e) in
+    record { from = there.0; to = there.1; dead = parts.0; in_time = parts.1 }
+
+-- an option that has something
+pub some_of : {X : Type 0} (at : Option X) → is_some at ≡ true → (x : X) × (at ≡ Some x)
+some_of None h = absurd (false≢true h)
+some_of (Some x) h = (x, refl)
+
+-- what a link gains
+pub gain_is : (trips : TripsParts) (i j : ℕ) (gain : ℤ) → (links_of trips).gain i j ≡ Some gain
+    → (minutes : ℕ) × ((link_minutes trips i j ≡ Some minutes) × (gain ≡ gain_of trips minutes))
+gain_is trips i j gain e = split (link_minutes trips i j) refl e
+  where
+    split : (at : Option ℕ) → link_minutes trips i j ≡ at
+        → option_map (gain_of trips) at ≡ Some gain
+        → (minutes : ℕ) × ((link_minutes trips i j ≡ Some minutes) × (gain ≡ gain_of trips minutes))
+    split None is f = absurd (none-some gain f)
+    split (Some minutes) is f = (minutes, (is, sym (same_Some (gain_of trips minutes) gain f)))
+
+-- no link gains more than a vehicle costs
+pub gain_most : (trips : TripsParts) (minutes : ℕ) → gain_of trips minutes ≤ℤ pos trips.vehicle
+gain_most trips minutes = omega (arith, ints)
+
+pub links_most : (trips : TripsParts) (i j : ℕ)
+    → IfSome ((links_of trips).gain i j) (λ gain. gain ≤ℤ pos trips.vehicle)
+links_most trips i j = split (link_minutes trips i j)
+  where
+    split : (at : Option ℕ) → IfSome (option_map (gain_of trips) at) (λ gain. gain ≤ℤ pos trips.vehicle)
+    split None = tt
+    split (Some minutes) = gain_most trips minutes
+
+-- links are between trips that are there
+pub links_within : (trips : TripsParts) (i j : ℕ) → is_some ((links_of trips).gain i j) ≡ true
+    → (i < length trips.trips) × (j < length trips.trips)
+links_within trips i j h =
+    let found = some_of ((links_of trips).gain i j) h in
+    let told = gain_is trips i j found.0 found.1 in
+    both_there trips i j told.0 told.1.0
+
+-- a link has a gain where it has minutes
+pub gain_there : (trips : TripsParts) (i j : ℕ)
+    → is_some ((links_of trips).gain i j) ≡ is_some (link_minutes trips i j)
+gain_there trips i j = split (link_minutes trips i j)
+  where
+    split : (at : Option ℕ) → is_some (option_map (gain_of trips) at) ≡ is_some at
+    split None = refl
+    split (Some minutes) = refl
+
+-- ---- by walks
+
+-- two least sums of all walks are one
+pub one_least : (edges : List Edge) (weight : Edge → ℕ) (from to : ℕ) (at : Option ℕ) (least : ℕ)
+    → IsLeastSum edges weight from to at → IsLeastSum edges weight from to (Some least)
+    → at ≡ Some least
+one_least edges weight from to None least none is = absurd (none is.0.0 is.0.1)
+one_least edges weight from to (Some other) least has is =
+    ap Some (omega (arith, has.1 is.0.0 is.0.1, is.1 has.0.0 has.0.1, is.0.2, has.0.2))
+
+module _ (trips : TripsParts) (i j : ℕ) (from : i < length trips.trips) (to : j < length trips.trips) (least : IsLeastSum trips.network.edges edge_time
+    (end_stop trips.network (trip_of trips i)) (start_stop trips.network (trip_of trips j)) (dead_between trips i j)) where
+  -- a link that has minutes may follow
+  pub may_follow : (minutes : ℕ) → link_minutes trips i j ≡ Some minutes → MayFollow trips i j minutes
+  may_follow minutes e =
+      let is = is_link trips i j minutes e in
+      record {
+        before = trip_of trips i;
+        after = trip_of trips j;
+        before_at = trip_at trips i from;
+        after_at = trip_at trips j to;
+        least = subst (IsLeastSum trips.network.edges edge_time
+            (end_stop trips.network (trip_of trips i)) (start_stop trips.network (trip_of trips j))) is.dead least;
+        in_time = is.in_time;
+      }
+
+  -- and the other way round
+  pub may_minutes : (minutes : ℕ) → MayFollow trips i j minutes → link_minutes trips i j ≡ Some minutes
+  may_minutes minutes may =
+      let before = get_or_from_slice_get trips.trips i may.before no_trip may.before_at in
+      let after = get_or_from_slice_get trips.trips j may.after no_trip may.after_at in
+      let near = subst (λ trip. IsLeastSum trips.network.edges edge_time
+      (end_stop trips.network trip) (start_stop trips.network may.after) (Some minutes)) (sym before) may.least in
+      let nearer = subst (λ trip. IsLeastSum trips.network.edges edge_time
+      (end_stop trips.network (trip_of trips i)) (start_stop trips.network trip) (Some minutes)) (sym after) near in
+      let dead = one_least trips.network.edges edge_time (end_stop trips.network (trip_of trips i))
+      (start_stop trips.network (trip_of trips j)) (dead_between trips i j) minutes least nearer in
+      let time = subst (λ trip. (trip_of trips i).end.time + trips.turnover + minutes ≤ trip.start.time) (sym after)
+      (subst (λ trip. trip.end.time + trips.turnover + minutes ≤ may.after.start.time) (sym before) may.in_time) in
+      link_is trips i j from to
+      ∙ ap (option_and_then (if_in_time trips (trip_of trips i) (trip_of trips j))) dead
+      ∙ ap (λ b. cond b (Some minutes) None) (le-leb _ _ time)
+
+  -- an option that is the minutes of the link
+  pub all_follow : (at : Option ℕ) → at ≡ link_minutes trips i j → IfSome at (MayFollow trips i j)
+  all_follow None is = tt
+  all_follow (Some minutes) is = may_follow minutes (sym is)
+
+-- whether there is a link, by what is known of its minutes
+pub follow_of : (trips : TripsParts) (i j : ℕ) (at : Option ℕ) (is : Bool) → is ≡ is_some at
+    → IfSome at (MayFollow trips i j)
+    → ((minutes : ℕ) → MayFollow trips i j minutes → at ≡ Some minutes)
+    → (is ≡ true) ↔ ((minutes : ℕ) × MayFollow trips i j minutes)
+follow_of trips i j None is same may all = (
+  (λ h. absurd (false≢true (sym same ∙ h))),
+  (λ found. absurd (none-some found.0 (all found.0 found.1))),
+)
+follow_of trips i j (Some minutes) is same may all = ((λ h. (minutes, may)), (λ found. same))
+
+-- a trip that may follow starts later
+pub starts_later : (trips : TripsParts) → AreTrips trips → (i j minutes : ℕ)
+    → link_minutes trips i j ≡ Some minutes
+    → (trip_of trips i).start.time < (trip_of trips j).start.time
+starts_later trips are i j minutes e =
+    let link = is_link trips i j minutes e in
+    omega (arith, link.in_time, (are.rows.each i no_trip link.from).takes_time)

@@ -1,0 +1,53 @@
+-- From the table of a text to the text.
+use Rattle.std.proofs.Common.{◌≡◌, ℕ, List, [], ◌∷◌, length, map, slice_get, Option, Some, All, Result, Err, refl, ap, sym, subst}
+use Rattle.std.proofs.lemmas.Option.{same_Some}
+use Rattle.event_tables.specs.Cells.{schedule_row, AreSmall}
+use Rattle.event_tables.specs.RowsOfTables.{records_by, numbered_by}
+use Rattle.event_tables.proofs.CellFacts.{small_cells}
+use Rattle.giv_files.specs.declared.read_fault.ReadFault.{ReadFault}
+use Rattle.giv_files.specs.declared.read_fault.ReadFault.TheVariants as read
+use Rattle.giv_files.specs.declared.read_fault.RowFault.{RowFault}
+use Rattle.giv_files.specs.Columns.{schedule_columns}
+use Rattle.giv_files.specs.Reading.{faults, table_of, ReadGives}
+use Rattle.giv_files.specs.Tables.{TableRow}
+use Rattle.giv_files.proofs.Ranges.{table_in_columns}
+use Rattle.vehicle_model.specs.declared.plan_fault.PlanFault.{PlanFault}
+use Rattle.vehicle_model.specs.declared.plan_fault.PlanFault.TheVariants as fault
+use Rattle.vehicle_model.specs.PlanFaults.{fault_of}
+use Rattle.vehicle_model.specs.ReadSchedules.{nothing_read, links_in, or_others, row_faults, plan_by, plan_faults, plan_of, PlanGives}
+use Rattle.vehicle_model.specs.Trips.{TripsParts}
+
+first_row_fault : (all : List RowFault) (others : List PlanFault) (first : RowFault)
+    → slice_get all 0 ≡ Some first
+    → slice_get (or_others (map (λ one. fault.Row one) all) others) 0 ≡ Some (fault.Row first)
+first_row_fault [] others first e = cc
+first_row_fault (one ∷ all) others first e = ap (λ at. Some (fault.Row at)) (same_Some one first e)
+
+-- a text that is no table
+pub no_table : (trips : TripsParts) (text : List ℕ) (table : List TableRow) (why : ReadFault)
+    → ReadGives (faults schedule_columns text) table (Err why)
+    → PlanGives (plan_faults trips text) (plan_of trips text) (Err (fault_of why))
+unfolding plan_faults
+no_table trips text table (read.Row first) h = first_row_fault (faults schedule_columns text) _ first h
+no_table trips text table read.NoMemory h = tt
+
+-- no number in a table of a schedule is great
+pub small_table : (text : List ℕ) (table : List TableRow) → faults schedule_columns text ≡ []
+    → table ≡ table_of schedule_columns text → All (λ row. AreSmall row.cells) table
+small_table text table none is = subst (All (λ row. AreSmall row.cells)) (sym is)
+    (λ k d within. small_cells schedule_columns _ refl (table_in_columns schedule_columns text none k d within))
+
+-- what is read of its rows is read of the text
+pub rows_read : (trips : TripsParts) (text : List ℕ) (table : List TableRow) → faults schedule_columns text ≡ []
+    → table ≡ table_of schedule_columns text → (result : Result (List (Option ℕ)) PlanFault)
+    → PlanGives (row_faults trips (numbered_by schedule_row table))
+    (plan_by (length trips.trips) (links_in trips nothing_read (records_by schedule_row table))) result
+    → PlanGives (plan_faults trips text) (plan_of trips text) result
+unfolding plan_faults plan_of
+rows_read trips text table none is result gives =
+    subst (λ all. PlanGives (or_others (map (λ first. fault.Row first) all)
+    (row_faults trips (numbered_by schedule_row (table_of schedule_columns text))))
+    (plan_by (length trips.trips) (links_in trips nothing_read (records_by schedule_row (table_of schedule_columns text)))) result)
+    (sym none)
+    (subst (λ some. PlanGives (row_faults trips (numbered_by schedule_row some))
+    (plan_by (length trips.trips) (links_in trips nothing_read (records_by schedule_row some))) result) is gives)

@@ -1,0 +1,277 @@
+-- What a reader of a schedule knows behind each row.
+use Rattle.std.proofs.Common.{◌≡◌, ◌≢◌, ℕ, zero, suc, ◌<◌, ◌==◌, ◌||◌, nat_eq, not, is_some, Bool, true, false, cond, List, [], ◌∷◌, ◌++◌, length, filter, get_or, slice_get, slice_set, replicate, position, Option, Some, None, IfSome, option_map, refl, ap, sym, ◌∙◌, subst, arith, eq-eqb, inl, inr, get_or-set_same, get_or-set_other}
+use Rattle.std.specs.List.{list_any}
+use Rattle.std.specs.Option.{option_to_list}
+use Rattle.std.proofs.lemmas.Bool.{false≢true, ne_eqb, and_parts, or_parts}
+use Rattle.std.proofs.lemmas.List.{length-set, length-replicate, append-nil}
+use Rattle.std.proofs.lemmas.List.Sums.{fold_push}
+use Rattle.std.proofs.lemmas.List.Quantifiers.{position-Some}
+use Rattle.std.proofs.lemmas.Option.{none-some, same_Some}
+use Rattle.event_tables.specs.declared.schedule_row.ScheduleRow.{ScheduleRow}
+use Rattle.event_tables.specs.Schedules.{is_empty_row}
+use Rattle.vehicle_model.specs.Plans.{next, is_next, AreSuccessors}
+use Rattle.vehicle_model.specs.ReadSchedules.{Reading, nothing_read, one_more, trip_in, begins, is_new, last_seen, has_seen, row_fits, has_form, trip_fits, empty_fits, follows_empty, same_run, link_of, link_to, plan_by, is_late}
+use Rattle.vehicle_model.specs.Readers.{ReaderParts, late_after, after_link, after_trip, after_row, late_of, CanLink, Knows}
+use Rattle.vehicle_model.specs.Schedules.{no_trip}
+use Rattle.vehicle_model.specs.Trips.{TripsParts, link_minutes}
+use Rattle.vehicle_model.proofs.Linking.{by_number, none_next, none_linked, next_in, next_before, not_linked, linked, never_next}
+
+-- ---- before all rows
+
+none_come : (n i : ℕ) → get_or (replicate n false) i false ≡ false
+none_come zero i = refl
+none_come (suc n) zero = refl
+none_come (suc n) (suc i) = none_come n i
+
+pub knows_nothing : (trips : TripsParts) (n : ℕ) (come : List Bool) (plan : List (Option ℕ))
+    → n ≡ length trips.trips → come ≡ replicate n false → plan ≡ replicate n None
+    → Knows trips nothing_read [] (record { before = None; last = None; come = come; plan = plan; late = None })
+knows_nothing trips n come plan counted come_is plan_is = record {
+  over = record {
+    come = ap length come_is ∙ length-replicate n false ∙ counted;
+    plan = ap length plan_is ∙ length-replicate n None ∙ counted;
+    last = tt;
+  };
+  before = refl;
+  last = refl;
+  come = λ i. ap (λ some. get_or some i false) come_is ∙ none_come n i;
+  plan = plan_is ∙ ap (λ k. replicate k None) counted;
+  late = refl;
+  successors = subst AreSuccessors (sym plan_is) (none_linked n);
+  free = λ i e. absurd (none-some i e);
+  unseen = λ k h. (
+    ap (λ some. next some k) plan_is ∙ none_next n k,
+    ap (λ some. is_next some k) plan_is
+        ∙ never_next (replicate n None) k (λ i e. none-some k (sym (none_next n i) ∙ e)),
+  );
+  follow = λ h i j e. absurd (none-some j (sym (none_next n i) ∙ sym (ap (λ some. next some i) plan_is) ∙ e));
+}
+
+-- ---- a link more
+
+first_late : (trips : TripsParts) (link : ℕ × ℕ) (links : List (ℕ × ℕ))
+    → late_of trips (links ++ link ∷ []) ≡ late_after trips link.0 link.1 (late_of trips links)
+first_late trips link [] = split (is_some (link_minutes trips link.0 link.1))
+  where
+    split : (b : Bool) → option_map (λ (at : ℕ × ℕ). at.1) (slice_get (cond (not b) (link ∷ []) []) 0)
+        ≡ cond b None (Some link.1)
+    split true = refl
+    split false = refl
+first_late trips link (first ∷ links) = split (is_late trips first) (first_late trips link links)
+  where
+    split : (b : Bool) → late_of trips (links ++ link ∷ []) ≡ late_after trips link.0 link.1 (late_of trips links)
+        → option_map (λ (at : ℕ × ℕ). at.1) (slice_get (cond b (first ∷ filter (is_late trips) (links ++ link ∷ []))
+        (filter (is_late trips) (links ++ link ∷ []))) 0)
+        ≡ late_after trips link.0 link.1 (option_map (λ (at : ℕ × ℕ). at.1)
+        (slice_get (cond b (first ∷ filter (is_late trips) links) (filter (is_late trips) links)) 0))
+    split true rest = refl
+    split false rest = rest
+
+plan_more : (n : ℕ) (links : List (ℕ × ℕ)) (i j : ℕ)
+    → plan_by n (links ++ (i, j) ∷ []) ≡ slice_set (plan_by n links) i (Some j)
+plan_more n links i j = fold_push (λ plan link. slice_set plan link.0 (Some link.1)) (replicate n None) links (i, j)
+
+none_late : (trips : TripsParts) (i j : ℕ) (late : Option ℕ) → late_after trips i j late ≡ None
+    → (late ≡ None) × (is_some (link_minutes trips i j) ≡ true)
+none_late trips i j (Some late) e = absurd (none-some late (sym e))
+none_late trips i j None e = split (is_some (link_minutes trips i j)) refl e
+  where
+    split : (b : Bool) → is_some (link_minutes trips i j) ≡ b → cond b None (Some j) ≡ None
+        → (◌≡◌ {A = Option ℕ} None None) × (is_some (link_minutes trips i j) ≡ true)
+    split true is f = (refl, is)
+    split false is f = absurd (none-some j (sym f))
+
+-- ---- what a row that has its form tells
+
+-- the trip of such a row has not come before
+pub new_trip : (trips : TripsParts) (before : Option ScheduleRow) (last : Option ℕ) (come : ℕ → Bool)
+    (row : ScheduleRow) (after : Option ScheduleRow) (j : ℕ)
+    → row_fits trips before last come row after ≡ true → trip_in trips row ≡ Some j → come j ≡ false
+new_trip trips before last come row after j fits is = split (is_empty_row row) refl
+  where
+    told : (at : Option ℕ) → at ≡ Some j → is_new come at ≡ true → come j ≡ false
+    told None e h = absurd (none-some j e)
+    told (Some i) e h = ap come (sym (same_Some i j e)) ∙ not_true (come i) h
+      where
+        not_true : (b : Bool) → not b ≡ true → b ≡ false
+        not_true true h = cc
+        not_true false h = refl
+
+    split : (b : Bool) → is_empty_row row ≡ b → come j ≡ false
+    split true e = absurd (none-some j (sym (ap (λ b. cond b None (position (same_run row.run) trips.trips)) e) ∙ is))
+    split false e =
+        let fits_trip = sym (ap (λ b. cond b (empty_fits trips before last row after) (trip_fits trips before come row)) e)
+        ∙ (and_parts (row.circulation == row.vehicle) _ fits).1 in
+        told (trip_in trips row) is (and_parts (begins before row || follows_empty before row) _ fits_trip).1
+
+-- a trip is one of the trips
+pub trip_within : (trips : TripsParts) (row : ScheduleRow) (j : ℕ) → trip_in trips row ≡ Some j
+    → j < length trips.trips
+trip_within trips row j is = split (is_empty_row row) is
+  where
+    split : (b : Bool) → cond b None (position (same_run row.run) trips.trips) ≡ Some j → j < length trips.trips
+    split true e = absurd (none-some j e)
+    split false e = (position-Some (same_run row.run) trips.trips j no_trip e).0
+
+-- the last trip has come
+last_come : (seen : List ℕ) (i : ℕ) → slice_get seen 0 ≡ Some i → list_any (nat_eq i) seen ≡ true
+last_come [] i e = absurd (none-some i e)
+last_come (first ∷ seen) i e = ap (λ b. b || list_any (nat_eq i) seen) (eq-eqb i first (sym (same_Some first i e)))
+
+-- without a trip there is no link
+pub no_link : (b : Bool) (last : Option ℕ) → link_of b last None ≡ None
+no_link true last = refl
+no_link false None = refl
+no_link false (Some i) = refl
+
+-- ---- a row more
+
+module _ (trips : TripsParts) (read : Reading) (links : List (ℕ × ℕ)) (reader : ReaderParts) (knows : Knows trips read links reader) where
+  count : ℕ
+  count = length trips.trips
+
+  seen_apart : (i k : ℕ) → reader.last ≡ Some i → has_seen read k ≡ false → k ≢ i
+  seen_apart i k last unseen same = false≢true (sym unseen ∙ ap (has_seen read) same
+      ∙ last_come read.seen i (sym knows.last ∙ last))
+
+  last_within : (i : ℕ) → reader.last ≡ Some i → i < length trips.trips
+  last_within i e = subst (λ at. IfSome at (λ k. k < length trips.trips)) e knows.over.last
+
+  -- what is known of a trip that has not come
+  module _ (row : ScheduleRow) (j : ℕ) (is : trip_in trips row ≡ Some j) (new : has_seen read j ≡ false) where
+    come_more : (k : ℕ) → get_or (slice_set reader.come j true) k false ≡ ((k == j) || has_seen read k)
+    come_more k = by_number k j
+        (λ same. ap (λ i. get_or (slice_set reader.come j true) i false) same
+        ∙ get_or-set_same reader.come j true false (omega (arith, knows.over.come, trip_within trips row j is))
+        ∙ sym (ap (λ b. b || has_seen read k) (eq-eqb k j same)))
+        (λ apart. get_or-set_other reader.come j k true false apart ∙ knows.come k
+        ∙ sym (ap (λ b. b || has_seen read k) (ne_eqb k j apart)))
+
+    -- it comes without a link, or with one
+    pub comes : (links_after : List (ℕ × ℕ)) (plan : List (Option ℕ)) (late : Option ℕ)
+        → length plan ≡ length trips.trips → plan ≡ plan_by (length trips.trips) links_after
+        → late ≡ late_of trips links_after → AreSuccessors plan → next plan j ≡ None
+        → ((k : ℕ) → k ≢ j → has_seen read k ≡ false → (next plan k ≡ None) × (is_next plan k ≡ false))
+        → (late ≡ None → (i k : ℕ) → next plan i ≡ Some k → is_some (link_minutes trips i k) ≡ true)
+        → Knows trips (record { before = Some row; seen = j ∷ read.seen }) links_after
+        (record { before = Some row; last = Some j; come = slice_set reader.come j true; plan = plan; late = late })
+    comes links_after plan late size plan_is late_is are free unseen follow = record {
+      over = record {
+        come = length-set reader.come j true ∙ knows.over.come;
+        plan = size;
+        last = trip_within trips row j is;
+      };
+      before = refl;
+      last = refl;
+      come = come_more;
+      plan = plan_is;
+      late = late_is;
+      successors = are;
+      free = λ i e. ap (next plan) (sym (same_Some j i e)) ∙ free;
+      unseen = λ k h.
+          let parts = or_parts (k == j) (has_seen read k) h in
+          unseen k (λ same. false≢true (sym parts.0 ∙ eq-eqb k j same)) parts.1;
+      follow = follow;
+    }
+
+    pub alone : Knows trips (record { before = Some row; seen = j ∷ read.seen }) (links ++ [])
+        (record { before = Some row; last = Some j; come = slice_set reader.come j true; plan = reader.plan; late = reader.late })
+    alone = comes (links ++ []) reader.plan reader.late knows.over.plan
+        (knows.plan ∙ ap (plan_by (length trips.trips)) (sym (append-nil links)))
+        (knows.late ∙ ap (late_of trips) (sym (append-nil links)))
+        knows.successors (knows.unseen j new).0 (λ k apart h. knows.unseen k h) knows.follow
+
+    module _ (i : ℕ) (last : reader.last ≡ Some i) where
+      within : i < length reader.plan
+      within = omega (arith, knows.over.plan, last_within i last)
+
+      pub can_link : CanLink reader.plan (i, j)
+      can_link = record {
+        from = within;
+        to = omega (arith, knows.over.plan, trip_within trips row j is);
+        free = knows.free i last;
+        apart = (knows.unseen j new).1;
+      }
+
+      pub behind_link : Knows trips (record { before = Some row; seen = j ∷ read.seen }) (links ++ (i, j) ∷ [])
+          (record {
+            before = Some row;
+            last = Some j;
+            come = slice_set reader.come j true;
+            plan = slice_set reader.plan i (Some j);
+            late = late_after trips i j reader.late;
+          })
+      behind_link = comes (links ++ (i, j) ∷ []) (slice_set reader.plan i (Some j)) (late_after trips i j reader.late)
+          (length-set reader.plan i (Some j) ∙ knows.over.plan)
+          (ap (λ plan. slice_set plan i (Some j)) knows.plan ∙ sym (plan_more (length trips.trips) links i j))
+          (ap (late_after trips i j) knows.late ∙ sym (first_late trips (i, j) links))
+          (linked reader.plan i j within knows.successors can_link.to can_link.apart)
+          (next_in reader.plan i j within j (seen_apart i j last new) ∙ (knows.unseen j new).0)
+          (λ k apart h. (
+            next_in reader.plan i j within k (seen_apart i k last h) ∙ (knows.unseen k h).0,
+            not_linked reader.plan i j within k apart (knows.unseen k h).1,
+          ))
+          (λ none one k e.
+          let parts = none_late trips i j reader.late none in
+          elim (next_before reader.plan i j within one k e) as (λ _. is_some (link_minutes trips one k) ≡ true) [
+            | inl at ↦ ap (λ n. is_some (link_minutes trips n k)) at.0 ∙ ap (λ n. is_some (link_minutes trips i n)) at.1 ∙ parts.1
+            | inr was ↦ knows.follow parts.0 one k was
+          ])
+
+  -- a row without a trip
+  pub passed : (row : ScheduleRow) → Knows trips (record { before = Some row; seen = read.seen }) (links ++ []) (after_row row reader)
+  passed row = record {
+    over = record { come = knows.over.come; plan = knows.over.plan; last = knows.over.last };
+    before = refl;
+    last = knows.last;
+    come = knows.come;
+    plan = knows.plan ∙ ap (plan_by (length trips.trips)) (sym (append-nil links));
+    late = knows.late ∙ ap (late_of trips) (sym (append-nil links));
+    successors = knows.successors;
+    free = knows.free;
+    unseen = knows.unseen;
+    follow = knows.follow;
+  }
+
+  -- ---- by cases
+
+  module _ (row : ScheduleRow) (after : Option ScheduleRow) (form : has_form trips read row after ≡ true) where
+    -- the link of a row can be added
+    pub links_can : IfSome (link_of (begins reader.before row) reader.last (trip_in trips row)) (CanLink reader.plan)
+    links_can = split (begins reader.before row) reader.last (trip_in trips row) refl refl
+      where
+        split : (b : Bool) (last trip : Option ℕ) → reader.last ≡ last → trip_in trips row ≡ trip
+            → IfSome (link_of b last trip) (CanLink reader.plan)
+        split true last trip e f = tt
+        split false None trip e f = tt
+        split false (Some i) None e f = tt
+        split false (Some i) (Some j) e f = can_link row j f
+            (new_trip trips read.before (last_seen read) (has_seen read) row after j form f) i e
+
+    -- and behind the row it is known what was read
+    pub knows_more : Knows trips (one_more trips read row) (links ++ option_to_list (link_to trips read row))
+        (after_row row (after_trip (trip_in trips row) (after_link trips
+        (link_of (begins reader.before row) reader.last (trip_in trips row)) reader)))
+    knows_more = subst
+        (λ link. Knows trips (one_more trips read row) (links ++ option_to_list link)
+        (after_row row (after_trip (trip_in trips row) (after_link trips
+        (link_of (begins reader.before row) reader.last (trip_in trips row)) reader))))
+        (ap (λ before. link_of (begins before row) reader.last (trip_in trips row)) knows.before
+        ∙ ap (λ last. link_of (begins read.before row) last (trip_in trips row)) knows.last)
+        (split (begins reader.before row) reader.last (trip_in trips row) refl refl)
+      where
+        After : Option (ℕ × ℕ) → Option ℕ → Type 0
+        After link trip = Knows trips (record { before = Some row; seen = option_to_list trip ++ read.seen })
+            (links ++ option_to_list link) (after_row row (after_trip trip (after_link trips link reader)))
+
+        split : (b : Bool) (last trip : Option ℕ) → reader.last ≡ last → trip_in trips row ≡ trip
+            → After (link_of b last trip) trip
+        split true last None e f = passed row
+        split false None None e f = passed row
+        split false (Some i) None e f = passed row
+        split true last (Some j) e f = alone row j f
+            (new_trip trips read.before (last_seen read) (has_seen read) row after j form f)
+        split false None (Some j) e f = alone row j f
+            (new_trip trips read.before (last_seen read) (has_seen read) row after j form f)
+        split false (Some i) (Some j) e f = behind_link row j f
+            (new_trip trips read.before (last_seen read) (has_seen read) row after j form f) i e

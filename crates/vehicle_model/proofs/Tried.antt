@@ -1,0 +1,338 @@
+-- The definitions on small schedules.
+use Rattle.std.proofs.Common.{◌≡◌, ℕ, refl, pos, negsuc, ◌+◌, ◌*◌, List, [], ◌∷◌, ◌++◌, codes, slice_get, Option, Some, None}
+use Rattle.std.specs.Fmt.{digits}
+use Rattle.event_tables.specs.declared.trip.Trip.{Trip}
+use Rattle.event_tables.specs.declared.trip.TripEnd.{TripEnd}
+use Rattle.giv_files.specs.declared.file_id.FileId.TheVariants as file
+use Rattle.giv_files.specs.declared.row_why.RowWhy.TheVariants as why
+use Rattle.giv_files.specs.declared.refusal.Refusal.TheVariants as refusal
+use Rattle.giv_files.specs.Inputs.{input_faults, row_faults}
+use Rattle.giv_files.specs.Reading.{faults, table_of, cells_from, cell_of, errors, values, row_whys}
+use Rattle.giv_files.specs.Rows.{rows, cleaned}
+use Rattle.giv_files.specs.Writing.{cell_text, cell_texts, joined, table_text}
+use Rattle.plan_num.specs.Number.{spelling_of, value_of, value_at, fixed_of, whole_of}
+use Rattle.ptn_network.specs.declared.edge.Edge.{Edge}
+use Rattle.ptn_network.specs.Networks.{NetworkParts, by_id, stops_of, network_of, network_faults}
+use Rattle.ptn_network.specs.Walks.{walks_within, least_of, least_sum}
+use Rattle.vehicle_model.specs.declared.plan_fault.PlanFault.TheVariants as fault
+use Rattle.vehicle_model.specs.Trips.{TripsParts, trips_of, trips_faults, links_of, link_minutes, dead_minutes}
+use Rattle.vehicle_model.specs.Plans.{plan_cost, all_plans, all_lists, is_apart, chosen_plan}
+use Rattle.vehicle_model.specs.Schedules.{tour, rows_behind, rows_from, plan_text}
+use Rattle.vehicle_model.specs.ReadSchedules.{form_faults, links_in, plan_faults, plan_of}
+
+abbrev edge : ℕ → ℕ → ℕ → ℕ → Edge
+edge id left right lower = record {
+  id = pos id;
+  left = left;
+  right = right;
+  length = pos 1;
+  lower = pos
+      lower;
+  upper = pos lower;
+}
+
+-- three stops in a row, and one more without an edge
+abbrev network : NetworkParts
+network = record { stops = pos 1 ∷ pos 2 ∷ pos 3 ∷ pos 4 ∷ []; edges = edge 1 0 1 4 ∷ edge 2 1 2 6 ∷ [] }
+
+abbrev event : ℕ → ℕ → ℕ → TripEnd
+event id stop time = record { event = id; periodic = id; stop = stop; time = time }
+
+abbrev trip : ℕ → ℕ → ℕ → ℕ → ℕ → Trip
+trip number from start to end = record {
+  start = event (number * 2) from start;
+  end = event (number * 2 + 1)
+      to end;
+  line = 1;
+}
+
+abbrev trips : List Trip → ℕ → ℕ → TripsParts
+trips list turnover empty = record { network = network; trips = list; turnover = turnover; vehicle = 100000000; empty = empty }
+
+-- one trip, and two that may follow it
+abbrev three : TripsParts
+three = trips (trip 1 1 0 2 10 ∷ trip 2 2 12 1 22 ∷ trip 3 2 13 1 23 ∷ []) 2 1000000
+
+may : link_minutes three 0 1 ≡ Some 0
+unfolding least_sum walks_within least_of
+may = refl
+
+may_not : link_minutes three 1 2 ≡ None
+unfolding least_sum walks_within least_of
+may_not = refl
+
+-- without a walk none may follow
+apart : link_minutes (trips (trip 1 1 0 4 10 ∷ trip 2 1 100 2 110 ∷ []) 2 0) 0 1 ≡ None
+unfolding least_sum walks_within least_of
+apart = refl
+
+far : dead_minutes network (trip 1 1 0 3 1) (trip 2 1 50 1 60) ≡ Some 10
+unfolding least_sum walks_within least_of
+far = refl
+
+plans : all_plans (links_of three) ≡ (Some 1 ∷ None ∷ None ∷ []) ∷ (Some 2 ∷ None ∷ None ∷ []) ∷ (None ∷ None
+    ∷ None ∷ []) ∷ []
+unfolding least_sum walks_within least_of all_lists is_apart
+plans = refl
+
+-- of two cheapest plans the one with the lesser successor
+chosen : chosen_plan three ≡ Some 1 ∷ None ∷ None ∷ []
+unfolding chosen_plan least_sum walks_within least_of all_lists is_apart
+chosen = refl
+
+cost : plan_cost three (Some 1 ∷ None ∷ None ∷ []) ≡ 200000000
+unfolding least_sum walks_within least_of
+cost = refl
+
+-- two trips with a dead run between them
+abbrev two : ℕ → TripsParts
+two empty = trips (trip 1 1 0 2 10 ∷ trip 2 1 30 2 40 ∷ []) 2 empty
+
+-- a dear one: the gain is below 0, so there are two vehicles
+dear : chosen_plan (two 30000000) ≡ None ∷ None ∷ []
+unfolding chosen_plan least_sum walks_within least_of all_lists is_apart
+dear = refl
+
+dear_cost : plan_cost (two 30000000) (None ∷ None ∷ []) ≡ 200000000
+unfolding least_sum walks_within least_of
+dear_cost = refl
+
+loss : (links_of (two 30000000)).gain 0 1 ≡ Some (negsuc 19999999)
+unfolding least_sum walks_within least_of
+loss = refl
+
+-- a link without a gain is chosen, since none counts after every trip
+even : chosen_plan (two 25000000) ≡ Some 1 ∷ None ∷ []
+unfolding chosen_plan least_sum walks_within least_of all_lists is_apart
+even = refl
+
+even_cost : plan_cost (two 25000000) (Some 1 ∷ None ∷ []) ≡ 200000000
+unfolding least_sum walks_within least_of
+even_cost = refl
+
+-- ---- texts
+
+abbrev stops_text : List ℕ
+stops_text = codes "1;;;;;\n2;;;;;\n3;;;;;\n"
+
+abbrev edges_text : List ℕ
+edges_text = codes "1; 1; 2; 2; 4; 5\n2; 2; 3; 3; 6; 6\n"
+
+abbrev trips_text : List ℕ
+trips_text = codes "1; 1; 1; 0; 4; 4; 3; 11; 1\n5; 1; 1; 20; 8; 4; 3; 31; 1\n"
+    ++ codes "9; 5; 3; 0; 12; 8; 1; 11; 1\n13; 5; 3; 20; 16; 8; 1; 31; 1\n"
+    ++ codes "17; 9; 1; 0; 18; 10; 2; 4; 2\n19; 9; 1; 20; 20; 10; 2; 24; 2\n"
+    ++ codes "21; 11; 2; 0; 22; 12; 1; 4; 2\n23; 11; 2; 20; 24; 12; 1; 24; 2\n"
+
+-- a trip for each rule
+broken : trips_faults stops_text edges_text (codes "1; 1; 1; 0; 2; 2; 2; 4; 1\n1; 1; 1; 0; 2; 2; 2; 4; 1\n"
+    ++ codes "3; 1; 5; 0; 2; 2; 2; 4; 1\n5; 1; 1; 4; 2; 2; 2; 4; 1\n")
+    ≡ refusal.BadRow file.Trips 2 why.RepeatedId ∷ refusal.BadRow file.Trips 3 why.UnknownStop
+    ∷ refusal.BadRow file.Trips 4 why.Backward ∷ []
+unfolding trips_faults network_of network_faults stops_of input_faults row_faults faults by_id table_of
+    cells_from cell_of values errors row_whys rows cleaned spelling_of value_of value_at fixed_of whole_of
+broken = refl
+
+abbrev eight : TripsParts
+eight = trips_of stops_text edges_text trips_text 2 100000000 1000000
+
+abbrev pairs : List (Option ℕ)
+pairs = Some 3 ∷ None ∷ Some 1 ∷ None ∷ Some 7 ∷ None ∷ Some 5 ∷ None ∷ []
+
+eight_chosen : chosen_plan eight ≡ pairs
+unfolding chosen_plan least_sum walks_within least_of all_lists is_apart trips_of network_of stops_of by_id
+    table_of cells_from cell_of values rows cleaned spelling_of value_of value_at fixed_of whole_of
+eight_chosen = refl
+
+abbrev schedule : List ℕ
+schedule =
+    codes "# circulation; vehicle; number; type; start-id; periodic-start-id; start-stop; start-time; end-id; "
+    ++ codes "periodic-end-id; end-stop; end-time; line\n"
+    ++ codes "1; 1; 1; TRIP; 1; 1; 1; 0; 4; 4; 3; 11; 1\n"
+    ++ codes "1; 1; 2; EMPTY; 4; 4; 3; 11; 13; 5; 3; 11; 0\n"
+    ++ codes "1; 1; 3; TRIP; 13; 5; 3; 20; 16; 8; 1; 31; 1\n"
+    ++ codes "2; 2; 1; TRIP; 9; 5; 3; 0; 12; 8; 1; 11; 1\n"
+    ++ codes "2; 2; 2; EMPTY; 12; 8; 1; 11; 5; 1; 1; 11; 0\n"
+    ++ codes "2; 2; 3; TRIP; 5; 1; 1; 20; 8; 4; 3; 31; 1\n"
+    ++ codes "3; 3; 1; TRIP; 17; 9; 1; 0; 18; 10; 2; 4; 2\n"
+    ++ codes "3; 3; 2; EMPTY; 18; 10; 2; 4; 23; 11; 2; 4; 0\n"
+    ++ codes "3; 3; 3; TRIP; 23; 11; 2; 20; 24; 12; 1; 24; 2\n"
+    ++ codes "4; 4; 1; TRIP; 21; 11; 2; 0; 22; 12; 1; 4; 2\n"
+    ++ codes "4; 4; 2; EMPTY; 22; 12; 1; 4; 19; 9; 1; 4; 0\n"
+    ++ codes "4; 4; 3; TRIP; 19; 9; 1; 20; 20; 10; 2; 24; 2\n"
+
+written : plan_text eight pairs ≡ schedule
+unfolding plan_text table_text cell_text cell_texts joined digits tour rows_behind rows_from least_sum walks_within
+    least_of trips_of network_of stops_of by_id table_of cells_from cell_of values rows cleaned spelling_of
+    value_of value_at fixed_of whole_of
+written = refl
+
+read : plan_of eight schedule ≡ pairs
+unfolding plan_of links_in least_sum walks_within least_of trips_of network_of stops_of by_id table_of cells_from
+    cell_of values rows cleaned spelling_of value_of value_at fixed_of whole_of
+read = refl
+
+fine : plan_faults eight schedule ≡ []
+unfolding plan_faults form_faults links_in faults errors row_whys least_sum walks_within least_of trips_of network_of stops_of
+    by_id table_of cells_from cell_of values rows cleaned spelling_of value_of value_at fixed_of whole_of
+fine = refl
+
+-- ---- schedules from any hand, over two trips
+
+-- a text that is no table
+no_table : slice_get (plan_faults (two 1000000) (codes "x\n")) 0 ≡ Some (fault.Row (record {
+  row = 1;
+  why =
+      why.FieldCount 1;
+}))
+unfolding plan_faults form_faults links_in faults errors row_whys least_sum walks_within least_of table_of cells_from cell_of
+    values rows cleaned spelling_of value_of value_at fixed_of whole_of
+no_table = refl
+
+-- vehicles in any order
+any_order : slice_get (plan_faults (two 1000000) (codes "1; 1; 1; TRIP; 4; 4; 1; 30; 5; 5; 2; 40; 1\n"
+    ++ codes "2; 2; 1; TRIP; 2; 2; 1; 0; 3; 3; 2; 10; 1\n")) 0 ≡ None
+unfolding plan_faults form_faults links_in faults errors row_whys least_sum walks_within least_of table_of cells_from cell_of
+    values rows cleaned spelling_of value_of value_at fixed_of whole_of
+any_order = refl
+
+-- two trips without an empty run between them
+no_run : slice_get (plan_faults (two 1000000) (codes "1; 1; 1; TRIP; 2; 2; 1; 0; 3; 3; 2; 10; 1\n"
+    ++ codes "1; 1; 2; TRIP; 4; 4; 1; 30; 5; 5; 2; 40; 1\n")) 0 ≡ Some (fault.Trips 2)
+unfolding plan_faults form_faults links_in faults errors row_whys least_sum walks_within least_of table_of cells_from cell_of
+    values rows cleaned spelling_of value_of value_at fixed_of whole_of
+no_run = refl
+
+-- the same, counted as if there were one
+no_run_counted : slice_get (plan_faults (two 1000000) (codes "1; 1; 1; TRIP; 2; 2; 1; 0; 3; 3; 2; 10; 1\n"
+    ++ codes "1; 1; 3; TRIP; 4; 4; 1; 30; 5; 5; 2; 40; 1\n")) 0 ≡ Some (fault.Trips 2)
+unfolding plan_faults form_faults links_in faults errors row_whys least_sum walks_within least_of table_of cells_from cell_of
+    values rows cleaned spelling_of value_of value_at fixed_of whole_of
+no_run_counted = refl
+
+-- an empty run before the first trip
+run_first : slice_get (plan_faults (two 1000000) (codes "1; 1; 1; EMPTY; 3; 3; 2; 10; 4; 4; 1; 14; 0\n"
+    ++ codes "1; 1; 2; TRIP; 2; 2; 1; 0; 3; 3; 2; 10; 1\n"
+    ++ codes "2; 2; 1; TRIP; 4; 4; 1; 30; 5; 5; 2; 40; 1\n")) 0 ≡ Some (fault.Trips 1)
+unfolding plan_faults form_faults links_in faults errors row_whys least_sum walks_within least_of table_of cells_from cell_of
+    values rows cleaned spelling_of value_of value_at fixed_of whole_of
+run_first = refl
+
+-- an empty run behind the last trip
+run_last : slice_get (plan_faults (two 1000000) (codes "1; 1; 1; TRIP; 2; 2; 1; 0; 3; 3; 2; 10; 1\n"
+    ++ codes "1; 1; 2; EMPTY; 3; 3; 2; 10; 4; 4; 1; 14; 0\n"
+    ++ codes "2; 2; 1; TRIP; 4; 4; 1; 30; 5; 5; 2; 40; 1\n")) 0 ≡ Some (fault.Trips 2)
+unfolding plan_faults form_faults links_in faults errors row_whys least_sum walks_within least_of table_of cells_from cell_of
+    values rows cleaned spelling_of value_of value_at fixed_of whole_of
+run_last = refl
+
+-- an empty run at the end of the text
+run_at_end : slice_get (plan_faults (two 1000000) (codes "1; 1; 1; TRIP; 4; 4; 1; 30; 5; 5; 2; 40; 1\n"
+    ++ codes "2; 2; 1; TRIP; 2; 2; 1; 0; 3; 3; 2; 10; 1\n"
+    ++ codes "2; 2; 2; EMPTY; 3; 3; 2; 10; 4; 4; 1; 14; 0\n")) 0 ≡ Some (fault.Trips 3)
+unfolding plan_faults form_faults links_in faults errors row_whys least_sum walks_within least_of table_of cells_from cell_of
+    values rows cleaned spelling_of value_of value_at fixed_of whole_of
+run_at_end = refl
+
+-- two empty runs
+runs : slice_get (plan_faults (two 1000000) (codes "1; 1; 1; TRIP; 2; 2; 1; 0; 3; 3; 2; 10; 1\n"
+    ++ codes "1; 1; 2; EMPTY; 3; 3; 2; 10; 4; 4; 1; 14; 0\n"
+    ++ codes "1; 1; 3; EMPTY; 3; 3; 2; 10; 4; 4; 1; 14; 0\n"
+    ++ codes "1; 1; 4; TRIP; 4; 4; 1; 30; 5; 5; 2; 40; 1\n")) 0 ≡ Some (fault.Trips 2)
+unfolding plan_faults form_faults links_in faults errors row_whys least_sum walks_within least_of table_of cells_from cell_of
+    values rows cleaned spelling_of value_of value_at fixed_of whole_of
+runs = refl
+
+-- a vehicle is left out
+left_out : slice_get (plan_faults (two 1000000) (codes "1; 1; 1; TRIP; 2; 2; 1; 0; 3; 3; 2; 10; 1\n"
+    ++ codes "3; 3; 1; TRIP; 4; 4; 1; 30; 5; 5; 2; 40; 1\n")) 0 ≡ Some (fault.Trips 2)
+unfolding plan_faults form_faults links_in faults errors row_whys least_sum walks_within least_of table_of cells_from cell_of
+    values rows cleaned spelling_of value_of value_at fixed_of whole_of
+left_out = refl
+
+-- a circulation that is not the vehicle
+other : slice_get (plan_faults (two 1000000) (codes "2; 1; 1; TRIP; 2; 2; 1; 0; 3; 3; 2; 10; 1\n"
+    ++ codes "2; 2; 1; TRIP; 4; 4; 1; 30; 5; 5; 2; 40; 1\n")) 0 ≡ Some (fault.Trips 1)
+unfolding plan_faults form_faults links_in faults errors row_whys least_sum walks_within least_of table_of cells_from cell_of
+    values rows cleaned spelling_of value_of value_at fixed_of whole_of
+other = refl
+
+-- an empty run of other minutes
+minutes : slice_get (plan_faults (two 1000000) (codes "1; 1; 1; TRIP; 2; 2; 1; 0; 3; 3; 2; 10; 1\n"
+    ++ codes "1; 1; 2; EMPTY; 3; 3; 2; 10; 4; 4; 1; 15; 0\n"
+    ++ codes "1; 1; 3; TRIP; 4; 4; 1; 30; 5; 5; 2; 40; 1\n")) 0 ≡ Some (fault.Trips 2)
+unfolding plan_faults form_faults links_in faults errors row_whys least_sum walks_within least_of table_of cells_from cell_of
+    values rows cleaned spelling_of value_of value_at fixed_of whole_of
+minutes = refl
+
+-- an empty run of a line
+line : slice_get (plan_faults (two 1000000) (codes "1; 1; 1; TRIP; 2; 2; 1; 0; 3; 3; 2; 10; 1\n"
+    ++ codes "1; 1; 2; EMPTY; 3; 3; 2; 10; 4; 4; 1; 14; 1\n"
+    ++ codes "1; 1; 3; TRIP; 4; 4; 1; 30; 5; 5; 2; 40; 1\n")) 0 ≡ Some (fault.Trips 2)
+unfolding plan_faults form_faults links_in faults errors row_whys least_sum walks_within least_of table_of cells_from cell_of
+    values rows cleaned spelling_of value_of value_at fixed_of whole_of
+line = refl
+
+-- an empty run that begins elsewhere
+begins : slice_get (plan_faults (two 1000000) (codes "1; 1; 1; TRIP; 2; 2; 1; 0; 3; 3; 2; 10; 1\n"
+    ++ codes "1; 1; 2; EMPTY; 3; 3; 1; 10; 4; 4; 1; 14; 0\n"
+    ++ codes "1; 1; 3; TRIP; 4; 4; 1; 30; 5; 5; 2; 40; 1\n")) 0 ≡ Some (fault.Trips 2)
+unfolding plan_faults form_faults links_in faults errors row_whys least_sum walks_within least_of table_of cells_from cell_of
+    values rows cleaned spelling_of value_of value_at fixed_of whole_of
+begins = refl
+
+-- a row that repeats no trip; the end of the empty run before it is not looked at
+unknown : slice_get (plan_faults (two 1000000) (codes "1; 1; 1; TRIP; 2; 2; 1; 0; 3; 3; 2; 10; 1\n"
+    ++ codes "1; 1; 2; EMPTY; 3; 3; 2; 10; 4; 4; 1; 77; 0\n"
+    ++ codes "1; 1; 3; TRIP; 4; 4; 1; 31; 5; 5; 2; 40; 1\n")) 0 ≡ Some (fault.Trips 3)
+unfolding plan_faults form_faults links_in faults errors row_whys least_sum walks_within least_of table_of cells_from cell_of
+    values rows cleaned spelling_of value_of value_at fixed_of whole_of
+unknown = refl
+
+-- a trip that has come before
+twice : slice_get (plan_faults (two 1000000) (codes "1; 1; 1; TRIP; 2; 2; 1; 0; 3; 3; 2; 10; 1\n"
+    ++ codes "2; 2; 1; TRIP; 2; 2; 1; 0; 3; 3; 2; 10; 1\n"
+    ++ codes "3; 3; 1; TRIP; 4; 4; 1; 30; 5; 5; 2; 40; 1\n")) 0 ≡ Some (fault.Trips 2)
+unfolding plan_faults form_faults links_in faults errors row_whys least_sum walks_within least_of table_of cells_from cell_of
+    values rows cleaned spelling_of value_of value_at fixed_of whole_of
+twice = refl
+
+-- a trip without a row
+missing : slice_get (plan_faults (two 1000000) (codes "1; 1; 1; TRIP; 2; 2; 1; 0; 3; 3; 2; 10; 1\n")) 0 ≡ Some
+    (fault.Trips 0)
+unfolding plan_faults form_faults links_in faults errors row_whys least_sum walks_within least_of table_of cells_from cell_of
+    values rows cleaned spelling_of value_of value_at fixed_of whole_of
+missing = refl
+
+-- a link that may not follow
+follows : slice_get (plan_faults (two 1000000) (codes "1; 1; 1; TRIP; 4; 4; 1; 30; 5; 5; 2; 40; 1\n"
+    ++ codes "1; 1; 2; EMPTY; 5; 5; 2; 40; 2; 2; 1; 44; 0\n"
+    ++ codes "1; 1; 3; TRIP; 2; 2; 1; 0; 3; 3; 2; 10; 1\n")) 0 ≡ Some (fault.Follow 0)
+unfolding plan_faults form_faults links_in faults errors row_whys least_sum walks_within least_of table_of cells_from cell_of
+    values rows cleaned spelling_of value_of value_at fixed_of whole_of
+follows = refl
+
+-- a break of form comes before it
+form_first : slice_get (plan_faults (two 1000000) (codes "1; 1; 1; TRIP; 4; 4; 1; 30; 5; 5; 2; 40; 1\n"
+    ++ codes "1; 1; 2; EMPTY; 5; 5; 2; 40; 2; 2; 1; 44; 0\n"
+    ++ codes "1; 1; 3; TRIP; 2; 2; 1; 0; 3; 3; 2; 10; 1\n"
+    ++ codes "1; 1; 4; TRIP; 2; 2; 1; 0; 3; 3; 2; 10; 1\n")) 0 ≡ Some (fault.Trips 4)
+unfolding plan_faults form_faults links_in faults errors row_whys least_sum walks_within least_of table_of cells_from cell_of
+    values rows cleaned spelling_of value_of value_at fixed_of whole_of
+form_first = refl
+
+-- rows are numbered as in the text
+numbers : slice_get (plan_faults (two 1000000) (codes "# a comment\n"
+    ++ codes "1; 1; 1; TRIP; 2; 2; 1; 0; 3; 3; 2; 10; 1\n"
+    ++ codes "1; 1; 2; TRIP; 4; 4; 1; 30; 5; 5; 2; 40; 1\n")) 0 ≡ Some (fault.Trips 3)
+unfolding plan_faults form_faults links_in faults errors row_whys least_sum walks_within least_of table_of cells_from cell_of
+    values rows cleaned spelling_of value_of value_at fixed_of whole_of
+numbers = refl
+
+-- a link between two stops that no walk joins: its minutes are not looked at
+nowhere : plan_faults (trips (trip 1 1 0 4 10 ∷ trip 2 1 30 2 40 ∷ []) 2 0)
+    (codes "1; 1; 1; TRIP; 2; 2; 1; 0; 3; 3; 4; 10; 1\n1; 1; 2; EMPTY; 3; 3; 4; 10; 4; 4; 1; 99; 0\n"
+    ++ codes "1; 1; 3; TRIP; 4; 4; 1; 30; 5; 5; 2; 40; 1\n") ≡ fault.Follow 1 ∷ []
+unfolding plan_faults form_faults links_in faults errors row_whys least_sum walks_within least_of table_of cells_from cell_of values
+    rows cleaned spelling_of value_of value_at fixed_of whole_of
+nowhere = refl

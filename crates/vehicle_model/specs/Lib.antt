@@ -1,0 +1,7 @@
+pub mod DeadTables
+pub mod PlanFaults
+pub mod Plans
+pub mod ReadSchedules
+pub mod Readers
+pub mod Schedules
+pub mod Trips
