@@ -1,1 +1,3 @@
+pub mod Certified
+mod Checked
 mod Slack

@@ -1,6 +1,5 @@
 -- The table of potentials: how it is written, and why a text is none.
-use Rattle.std.specs.Prelude.{ℕ, ℤ, pos, ◌≡◌, ◌+◌, ◌&&◌, ◌-◌, nat_lt, if◌then◌else◌, not, Bool, List, [], ◌∷◌, ◌++◌, length, map, filter, zip, get_or, slice_get, unsigned_abs, codes, Some, Result, Ok, Err, ⊤}
-use Rattle.std.specs.List.{enumerate_from}
+use Rattle.std.specs.Prelude.{ℕ, ℤ, pos, ◌≡◌, ◌+◌, ◌&&◌, ◌-◌, nat_lt, if◌then◌else◌, not, Bool, List, [], ◌∷◌, ◌++◌, length, map, get_or, slice_get, unsigned_abs, codes, Some, Result, Ok, Err, ⊤}
 use Rattle.std.specs.Ordering.{int_eq}
 use Rattle.giv_files.specs.declared.read_fault.RowFault.{RowFault}
 use Rattle.giv_files.specs.declared.read_fault.ReadFault.{ReadFault}
@@ -9,7 +8,7 @@ use Rattle.giv_files.specs.declared.row_why.RowWhy.TheVariants as why
 use Rattle.giv_files.specs.Columns.{potential_columns}
 use Rattle.giv_files.specs.Reading.{faults, table_of}
 use Rattle.giv_files.specs.Tables.{TableRow}
-use Rattle.giv_files.specs.Writing.{table_text}
+use Rattle.giv_files.specs.Writing.{table_text, InColumns}
 use Rattle.vehicle_model.specs.ReadSchedules.{or_others}
 use Rattle.flow_potentials.specs.Potentials.{PotentialParts}
 
@@ -59,6 +58,15 @@ potentials_in rows = record { u = column_of 1 rows; v = column_of 2 rows }
 -- the potentials of a text without a fault
 unfoldable pub potentials_of : List ℕ → PotentialParts
 potentials_of text = potentials_in (table_of potential_columns text)
+
+-- a text has no fault as potentials, and is read as some
+pub record IsReadBack (potentials : PotentialParts) (text : List ℕ) : Type 0 where
+  pub faultless : table_faults (length potentials.u) text ≡ []
+  pub same : potentials_of text ≡ potentials
+
+-- cells are in the ranges of their columns
+abbrev pub FitsColumns : TableRow → Type 0
+FitsColumns row = InColumns potential_columns row.cells
 
 -- what reading gives: the potentials, or the first of all faults; want of memory is free
 abbrev pub PotentialsGive : List RowFault → PotentialParts → Result PotentialParts ReadFault → Type 0

@@ -1,5 +1,5 @@
 -- Potentials of trips: valid ones prove that a plan is cheapest.
-use Rattle.std.specs.Prelude.{ℕ, ℤ, pos, ◌≡◌, ◌↔◌, ◌+◌, ◌≤◌, ◌≤ℤ◌, int_lt, if◌then◌else◌, Bool, false, List, [], ◌∷◌, ◌++◌, length, map, filter, sum, get_or, Option, Some, None, IfSome, All}
+use Rattle.std.specs.Prelude.{ℕ, ℤ, pos, ◌≡◌, ◌↔◌, ◌+◌, ◌≤◌, ◌≤ℤ◌, int_le, not, if◌then◌else◌, Bool, false, List, [], ◌∷◌, ◌++◌, length, map, filter, sum, get_or, Option, Some, None, IfSome, All}
 use Rattle.std.specs.List.{flat_map, range_with_len}
 use Rattle.std.specs.Ordering.{int_eq}
 use Rattle.vehicle_model.specs.Trips.{TripsParts, Links, links_of}
@@ -58,7 +58,7 @@ TightAreCheapest trips potentials = (plan : List (Option ℕ)) → IsPlan (links
 -- a link gains more than a number
 abbrev pub is_short : ℕ → Option ℤ → Bool
 is_short number None = false
-is_short number (Some gain) = int_lt (pos number) gain
+is_short number (Some gain) = not (int_le gain (pos number))
 
 -- two trips whose potentials are short of the gain of their link
 abbrev pub is_short_pair : Links → PotentialParts → ℕ → ℕ → Bool

@@ -1,5 +1,5 @@
 // Potentials of trips.
-ghost use Rattle.std.specs.Prelude.{◌≡◌, ◌<◌, ◌≤ℤ◌, pos, length, replicate, slice_set, unsigned_abs, IfOk};
+ghost use Rattle.std.specs.Prelude.{◌≡◌, ◌+◌, ◌<◌, ◌≤ℤ◌, pos, length, replicate, slice_set, unsigned_abs, IfOk};
 ghost use Rattle.flow_potentials.specs.Potentials.{at, ArePotentials, AreOver};
 
 use plan_num::NoMemory;
@@ -63,6 +63,15 @@ impl Potentials {
         ensures high { result ≤ℤ pos 1000000000000000000 }
     {
         self.v[trip] as i64
+    }
+
+    // The numbers of a link from a trip to another, together.
+    pub(crate) fn both(&self, i: usize, j: usize) -> u64
+        requires from { i < length self.now.u }
+        requires to { j < length self.now.v }
+        ensures { result ≡ at self.now.u i + at self.now.v j }
+    {
+        self.u[i] + self.v[j]
     }
 
     /// Gives a trip a number for its link to the next one.
