@@ -1,6 +1,5 @@
 -- The table of potentials: how it is written, and why a text is none.
-use Rattle.std.specs.Prelude.{ℕ, ℤ, pos, ◌≡◌, ◌+◌, ◌&&◌, ◌-◌, nat_lt, if◌then◌else◌, not, Bool, List, [], ◌∷◌, ◌++◌, length, map, get_or, slice_get, unsigned_abs, codes, Some, Result, Ok, Err, ⊤}
-use Rattle.std.specs.Ordering.{int_eq}
+use Rattle.std.specs.Prelude.{ℕ, ℤ, pos, ◌≡◌, ◌+◌, ◌==◌, ◌&&◌, nat_lt, if◌then◌else◌, Bool, List, [], ◌∷◌, ◌++◌, length, map, get_or, slice_get, unsigned_abs, codes, Some, Result, Ok, Err, ⊤}
 use Rattle.giv_files.specs.declared.read_fault.RowFault.{RowFault}
 use Rattle.giv_files.specs.declared.read_fault.ReadFault.{ReadFault}
 use Rattle.giv_files.specs.declared.read_fault.ReadFault.TheVariants as fault
@@ -29,23 +28,24 @@ unfoldable pub potentials_text : PotentialParts → List ℕ
 potentials_text potentials =
     table_text potential_header potential_columns (potential_rows potentials)
 
--- a row is that of a trip, of so many
+-- a row is that of the trip behind some, of so many
 abbrev pub is_trip_row : ℕ → ℕ → TableRow → Bool
-is_trip_row count trip row = int_eq (get_or row.cells 0 (pos 0)) (pos trip) && nat_lt (trip - 1) count
+is_trip_row count before row =
+    (unsigned_abs (get_or row.cells 0 (pos 0)) == before + 1) && nat_lt before count
 
--- the rows that are not that of the next trip, from a trip on; and a fault at row 0, where trips are left
+-- the rows that are not that of the next trip behind some; and a fault at row 0, where trips are left
 unfoldable pub gaps_from : ℕ → ℕ → List TableRow → List RowFault
-gaps_from count trip [] =
-    if nat_lt (trip - 1) count then record { row = 0; why = why.OrderGap } ∷ [] else []
-gaps_from count trip (row ∷ rows) =
-    (if is_trip_row count trip row then [] else record { row = row.number; why = why.OrderGap } ∷ [])
-    ++ gaps_from count (trip + 1) rows
+gaps_from count before [] =
+    if nat_lt before count then record { row = 0; why = why.OrderGap } ∷ [] else []
+gaps_from count before (row ∷ rows) =
+    (if is_trip_row count before row then [] else record { row = row.number; why = why.OrderGap } ∷ [])
+    ++ gaps_from count (before + 1) rows
 
 -- every fault of a text as potentials of so many trips: that it is no table, else rows that are not
 -- theirs
 unfoldable pub table_faults : ℕ → List ℕ → List RowFault
 table_faults count text = or_others (faults potential_columns text)
-    (gaps_from count 1 (table_of potential_columns text))
+    (gaps_from count 0 (table_of potential_columns text))
 
 -- the numbers in a column
 abbrev pub column_of : ℕ → List TableRow → List ℕ

@@ -1,10 +1,10 @@
 // Reading potentials.
-ghost use Rattle.std.specs.Prelude.{◌≡◌, ◌+◌, ◌<◌, length, slice_index_or, All, IfOk};
+ghost use Rattle.std.specs.Prelude.{◌≡◌, ◌+◌, ◌<◌, length, slice_index_or, unsigned_abs, All, IfOk};
 ghost use Rattle.flow_potentials.specs.Potentials.{AreOver};
 ghost use Rattle.flow_potentials.specs.PotentialTables.{is_trip_row, table_faults, potentials_of, potentials_in, gaps_from, PotentialsGive, FitsColumns};
 ghost use Rattle.giv_files.specs.declared.read_fault.ReadFault.TheVariants as read_faults;
 ghost use Rattle.giv_files.specs.declared.row_why.RowWhy.TheVariants as why;
-ghost use Rattle.giv_files.specs.Tables.{no_row};
+ghost use Rattle.giv_files.specs.Tables.{no_row, cell_at};
 
 use crate::numbers::Potentials;
 use giv_files::{ReadFault, RowFault, RowWhy, Table, columns, read_table};
@@ -23,7 +23,7 @@ pub fn read_potentials(alloc: Global, bytes: &[u8], trips: usize) -> Result<Pote
 // The potentials of a table.
 fn read_rows(alloc: Global, table: &Table<3>, trips: usize) -> Result<Potentials, ReadFault>
     requires { All FitsColumns table.now }
-    ensures read { PotentialsGive (gaps_from trips 1 table.now) (potentials_in table.now) result }
+    ensures read { PotentialsGive (gaps_from trips 0 table.now) (potentials_in table.now) result }
     ensures each { IfOk result (AreOver trips) }
 {
     let mut u = Vec::new(alloc);
@@ -32,8 +32,8 @@ fn read_rows(alloc: Global, table: &Table<3>, trips: usize) -> Result<Potentials
         if !is_trip_row(table, row, trips) {
             return Err(gap(table.number(row)));
         }
-        u.push(table.cell(row, 1).unsigned_abs())?;
-        v.push(table.cell(row, 2).unsigned_abs())?;
+        u.push(number(table, row, 1))?;
+        v.push(number(table, row, 2))?;
     }
     if table.len() < trips {
         return Err(gap(0));
@@ -44,9 +44,19 @@ fn read_rows(alloc: Global, table: &Table<3>, trips: usize) -> Result<Potentials
 // Whether a row is that of the trip of its place.
 fn is_trip_row(table: &Table<3>, row: usize, trips: usize) -> bool
     requires { row < length table.now }
-    ensures { result ≡ is_trip_row trips (row + 1) (slice_index_or table.now row no_row) }
+    ensures { result ≡ is_trip_row trips row (slice_index_or table.now row no_row) }
 {
-    table.cell(row, 0) == row as i64 + 1 && row < trips
+    let _ = table.len();
+    number(table, row, 0) == row as u64 + 1 && row < trips
+}
+
+// The number of a row in a column.
+fn number(table: &Table<3>, row: usize, column: usize) -> u64
+    requires row { row < length table.now }
+    requires column { column < 3 }
+    ensures { result ≡ unsigned_abs (cell_at table.now row column) }
+{
+    table.cell(row, column).unsigned_abs()
 }
 
 // The refusal of a row that is not that of the next trip.

@@ -1,5 +1,6 @@
 // Writing potentials.
-ghost use Rattle.std.specs.Prelude.{◌≡◌, ◌≤◌, length, IfOk};
+ghost use Rattle.std.specs.Prelude.{◌≡◌, ◌+◌, ◌≤◌, ◌<◌, pos, [], ◌∷◌, length, IfOk};
+ghost use Rattle.flow_potentials.specs.Potentials.{at, ArePotentials};
 ghost use Rattle.flow_potentials.specs.PotentialTables.{potential_rows, potentials_text, IsReadBack};
 
 use crate::numbers::Potentials;
@@ -21,12 +22,22 @@ pub fn write_potentials(alloc: Global, potentials: &Potentials) -> Result<Text, 
 fn table_of(alloc: Global, potentials: &Potentials) -> Result<Table<3>, NoMemory>
     requires { length potentials.now.u ≤ 1000000000 }
     ensures rows { IfOk result (λ table. table ≡ potential_rows potentials.now) }
+    ensures are { ArePotentials potentials.now }
 {
     let mut table = Table::new(alloc);
     for trip in 0..potentials.len() {
-        let u = potentials.u(trip);
-        let v = potentials.v(trip);
-        table.push(0, &[trip as i64 + 1, u, v])?;
+        table.push(0, &cells_of(potentials, trip))?;
     }
     Ok(table)
+}
+
+// The cells of the row of a trip.
+fn cells_of(potentials: &Potentials, trip: usize) -> [i64; 3]
+    requires few { length potentials.now.u ≤ 1000000000 }
+    requires trip { trip < length potentials.now.u }
+    ensures { result ≡ pos (trip + 1) ∷ pos (at potentials.now.u trip)
+        ∷ pos (at potentials.now.v trip) ∷ [] }
+{
+    let _ = potentials.len();
+    [trip as i64 + 1, potentials.u(trip), potentials.v(trip)]
 }
