@@ -1,9 +1,9 @@
 -- Valid potentials prove that exactly the tight plans are cheapest.
-use Rattle.std.proofs.Common.{◌≡◌, ◌↔◌, ℕ, ℤ, pos, ◌+◌, ◌*◌, ◌<◌, ◌≤◌, ◌-ℤ◌, ◌≤ℤ◌, nat_lt, Bool, true, false, List, length, sum, is_some, Option, Some, None, IfSome, unwrap_or, refl, ap, sym, ◌∙◌, subst, arith}
+use Rattle.std.proofs.Common.{◌≡◌, ℕ, ℤ, pos, ◌+◌, ◌<◌, ◌≤◌, ◌≤ℤ◌, nat_lt, Bool, true, false, List, length, is_some, Option, Some, None, IfSome, unwrap_or, refl, ap, sym, ◌∙◌, subst, arith}
 use Rattle.std.proofs.lemmas.Bool.{false≢true, ltb-true, ltb-false}
 use Rattle.std.proofs.lemmas.Int.{ints}
 use Rattle.std.proofs.Math.ListN.{get_or-eq_default}
-use Rattle.vehicle_model.specs.Plans.{next, plan_cost, plan_gain, IsPlan, IsCheapest}
+use Rattle.vehicle_model.specs.Plans.{next, plan_gain, IsPlan, IsCheapest}
 use Rattle.vehicle_model.specs.Trips.{TripsParts, Links, links_of}
 use Rattle.vehicle_model.proofs.Costs.{cost_by_gain}
 use Rattle.vehicle_model.proofs.Following.{some_of}
@@ -49,7 +49,7 @@ module _ (links : Links) (certified plan : List (Option ℕ)) (potentials : Pote
         linked = λ i j e.
             let found = some_of (links.gain i j) (is.follow i j e) in
             found.1 ∙ ap Some (sym (ap (λ gain. unwrap_or gain (pos 0)) found.1)
-                ∙ ap (λ k. unwrap_or (links.gain k j) (pos 0)) (none_before i) ∙ tight.linked i j e);
+            ∙ ap (λ k. unwrap_or (links.gain k j) (pos 0)) (none_before i) ∙ tight.linked i j e);
         last = λ i e. last_at tight i e;
         first = tight.first;
       }
@@ -73,9 +73,14 @@ module _ (trips : TripsParts) (certified : List (Option ℕ)) (potentials : Pote
       → plan_gain (links_of trips) plan ≡ pos (total potentials) → IsCheapest trips plan
   all_cheapest plan possible all = record {
     possible = possible;
-    least = λ other fits. omega (arith, ints, all,
-        gain_most (links_of trips) certified other potentials valid fits,
-        cost_by_gain trips plan possible, cost_by_gain trips other fits);
+    least = λ other fits. omega (
+      arith,
+      ints,
+      all,
+      gain_most (links_of trips) certified other potentials valid fits,
+      cost_by_gain trips plan possible,
+      cost_by_gain trips other fits,
+    );
   }
 
   pub certified_cheapest : IsCheapest trips certified
@@ -84,8 +89,14 @@ module _ (trips : TripsParts) (certified : List (Option ℕ)) (potentials : Pote
   pub tight_cheapest : TightAreCheapest trips potentials
   tight_cheapest plan possible = (
     (λ cheapest. gains_all (links_of trips) certified plan potentials valid possible
-        (omega (arith, ints, cheapest.least certified is, valid.exact,
-            gain_most (links_of trips) certified plan potentials valid possible,
-            cost_by_gain trips plan possible, cost_by_gain trips certified is))),
+        (omega (
+          arith,
+          ints,
+          cheapest.least certified is,
+          valid.exact,
+          gain_most (links_of trips) certified plan potentials valid possible,
+          cost_by_gain trips plan possible,
+          cost_by_gain trips certified is,
+        ))),
     (λ tight. all_cheapest plan possible (tight_all (links_of trips) certified plan potentials valid possible tight)),
   )

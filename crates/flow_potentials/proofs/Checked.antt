@@ -1,5 +1,5 @@
 -- Faults of potentials, pair by pair; without one they are valid.
-use Rattle.std.proofs.Common.{◌≡◌, ◌↔◌, ℕ, ℤ, zero, suc, pos, ◌+◌, ◌*◌, ◌-◌, ◌<◌, ◌≤◌, ◌==◌, ◌-ℤ◌, ◌≤ℤ◌, int_le, not, is_some, T, Bool, true, false, cond, List, [], ◌∷◌, ◌++◌, length, map, filter, slice_get, Option, Some, None, IfSome, option_map, refl, ap, sym, ◌∙◌, subst, arith, eq-eqb}
+use Rattle.std.proofs.Common.{◌≡◌, ◌↔◌, ℕ, ℤ, zero, suc, pos, ◌+◌, ◌*◌, ◌-◌, ◌<◌, ◌≤◌, ◌==◌, ◌≤ℤ◌, int_le, not, is_some, T, Bool, true, false, cond, List, [], ◌∷◌, ◌++◌, length, map, filter, slice_get, Option, Some, None, IfSome, option_map, refl, ap, sym, ◌∙◌, arith, eq-eqb}
 use Rattle.std.specs.Int.Signed.{le_z_yes}
 use Rattle.std.specs.List.{flat_map, range_with_len}
 use Rattle.std.specs.Ordering.{int_eq}
@@ -68,18 +68,18 @@ module _ (links : Links) (potentials : PotentialParts) (i : ℕ)
   unfolding potential_faults
   pair_found plan j within first =
       first_append (pair_faults links potentials) (sum_faults links plan potentials) (fault.Pair i j)
-          (ap (λ all. slice_get all 0) (pairs_here within)
-              ∙ first_append (trip_faults links potentials i)
-                  (flat_map (trip_faults links potentials) (range_with_len (i + 1) (links.count - (i + 1)))) (fault.Pair i j)
-                  (slice_get-map (fault.Pair i) (filter (is_short_pair links potentials i) (range_with_len 0 links.count)) 0
-                      ∙ ap (option_map (fault.Pair i)) first))
+      (ap (λ all. slice_get all 0) (pairs_here within)
+      ∙ first_append (trip_faults links potentials i)
+      (flat_map (trip_faults links potentials) (range_with_len (i + 1) (links.count - (i + 1)))) (fault.Pair i j)
+      (slice_get-map (fault.Pair i) (filter (is_short_pair links potentials i) (range_with_len 0 links.count)) 0
+      ∙ ap (option_map (fault.Pair i)) first))
 
   pub no_pair : i < links.count
       → slice_get (filter (is_short_pair links potentials i) (range_with_len 0 links.count)) 0 ≡ None
       → pair_faults links potentials ≡ flat_map (trip_faults links potentials) (range_with_len (i + 1) (links.count - (i + 1)))
   no_pair within none = pairs_here within
       ∙ ap (λ some. map (fault.Pair i) some ++ flat_map (trip_faults links potentials) (range_with_len (i + 1) (links.count - (i + 1))))
-          (none_first (filter (is_short_pair links potentials i) (range_with_len 0 links.count)) none)
+      (none_first (filter (is_short_pair links potentials i) (range_with_len 0 links.count)) none)
 
   pub all_pairs : links.count ≤ i → pair_faults links potentials ≡ []
   all_pairs past = so_far ∙ ap (flat_map (trip_faults links potentials)) (range_end i links.count past)
@@ -108,10 +108,10 @@ flat_none : {X : Type 0} (f : ℕ → List X) (from n : ℕ) → flat_map f (ran
 flat_none f from zero none k low high = absurd (omega (arith, low, high))
 flat_none f from (suc n) none k low high =
     by_bound from k
-        (λ below. flat_none f (from + 1) n (back_none (f from) (flat_map f (range_with_len (from + 1) n)) none) k
-            (omega (arith, below)) (omega (arith, high)))
-        (λ above. let same : k ≡ from = omega (arith, above, low) in
-            ap f same ∙ front_none (f from) (flat_map f (range_with_len (from + 1) n)) none)
+    (λ below. flat_none f (from + 1) n (back_none (f from) (flat_map f (range_with_len (from + 1) n)) none) k
+    (omega (arith, below)) (omega (arith, high)))
+    (λ above. let same : k ≡ from = omega (arith, above, low) in
+    ap f same ∙ front_none (f from) (flat_map f (range_with_len (from + 1) n)) none)
 
 none_flat : {X : Type 0} (f : ℕ → List X) (from n : ℕ) → ((k : ℕ) → f k ≡ []) → flat_map f (range_with_len from n) ≡ []
 none_flat f from zero none = refl
@@ -147,11 +147,11 @@ module _ (trips : TripsParts) (plan : List (Option ℕ)) (potentials : Potential
         over = over;
         covered = λ i j. by_bound i (length trips.trips)
             (λ i_in. by_bound j (length trips.trips)
-                (λ j_in. covered_where (at potentials.u i + at potentials.v j) ((links_of trips).gain i j)
-                    (filter_none (is_short_pair (links_of trips) potentials i) 0 (length trips.trips)
-                        (unmapped (fault.Pair i) _ (flat_none (trip_faults (links_of trips) potentials) 0 (length trips.trips) pairs i
-                            (omega arith) (omega (arith, i_in)))) j (omega arith) (omega (arith, j_in))))
-                (λ j_past. nothing i j ((links_of trips).gain i j) refl (λ there. omega (arith, j_past, (links_within trips i j there).1))))
+            (λ j_in. covered_where (at potentials.u i + at potentials.v j) ((links_of trips).gain i j)
+            (filter_none (is_short_pair (links_of trips) potentials i) 0 (length trips.trips)
+            (unmapped (fault.Pair i) _ (flat_none (trip_faults (links_of trips) potentials) 0 (length trips.trips) pairs i
+            (omega arith) (omega (arith, i_in)))) j (omega arith) (omega (arith, j_in))))
+            (λ j_past. nothing i j ((links_of trips).gain i j) refl (λ there. omega (arith, j_past, (links_within trips i j there).1))))
             (λ i_past. nothing i j ((links_of trips).gain i j) refl (λ there. omega (arith, i_past, (links_within trips i j there).0)));
         exact = summed (int_eq (pos (total potentials)) (plan_gain (links_of trips) plan)) refl
             (back_none (pair_faults (links_of trips) potentials) (sum_faults (links_of trips) plan potentials) none);
@@ -172,11 +172,11 @@ module _ (trips : TripsParts) (plan : List (Option ℕ)) (potentials : Potential
   unfolding potential_faults
   valid_faultless valid =
       ap (λ first. first ++ sum_faults (links_of trips) plan potentials)
-          (none_flat (trip_faults (links_of trips) potentials) 0 (length trips.trips)
-              (λ i. ap (map (fault.Pair i)) (none_filter (is_short_pair (links_of trips) potentials i) 0 (length trips.trips)
-                  (λ j. where_covered (at potentials.u i + at potentials.v j) ((links_of trips).gain i j) (valid.covered i j)))))
+      (none_flat (trip_faults (links_of trips) potentials) 0 (length trips.trips)
+      (λ i. ap (map (fault.Pair i)) (none_filter (is_short_pair (links_of trips) potentials i) 0 (length trips.trips)
+      (λ j. where_covered (at potentials.u i + at potentials.v j) ((links_of trips).gain i j) (valid.covered i j)))))
       ∙ ap (λ b. cond b [] (fault.Sum ∷ []))
-          ((Decides-int_eq (pos (total potentials)) (plan_gain (links_of trips) plan)).1 valid.exact)
+      ((Decides-int_eq (pos (total potentials)) (plan_gain (links_of trips) plan)).1 valid.exact)
 
   module _ (found : Option PotentialFault) (first : found ≡ slice_get (potential_faults (links_of trips) plan potentials) 0) where
     none_valid : found ≡ None → AreValid (links_of trips) plan potentials
@@ -205,11 +205,11 @@ module _ (trips : TripsParts) (plan : List (Option ℕ)) (potentials : Potential
         split true e false f =
             let same = eqb-true (total potentials + plan_cost trips plan) (trips.vehicle * length trips.trips) e in
             sym ((Decides-int_eq (pos (total potentials)) (plan_gain (links_of trips) plan)).1
-                (omega (arith, ints, same, cost_by_gain trips plan is))) ∙ f
+            (omega (arith, ints, same, cost_by_gain trips plan is))) ∙ f
         split false e true f =
             let same = (Decides-int_eq (pos (total potentials)) (plan_gain (links_of trips) plan)).0 f in
             sym e ∙ eq-eqb (total potentials + plan_cost trips plan) (trips.vehicle * length trips.trips)
-                (omega (arith, ints, same, cost_by_gain trips plan is))
+            (omega (arith, ints, same, cost_by_gain trips plan is))
 
     pub told_sum : pair_faults (links_of trips) potentials ≡ [] → (exact : Bool)
         → exact ≡ (total potentials + plan_cost trips plan == trips.vehicle * length trips.trips)

@@ -1,9 +1,9 @@
 -- What a plan gains against numbers that cover its links: never more than all of them, and as much
 -- exactly where it is tight.
-use Rattle.std.proofs.Common.{◌≡◌, ◌≢◌, ℕ, ℤ, zero, suc, pos, ◌+◌, ◌≤◌, ◌<◌, ◌+ℤ◌, ◌≤ℤ◌, ◌==◌, ◌||◌, eq-eqb, Bool, true, false, List, [], ◌∷◌, length, map, sum, get_or, set, Option, Some, None, unwrap_or, refl, ap, sym, ◌∙◌, subst, arith}
+use Rattle.std.proofs.Common.{◌≡◌, ◌≢◌, ℕ, ℤ, zero, suc, pos, ◌+◌, ◌<◌, ◌+ℤ◌, ◌≤ℤ◌, ◌==◌, ◌||◌, eq-eqb, false, List, [], ◌∷◌, length, sum, set, Option, Some, None, unwrap_or, refl, ap, sym, ◌∙◌, subst, arith}
 use Rattle.std.proofs.lemmas.Bool.{or_parts, ne_eqb, false≢true}
 use Rattle.std.proofs.lemmas.Int.{ints}
-use Rattle.std.proofs.lemmas.List.{get_or-set_other, get_or-set_same}
+use Rattle.std.proofs.lemmas.List.{get_or-set_other}
 use Rattle.std.proofs.lemmas.List.Sums.{sum_by-cons}
 use Rattle.std.proofs.lemmas.Option.{none-some, same_Some}
 use Rattle.vehicle_model.specs.Plans.{next, is_next}
@@ -111,14 +111,14 @@ module _ (gain : ℕ → ℕ → Option ℤ) where
   at_most n (next_trip ∷ plan) [] v are = absurd (omega (arith, are.size))
   at_most n (None ∷ plan) (first ∷ u) v are =
       let rest : gains_from gain (n + 1) plan ≤ℤ pos (sum u + sum v) =
-          at_most (n + 1) plan u v (rest_alone n plan first u v are) in
+      at_most (n + 1) plan u v (rest_alone n plan first u v are) in
       omega (arith, ints, sum_more first u, rest)
   at_most n (Some j ∷ plan) (first ∷ u) v are =
       let rest : gains_from gain (n + 1) plan ≤ℤ pos (sum u + sum (set v j 0)) =
-          at_most (n + 1) plan u (set v j 0) (rest_linked n j plan first u v are) in
+      at_most (n + 1) plan u (set v j 0) (rest_linked n j plan first u v are) in
       let one : gain_at n j ≤ℤ pos (first + at v j) = own n j plan first u v are in
       let both : gains_from gain n (Some j ∷ plan) ≡ gain_at n j +ℤ gains_from gain (n + 1) plan =
-          gains_more gain n j plan in
+      gains_more gain n j plan in
       omega (arith, ints, sum_more first u, sum_without v j, rest, one, both)
 
   -- a plan that gains as much is tight
@@ -133,10 +133,10 @@ module _ (gain : ℕ → ℕ → Option ℤ) where
   then_tight n (next_trip ∷ plan) [] v are all = absurd (omega (arith, are.size))
   then_tight n (None ∷ plan) (first ∷ u) v are all =
       let most : gains_from gain (n + 1) plan ≤ℤ pos (sum u + sum v) =
-          at_most (n + 1) plan u v (rest_alone n plan first u v are) in
+      at_most (n + 1) plan u v (rest_alone n plan first u v are) in
       let own_zero : first ≡ 0 = omega (arith, ints, sum_more first u, most, all) in
       let rest : AreTight (n + 1) plan u v = then_tight (n + 1) plan u v (rest_alone n plan first u v are)
-          (omega (arith, ints, sum_more first u, own_zero, all)) in
+      (omega (arith, ints, sum_more first u, own_zero, all)) in
       record {
         linked = λ k j e. linked_at rest k j e;
         last = λ k h e. last_at own_zero rest k h e;
@@ -154,15 +154,15 @@ module _ (gain : ℕ → ℕ → Option ℤ) where
       last_at own_zero rest (suc k) h e = rest.last k (omega (arith, h)) e
   then_tight n (Some j ∷ plan) (first ∷ u) v are all =
       let most : gains_from gain (n + 1) plan ≤ℤ pos (sum u + sum (set v j 0)) =
-          at_most (n + 1) plan u (set v j 0) (rest_linked n j plan first u v are) in
+      at_most (n + 1) plan u (set v j 0) (rest_linked n j plan first u v are) in
       let one : gain_at n j ≤ℤ pos (first + at v j) = own n j plan first u v are in
       let both : gains_from gain n (Some j ∷ plan) ≡ gain_at n j +ℤ gains_from gain (n + 1) plan =
-          gains_more gain n j plan in
+      gains_more gain n j plan in
       let exact : gain_at n j ≡ pos (first + at v j) =
-          omega (arith, ints, sum_more first u, sum_without v j, most, one, both, all) in
+      omega (arith, ints, sum_more first u, sum_without v j, most, one, both, all) in
       let rest : AreTight (n + 1) plan u (set v j 0) = then_tight (n + 1) plan u (set v j 0)
-          (rest_linked n j plan first u v are)
-          (omega (arith, ints, sum_more first u, sum_without v j, exact, both, all)) in
+      (rest_linked n j plan first u v are)
+      (omega (arith, ints, sum_more first u, sum_without v j, exact, both, all)) in
       record {
         linked = λ k i e. linked_at exact rest k i e;
         last = λ k h e. last_at rest k h e;
@@ -197,25 +197,25 @@ module _ (gain : ℕ → ℕ → Option ℤ) where
   tight_gains n (next_trip ∷ plan) [] v are tight = absurd (omega (arith, are.size))
   tight_gains n (None ∷ plan) (first ∷ u) v are tight =
       let rest : gains_from gain (n + 1) plan ≡ pos (sum u + sum v) =
-          tight_gains (n + 1) plan u v (rest_alone n plan first u v are) (record {
-            linked = λ k j e. sym (ap (λ i. gain_at i j) (moved n k)) ∙ tight.linked (suc k) j e;
-            last = λ k h e. tight.last (suc k) (omega (arith, h)) e;
-            first = λ j h. tight.first j h;
-          }) in
+      tight_gains (n + 1) plan u v (rest_alone n plan first u v are) (record {
+        linked = λ k j e. sym (ap (λ i. gain_at i j) (moved n k)) ∙ tight.linked (suc k) j e;
+        last = λ k h e. tight.last (suc k) (omega (arith, h)) e;
+        first = λ j h. tight.first j h;
+      }) in
       let own_zero : first ≡ 0 = tight.last 0 (omega arith) refl in
       omega (arith, ints, sum_more first u, own_zero, rest)
   tight_gains n (Some j ∷ plan) (first ∷ u) v are tight =
       let rest : gains_from gain (n + 1) plan ≡ pos (sum u + sum (set v j 0)) =
-          tight_gains (n + 1) plan u (set v j 0) (rest_linked n j plan first u v are) (record {
-            linked = λ k i e. sym (ap (λ x. gain_at x i) (moved n k)) ∙ tight.linked (suc k) i e
-                ∙ sym (ap (λ x. pos (at u k + x)) (stays n j plan first u v are k i e));
-            last = λ k h e. tight.last (suc k) (omega (arith, h)) e;
-            first = λ i h. by_number i j
-                (λ same. ap (at (set v j 0)) same ∙ set_itself v j)
-                (λ other. set_zero v j i (tight.first i (ap (λ b. b || is_next plan i) (ne_eqb i j other) ∙ h)));
-          }) in
+      tight_gains (n + 1) plan u (set v j 0) (rest_linked n j plan first u v are) (record {
+        linked = λ k i e. sym (ap (λ x. gain_at x i) (moved n k)) ∙ tight.linked (suc k) i e
+            ∙ sym (ap (λ x. pos (at u k + x)) (stays n j plan first u v are k i e));
+        last = λ k h e. tight.last (suc k) (omega (arith, h)) e;
+        first = λ i h. by_number i j
+            (λ same. ap (at (set v j 0)) same ∙ set_itself v j)
+            (λ other. set_zero v j i (tight.first i (ap (λ b. b || is_next plan i) (ne_eqb i j other) ∙ h)));
+      }) in
       let exact : gain_at n j ≡ pos (first + at v j) =
-          ap (λ x. gain_at x j) (sym (plain n)) ∙ tight.linked 0 j refl in
+      ap (λ x. gain_at x j) (sym (plain n)) ∙ tight.linked 0 j refl in
       let both : gains_from gain n (Some j ∷ plan) ≡ gain_at n j +ℤ gains_from gain (n + 1) plan =
-          gains_more gain n j plan in
+      gains_more gain n j plan in
       omega (arith, ints, sum_more first u, sum_without v j, rest, exact, both)

@@ -1,14 +1,13 @@
 -- Rows of potentials, one after the other.
-use Rattle.std.proofs.Common.{◌≡◌, ℕ, ℤ, zero, suc, pos, negsuc, ◌+◌, ◌-◌, ◌<◌, ◌≤◌, ◌≤ℤ◌, ◌&&◌, nat_lt, Bool, true, false, cond, List, [], ◌∷◌, ◌++◌, length, map, take, drop, get_or, slice_get, unsigned_abs, All, Option, Some, None, refl, ap, sym, ◌∙◌, subst, arith, append_assoc}
+use Rattle.std.proofs.Common.{◌≡◌, ℕ, ℤ, suc, pos, negsuc, ◌+◌, ◌<◌, ◌≤◌, ◌≤ℤ◌, nat_lt, Bool, true, false, cond, List, [], ◌∷◌, ◌++◌, length, map, take, drop, get_or, slice_get, unsigned_abs, All, Some, ap, sym, ◌∙◌, arith, append_assoc}
 use Rattle.std.proofs.Math.Seq.{drop-cons}
 use Rattle.std.proofs.lemmas.Int.{ints}
 use Rattle.std.proofs.lemmas.List.{take_more, take_all, map-append, drop_all, append-nil, length-map}
 use Rattle.std.proofs.lemmas.List.Elements.{All-map}
-use Rattle.giv_files.specs.declared.read_fault.RowFault.{RowFault}
 use Rattle.giv_files.specs.declared.row_why.RowWhy.TheVariants as why
 use Rattle.giv_files.specs.Tables.{TableRow, no_row}
-use Rattle.flow_potentials.specs.Potentials.{PotentialParts, at, IsSmall, ArePotentials, AreOver}
-use Rattle.flow_potentials.specs.PotentialTables.{rows_from, potential_rows, is_trip_row, gaps_from, column_of, potentials_in, FitsColumns}
+use Rattle.flow_potentials.specs.Potentials.{at, IsSmall, ArePotentials, AreOver}
+use Rattle.flow_potentials.specs.PotentialTables.{rows_from, is_trip_row, gaps_from, column_of, FitsColumns}
 
 -- ---- reading
 
@@ -31,13 +30,13 @@ module _ (count : ℕ) (table : List TableRow) (i : ℕ) (so_far : gaps_from cou
       → slice_get (gaps_from count 0 table) 0 ≡ Some (record { row = (get_or table i no_row).number; why = why.OrderGap })
   gap_found within e = ap (λ all. slice_get all 0) (gaps_here within
       ∙ ap (λ b. cond b [] (record { row = (get_or table i no_row).number; why = why.OrderGap } ∷ [])
-          ++ gaps_from count (i + 1) (drop (i + 1) table)) e)
+      ++ gaps_from count (i + 1) (drop (i + 1) table)) e)
 
   pub no_gap : i < length table → is_trip_row count i (get_or table i no_row) ≡ true
       → gaps_from count 0 table ≡ gaps_from count (i + 1) (drop (i + 1) table)
   no_gap within e = gaps_here within
       ∙ ap (λ b. cond b [] (record { row = (get_or table i no_row).number; why = why.OrderGap } ∷ [])
-          ++ gaps_from count (i + 1) (drop (i + 1) table)) e
+      ++ gaps_from count (i + 1) (drop (i + 1) table)) e
 
   pub gap_end : length table ≤ i → (b : Bool) → nat_lt i count ≡ b
       → gaps_from count 0 table ≡ cond b (record { row = 0; why = why.OrderGap } ∷ []) []

@@ -1,5 +1,5 @@
 -- Potentials that are written are read back.
-use Rattle.std.proofs.Common.{◌≡◌, ℕ, ℤ, zero, suc, pos, ◌+◌, ◌<◌, ◌≤◌, ◌==◌, ◌&&◌, nat_lt, Bool, true, false, cond, List, [], ◌∷◌, ◌++◌, length, map, drop, get_or, slice_get, unsigned_abs, All, Option, Some, None, Result, Ok, Err, IfOk, refl, ap, sym, ◌∙◌, subst, arith, eq-eqb}
+use Rattle.std.proofs.Common.{◌≡◌, ℕ, ℤ, suc, pos, ◌+◌, ◌≤◌, ◌==◌, ◌&&◌, nat_lt, true, cond, List, [], ◌∷◌, ◌++◌, length, map, drop, get_or, slice_get, unsigned_abs, All, Some, Result, Ok, Err, IfOk, refl, ap, sym, ◌∙◌, subst, arith, eq-eqb}
 use Rattle.std.proofs.lemmas.Bool.{lt-ltb, le-ltb}
 use Rattle.std.proofs.lemmas.Int.{ints}
 use Rattle.std.proofs.lemmas.List.Elements.{All-nil, All-cons}
@@ -7,7 +7,6 @@ use Rattle.giv_files.specs.declared.read_fault.RowFault.{RowFault}
 use Rattle.giv_files.specs.declared.read_fault.ReadFault.{ReadFault}
 use Rattle.giv_files.specs.declared.read_fault.ReadFault.TheVariants as read
 use Rattle.giv_files.specs.declared.row_why.RowWhy.TheVariants as why
-use Rattle.giv_files.specs.declared.column.ColumnKind.{ColumnKind}
 use Rattle.giv_files.specs.Columns.{id, fixed, potential_columns}
 use Rattle.giv_files.specs.Reading.{faults, table_of, ReadGives}
 use Rattle.giv_files.specs.Tables.{TableRow}
@@ -16,7 +15,7 @@ use Rattle.giv_files.proofs.Headers.{plain_header}
 use Rattle.giv_files.proofs.Ranges.{table_in_columns}
 use Rattle.giv_files.proofs.WrittenBack.{written_back}
 use Rattle.vehicle_model.specs.ReadSchedules.{or_others}
-use Rattle.flow_potentials.specs.Potentials.{PotentialParts, at, IsSmall, ArePotentials}
+use Rattle.flow_potentials.specs.Potentials.{PotentialParts, IsSmall, ArePotentials}
 use Rattle.flow_potentials.specs.PotentialTables.{rows_from, potential_rows, potential_header, potentials_text, is_trip_row, gaps_from, table_faults, column_of, potentials_in, potentials_of, IsReadBack, FitsColumns, PotentialsGive}
 
 -- the columns can be written
@@ -24,8 +23,8 @@ pub columns_written : All CanWrite potential_columns
 columns_written =
     let number : CanWrite (fixed 1000000000000) = (omega (arith, ints), omega (arith, ints)) in
     All-cons CanWrite id (fixed 1000000000000 ∷ fixed 1000000000000 ∷ []) (omega (arith, ints), omega (arith, ints))
-        (All-cons CanWrite (fixed 1000000000000) (fixed 1000000000000 ∷ []) number
-            (All-cons CanWrite (fixed 1000000000000) [] number (All-nil CanWrite)))
+    (All-cons CanWrite (fixed 1000000000000) (fixed 1000000000000 ∷ []) number
+    (All-cons CanWrite (fixed 1000000000000) [] number (All-nil CanWrite)))
 
 -- ---- the rows of potentials are in their columns
 
@@ -36,13 +35,12 @@ rows_fit_from trip (a ∷ u) [] low few small_u small_v = All-nil FitsColumns
 rows_fit_from trip (a ∷ u) (b ∷ v) low few small_u small_v =
     let a_small : a ≤ 1000000000000000000 = small_u 0 0 (omega arith) in
     let b_small : b ≤ 1000000000000000000 = small_v 0 0 (omega arith) in
-    All-cons FitsColumns (record { number = 0; cells = pos trip ∷ pos a ∷ pos b ∷ [] }) (rows_from (trip + 1) u v)
-        (
-          (omega (arith, ints, low), omega (arith, ints, few)),
-          ((omega (arith, ints), omega (arith, ints, a_small)), ((omega (arith, ints), omega (arith, ints, b_small)), tt)),
-        )
-        (rows_fit_from (trip + 1) u v (omega arith) (omega (arith, few))
-            (λ k d h. small_u (suc k) d (omega (arith, h))) (λ k d h. small_v (suc k) d (omega (arith, h))))
+    All-cons FitsColumns (record { number = 0; cells = pos trip ∷ pos a ∷ pos b ∷ [] }) (rows_from (trip + 1) u v) (
+      (omega (arith, ints, low), omega (arith, ints, few)),
+      ((omega (arith, ints), omega (arith, ints, a_small)), ((omega (arith, ints), omega (arith, ints, b_small)), tt)),
+    )
+    (rows_fit_from (trip + 1) u v (omega arith) (omega (arith, few))
+    (λ k d h. small_u (suc k) d (omega (arith, h))) (λ k d h. small_v (suc k) d (omega (arith, h))))
 
 pub rows_fit : (potentials : PotentialParts) → ArePotentials potentials → length potentials.u ≤ 1000000000
     → All FitsColumns (potential_rows potentials)
@@ -81,11 +79,11 @@ table_is count before [] (a ∷ u) (b ∷ v) same all e = cc
 table_is count before (row ∷ table) (a ∷ u) (b ∷ v) same all e =
     let cells : row.cells ≡ pos (before + 1) ∷ pos a ∷ pos b ∷ [] = first_cells row table _ _ e in
     let rest : IsTable count (before + 1) table u v = table_is count (before + 1) table u v (omega (arith, same))
-        (omega (arith, all)) (rest_cells row table _ _ e) in
+    (omega (arith, all)) (rest_cells row table _ _ e) in
     let place : (unsigned_abs (get_or row.cells 0 (pos 0)) == before + 1) ≡ true =
-        ap (λ some. unsigned_abs (get_or some 0 (pos 0)) == before + 1) cells ∙ eq-eqb (before + 1) (before + 1) refl in
+    ap (λ some. unsigned_abs (get_or some 0 (pos 0)) == before + 1) cells ∙ eq-eqb (before + 1) (before + 1) refl in
     let form : is_trip_row count before row ≡ true =
-        ap (λ b. b && nat_lt before count) place ∙ lt-ltb before count (omega (arith, all)) in
+    ap (λ b. b && nat_lt before count) place ∙ lt-ltb before count (omega (arith, all)) in
     record {
       gaps = ap (λ b. cond b [] (record { row = row.number; why = why.OrderGap } ∷ []) ++ gaps_from count (before + 1) table) form
           ∙ rest.gaps;
@@ -119,7 +117,7 @@ unfolding potentials_text
 text_back potentials are few = reads_back potentials are
     (table_text potential_header potential_columns (potential_rows potentials))
     (written_back potential_header potential_columns (potential_rows potentials) (omega arith)
-        columns_written (rows_fit potentials are few) (refl, plain_header potential_header refl))
+    columns_written (rows_fit potentials are few) (refl, plain_header potential_header refl))
 
 -- ---- from the table of a text to the text
 
@@ -142,8 +140,8 @@ pub rows_read : (count : ℕ) (text : List ℕ) (table : List TableRow) → faul
 unfolding table_faults potentials_of
 rows_read count text table none is result gives =
     subst (λ all. PotentialsGive (or_others all (gaps_from count 0 (table_of potential_columns text)))
-        (potentials_in (table_of potential_columns text)) result) (sym none)
-        (subst (λ some. PotentialsGive (gaps_from count 0 some) (potentials_in some) result) is gives)
+    (potentials_in (table_of potential_columns text)) result) (sym none)
+    (subst (λ some. PotentialsGive (gaps_from count 0 some) (potentials_in some) result) is gives)
 
 pub table_fits : (text : List ℕ) (table : List TableRow) → faults potential_columns text ≡ []
     → table ≡ table_of potential_columns text → All FitsColumns table

@@ -1,4 +1,4 @@
-use Rattle.std.proofs.Common.{◌≡◌, All, IfOk, ap, sym, subst, refl, arith}
+use Rattle.std.proofs.Common.{◌≡◌, All, IfOk, sym, subst, refl, arith}
 use Rattle.giv_files.specs.Columns.{potential_columns}
 use Rattle.giv_files.specs.Writing.{table_text}
 use Rattle.giv_files.proofs.Headers.{plain_header}
