@@ -1,0 +1,5 @@
+pub mod Certified
+mod Checked
+mod Slack
+mod Tables
+pub mod TablesBack

@@ -1,0 +1,149 @@
+-- Potentials that are written are read back.
+use Rattle.std.proofs.Common.{◌≡◌, ℕ, ℤ, suc, pos, ◌+◌, ◌≤◌, ◌==◌, ◌&&◌, nat_lt, true, cond, List, [], ◌∷◌, ◌++◌, length, map, drop, get_or, slice_get, unsigned_abs, All, Some, Result, Ok, Err, IfOk, refl, ap, sym, ◌∙◌, subst, arith, eq-eqb}
+use Rattle.std.proofs.lemmas.Bool.{lt-ltb, le-ltb}
+use Rattle.std.proofs.lemmas.Int.{ints}
+use Rattle.std.proofs.lemmas.List.Elements.{All-nil, All-cons}
+use Rattle.giv_files.specs.declared.read_fault.RowFault.{RowFault}
+use Rattle.giv_files.specs.declared.read_fault.ReadFault.{ReadFault}
+use Rattle.giv_files.specs.declared.read_fault.ReadFault.TheVariants as read
+use Rattle.giv_files.specs.declared.row_why.RowWhy.TheVariants as why
+use Rattle.giv_files.specs.Columns.{id, fixed, potential_columns}
+use Rattle.giv_files.specs.Reading.{faults, table_of, ReadGives}
+use Rattle.giv_files.specs.Tables.{TableRow}
+use Rattle.giv_files.specs.Writing.{table_text, CanWrite, ReadsBack}
+use Rattle.giv_files.proofs.Headers.{plain_header}
+use Rattle.giv_files.proofs.Ranges.{table_in_columns}
+use Rattle.giv_files.proofs.WrittenBack.{written_back}
+use Rattle.vehicle_model.specs.ReadSchedules.{or_others}
+use Rattle.flow_potentials.specs.Potentials.{PotentialParts, IsSmall, ArePotentials}
+use Rattle.flow_potentials.specs.PotentialTables.{rows_from, potential_rows, potential_header, potentials_text, is_trip_row, gaps_from, table_faults, column_of, potentials_in, potentials_of, IsReadBack, FitsColumns, PotentialsGive}
+
+-- the columns can be written
+pub columns_written : All CanWrite potential_columns
+columns_written =
+    let number : CanWrite (fixed 1000000000000) = (omega (arith, ints), omega (arith, ints)) in
+    All-cons CanWrite id (fixed 1000000000000 ∷ fixed 1000000000000 ∷ []) (omega (arith, ints), omega (arith, ints))
+    (All-cons CanWrite (fixed 1000000000000) (fixed 1000000000000 ∷ []) number
+    (All-cons CanWrite (fixed 1000000000000) [] number (All-nil CanWrite)))
+
+-- ---- the rows of potentials are in their columns
+
+rows_fit_from : (trip : ℕ) (u v : List ℕ) → 1 ≤ trip → trip + length u ≤ 1000000001 → All IsSmall u → All IsSmall v
+    → All FitsColumns (rows_from trip u v)
+rows_fit_from trip [] v low few small_u small_v = All-nil FitsColumns
+rows_fit_from trip (a ∷ u) [] low few small_u small_v = All-nil FitsColumns
+rows_fit_from trip (a ∷ u) (b ∷ v) low few small_u small_v =
+    let a_small : a ≤ 1000000000000000000 = small_u 0 0 (omega arith) in
+    let b_small : b ≤ 1000000000000000000 = small_v 0 0 (omega arith) in
+    All-cons FitsColumns (record { number = 0; cells = pos trip ∷ pos a ∷ pos b ∷ [] }) (rows_from (trip + 1) u v) (
+      (omega (arith, ints, low), omega (arith, ints, few)),
+      ((omega (arith, ints), omega (arith, ints, a_small)), ((omega (arith, ints), omega (arith, ints, b_small)), tt)),
+    )
+    (rows_fit_from (trip + 1) u v (omega arith) (omega (arith, few))
+    (λ k d h. small_u (suc k) d (omega (arith, h))) (λ k d h. small_v (suc k) d (omega (arith, h))))
+
+pub rows_fit : (potentials : PotentialParts) → ArePotentials potentials → length potentials.u ≤ 1000000000
+    → All FitsColumns (potential_rows potentials)
+rows_fit potentials are few = rows_fit_from 1 potentials.u potentials.v (omega arith) (omega (arith, few))
+    are.u_small are.v_small
+
+-- ---- a table with the cells of potentials
+
+-- what a table of such cells is read as
+record IsTable (count before : ℕ) (table : List TableRow) (u v : List ℕ) : Type 0 where
+  gaps : gaps_from count before table ≡ []
+  u_is : column_of 1 table ≡ u
+  v_is : column_of 2 table ≡ v
+
+first_cells : (row : TableRow) (table : List TableRow) (cells : List ℤ) (rest : List (List ℤ))
+    → map (λ one. one.cells) (row ∷ table) ≡ cells ∷ rest → row.cells ≡ cells
+first_cells row table cells rest e = ap (λ all. get_or all 0 []) e
+
+rest_cells : (row : TableRow) (table : List TableRow) (cells : List ℤ) (rest : List (List ℤ))
+    → map (λ one. one.cells) (row ∷ table) ≡ cells ∷ rest → map (λ one. one.cells) table ≡ rest
+rest_cells row table cells rest e = ap (drop 1) e
+
+table_is : (count before : ℕ) (table : List TableRow) (u v : List ℕ) → length u ≡ length v → before + length u ≡ count
+    → map (λ one. one.cells) table ≡ map (λ one. one.cells) (rows_from (before + 1) u v)
+    → IsTable count before table u v
+unfolding gaps_from
+table_is count before [] [] [] same all e = record {
+  gaps = ap (λ b. cond b (record { row = 0; why = why.OrderGap } ∷ []) []) (le-ltb before count (omega (arith, all)));
+  u_is = refl;
+  v_is = refl;
+}
+table_is count before table [] (b ∷ v) same all e = absurd (omega (arith, same))
+table_is count before table (a ∷ u) [] same all e = absurd (omega (arith, same))
+table_is count before (row ∷ table) [] [] same all e = cc
+table_is count before [] (a ∷ u) (b ∷ v) same all e = cc
+table_is count before (row ∷ table) (a ∷ u) (b ∷ v) same all e =
+    let cells : row.cells ≡ pos (before + 1) ∷ pos a ∷ pos b ∷ [] = first_cells row table _ _ e in
+    let rest : IsTable count (before + 1) table u v = table_is count (before + 1) table u v (omega (arith, same))
+    (omega (arith, all)) (rest_cells row table _ _ e) in
+    let place : (unsigned_abs (get_or row.cells 0 (pos 0)) == before + 1) ≡ true =
+    ap (λ some. unsigned_abs (get_or some 0 (pos 0)) == before + 1) cells ∙ eq-eqb (before + 1) (before + 1) refl in
+    let form : is_trip_row count before row ≡ true =
+    ap (λ b. b && nat_lt before count) place ∙ lt-ltb before count (omega (arith, all)) in
+    record {
+      gaps = ap (λ b. cond b [] (record { row = row.number; why = why.OrderGap } ∷ []) ++ gaps_from count (before + 1) table) form
+          ∙ rest.gaps;
+      u_is = ap (λ some. unsigned_abs (get_or some 1 (pos 0)) ∷ column_of 1 table) cells ∙ ap (λ some. a ∷ some) rest.u_is;
+      v_is = ap (λ some. unsigned_abs (get_or some 2 (pos 0)) ∷ column_of 2 table) cells ∙ ap (λ some. b ∷ some) rest.v_is;
+    }
+
+-- a text with the cells of potentials
+pub reads_back : (potentials : PotentialParts) → ArePotentials potentials → (text : List ℕ)
+    → ReadsBack potential_columns (potential_rows potentials) text → IsReadBack potentials text
+unfolding table_faults potentials_of
+reads_back potentials are text back =
+    let is = table_is (length potentials.u) 0 (table_of potential_columns text) potentials.u potentials.v are.each (omega arith) back.1 in
+    record {
+      faultless = ap (λ all. or_others all (gaps_from (length potentials.u) 0 (table_of potential_columns text))) back.0 ∙ is.gaps;
+      same = ap (λ u. record { u = u; v = column_of 2 (table_of potential_columns text) }) is.u_is
+          ∙ ap (λ v. record { u = potentials.u; v = v }) is.v_is;
+    }
+
+pub written : (potentials : PotentialParts) → ArePotentials potentials → (table : List TableRow)
+    → table ≡ potential_rows potentials → {E : Type 0} (result : Result (List ℕ) E)
+    → IfOk result (ReadsBack potential_columns table) → IfOk result (IsReadBack potentials)
+written potentials are table is (Err fault) back = tt
+written potentials are table is (Ok text) back =
+    reads_back potentials are text (subst (λ rows. ReadsBack potential_columns rows text) is back)
+
+-- the text of potentials is read back to them
+pub text_back : (potentials : PotentialParts) → ArePotentials potentials → length potentials.u ≤ 1000000000
+    → IsReadBack potentials (potentials_text potentials)
+unfolding potentials_text
+text_back potentials are few = reads_back potentials are
+    (table_text potential_header potential_columns (potential_rows potentials))
+    (written_back potential_header potential_columns (potential_rows potentials) (omega arith)
+    columns_written (rows_fit potentials are few) (refl, plain_header potential_header refl))
+
+-- ---- from the table of a text to the text
+
+first_fault : (all others : List RowFault) (first : RowFault) → slice_get all 0 ≡ Some first
+    → slice_get (or_others all others) 0 ≡ Some first
+first_fault [] others first e = cc
+first_fault (one ∷ all) others first e = e
+
+pub no_table : (count : ℕ) (text : List ℕ) (table : List TableRow) (fault : ReadFault)
+    → ReadGives (faults potential_columns text) table (Err fault)
+    → PotentialsGive (table_faults count text) (potentials_of text) (Err fault)
+unfolding table_faults
+no_table count text table (read.Row first) h = first_fault (faults potential_columns text) _ first h
+no_table count text table read.NoMemory h = tt
+
+pub rows_read : (count : ℕ) (text : List ℕ) (table : List TableRow) → faults potential_columns text ≡ []
+    → table ≡ table_of potential_columns text → (result : Result PotentialParts ReadFault)
+    → PotentialsGive (gaps_from count 0 table) (potentials_in table) result
+    → PotentialsGive (table_faults count text) (potentials_of text) result
+unfolding table_faults potentials_of
+rows_read count text table none is result gives =
+    subst (λ all. PotentialsGive (or_others all (gaps_from count 0 (table_of potential_columns text)))
+    (potentials_in (table_of potential_columns text)) result) (sym none)
+    (subst (λ some. PotentialsGive (gaps_from count 0 some) (potentials_in some) result) is gives)
+
+pub table_fits : (text : List ℕ) (table : List TableRow) → faults potential_columns text ≡ []
+    → table ≡ table_of potential_columns text → All FitsColumns table
+table_fits text table none is =
+    subst (All FitsColumns) (sym is) (table_in_columns potential_columns text none)

@@ -1,0 +1,12 @@
+-- No pair so far is short.
+use Rattle.std.proofs.Common.{◌≡◌, ◌-◌, filter, length}
+use Rattle.std.specs.List.{range_with_len}
+use Rattle.vehicle_model.specs.Trips.{links_of}
+use Rattle.flow_potentials.specs.Potentials.{is_short_pair}
+use Rattle.flow_potentials.proofs.checking.short_pair.Given as goal
+
+abbrev pub invariant-loop-j : goal.invariant-loop-j
+invariant-loop-j l =
+    filter (is_short_pair (links_of l.trips) l.potentials l.i) (range_with_len 0 (length l.trips.trips))
+    ≡ filter (is_short_pair (links_of l.trips) l.potentials l.i)
+    (range_with_len l.j (length l.trips.trips - l.j))

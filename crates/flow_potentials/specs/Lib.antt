@@ -1,0 +1,2 @@
+pub mod Potentials
+pub mod PotentialTables

@@ -1,0 +1,17 @@
+//! Potentials of trips, which prove what a vehicle schedule costs at least.
+#![tactic(auto)]
+
+mod checking;
+mod numbers;
+mod potential_fault;
+mod table_reading;
+mod table_writing;
+
+pub use checking::check_potentials;
+pub use numbers::Potentials;
+pub use potential_fault::PotentialFault;
+pub use table_reading::read_potentials;
+pub use table_writing::write_potentials;
+
+#[cfg(test)]
+mod tests;

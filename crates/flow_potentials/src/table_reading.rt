@@ -1,0 +1,70 @@
+// Reading potentials.
+ghost use Rattle.std.specs.Prelude.{◌≡◌, ◌+◌, ◌<◌, length, slice_index_or, unsigned_abs, All, IfOk};
+ghost use Rattle.flow_potentials.specs.Potentials.{AreOver};
+ghost use Rattle.flow_potentials.specs.PotentialTables.{is_trip_row, table_faults, potentials_of, potentials_in, gaps_from, PotentialsGive, FitsColumns};
+ghost use Rattle.giv_files.specs.declared.read_fault.ReadFault.TheVariants as read_faults;
+ghost use Rattle.giv_files.specs.declared.row_why.RowWhy.TheVariants as why;
+ghost use Rattle.giv_files.specs.Tables.{no_row, cell_at};
+
+use crate::numbers::Potentials;
+use giv_files::{ReadFault, RowFault, RowWhy, Table, columns, read_table};
+use std::alloc::Global;
+
+/// The potentials of so many trips by a text, or its first fault: that it is no table of potentials,
+/// else a row that is not that of the next trip, else, at row 0, that trips are left.
+pub fn read_potentials(alloc: Global, bytes: &[u8], trips: usize) -> Result<Potentials, ReadFault>
+    ensures read { PotentialsGive (table_faults trips bytes.now) (potentials_of bytes.now) result }
+    ensures each { IfOk result (AreOver trips) }
+{
+    let table = read_table(alloc, bytes, &columns!(Potential))?;
+    read_rows(alloc, &table, trips)
+}
+
+// The potentials of a table.
+fn read_rows(alloc: Global, table: &Table<3>, trips: usize) -> Result<Potentials, ReadFault>
+    requires { All FitsColumns table.now }
+    ensures read { PotentialsGive (gaps_from trips 0 table.now) (potentials_in table.now) result }
+    ensures each { IfOk result (AreOver trips) }
+{
+    let mut u = Vec::new(alloc);
+    let mut v = Vec::new(alloc);
+    for row in 0..table.len() {
+        if !is_trip_row(table, row, trips) {
+            return Err(gap(table.number(row)));
+        }
+        u.push(number(table, row, 1))?;
+        v.push(number(table, row, 2))?;
+    }
+    if table.len() < trips {
+        return Err(gap(0));
+    }
+    Ok(Potentials { u, v })
+}
+
+// Whether a row is that of the trip of its place.
+fn is_trip_row(table: &Table<3>, row: usize, trips: usize) -> bool
+    requires { row < length table.now }
+    ensures { result ≡ is_trip_row trips row (slice_index_or table.now row no_row) }
+{
+    let _ = table.len();
+    number(table, row, 0) == row as u64 + 1 && row < trips
+}
+
+// The number of a row in a column.
+fn number(table: &Table<3>, row: usize, column: usize) -> u64
+    requires row { row < length table.now }
+    requires column { column < 3 }
+    ensures { result ≡ unsigned_abs (cell_at table.now row column) }
+{
+    table.cell(row, column).unsigned_abs()
+}
+
+// The refusal of a row that is not that of the next trip.
+fn gap(row: u64) -> ReadFault
+    ensures { result ≡ read_faults.Row (record { row = row; why = why.OrderGap }) }
+{
+    ReadFault::Row(RowFault {
+        row,
+        why: RowWhy::OrderGap,
+    })
+}
