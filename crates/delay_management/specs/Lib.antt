@@ -1,0 +1,9 @@
+pub mod DispositionStage
+pub mod Judged
+pub mod Lateness
+pub mod LeastTimes
+pub mod Links
+pub mod Problems
+pub mod Reasons
+pub mod RightDispositions
+pub mod Waiting

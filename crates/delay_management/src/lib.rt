@@ -1,0 +1,18 @@
+//! Dispositions: how delays go on through a day, which changes wait, and why each event is as late
+//! as it is.
+#![tactic(auto)]
+
+mod check;
+mod fault;
+mod links;
+mod reason;
+mod reason_row;
+mod stage;
+mod step;
+
+pub use check::check_reasons;
+pub use fault::ReasonFault;
+pub use reason::Reason;
+pub use reason_row::ReasonRow;
+pub use stage::make_disposition;
+pub use step::{Activity, Step};
