@@ -1,6 +1,7 @@
 pub mod DispositionStage
 pub mod Judged
 pub mod Lateness
+pub mod Laws
 pub mod LeastTimes
 pub mod Links
 pub mod Problems
