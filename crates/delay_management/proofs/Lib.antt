@@ -1,4 +1,7 @@
+mod DelaysByPlace
 mod Later
+mod Passing
+mod Places
 pub mod ReasonsProve
 pub mod Rounds
 mod Tried

@@ -3,12 +3,15 @@
 #![tactic(auto)]
 
 mod check;
+mod delays;
 mod fault;
 mod links;
+mod pass;
 mod reason;
 mod reason_row;
 mod stage;
 mod step;
+mod turns;
 
 pub use check::check_reasons;
 pub use fault::ReasonFault;

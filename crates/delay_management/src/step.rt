@@ -1,5 +1,5 @@
 // Steps by which delays go on.
-ghost use Rattle.std.specs.Prelude.{◌≡◌};
+ghost use Rattle.std.specs.Prelude.{◌≡◌, ◌≤◌};
 ghost use Rattle.delay_management.specs.Problems.{minutes};
 
 /// A step from one event of a day to another, told by their indexes: it takes its least minutes,
@@ -22,7 +22,8 @@ pub struct Activity {
 impl Step {
     /// The minutes that it takes.
     pub fn minutes(&self) -> u64
-        ensures { result ≡ minutes self.now }
+        ensures minutes { result ≡ minutes self.now }
+        ensures few { result ≤ 8589934590 }
     {
         u64::from(self.lower) + u64::from(self.extra)
     }
