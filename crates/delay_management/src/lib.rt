@@ -7,6 +7,7 @@ mod delays;
 mod fault;
 mod links;
 mod pass;
+mod propagation;
 mod reason;
 mod reason_row;
 mod stage;
@@ -15,6 +16,7 @@ mod turns;
 
 pub use check::check_reasons;
 pub use fault::ReasonFault;
+pub use propagation::Propagation;
 pub use reason::Reason;
 pub use reason_row::ReasonRow;
 pub use stage::make_disposition;
