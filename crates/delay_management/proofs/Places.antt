@@ -46,3 +46,16 @@ pub moved : {X : Type 0} (done new left rest all : List X) (x y : X) → left �
 moved done new left rest all x y first is same told =
     ap (λ some. some ++ rest) is ∙ ap (λ z. (done ++ z ∷ []) ++ rest) same
     ∙ append_assoc done (x ∷ []) rest ∙ ap (λ some. done ++ some) (sym first) ∙ told
+
+-- what is told of each place in two ways
+pub told_alike : {X : Type 0} (f g : ℕ → X) (n : ℕ) → ((k : ℕ) → k < n → f k ≡ g k)
+    → map f (range_with_len 0 n) ≡ map g (range_with_len 0 n)
+told_alike f g n same =
+    let long = length-map-range_with_len f 0 n in
+    ext_get_or (f 0) (map f (range_with_len 0 n)) (map g (range_with_len 0 n))
+    (long ∙ sym (length-map-range_with_len g 0 n))
+    (λ k within.
+      let inside : k < n = omega (arith, within, long) in
+      let here : 0 + k ≡ k = omega arith in
+      get_or-map-range_with_len f 0 n k k (f 0) inside here ∙ same k inside
+      ∙ sym (get_or-map-range_with_len g 0 n k k (f 0) inside here))

@@ -48,7 +48,7 @@ tight_of steps times event step there tight =
       just = (Decides-eqb (asked times step) (time_at times event)).0 both.1;
     }
 
-pub none : Activity
+abbrev pub none : Activity
 none = record { id = 0; step = record { from = 0; to = 0; lower = 0; extra = 0 } }
 
 found : (test : Activity → Bool) (p : ℕ → Bool) (xs : List Activity) →

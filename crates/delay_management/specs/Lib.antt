@@ -7,4 +7,5 @@ pub mod Links
 pub mod Problems
 pub mod Reasons
 pub mod RightDispositions
+pub mod TightIds
 pub mod Waiting

@@ -104,6 +104,10 @@ problem_over turnover events activities schedule event_delays activity_delays = 
 
 -- ---- every step goes forward
 
+-- a step joins two of so many events
+abbrev pub Joins : ℕ → Step → Type 0
+Joins events step = (step.from < events) × (step.to < events)
+
 -- a step joins two events, the first of which stands before the second in the forward order
 pub record GoesForward (events : List ExpandedEvent) (step : Step) : Type 0 where
   pub from : step.from < length events

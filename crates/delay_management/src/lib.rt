@@ -5,14 +5,18 @@
 mod check;
 mod delays;
 mod fault;
+mod files;
+mod lateness;
 mod links;
 mod pass;
 mod propagation;
 mod reason;
 mod reason_row;
+mod reasons;
 mod stage;
 mod step;
 mod turns;
+mod waiting;
 
 pub use check::check_reasons;
 pub use fault::ReasonFault;

@@ -8,7 +8,7 @@ ghost use Rattle.event_tables.specs.ExpandedFiles.{AreExpandedActivities, AreExp
 ghost use Rattle.event_tables.specs.Schedules.{AreScheduleRows};
 ghost use Rattle.delay_management.specs.DispositionStage.{disposition_faults, problem_in, turnover_in};
 ghost use Rattle.delay_management.specs.LeastTimes.{IsLeast, least_times};
-ghost use Rattle.delay_management.specs.Problems.{problem_over};
+ghost use Rattle.delay_management.specs.Problems.{IsForward, Joins, problem_over};
 ghost use Rattle.delay_management.specs.Waiting.{chosen_changes};
 
 use crate::delays::{delayed_activities, earliest_times};
@@ -130,6 +130,47 @@ impl Propagation {
             (λ times. All (λ time. time ≤ 1000000000000000000) times.items) }
     {
         pushed_along(alloc, &self.earliest, &self.links, kept)
+    }
+
+    /// The events.
+    pub(crate) fn events(&self) -> &[ExpandedEvent]
+        ensures value { result.now ≡ self.now.events }
+        ensures few { length self.now.events ≤ 100000 }
+        ensures forward { IsForward self.now }
+    {
+        &self.events
+    }
+
+    /// The earliest time of each event.
+    pub(crate) fn earliest(&self) -> &[u64]
+        ensures value { result.now ≡ self.now.earliest }
+        ensures each { length self.now.earliest ≡ length self.now.events }
+    {
+        &self.earliest
+    }
+
+    /// The drives and waits.
+    pub(crate) fn rides(&self) -> &[Activity]
+        ensures value { result.now ≡ self.now.rides }
+        ensures ends { All (λ ride. Joins (length self.now.events) ride.step) self.now.rides }
+    {
+        &self.rides
+    }
+
+    /// The changes.
+    pub(crate) fn changes(&self) -> &[Activity]
+        ensures value { result.now ≡ self.now.changes }
+        ensures ends { All (λ change. Joins (length self.now.events) change.step) self.now.changes }
+    {
+        &self.changes
+    }
+
+    /// The turns of vehicles.
+    pub(crate) fn turns(&self) -> &[Step]
+        ensures value { result.now ≡ self.now.turns }
+        ensures ends { All (Joins (length self.now.events)) self.now.turns }
+    {
+        &self.turns
     }
 }
 
