@@ -1,7 +1,7 @@
 -- The changes that are chosen, one after the other.
-use Rattle.std.proofs.Common.{◌≡◌, ◌∙◌, ℕ, ℤ, zero, suc, ◌+◌, ◌<◌, ◌≤◌, Bool, true, false, cond, List, [], ◌∷◌, ◌++◌, length, map, filter, drop, get_or, Result, Ok, Err, IfOk, refl, ap, sym, arith}
+use Rattle.std.proofs.Common.{◌≡◌, ◌∙◌, ℕ, ℤ, zero, suc, ◌+◌, ◌<◌, ◌≤◌, Bool, true, false, cond, List, [], ◌∷◌, length, map, filter, drop, get_or, Result, Ok, Err, IfOk, refl, ap, sym, arith}
 use Rattle.std.specs.List.{items_where_true}
-use Rattle.std.proofs.lemmas.List.{append-nil, drop_all}
+use Rattle.std.proofs.lemmas.List.{drop_all}
 use Rattle.event_tables.specs.declared.expanded_event.ExpandedEvent.{ExpandedEvent}
 use Rattle.delay_management.specs.declared.step.Activity.{Activity}
 use Rattle.delay_management.specs.LeastTimes.{least_times, time_at}
@@ -71,6 +71,6 @@ unfolding kept_changes
 kept_told view problem wait events changes alone e h a (Err error) told = tt
 kept_told view problem wait events changes alone e h a (Ok kept) told =
     let all : view kept ≡ map (is_kept problem wait (times_alone problem)) problem.changes
-        = told ∙ (λ i. map (λ change. waits wait (time_at (a i) change.step.from + change.step.lower) (planned_at (e i) change.step.to)) (h i)) in
+    = told ∙ (λ i. map (λ change. waits wait (time_at (a i) change.step.from + change.step.lower) (planned_at (e i) change.step.to)) (h i)) in
     ap (λ flags. items_where_true flags problem.changes) all
     ∙ where_passing (is_kept problem wait (times_alone problem)) problem.changes

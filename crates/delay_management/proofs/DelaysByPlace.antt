@@ -1,8 +1,8 @@
 -- The delays of things by their places.
-use Rattle.std.proofs.Common.{◌≡◌, ◌≢◌, ◌∙◌, ℕ, ◌+◌, ◌-◌, ◌<◌, ◌≤◌, Bool, true, false, cond, eqb, List, [], ◌∷◌, ◌++◌, length, map, filter, drop, get_or, slice_set, replicate, All, refl, ap, sym, arith, zero, suc}
+use Rattle.std.proofs.Common.{◌≡◌, ◌∙◌, ℕ, ◌+◌, ◌-◌, ◌<◌, Bool, true, false, cond, eqb, List, [], ◌∷◌, length, map, filter, drop, get_or, slice_set, replicate, refl, ap, sym, arith}
 use Rattle.std.specs.List.{range_with_len}
 use Rattle.std.proofs.lemmas.Bool.{eq-eqb, ne_eqb}
-use Rattle.std.proofs.lemmas.List.{at_drop_more, drop_more, ext_get_or, get_or-replicate, length-replicate}
+use Rattle.std.proofs.lemmas.List.{drop_more, ext_get_or, get_or-replicate, length-replicate}
 use Rattle.std.proofs.lemmas.List.FromFn.{get_or-map-range_with_len, length-map-range_with_len}
 use Rattle.event_tables.specs.declared.delay_row.DelayRow.{DelayRow}
 use Rattle.event_tables.specs.declared.expanded_activity.ExpandedActivity.{ExpandedActivity}
@@ -35,8 +35,8 @@ none_placed count =
     ext_get_or 0 (replicate count 0) (by_place count [])
     (length-replicate {A = ℕ} count 0 ∙ sym (length-map-range_with_len (delay_of []) 1 count))
     (λ k within. let inside : k < count = omega (arith, within, length-replicate {A = ℕ} count 0) in
-      get_or-replicate count k 0 0 inside
-      ∙ sym (get_or-map-range_with_len (delay_of []) 1 count k (1 + k) 0 inside refl ∙ nothing (1 + k)))
+    get_or-replicate count k 0 0 inside
+    ∙ sym (get_or-map-range_with_len (delay_of []) 1 count k (1 + k) 0 inside refl ∙ nothing (1 + k)))
 
 -- a row before others
 pub more_placed : (count : ℕ) (row : DelayRow) (rows : List DelayRow) → IsOneOf count row.id

@@ -1,5 +1,5 @@
 -- Inputs without a fault go forward.
-use Rattle.std.proofs.Common.{◌≡◌, ◌∙◌, ℕ, ◌+◌, ◌-◌, ◌<◌, ◌≤◌, Bool, true, false, not, List, [], ◌∷◌, ◌++◌, length, map, filter, get_or, All, Option, Some, None, refl, ap, sym, subst, arith}
+use Rattle.std.proofs.Common.{◌≡◌, ◌∙◌, ℕ, ◌+◌, ◌<◌, ◌≤◌, Bool, true, false, not, List, [], ◌++◌, length, filter, get_or, All, Some, None, refl, ap, sym, subst, arith}
 use Rattle.std.specs.List.{enumerate_from}
 use Rattle.std.specs.List.Sorted.{IsNonDecreasingBy, IsPermutation}
 use Rattle.std.proofs.lemmas.List.{length-append, length-map}
@@ -21,8 +21,9 @@ use Rattle.delay_management.specs.declared.links.Link.{Link}
 use Rattle.delay_management.specs.declared.step.Activity.{Activity}
 use Rattle.delay_management.specs.declared.step.Step.{Step}
 use Rattle.delay_management.specs.Links.{IsLinked, change_links, link_of, links_of, ride_links, turn_links}
-use Rattle.delay_management.specs.Problems.{DelayProblem, GoesForward, IsForward, activities_of, delayed, earliest_of, event_at, index_of, is_change_kind, is_of, problem_over, steps_with, turn_of}
-use Rattle.delay_management.proofs.PassIsLeast.{change_steps, ride_steps, steps_all, turn_steps}
+use Rattle.delay_management.specs.Problems.{DelayProblem, GoesForward, IsForward, activities_of, delayed, earliest_of, event_at, index_of, is_of, problem_over, turn_of}
+use Rattle.delay_management.proofs.Places.{id_at}
+use Rattle.delay_management.proofs.PassIsLeast.{steps_all}
 
 -- the event of an id that goes before that of another stands there
 at_places : (events : List ExpandedEvent) (from to : ℕ) → AreNumbered (λ event. event.id) events
@@ -70,10 +71,10 @@ module _ (turnover : ℕ) (events : List ExpandedEvent) (activities : List Expan
   turns_forward =
       All-map (GoesForward events) (turn_of turnover) (filter is_empty_row schedule)
       (λ k d inside.
-        let row = get_or (filter is_empty_row schedule) k d in
-        let is : IsScheduleRow events row = All-filter is_empty_row (IsScheduleRow events) schedule rows_are.each k d inside in
-        forward_step events row.run.start.event row.run.end.event (turn_of turnover row) are.numbered refl refl is.start is.end
-        (is.forward (filter_passes is_empty_row schedule k d inside)))
+      let row = get_or (filter is_empty_row schedule) k d in
+      let is : IsScheduleRow events row = All-filter is_empty_row (IsScheduleRow events) schedule rows_are.each k d inside in
+      forward_step events row.run.start.event row.run.end.event (turn_of turnover row) are.numbered refl refl is.start is.end
+      (is.forward (filter_passes is_empty_row schedule k d inside)))
 
   pub inputs_go_forward : IsForward problem
   inputs_go_forward = record {
@@ -88,6 +89,14 @@ module _ (turnover : ℕ) (events : List ExpandedEvent) (activities : List Expan
           → length (activities_of changes activity_rows activities) ≤ 500000
       by true sum = omega (arith, sum, length-map (filter (is_of true) activities) (delayed activity_rows), activities_are.few)
       by false sum = omega (arith, sum, length-map (filter (is_of false) activities) (delayed activity_rows), activities_are.few)
+
+  pub ids_below : All (λ row. row.id ≤ 500000) activities
+  ids_below k d inside = omega (arith, id_at (λ row. row.id) activities k d activities_are.numbered inside, inside, activities_are.few)
+
+  pub some_ids : (changes : Bool) → All (λ activity. activity.id ≤ 500000) (activities_of changes activity_rows activities)
+  some_ids changes =
+      All-map (λ activity. activity.id ≤ 500000) (delayed activity_rows) (filter (is_of changes) activities)
+      (All-filter (is_of changes) (λ row. row.id ≤ 500000) activities ids_below)
 
   few_links : length (links_of problem) ≤ 502000
   few_links =
@@ -118,6 +127,7 @@ module _ (turnover : ℕ) (events : List ExpandedEvent) (activities : List Expan
     numbered = are.numbered;
     few = are.few;
     forward = inputs_go_forward;
+    ids = All-append (λ activity. activity.id ≤ 500000) problem.rides problem.changes (some_ids false) (some_ids true);
     soon = soon;
     few_links = omega (arith, length_permutation (links_of problem) links all, few_links);
     all = all;
@@ -143,9 +153,9 @@ module _ (turnover : ℕ) (events : List ExpandedEvent) (activities : List Expan
       → IsLinked (record { events = events; earliest = earliest; rides = rides; changes = changes; turns = turns }) links
   linked_as earliest rides changes turns seen seen_rides seen_turns seen_changes links e r h t se sr st sh soon all in_order =
       let same : problem ≡ record { events = events; earliest = earliest; rides = rides; changes = changes; turns = turns }
-          = λ i. record { events = events; earliest = sym e i; rides = sym r i; changes = sym h i; turns = sym t i } in
+      = λ i. record { events = events; earliest = sym e i; rides = sym r i; changes = sym h i; turns = sym t i } in
       let listed : ride_links seen seen_rides ++ (turn_links seen seen_turns ++ change_links seen 0 seen_changes) ≡ links_of problem
-          = λ i. ride_links (se i) ((sr ∙ r) i) ++ (turn_links (se i) ((st ∙ t) i) ++ change_links (se i) 0 ((sh ∙ h) i)) in
+      = λ i. ride_links (se i) ((sr ∙ r) i) ++ (turn_links (se i) ((st ∙ t) i) ++ change_links (se i) 0 ((sh ∙ h) i)) in
       subst (λ p. IsLinked p links) same
       (rows_linked links (subst (All (λ time. time ≤ 8589934590)) e soon)
       (subst (λ some. IsPermutation some links) listed all) in_order)

@@ -1,9 +1,9 @@
 -- The steps of a problem that was read join its events.
-use Rattle.std.proofs.Common.{◌≡◌, List, length, All}
+use Rattle.std.proofs.Common.{◌≤◌, List, length, All}
 use Rattle.delay_management.specs.declared.links.Link.{Link}
 use Rattle.delay_management.specs.Links.{IsLinked}
 use Rattle.delay_management.specs.Problems.{DelayProblem, GoesForward, Joins}
-use Rattle.delay_management.proofs.PassIsLeast.{change_steps, ride_steps, turn_steps}
+use Rattle.delay_management.proofs.PassIsLeast.{back_all, change_steps, front_all, ride_steps, turn_steps}
 
 module _ (problem : DelayProblem) (links : List Link) (linked : IsLinked problem links) where
   pub rides_join : All (λ ride. Joins (length problem.events) ride.step) problem.rides
@@ -20,3 +20,9 @@ module _ (problem : DelayProblem) (links : List Link) (linked : IsLinked problem
   turns_join k d inside =
       let is = turn_steps problem (GoesForward problem.events) problem.changes linked.forward.steps k d inside in
       (is.from, is.to)
+
+  pub ride_ids : All (λ ride. ride.id ≤ 500000) problem.rides
+  ride_ids = front_all (λ activity. activity.id ≤ 500000) problem.rides problem.changes linked.ids
+
+  pub change_ids : All (λ change. change.id ≤ 500000) problem.changes
+  change_ids = back_all (λ activity. activity.id ≤ 500000) problem.rides problem.changes linked.ids

@@ -1,5 +1,5 @@
 -- The lateness of one event more.
-use Rattle.std.proofs.Common.{◌≡◌, ◌∙◌, ℕ, ℤ, ◌+◌, ◌<◌, ◌+ℤ◌, Bool, true, false, cond, List, [], ◌∷◌, length, drop, filter, zip, get_or, ap, sym}
+use Rattle.std.proofs.Common.{◌≡◌, ◌∙◌, ℕ, ℤ, ◌+◌, ◌<◌, ◌+ℤ◌, true, false, cond, List, ◌∷◌, length, drop, filter, zip, get_or, ap, sym}
 use Rattle.std.specs.List.{fold}
 use Rattle.std.proofs.lemmas.List.{drop_more}
 use Rattle.event_tables.specs.declared.expanded_event.ExpandedEvent.{ExpandedEvent}

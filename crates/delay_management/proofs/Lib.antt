@@ -1,8 +1,13 @@
+mod Canonical
 mod ChosenChanges
 mod DelaysByPlace
+pub mod DispositionMakes
+pub mod DispositionReads
 mod ForwardInputs
 mod ForwardPass
 mod ForwardSteps
+mod InputsSound
+mod JudgedTexts
 mod Late
 mod Later
 mod PassIsLeast
@@ -10,11 +15,14 @@ mod Passing
 mod Places
 mod Ranks
 pub mod ReasonsProve
-mod ReportLine
 mod RefusedInputs
+mod ReportLine
 pub mod Rounds
+mod SmallTimes
+mod StageResults
+mod TextsBack
 mod TightMore
 mod Tried
-pub mod WrittenReasons
 mod WrittenBy
+pub mod WrittenReasons
 mod WrittenRows

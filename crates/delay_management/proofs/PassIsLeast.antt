@@ -3,21 +3,20 @@ use Rattle.std.proofs.Common.{◌≡◌, ◌∙◌, ℕ, zero, suc, ◌+◌, ◌
 use Rattle.std.specs.List.{Contains, enumerate_from, items_where_true}
 use Rattle.std.proofs.lemmas.List.{get_or-map, get_or-append-add, length-append, length-map}
 use Rattle.std.proofs.Math.ListN.{get_or-append}
-use Rattle.std.proofs.lemmas.List.Elements.{All-append, All-contains, All-cons, All-map, All-nil, Contains-append_left, Contains-append_right, Contains-get_or}
+use Rattle.std.proofs.lemmas.List.Elements.{All-append, All-cons, All-map, All-nil, Contains-get_or}
 use Rattle.std.proofs.lemmas.List.FromFn.{get_or-enumerate_from, length-enumerate_from}
 use Rattle.std.proofs.lemmas.List.Sorted.{All-permutation, IsPermutation-sym}
 use Rattle.event_tables.specs.declared.expanded_event.ExpandedEvent.{ExpandedEvent}
 use Rattle.delay_management.specs.declared.links.Link.{Link}
 use Rattle.delay_management.specs.declared.step.Activity.{Activity}
 use Rattle.delay_management.specs.declared.step.Step.{Step}
-use Rattle.delay_management.specs.LeastTimes.{IsFeasible, IsLeast, asked, least_times, time_at}
-use Rattle.delay_management.specs.Links.{IsLinked, change_links, counts, forward_rank, link_of, links_of, pushed_along, ride_links, turn_links}
-use Rattle.delay_management.specs.Problems.{AreChanges, DelayProblem, GoesForward, IsForward, steps_with}
+use Rattle.delay_management.specs.LeastTimes.{IsLeast, asked, least_times, time_at}
+use Rattle.delay_management.specs.Links.{IsLinked, change_links, forward_rank, link_of, links_of, pushed_along, ride_links, turn_links}
+use Rattle.delay_management.specs.Problems.{AreChanges, DelayProblem, GoesForward, steps_with}
 use Rattle.delay_management.specs.Waiting.{chosen_changes}
 use Rattle.delay_management.proofs.ForwardPass.{Holds, Joins, below, closed, grows, long}
 use Rattle.delay_management.proofs.Ranks.{rank_rises}
-use Rattle.delay_management.proofs.ReasonsProve.{none}
-use Rattle.delay_management.proofs.Rounds.{least_is_one, least_times_are_least, no_step}
+use Rattle.delay_management.proofs.Rounds.{least_is_one, least_times_are_least}
 
 -- ---- what holds of parts of lists
 
@@ -93,7 +92,7 @@ module _ (problem : DelayProblem) where
         (All-map P (link_of events None) problem.turns turns)
         (All-map P change_link (enumerate_from 0 problem.changes)
         (λ k d inside. let within : k < length problem.changes = omega (arith, inside, length-enumerate_from 0 problem.changes) in
-          subst (λ at. P (change_link at)) (sym (placed_at problem.changes k d within)) (changes k d.1 within))))
+        subst (λ at. P (change_link at)) (sym (placed_at problem.changes k d within)) (changes k d.1 within))))
 
     module _ (all : All P (links_of problem)) where
       rides_by : All (λ ride. P (link_of events None ride.step)) problem.rides
@@ -191,7 +190,7 @@ module _ (problem : DelayProblem) (links : List Link) (linked : IsLinked problem
         (λ k d inside _. ride_steps problem P chosen all k d inside)
         (λ k d inside _. turn_steps problem P chosen all k d inside)
         (λ k d inside is. all_chosen (λ change. P change.step) kept problem.changes
-          (change_steps problem P chosen all) k d inside is))
+        (change_steps problem P chosen all) k d inside is))
 
     pub pass_is_least : IsLeast problem chosen (pushed_along kept links problem.earliest)
     pass_is_least =
@@ -221,9 +220,9 @@ module _ (whole problem : DelayProblem) (links seen : List Link)
   ends_there =
       subst (All (λ link. (link.step.from < length earliest) × (link.step.to < length earliest))) (sym is)
       (λ k d inside.
-        let joins = all_join whole links linked k d inside in
-        let size : length earliest ≡ length whole.events = ap length from ∙ linked.forward.each in
-        (omega (arith, joins.from, size), omega (arith, joins.to, size)))
+      let joins = all_join whole links linked k d inside in
+      let size : length earliest ≡ length whole.events = ap length from ∙ linked.forward.each in
+      (omega (arith, joins.from, size), omega (arith, joins.to, size)))
 
   passed : pushed_along kept seen earliest ≡ pushed_along kept links whole.earliest
   passed = λ i. pushed_along kept (is i) (from i)

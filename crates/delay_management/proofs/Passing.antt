@@ -1,12 +1,11 @@
 -- One link more of a pass.
-use Rattle.std.proofs.Common.{◌≡◌, ◌∙◌, ℕ, ◌+◌, ◌*◌, ◌<◌, ◌≤◌, Bool, true, false, cond, List, [], ◌∷◌, length, drop, get_or, slice_set, All, ap, sym, arith, ◌⊎◌, inl, inr, subst}
-use Rattle.std.specs.List.{fold}
+use Rattle.std.proofs.Common.{◌≡◌, ◌∙◌, ℕ, ◌+◌, ◌*◌, ◌<◌, ◌≤◌, Bool, true, false, cond, List, length, drop, get_or, All, ap, sym, arith, ◌⊎◌, inl, inr}
 use Rattle.std.proofs.lemmas.List.{drop_more}
 use Rattle.std.proofs.lemmas.List.Elements.{All-set}
 use Rattle.delay_management.specs.declared.links.Link.{Link}
 use Rattle.delay_management.specs.declared.step.Step.{Step}
 use Rattle.delay_management.specs.LeastTimes.{asked, later, time_at}
-use Rattle.delay_management.specs.Links.{counts, head_pushed, pushed_along, pushed_by}
+use Rattle.delay_management.specs.Links.{counts, head_pushed, pushed_along}
 use Rattle.delay_management.specs.Problems.{minutes}
 use Rattle.delay_management.proofs.Later.{later_is}
 

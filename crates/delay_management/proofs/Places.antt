@@ -1,9 +1,9 @@
 -- Lists that tell one thing of each place.
-use Rattle.std.proofs.Common.{◌≡◌, ◌≢◌, ◌∙◌, ℕ, ◌+◌, ◌<◌, ◌++◌, append_assoc, Bool, true, false, eqb, List, [], ◌∷◌, length, map, get_or, slice_set, refl, ap, sym, arith}
+use Rattle.std.proofs.Common.{◌≡◌, ◌≢◌, ◌∙◌, ℕ, ◌+◌, ◌<◌, ◌++◌, append_assoc, true, false, eqb, List, [], ◌∷◌, length, map, get_or, slice_set, refl, ap, sym, arith}
 use Rattle.std.specs.List.{range_with_len}
 use Rattle.std.proofs.lemmas.Bool.{eqb-true, eqb-false}
-use Rattle.std.proofs.lemmas.List.{ext_get_or, get_or-map, get_or-set_same, get_or-set_other, length-map, length-set}
-use Rattle.std.proofs.lemmas.List.FromFn.{get_or-map-range_with_len, get_or-range_with_len, length-map-range_with_len, length-range_with_len}
+use Rattle.std.proofs.lemmas.List.{ext_get_or, get_or-map, get_or-set_same, get_or-set_other, length-set}
+use Rattle.std.proofs.lemmas.List.FromFn.{get_or-map-range_with_len, get_or-range_with_len, length-map-range_with_len}
 use Rattle.event_tables.specs.Places.{AreNumbered}
 
 -- what is told of a place changes at one of them
@@ -16,19 +16,19 @@ told_anew f g a n i x inside here others =
     ext_get_or x (slice_set some i x) (map g (range_with_len a n))
     (length-set some i x ∙ long ∙ sym (length-map-range_with_len g a n))
     (λ k within.
-      let in_n : k < n = omega (arith, within, length-set some i x, long) in
-      elim (eqb k i) as (λ b. eqb k i ≡ b → get_or (slice_set some i x) k x ≡ get_or (map g (range_with_len a n)) k x) [
-        | true ↦ λ is. let same : k ≡ i = eqb-true k i is in
-            ap (λ j. get_or (slice_set some i x) j x) same
-            ∙ get_or-set_same some i x x (omega (arith, inside, long))
-            ∙ sym (get_or-map-range_with_len g a n i (a + i) x inside refl ∙ here)
-            ∙ sym (ap (λ j. get_or (map g (range_with_len a n)) j x) same)
-        | false ↦ λ is. let other : k ≢ i = eqb-false k i is in
-            get_or-set_other some i k x x other
-            ∙ get_or-map-range_with_len f a n k (a + k) x in_n refl
-            ∙ sym (others k in_n other)
-            ∙ sym (get_or-map-range_with_len g a n k (a + k) x in_n refl)
-      ] refl)
+    let in_n : k < n = omega (arith, within, length-set some i x, long) in
+    elim (eqb k i) as (λ b. eqb k i ≡ b → get_or (slice_set some i x) k x ≡ get_or (map g (range_with_len a n)) k x) [
+      | true ↦ λ is. let same : k ≡ i = eqb-true k i is in
+          ap (λ j. get_or (slice_set some i x) j x) same
+          ∙ get_or-set_same some i x x (omega (arith, inside, long))
+          ∙ sym (get_or-map-range_with_len g a n i (a + i) x inside refl ∙ here)
+          ∙ sym (ap (λ j. get_or (map g (range_with_len a n)) j x) same)
+      | false ↦ λ is. let other : k ≢ i = eqb-false k i is in
+          get_or-set_other some i k x x other
+          ∙ get_or-map-range_with_len f a n k (a + k) x in_n refl
+          ∙ sym (others k in_n other)
+          ∙ sym (get_or-map-range_with_len g a n k (a + k) x in_n refl)
+    ] refl)
 
 -- things that are numbered in their order have the ids of their places
 pub id_at : {X : Type 0} (id : X → ℕ) (rows : List X) (i : ℕ) (d : X) → AreNumbered id rows
@@ -55,7 +55,7 @@ told_alike f g n same =
     ext_get_or (f 0) (map f (range_with_len 0 n)) (map g (range_with_len 0 n))
     (long ∙ sym (length-map-range_with_len g 0 n))
     (λ k within.
-      let inside : k < n = omega (arith, within, long) in
-      let here : 0 + k ≡ k = omega arith in
-      get_or-map-range_with_len f 0 n k k (f 0) inside here ∙ same k inside
-      ∙ sym (get_or-map-range_with_len g 0 n k k (f 0) inside here))
+    let inside : k < n = omega (arith, within, long) in
+    let here : 0 + k ≡ k = omega arith in
+    get_or-map-range_with_len f 0 n k k (f 0) inside here ∙ same k inside
+    ∙ sym (get_or-map-range_with_len g 0 n k k (f 0) inside here))

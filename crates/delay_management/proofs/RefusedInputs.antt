@@ -1,5 +1,5 @@
 -- From the reading of one input after the other to the faults of all of them.
-use Rattle.std.proofs.Common.{◌≡◌, ◌∙◌, ℕ, List, [], ◌∷◌, ◌++◌, slice_get, Some, refl, ap, sym, subst}
+use Rattle.std.proofs.Common.{◌≡◌, ◌∙◌, ℕ, List, [], ◌∷◌, ◌++◌, ap, sym, subst}
 use Rattle.giv_files.specs.declared.refusal.Refusal.{Refusal}
 use Rattle.giv_files.specs.declared.refusal.StageFault.{StageFault}
 use Rattle.giv_files.specs.declared.refusal.StageFault.TheVariants as stage
@@ -14,7 +14,7 @@ use Rattle.event_tables.specs.Delays.{activity_delay_input, event_delay_input}
 use Rattle.event_tables.specs.ExpandedFiles.{expanded_activity_ids, expanded_activity_input, expanded_event_ids, expanded_event_input}
 use Rattle.event_tables.specs.Schedules.{schedule_input}
 use Rattle.delay_management.specs.DispositionStage.{activities_in, activity_delays_in, disposition_faults, event_delays_in, events_in, problem_in, schedule_in, turnover_in}
-use Rattle.delay_management.specs.Problems.{DelayProblem, problem_over}
+use Rattle.delay_management.specs.Problems.{problem_over}
 
 front_refuses : (some others : List Refusal) (fault : StageFault) → Refuses some fault
     → Refuses (some ++ others) fault
@@ -130,7 +130,6 @@ module _ (bundle : BundleParts) (fault : StageFault) where
           back_refuses ((A bundle) ++ ((B bundle) ++ (C bundle))) ((D bundle) ++ (E bundle)) fault (no_made bundle no_events no_activities no_schedule) (back_refuses (D bundle) (E bundle) fault no_delays
           (subst (λ text. Refuses (input_faults (activity_delay_input (expanded_activity_ids (activities_in bundle))) text) fault) is
           (subst (λ activities. Refuses (input_faults (activity_delay_input (expanded_activity_ids activities)) text) fault) activities_are h)))
-
 
 -- ---- what is read is what the texts hold
 

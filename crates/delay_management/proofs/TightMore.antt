@@ -1,8 +1,7 @@
 -- One tight activity more.
-use Rattle.std.proofs.Common.{◌≡◌, ◌≢◌, ◌∙◌, ℕ, ◌+◌, ◌<◌, ◌≤◌, ◌==◌, ◌&&◌, Bool, true, false, cond, eqb, nat_eq, List, [], ◌∷◌, ◌++◌, length, map, filter, get_or, slice_set, take, Option, Some, None, refl, ap, sym, subst, arith}
-use Rattle.std.specs.List.{fold, range_with_len, reduce}
+use Rattle.std.proofs.Common.{◌≡◌, ◌∙◌, ℕ, ◌+◌, ◌<◌, ◌&&◌, true, false, cond, eqb, nat_eq, List, [], ◌∷◌, ◌++◌, map, filter, get_or, slice_set, Option, Some, None, refl, ap, sym, subst, arith}
+use Rattle.std.specs.List.{range_with_len, reduce}
 use Rattle.std.proofs.lemmas.Bool.{eq-eqb, eqb-true, ne_eqb}
-use Rattle.std.proofs.lemmas.List.{take_more}
 use Rattle.std.proofs.lemmas.List.Elements.{filter-append}
 use Rattle.std.proofs.lemmas.List.FromFn.{get_or-map-range_with_len}
 use Rattle.std.proofs.lemmas.List.Sums.{fold_push}
@@ -62,7 +61,7 @@ module _ (times : List ℕ) (n : ℕ) (some : List Activity) (at : Activity) whe
       ∙ with_tight to (ap (λ b. b && nat_eq (asked times at.step) (time_at times to)) (eq-eqb to to refl) ∙ tight)
       ∙ ap (λ id. Some (with_id id at.id)) (sym (get_or-map-range_with_len (least_id some) 0 n to to None inside zero_to)))
       (λ k within apart. without (0 + k)
-        (ap (λ b. b && nat_eq (asked times at.step) (time_at times (0 + k))) (ne_eqb to (0 + k) (λ e. apart (omega (arith, e))))))
+      (ap (λ b. b && nat_eq (asked times at.step) (time_at times (0 + k))) (ne_eqb to (0 + k) (λ e. apart (omega (arith, e))))))
 
   pub slack_passed : nat_eq (asked times at.step) (time_at times at.step.to) ≡ false
       → map (least_id some) (range_with_len 0 n) ≡ map (least_id (some ++ at ∷ [])) (range_with_len 0 n)

@@ -482,4 +482,3 @@ unfolding digits digits_at disposition_stage problem_in events_in activities_in 
     delay_of first_broken_rule input_faults row_faults faults table_of cells_from cell_of values errors row_whys
     rows cleaned spelling_of value_of value_at fixed_of whole_of cell_text cell_texts joined table_text
 day_waits = refl
-

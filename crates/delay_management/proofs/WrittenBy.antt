@@ -1,5 +1,5 @@
 -- The reasons that are made are those that are written.
-use Rattle.std.proofs.Common.{◌≡◌, ◌∙◌, ℕ, ◌+◌, ◌<◌, List, length, map, get_or, Option, None, Result, Ok, Err, IfOk, ap, sym, arith}
+use Rattle.std.proofs.Common.{◌≡◌, ◌∙◌, ℕ, List, length, map, get_or, Option, None, Result, Ok, Err, IfOk, ap, arith}
 use Rattle.std.specs.List.{range_with_len, reduce}
 use Rattle.std.proofs.lemmas.List.FromFn.{get_or-map-range_with_len}
 use Rattle.delay_management.specs.declared.reason.Reason.{Reason}
@@ -20,6 +20,6 @@ module _ (earliest times : List ℕ) (activities : List Activity) (ids : List (O
       told ∙ told_alike (λ event. reason_by earliest times event (get_or ids event None))
       (λ event. reason_by earliest times event (least_id event)) (length times)
       (λ event inside. ap (reason_by earliest times event)
-        (ap (λ all. get_or all event None) is
-        ∙ get_or-map-range_with_len least_id 0 (length times) event event None inside (omega arith)))
+      (ap (λ all. get_or all event None) is
+      ∙ get_or-map-range_with_len least_id 0 (length times) event event None inside (omega arith)))
   told_by_ids view is (Err error) told = tt

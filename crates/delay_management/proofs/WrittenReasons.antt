@@ -1,33 +1,22 @@
 -- The reasons that are written of least times are right.
-use Rattle.std.proofs.Common.{◌≡◌, ℕ, zero, suc, ◌<◌, ◌+◌, ◌==◌, ◌&&◌, ◌≤◌, cond, nat_eq, Bool, true, false, List, [], ◌∷◌, ◌++◌, length, map, get_or, ap, sym, ◌∙◌, refl, arith, ◌⊎◌, inl, inr, subst, Option, Some, None, true≢false}
-use Rattle.std.specs.Cmp.Lexicographic.{slice_cmp}
-use Rattle.std.specs.List.{All, Contains, list_any, filter, fold, reduce}
-use Rattle.std.specs.Ordering.{nat_cmp, is_lt, ordering_reverse}
-use Rattle.std.specs.declared.cmp.Ordering.{Ordering}
-use Rattle.std.specs.declared.cmp.Ordering.TheVariants.{Less, Equal, Greater}
+use Rattle.std.proofs.Common.{◌≡◌, ℕ, ◌<◌, ◌==◌, cond, nat_eq, Bool, true, false, List, [], ◌∷◌, ◌++◌, length, map, get_or, ap, sym, ◌∙◌, refl, arith, ◌⊎◌, inl, inr, subst, Option, true≢false}
+use Rattle.std.specs.List.{Contains, list_any, filter, fold, reduce}
 use Rattle.std.proofs.lemmas.Bool.Decides.{Decides-eqb}
-use Rattle.std.proofs.lemmas.Cmp.{lists_total, nat_cmp_total}
 use Rattle.std.specs.Cmp.{nat_eq_equiv}
-use Rattle.std.proofs.lemmas.List.{length-map, get_or-map, ext_get_or}
-use Rattle.std.proofs.lemmas.List.Elements.{All-filter, All-contains_itself, All-contains, filter_passes, Contains-append_left, Contains-append_right, Contains-get_or, Contains-append_cases, All-append, All-map, All-weaker, All-head, All-tail, All-from_get_or}
-use Rattle.std.proofs.lemmas.List.Folds.{Any-from_list_any, list_any_at}
+use Rattle.std.proofs.lemmas.List.{length-map, get_or-map}
+use Rattle.std.proofs.lemmas.List.Elements.{Contains-get_or, Contains-append_cases}
+use Rattle.std.proofs.lemmas.List.Folds.{list_any_at}
 use Rattle.std.proofs.lemmas.List.FromFn.{get_or-map-range_with_len, length-map-range_with_len}
-use Rattle.std.proofs.lemmas.List.Sums.{length-filter, count_by-le-length}
 use Rattle.std.proofs.lemmas.Map.Views.{list_any-from_Contains}
-use Rattle.event_tables.specs.ForwardOrder.{stands_before, forward_key}
-use Rattle.event_tables.specs.Cells.{expanded_event}
-use Rattle.event_tables.specs.declared.expanded_event.ExpandedEvent.{ExpandedEvent}
-use Rattle.delay_management.specs.declared.reason.Reason.{Reason}
 use Rattle.delay_management.specs.declared.reason.Reason.TheVariants as reason
 use Rattle.delay_management.specs.declared.step.Activity.{Activity}
 use Rattle.delay_management.specs.declared.step.Step.{Step}
-use Rattle.delay_management.specs.Laws.{ReasonsProveLeast, LeastTimesAreLeast, LeastIsOne, TimesGrow, DispositionIsOne, WrittenReasonsAreRight}
-use Rattle.delay_management.specs.LeastTimes.{IsFeasible, IsLeast, time_at, asked, latest, pushed_at, pushed, pushed_often, least_times}
-use Rattle.delay_management.specs.Problems.{DelayProblem, minutes, steps_with, event_at, earliest_at, GoesForward, IsForward, AreChanges}
-use Rattle.delay_management.specs.Reasons.{AreRight, is_right, is_tight, tight_ids, by_activity, lesser, canonical_reason, canonical_reasons, reason_for}
-use Rattle.delay_management.specs.Waiting.{IsDisposition, is_kept, kept_changes, times_alone, disposition}
-use Rattle.delay_management.proofs.Later.{latest_bounds, latest_reached, lesser_reached, shifted}
-use Rattle.delay_management.proofs.ReasonsProve.{none, mapped, rank, rising, forward_with}
+use Rattle.delay_management.specs.Laws.{WrittenReasonsAreRight}
+use Rattle.delay_management.specs.LeastTimes.{time_at, asked, pushed_at}
+use Rattle.delay_management.specs.Problems.{DelayProblem, steps_with, earliest_at}
+use Rattle.delay_management.specs.Reasons.{is_right, is_tight, tight_ids, by_activity, lesser, canonical_reason, canonical_reasons}
+use Rattle.delay_management.proofs.Later.{latest_reached, lesser_reached, shifted}
+use Rattle.delay_management.proofs.ReasonsProve.{none}
 use Rattle.delay_management.proofs.Rounds.{in_filter, into_are, no_step, least_is_pushed}
 
 -- ---- the reasons that are written
@@ -36,14 +25,14 @@ module _ (problem : DelayProblem) (kept : List Activity) (times : List ℕ) wher
   by_least : (event : ℕ) (ids : List ℕ) (least : Option ℕ) → reduce lesser ids ≡ least →
       tight_ids problem kept times event ≡ ids
       → (ids ≡ [] → is_right problem kept times event reason.Turn ≡ true) →
-          is_right problem kept times event (by_activity least) ≡ true
+      is_right problem kept times event (by_activity least) ≡ true
   by_least event [] least e is turn =
       subst (λ l. is_right problem kept times event (by_activity l) ≡ true) e (turn refl)
   by_least event (id ∷ ids) least e is turn =
       subst (λ l. is_right problem kept times event (by_activity l) ≡ true) e
-        (subst (λ all. list_any (nat_eq (fold lesser id ids)) all ≡ true) (sym is)
-          (list_any-from_Contains nat_eq_equiv (fold lesser id ids) (id ∷ ids)
-              (reached (lesser_reached id ids))))
+      (subst (λ all. list_any (nat_eq (fold lesser id ids)) all ≡ true) (sym is)
+      (list_any-from_Contains nat_eq_equiv (fold lesser id ids) (id ∷ ids)
+      (reached (lesser_reached id ids))))
     where
       reached : (fold lesser id ids ≡ id) ⊎ Contains ids (fold lesser id ids) →
           Contains (id ∷ ids) (fold lesser id ids)
@@ -76,11 +65,16 @@ module _ (problem : DelayProblem) (kept : List Activity) (times : List ℕ) wher
         ¬ (tight_ids problem kept times event ≡ [])
     no_ids a there tight nil =
         let inside =
-            in_filter (λ a. is_tight times event a.step)
-            (problem.rides ++ kept) there.0 a there.1 there.2 tight in
-        omega (arith, inside.1, length-map
-            (filter (λ a. is_tight times event a.step) (problem.rides ++ kept)) (λ a. a.id), ap
-            (λ (ids : List ℕ). length ids) nil)
+        in_filter (λ a. is_tight times event a.step)
+        (problem.rides ++ kept) there.0 a there.1 there.2 tight in
+        omega (
+          arith,
+          inside.1,
+          length-map
+              (filter (λ a. is_tight times event a.step) (problem.rides ++ kept)) (λ a. a.id),
+          ap
+              (λ (ids : List ℕ). length ids) nil,
+        )
 
     by_step : (step : Step) → Contains (steps_with problem kept) step → is_tight times event step ≡ true →
         tight_ids problem kept times event ≡ [] → is_right problem kept times event reason.Turn ≡ true
@@ -95,7 +89,7 @@ module _ (problem : DelayProblem) (kept : List Activity) (times : List ℕ) wher
             let a = get_or xs at.0 none in
             let is : a.step ≡ step = sym (get_or-map (λ (at : Activity). at.step) xs at.0 none step within) ∙ at.2 in
             absurd (no_ids a (Contains-get_or xs at.0 none within)
-                (subst (λ s. is_tight times event s ≡ true) (sym is) tight) nil)
+            (subst (λ s. is_tight times event s ≡ true) (sym is) tight) nil)
         by (inr at) =
             list_any_at (is_tight times event) problem.turns at.0 step at.1
             (subst (λ s. is_tight times event s ≡ true) (sym at.2) tight)
@@ -117,8 +111,8 @@ module _ (problem : DelayProblem) (kept : List Activity) (times : List ℕ) wher
             let within : at.0 < length xs = omega (arith, length-map xs (asked times), at.1) in
             let is = into_are problem (steps_with problem kept) event at.0 within in
             let just : asked times (get_or xs at.0 no_step) ≡ time_at times event =
-                sym (get_or-map (asked times) xs at.0 no_step
-                    (pushed_at problem (steps_with problem kept) times event) within) ∙ at.2 ∙ sym equal in
+            sym (get_or-map (asked times) xs at.0 no_step
+            (pushed_at problem (steps_with problem kept) times event) within) ∙ at.2 ∙ sym equal in
             by_step (get_or xs at.0 no_step) is.0 (tight_is (get_or xs at.0 no_step) is.1 just) nil
 
 pub written_reasons_are_right : WrittenReasonsAreRight
@@ -126,10 +120,10 @@ unfolding canonical_reasons
 written_reasons_are_right problem kept times forward among least = record {
   each = length-map-range_with_len (canonical_reason problem kept times) 0 (length problem.events);
   right = λ event within.
-    subst (λ why. is_right problem kept times event why ≡ true)
+      subst (λ why. is_right problem kept times event why ≡ true)
       (sym (get_or-map-range_with_len (canonical_reason problem kept times) 0
-          (length problem.events) event event reason.Turn within (omega arith)))
+      (length problem.events) event event reason.Turn within (omega arith)))
       (written_right problem kept times event
-          (by_turn problem kept times event
-          (least_is_pushed problem kept times forward among least event within)));
+      (by_turn problem kept times event
+      (least_is_pushed problem kept times forward among least event within)));
 }

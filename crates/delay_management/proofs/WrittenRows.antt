@@ -1,5 +1,5 @@
 -- The rows of times and of reasons, in their columns.
-use Rattle.std.proofs.Common.{◌≡◌, ◌∙◌, ℕ, ℤ, zero, suc, pos, ◌+◌, ◌<◌, ◌≤◌, ◌≤ℤ◌, List, [], ◌∷◌, ◌++◌, length, map, take, get_or, All, refl, ap, sym, arith}
+use Rattle.std.proofs.Common.{◌≡◌, ◌∙◌, ℕ, suc, ◌+◌, ◌<◌, ◌≤◌, List, [], ◌∷◌, ◌++◌, length, map, take, get_or, All, refl, ap, arith}
 use Rattle.std.specs.List.{enumerate_from}
 use Rattle.std.proofs.lemmas.Int.{ints}
 use Rattle.std.proofs.lemmas.List.{get_or-map, length-map, take_all, take_more}
@@ -41,7 +41,7 @@ module _ {X Y : Type 0} (row : ℕ × X → Y) (xs : List X) (i : ℕ) where
 abbrev pub TimeFits : DisposedTime → Type 0
 TimeFits row = InColumns disposed_columns (disposed_time_cells row)
 
-abbrev times_from : ℕ → List ℕ → List DisposedTime
+abbrev pub times_from : ℕ → List ℕ → List DisposedTime
 times_from n times = map (λ at. record { event = at.0; time = at.1 }) (enumerate_from n times)
 
 times_fit_from : (n : ℕ) (times : List ℕ) → 1 ≤ n → n + length times ≤ 100001
@@ -61,7 +61,7 @@ times_fit times few small = times_fit_from 1 times (omega arith) (omega (arith, 
 abbrev pub ReasonFits : ReasonRow → Type 0
 ReasonFits row = InColumns reasons_columns (reason_cells row)
 
-abbrev reasons_from : ℕ → List Reason → List ReasonRow
+abbrev pub reasons_from : ℕ → List Reason → List ReasonRow
 reasons_from n reasons = map (λ at. record { event = at.0; reason = at.1 }) (enumerate_from n reasons)
 
 place_below : (why : Reason) → reason_place why < 3

@@ -65,6 +65,7 @@ pub record IsLinked (problem : DelayProblem) (links : List Link) : Type 0 where
   pub numbered : AreNumbered (λ event. event.id) problem.events
   pub few : length problem.events ≤ 100000
   pub forward : IsForward problem
+  pub ids : All (λ activity. activity.id ≤ 500000) (problem.rides ++ problem.changes)
   pub soon : All (λ time. time ≤ 8589934590) problem.earliest
   pub few_links : length links ≤ 502000
   pub all : IsPermutation (links_of problem) links

@@ -145,6 +145,7 @@ impl Propagation {
     pub(crate) fn earliest(&self) -> &[u64]
         ensures value { result.now ≡ self.now.earliest }
         ensures each { length self.now.earliest ≡ length self.now.events }
+        ensures few { length self.now.events ≤ 100000 }
     {
         &self.earliest
     }
@@ -153,6 +154,7 @@ impl Propagation {
     pub(crate) fn rides(&self) -> &[Activity]
         ensures value { result.now ≡ self.now.rides }
         ensures ends { All (λ ride. Joins (length self.now.events) ride.step) self.now.rides }
+        ensures ids { All (λ ride. ride.id ≤ 500000) self.now.rides }
     {
         &self.rides
     }
@@ -161,6 +163,7 @@ impl Propagation {
     pub(crate) fn changes(&self) -> &[Activity]
         ensures value { result.now ≡ self.now.changes }
         ensures ends { All (λ change. Joins (length self.now.events) change.step) self.now.changes }
+        ensures ids { All (λ change. change.id ≤ 500000) self.now.changes }
     {
         &self.changes
     }

@@ -2,18 +2,41 @@
 ghost use Rattle.std.specs.Prelude.{◌≡◌, ◌≤◌, ◌<◌, length, map, nat_eq, get_or, slice_set, if◌then◌else◌, All, IfOk, Some, None};
 ghost use Rattle.std.specs.List.{range_with_len, reduce};
 ghost use Rattle.delay_management.specs.declared.reason.Reason.TheVariants as reasons;
+ghost use Rattle.delay_management.specs.DispositionStage.{named_activity};
 ghost use Rattle.delay_management.specs.LeastTimes.{asked, time_at};
 ghost use Rattle.delay_management.specs.Problems.{Joins};
-ghost use Rattle.delay_management.specs.Reasons.{by_activity, lesser, tight_among};
+ghost use Rattle.delay_management.specs.Reasons.{by_activity, canonical_reasons, lesser, tight_among};
 ghost use Rattle.delay_management.specs.TightIds.{reason_by, with_id};
+ghost use Rattle.delay_management.specs.Waiting.{chosen_changes};
 
+use crate::propagation::Propagation;
 use crate::reason::Reason;
 use crate::step::{Activity, Step};
+use crate::waiting::counted_activities;
 use plan_num::NoMemory;
 use std::alloc::Global;
 
-/// The reasons that are written of times, by the earliest times and by the activities that count.
-pub(crate) fn written_reasons(
+/// The reasons that are written of times of a problem where some changes are chosen.
+pub(crate) fn canonical_reasons(
+    alloc: Global,
+    problem: &Propagation,
+    kept: &[bool],
+    times: &[u64],
+) -> Result<Vec<Reason>, NoMemory>
+    requires each { length times.now ≡ length problem.now.events }
+    requires small { All (λ time. time ≤ 1000000000000000000) times.now }
+    ensures reasons { IfOk result (λ reasons. reasons.items
+        ≡ canonical_reasons problem.now (chosen_changes problem.now kept.now) times.now) }
+    ensures ids { IfOk result
+        (λ reasons. All (λ reason. named_activity reason ≤ 500000) reasons.items) }
+    ensures few { IfOk result (λ reasons. length reasons.items ≤ 100000) }
+{
+    let activities = counted_activities(alloc, problem.rides(), problem.changes(), kept)?;
+    written_reasons(alloc, problem.earliest(), &activities, times)
+}
+
+// The reasons that are written of times, by the earliest times and by the activities that count.
+fn written_reasons(
     alloc: Global,
     earliest: &[u64],
     activities: &[Activity],

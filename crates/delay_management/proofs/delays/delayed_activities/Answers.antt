@@ -1,6 +1,4 @@
-use Rattle.std.proofs.Common.{◌≡◌, ◌∙◌, ◌+◌, ◌++◌, ◌∷◌, [], ap, sym, drop, slice_index_or}
-use Rattle.event_tables.specs.declared.expanded_activity.ExpandedActivity.{ExpandedActivity}
-use Rattle.delay_management.specs.Problems.{activities_of}
+use Rattle.std.proofs.Common.{◌∙◌, ◌++◌, ap, sym}
 use Rattle.delay_management.proofs.DelaysByPlace.{activity_left_out, activity_more}
 use Rattle.delay_management.proofs.Places.{moved}
 use Rattle.delay_management.proofs.delays.delayed_activities.Goals.{then-is_of+in_ok-push, else-is_of}

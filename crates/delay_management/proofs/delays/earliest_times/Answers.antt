@@ -1,4 +1,4 @@
-use Rattle.std.proofs.Common.{◌≡◌, ◌∙◌, ◌+◌, ◌≤◌, ◌++◌, ◌∷◌, [], ap, sym, subst, drop, map, All, arith}
+use Rattle.std.proofs.Common.{◌≤◌, sym, subst, All}
 use Rattle.std.proofs.lemmas.List.Elements.{All-push}
 use Rattle.delay_management.proofs.DelaysByPlace.{event_more}
 use Rattle.delay_management.proofs.Places.{moved}

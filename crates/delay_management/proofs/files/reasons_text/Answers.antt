@@ -1,4 +1,4 @@
-use Rattle.std.proofs.Common.{◌≡◌, ◌∙◌, ◌+◌, ◌++◌, ◌∷◌, [], ℕ, ℤ, List, All, IfOk, Ok, Err, get_or, take, ap, refl, sym, subst, arith}
+use Rattle.std.proofs.Common.{◌≡◌, ◌∙◌, ◌+◌, ◌++◌, ◌∷◌, [], ℕ, ℤ, List, All, IfOk, get_or, take, ap, refl, sym, subst, arith}
 use Rattle.std.proofs.lemmas.List.{map_push}
 use Rattle.giv_files.specs.Columns.{reasons_columns}
 use Rattle.giv_files.specs.Tables.{TableRow}
@@ -9,7 +9,7 @@ use Rattle.event_tables.proofs.CellFacts.{columns_written}
 use Rattle.delay_management.specs.declared.reason.Reason.{Reason}
 use Rattle.delay_management.specs.declared.reason.Reason.TheVariants as reasons
 use Rattle.delay_management.specs.declared.reason_row.ReasonRow.{ReasonRow}
-use Rattle.delay_management.specs.DispositionStage.{reason_cells, reason_rows, reasons_header, reasons_text}
+use Rattle.delay_management.specs.DispositionStage.{reason_cells, reason_rows, reasons_header}
 use Rattle.delay_management.proofs.WrittenRows.{reason_table_fits, reasons_fit, row_more, rows_whole}
 use Rattle.delay_management.proofs.files.reasons_text.Goals as goal
 
@@ -35,7 +35,7 @@ write_table-requires c =
     let all = c.args.reasons.now in
     let is = c.loop-index.invariant ∙ ap (rows_by reason_cells) (rows_whole numbered all c.loop-index.index (omega (arith, c.loop-index-test.false))) in
     let fit = subst (All (λ (row : TableRow). InColumns reasons_columns row.cells)) (sym is)
-        (reason_table_fits all (reasons_fit all c.requires.few c.requires.ids)) in
+    (reason_table_fits all (reasons_fit all c.requires.few c.requires.ids)) in
     (omega arith, (omega arith, (omega arith, (omega arith, (columns_written reasons_columns refl, (fit, (refl, plain_header reasons_header refl)))))))
 
 pub returns : goal.returns

@@ -1,4 +1,4 @@
-use Rattle.std.proofs.Common.{◌≡◌, ◌∙◌, ℕ, ◌+◌, ◌<◌, ◌*◌, ◌+ℤ◌, ◌≤ℤ◌, pos, List, length, drop, filter, zip, get_or, ap, sym, subst, arith, to_z, of_z}
+use Rattle.std.proofs.Common.{◌∙◌, ◌+◌, ◌<◌, ◌+ℤ◌, length, drop, filter, zip, ap, sym, arith, to_z, of_z}
 use Rattle.std.specs.List.{fold}
 use Rattle.std.proofs.lemmas.Int.{ints, to_z-of_z}
 use mir.Syntax.{w128}
@@ -23,7 +23,7 @@ loop-index-preserved c =
           let most = w.lateness-sum.ensures.most in
           let least = w.lateness-sum.ensures.least in
           let is = w.sum-is ∙ ap (λ z. to_z w128 (of_z w128 (S +ℤ z))) (to_z-of_z w128 L (record { sfits = w.lateness-sum.type_inv }))
-              ∙ to_z-of_z w128 (S +ℤ L) (omega (arith, ints, high, low, most, least, few, c.loop-index-test.true)) in
+          ∙ to_z-of_z w128 (S +ℤ L) (omega (arith, ints, high, low, most, least, few, c.loop-index-test.true)) in
           record {
             told = ap (λ sum. fold (λ sum timed. sum +ℤ lateness timed) sum (filter arrives (zip (drop (i + 1) events) (drop (i + 1) times))))
                 (is ∙ ap (λ late. S +ℤ late) w.lateness-sum.ensures.value)

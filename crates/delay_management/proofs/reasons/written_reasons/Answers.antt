@@ -1,5 +1,5 @@
-use Rattle.std.proofs.Common.{◌≡◌, ◌∙◌, ℕ, List, Option, None, length, map, get_or, ap, sym, subst}
-use Rattle.std.specs.List.{range_with_len, reduce}
+use Rattle.std.proofs.Common.{◌∙◌, length, ap}
+use Rattle.std.specs.List.{reduce}
 use Rattle.std.proofs.lemmas.List.FromFn.{length-map-range_with_len}
 use Rattle.delay_management.specs.Reasons.{lesser, tight_among}
 use Rattle.delay_management.proofs.WrittenBy.{told_by_ids}

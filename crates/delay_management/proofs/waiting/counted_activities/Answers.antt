@@ -1,5 +1,4 @@
-use Rattle.std.proofs.Common.{◌≡◌, ◌∙◌, ◌+◌, ◌++◌, ◌∷◌, [], drop, ap, sym, refl, arith}
-use Rattle.std.specs.List.{items_where_true}
+use Rattle.std.proofs.Common.{◌∙◌, ◌++◌, ap, sym, refl, arith}
 use Rattle.std.proofs.lemmas.List.{append-nil}
 use Rattle.delay_management.proofs.ChosenChanges.{chosen_done, chosen_more, chosen_passed}
 use Rattle.delay_management.proofs.Places.{moved}

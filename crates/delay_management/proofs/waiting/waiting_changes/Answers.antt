@@ -1,4 +1,4 @@
-use Rattle.std.proofs.Common.{◌≡◌, ◌∙◌, ap, sym, subst, IfOk, to_z, of_z}
+use Rattle.std.proofs.Common.{◌≡◌, ◌∙◌, subst, IfOk, to_z, of_z}
 use Rattle.std.proofs.lemmas.Int.{to_z-of_z}
 use mir.Syntax.{w64}
 use Rattle.delay_management.specs.Waiting.{chosen_changes, kept_changes}

@@ -1,4 +1,4 @@
-use Rattle.std.proofs.Common.{◌≡◌, ◌∙◌, ap, sym, subst}
+use Rattle.std.proofs.Common.{◌∙◌}
 use Rattle.std.proofs.lemmas.Result.{err_from_is_err_and}
 use Rattle.delay_management.proofs.RefusedInputs.{activities_are, activities_none, activities_refuse, activity_delays_are, activity_delays_none, activity_delays_refuse, event_delays_are, event_delays_none, event_delays_refuse, events_are, events_none, events_refuse, no_faults, problem_is, schedule_is, schedule_none, schedule_refuses}
 use Rattle.delay_management.proofs.propagation.Propagation.from_bundle.Goals as goal

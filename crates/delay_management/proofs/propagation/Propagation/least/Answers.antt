@@ -1,4 +1,3 @@
-use Rattle.std.proofs.Common.{◌≡◌, ◌≤◌, ◌∙◌, ℕ, [], All, ap, sym, subst, Vec}
 use Rattle.delay_management.proofs.PassIsLeast.{ends_there, least_told, told_least}
 use Rattle.delay_management.proofs.propagation.Propagation.least.Goals as goal
 

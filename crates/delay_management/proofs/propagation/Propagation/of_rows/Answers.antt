@@ -1,9 +1,5 @@
-use Rattle.std.proofs.Common.{◌≡◌, true, false, ◌≤◌, ◌<◌, ◌∙◌, List, ℕ, All, ap, map, sym, subst, length}
-use Rattle.std.specs.List.Sorted.{IsPermutation}
-use Rattle.delay_management.specs.declared.links.Link.{Link}
+use Rattle.std.proofs.Common.{true, false, ◌≤◌, ◌<◌, ◌∙◌, List, All, ap, map, sym, subst, length}
 use Rattle.delay_management.specs.declared.step.Activity.{Activity}
-use Rattle.delay_management.specs.declared.step.Step.{Step}
-use Rattle.delay_management.specs.Links.{IsLinked, links_of}
 use Rattle.delay_management.specs.Problems.{earliest_of}
 use Rattle.delay_management.proofs.ForwardInputs.{few_of, linked_as, rides_start, turns_start}
 use Rattle.delay_management.proofs.propagation.Propagation.of_rows.Goals as goal
