@@ -3,6 +3,7 @@ mod ChosenChanges
 mod DelaysByPlace
 pub mod DispositionMakes
 pub mod DispositionReads
+mod Firsts
 mod ForwardInputs
 mod ForwardPass
 mod ForwardSteps
@@ -20,6 +21,7 @@ mod ReportLine
 pub mod Rounds
 mod SmallTimes
 mod StageResults
+mod TableParts
 mod TextsBack
 mod TightMore
 mod Tried

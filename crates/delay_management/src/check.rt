@@ -7,6 +7,10 @@ ghost use Rattle.delay_management.specs.DispositionStage.{disposition_faults, ke
 ghost use Rattle.delay_management.specs.Judged.{Passes, first_broken_rule};
 
 use crate::fault::ReasonFault;
+use crate::judge::first_fault;
+use crate::propagation::Propagation;
+use crate::stage::wait_of;
+use crate::waiting::waiting_changes;
 use giv_files::{Bundle, StageFault};
 use std::alloc::Global;
 
@@ -26,6 +30,7 @@ pub fn check_reasons(
     ensures passes { IfOk result
         (λ answer. IfNone answer (Passes bundle.now times.now reasons.now)) }
 {
-    let _ = (alloc, bundle.stage(), times.len(), reasons.len());
-    Err(StageFault::NoMemory)
+    let problem = Propagation::from_bundle(alloc, bundle)?;
+    let kept = waiting_changes(alloc, &problem, wait_of(bundle))?;
+    Ok(first_fault(alloc, &problem, &kept, times, reasons)?)
 }

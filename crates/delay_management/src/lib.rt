@@ -4,19 +4,24 @@
 
 mod check;
 mod delays;
+mod early;
 mod fault;
 mod files;
+mod judge;
 mod lateness;
 mod links;
+mod marks;
 mod pass;
 mod propagation;
 mod reason;
 mod reason_row;
 mod reasons;
+mod rows;
 mod stage;
 mod step;
 mod turns;
 mod waiting;
+mod wrong;
 
 pub use check::check_reasons;
 pub use fault::ReasonFault;
@@ -25,3 +30,6 @@ pub use reason::Reason;
 pub use reason_row::ReasonRow;
 pub use stage::make_disposition;
 pub use step::{Activity, Step};
+
+#[cfg(test)]
+mod tests;
