@@ -1,8 +1,8 @@
 -- The reasons of a problem that are made are the canonical ones, and name ids that are not too great.
 use Rattle.std.proofs.Common.{◌≡◌, ◌∙◌, ℕ, ◌+◌, ◌<◌, ◌≤◌, Bool, true, false, cond, nat_eq, ltb, List, [], ◌∷◌, ◌++◌, length, map, filter, get_or, All, Result, Ok, Err, IfOk, refl, ap, sym, subst, arith}
-use Rattle.std.specs.List.{fold, range_with_len, reduce}
+use Rattle.std.specs.List.{fold, items_where_true, range_with_len, reduce}
 use Rattle.std.proofs.lemmas.Bool.{ltb-true}
-use Rattle.std.proofs.lemmas.List.Elements.{All-contains, All-filter, All-map}
+use Rattle.std.proofs.lemmas.List.Elements.{All-append, All-contains, All-filter, All-map}
 use Rattle.std.proofs.lemmas.List.FromFn.{get_or-map-range_with_len, length-map-range_with_len}
 use Rattle.delay_management.specs.declared.reason.Reason.{Reason}
 use Rattle.delay_management.specs.declared.reason.Reason.TheVariants as reason
@@ -20,6 +20,24 @@ pub chosen_keep : (P : Activity → Type 0) (problem : DelayProblem) (kept : Lis
     → All P (chosen_changes problem kept)
 chosen_keep P problem kept all k d inside =
     All-contains P problem.changes (get_or (chosen_changes problem kept) k d) all (chosen_are_changes problem kept k d inside)
+
+-- the activities that count
+module _ (problem : DelayProblem) (kept : List Bool) where
+  pub kept_told : (rides changes : List Activity) → rides ≡ problem.rides → changes ≡ problem.changes
+      → {A E : Type 0} (view : A → List Activity) (result : Result A E)
+      → IfOk result (λ all. view all ≡ rides ++ items_where_true kept changes)
+      → IfOk result (λ all. view all ≡ problem.rides ++ chosen_changes problem kept)
+  kept_told rides changes r h view (Ok all) told = told ∙ (λ i. r i ++ items_where_true kept (h i))
+  kept_told rides changes r h view (Err error) told = tt
+
+pub kept_all : (P : Activity → Type 0) (problem : DelayProblem) (kept : List Bool) → All P problem.rides
+    → All P problem.changes → {A E : Type 0} (view : A → List Activity) (result : Result A E)
+    → IfOk result (λ all. view all ≡ problem.rides ++ chosen_changes problem kept)
+    → IfOk result (λ all. All P (view all))
+kept_all P problem kept rides changes view (Ok all) told =
+    subst (All P) (sym told)
+    (All-append P problem.rides (chosen_changes problem kept) rides (chosen_keep P problem kept changes))
+kept_all P problem kept rides changes view (Err error) told = tt
 
 -- the least of some ids is no greater than the first one
 below_first : (first : ℕ) (ids : List ℕ) → fold lesser first ids ≤ first

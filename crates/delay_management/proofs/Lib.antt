@@ -3,14 +3,18 @@ mod ChosenChanges
 mod DelaysByPlace
 pub mod DispositionMakes
 pub mod DispositionReads
+mod EventTests
+mod FirstTold
 mod Firsts
 mod ForwardInputs
 mod ForwardPass
 mod ForwardSteps
 mod InputsSound
+mod JudgedFaults
 mod JudgedTexts
 mod Late
 mod Later
+mod MarksTell
 mod PassIsLeast
 mod Passing
 mod Places

@@ -15,7 +15,7 @@ use crate::fault::ReasonFault;
 use crate::propagation::Propagation;
 use crate::rows::{are_all_reasons, are_all_times, reasons_of, times_of};
 use crate::step::Activity;
-use crate::waiting::counted_activities;
+use crate::waiting::kept_activities;
 use crate::wrong::first_wrong;
 use giv_files::{ReadFault, Table, columns, read_table};
 use plan_num::NoMemory;
@@ -98,7 +98,7 @@ fn times_fault(
     ensures { IfOk result (λ answer. answer ≡ slice_get (broken_times problem.now
         (chosen_changes problem.now kept.now) times.now reasons.now) 0) }
 {
-    let activities = counted_activities(alloc, problem.rides(), problem.changes(), kept)?;
+    let activities = kept_activities(alloc, problem, kept)?;
     let (earliest, turns) = (problem.earliest(), problem.turns());
     match first_early(alloc, earliest, &activities, turns, times)? {
         Some(event) => Ok(Some(ReasonFault::Early { event })),

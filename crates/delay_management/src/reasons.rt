@@ -12,7 +12,7 @@ ghost use Rattle.delay_management.specs.Waiting.{chosen_changes};
 use crate::propagation::Propagation;
 use crate::reason::Reason;
 use crate::step::{Activity, Step};
-use crate::waiting::counted_activities;
+use crate::waiting::kept_activities;
 use plan_num::NoMemory;
 use std::alloc::Global;
 
@@ -31,7 +31,7 @@ pub(crate) fn canonical_reasons(
         (λ reasons. All (λ reason. named_activity reason ≤ 500000) reasons.items) }
     ensures few { IfOk result (λ reasons. length reasons.items ≤ 100000) }
 {
-    let activities = counted_activities(alloc, problem.rides(), problem.changes(), kept)?;
+    let activities = kept_activities(alloc, problem, kept)?;
     written_reasons(alloc, problem.earliest(), &activities, times)
 }
 

@@ -67,10 +67,18 @@ pub(crate) fn reasons_of(alloc: Global, table: &Table<3>) -> Result<Vec<Reason>,
 {
     let mut reasons = Vec::with_capacity(alloc, table.len())?;
     for row in 0..table.len() {
-        let (place, id) = (reason_number(table, row, 1), reason_number(table, row, 2));
-        reasons.push(reason_at(place, id))?;
+        reasons.push(reason_in(table, row))?;
     }
     Ok(reasons)
+}
+
+// The reason of a row.
+fn reason_in(table: &Table<3>, row: usize) -> Reason
+    requires row { row < length table.now }
+    requires cells { All (λ row. InColumns reasons_columns row.cells) table.now }
+    ensures { result ≡ (reason_row (slice_index_or table.now row no_row).cells).reason }
+{
+    reason_at(reason_number(table, row, 1), reason_number(table, row, 2))
 }
 
 // The reason of a word, by its place; the id counts for an activity alone.

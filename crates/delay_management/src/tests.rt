@@ -6,7 +6,8 @@ use std::alloc::Global;
 use std::test::Fail;
 
 // Two trips of two vehicles, with a change from the first to the second; the first one starts late.
-const EVENTS: &[u8] = b"1; 1; departure; 0; 1\n2; 2; arrival; 10; 2\n3; 3; departure; 13; 2\n4; 4; arrival; 20; 3\n";
+const EVENTS: &[u8] =
+    b"1; 1; departure; 0; 1\n2; 2; arrival; 10; 2\n3; 3; departure; 13; 2\n4; 4; arrival; 20; 3\n";
 
 const ACTIVITIES: &[u8] =
     b"1; 1; drive; 1; 2; 8; 10\n2; 2; drive; 3; 4; 7; 9\n3; 3; change; 2; 3; 2; 62\n";
@@ -15,7 +16,8 @@ const SCHEDULE: &[u8] =
     b"1; 1; 1; TRIP; 1; 1; 1; 0; 2; 2; 2; 10; 1\n2; 2; 1; TRIP; 3; 3; 2; 13; 4; 4; 3; 20; 2\n";
 
 // The same of one vehicle, whose empty ride between the trips takes a minute.
-const ONE_VEHICLE: &[u8] = b"1; 1; 1; TRIP; 1; 1; 1; 0; 2; 2; 2; 10; 1\n1; 1; 2; EMPTY; 2; 2; 2; 10; 3; 3; 2; 11; 0\n1; 1; 3; TRIP; 3; 3; 2; 13; 4; 4; 3; 20; 2\n";
+const ONE_VEHICLE: &[u8] =
+    b"1; 1; 1; TRIP; 1; 1; 1; 0; 2; 2; 2; 10; 1\n1; 1; 2; EMPTY; 2; 2; 2; 10; 3; 3; 2; 11; 0\n1; 1; 3; TRIP; 3; 3; 2; 13; 4; 4; 3; 20; 2\n";
 
 const LATE: &[u8] = b"1; 5\n";
 
@@ -75,10 +77,30 @@ fn has_rows(text: &[u8], header: &[u8], rows: &[u8]) -> bool {
 #[test]
 fn a_disposition_is_made(rt: HostRuntime) -> Result<(), Fail> {
     let cases: [(i64, &[u8], &[u8], &[u8]); 4] = [
-        (2, WAITED, WHY_WAITED, b"disposition: delay 5, 0 missed, optimal"),
-        (1, GONE, WHY_GONE, b"disposition: delay 3, 1 missed, optimal"),
-        (-1, WAITED, WHY_WAITED, b"disposition: delay 5, 0 missed, optimal"),
-        (-2, GONE, WHY_GONE, b"disposition: delay 3, 1 missed, optimal"),
+        (
+            2,
+            WAITED,
+            WHY_WAITED,
+            b"disposition: delay 5, 0 missed, optimal",
+        ),
+        (
+            1,
+            GONE,
+            WHY_GONE,
+            b"disposition: delay 3, 1 missed, optimal",
+        ),
+        (
+            -1,
+            WAITED,
+            WHY_WAITED,
+            b"disposition: delay 5, 0 missed, optimal",
+        ),
+        (
+            -2,
+            GONE,
+            WHY_GONE,
+            b"disposition: delay 3, 1 missed, optimal",
+        ),
     ];
     for (wait, times, reasons, report) in cases {
         let made = run(rt.alloc(), wait, [EVENTS, ACTIVITIES, SCHEDULE, LATE, b""])??;
@@ -136,28 +158,78 @@ fn a_fault_of_an_input_is_refused(rt: HostRuntime) -> Result<(), Fail> {
     let unknown = b"1; 1; 1; TRIP; 1; 1; 1; 9; 5; 2; 2; 3; 1\n".as_slice();
     let none = b"".as_slice();
     let cases: [([&[u8]; 5], FileId, u64, RowWhy); 4] = [
-        ([EVENTS, sync, SCHEDULE, none, none], FileId::ActivitiesX, 1, RowWhy::StraySync),
-        ([EVENTS, back, SCHEDULE, none, none], FileId::ActivitiesX, 2, RowWhy::Backward),
-        ([EVENTS, ACTIVITIES, early, none, none], FileId::Schedule, 1, RowWhy::Backward),
-        ([EVENTS, ACTIVITIES, long, none, none], FileId::Schedule, 1, RowWhy::Backward),
+        (
+            [EVENTS, sync, SCHEDULE, none, none],
+            FileId::ActivitiesX,
+            1,
+            RowWhy::StraySync,
+        ),
+        (
+            [EVENTS, back, SCHEDULE, none, none],
+            FileId::ActivitiesX,
+            2,
+            RowWhy::Backward,
+        ),
+        (
+            [EVENTS, ACTIVITIES, early, none, none],
+            FileId::Schedule,
+            1,
+            RowWhy::Backward,
+        ),
+        (
+            [EVENTS, ACTIVITIES, long, none, none],
+            FileId::Schedule,
+            1,
+            RowWhy::Backward,
+        ),
     ];
     for (inputs, file, row, why) in cases {
         let told = StageFault::Refused(Refusal::BadRow { file, row, why });
         assert!(rt; run(rt.alloc(), 2, inputs)?.err() == Some(told));
     }
     let more: [([&[u8]; 5], FileId, u64, RowWhy); 4] = [
-        ([EVENTS, ACTIVITIES, reversed, none, none], FileId::Schedule, 1, RowWhy::Backward),
-        ([EVENTS, ACTIVITIES, unknown, none, none], FileId::Schedule, 1, RowWhy::UnknownEvent),
-        ([EVENTS, ACTIVITIES, SCHEDULE, b"1; 5\n5; 5\n", none], FileId::EventDelays, 2, RowWhy::UnknownEvent),
-        ([EVENTS, ACTIVITIES, SCHEDULE, b"1; 5\n1; 0\n", none], FileId::EventDelays, 2, RowWhy::RepeatedId),
+        (
+            [EVENTS, ACTIVITIES, reversed, none, none],
+            FileId::Schedule,
+            1,
+            RowWhy::Backward,
+        ),
+        (
+            [EVENTS, ACTIVITIES, unknown, none, none],
+            FileId::Schedule,
+            1,
+            RowWhy::UnknownEvent,
+        ),
+        (
+            [EVENTS, ACTIVITIES, SCHEDULE, b"1; 5\n5; 5\n", none],
+            FileId::EventDelays,
+            2,
+            RowWhy::UnknownEvent,
+        ),
+        (
+            [EVENTS, ACTIVITIES, SCHEDULE, b"1; 5\n1; 0\n", none],
+            FileId::EventDelays,
+            2,
+            RowWhy::RepeatedId,
+        ),
     ];
     for (inputs, file, row, why) in more {
         let told = StageFault::Refused(Refusal::BadRow { file, row, why });
         assert!(rt; run(rt.alloc(), 2, inputs)?.err() == Some(told));
     }
     let late: [([&[u8]; 5], FileId, u64, RowWhy); 2] = [
-        ([EVENTS, ACTIVITIES, SCHEDULE, none, b"4; 1\n"], FileId::ActivityDelays, 1, RowWhy::UnknownActivity),
-        ([EVENTS, ACTIVITIES, SCHEDULE, b"1; 1000001\n", none], FileId::EventDelays, 1, RowWhy::OutOfRange { column: 2 }),
+        (
+            [EVENTS, ACTIVITIES, SCHEDULE, none, b"4; 1\n"],
+            FileId::ActivityDelays,
+            1,
+            RowWhy::UnknownActivity,
+        ),
+        (
+            [EVENTS, ACTIVITIES, SCHEDULE, b"1; 1000001\n", none],
+            FileId::EventDelays,
+            1,
+            RowWhy::OutOfRange { column: 2 },
+        ),
     ];
     for (inputs, file, row, why) in late {
         let told = StageFault::Refused(Refusal::BadRow { file, row, why });
@@ -194,7 +266,11 @@ fn the_first_broken_rule_is_told(rt: HostRuntime) -> Result<(), Fail> {
     }
     let more: [(&[u8], &[u8], ReasonFault); 4] = [
         (b"1; 5\n2; 13\n3; 15\n", WHY_WAITED, ReasonFault::Events),
-        (b"2; 13\n1; 5\n3; 15\n4; 22\n", WHY_WAITED, ReasonFault::Events),
+        (
+            b"2; 13\n1; 5\n3; 15\n4; 22\n",
+            WHY_WAITED,
+            ReasonFault::Events,
+        ),
         (WAITED, b"", ReasonFault::ReasonsRow),
         (WAITED, b"1; source; 0; 1\n", ReasonFault::ReasonsRow),
     ];

@@ -69,8 +69,23 @@ fn waits(wait: i64, ready: u64, planned: u32) -> bool
     ready <= u64::from(planned) + wait as u64
 }
 
-/// The drives and waits, and behind them the changes that are chosen.
-pub(crate) fn counted_activities(
+/// The drives and waits of a problem, and behind them the changes that are chosen.
+pub(crate) fn kept_activities(
+    alloc: Global,
+    problem: &Propagation,
+    kept: &[bool],
+) -> Result<Vec<Activity>, NoMemory>
+    ensures activities { IfOk result (λ all. all.items
+        ≡ problem.now.rides ++ chosen_changes problem.now kept.now) }
+    ensures ends { IfOk result
+        (λ all. All (λ at. Joins (length problem.now.events) at.step) all.items) }
+    ensures ids { IfOk result (λ all. All (λ at. at.id ≤ 500000) all.items) }
+{
+    counted_activities(alloc, problem.rides(), problem.changes(), kept)
+}
+
+// The drives and waits, and behind them the changes that are chosen.
+fn counted_activities(
     alloc: Global,
     rides: &[Activity],
     changes: &[Activity],

@@ -54,9 +54,20 @@ fn right_alone(
 {
     let mut marks = Vec::with_capacity(alloc, times.len())?;
     for event in 0..times.len() {
-        marks.push(is_source(reasons, event) && times[event] == earliest[event])?;
+        marks.push(is_own(earliest, times, reasons, event))?;
     }
     Ok(marks)
+}
+
+// Whether an event has its earliest time, and that as its reason.
+fn is_own(earliest: &[u64], times: &[u64], reasons: &[Reason], event: usize) -> bool
+    requires there { event < length times.now }
+    requires each { length times.now ≡ length earliest.now }
+    requires reasons { length reasons.now ≡ length times.now }
+    ensures { result ≡ (is_source (reason_for reasons.now event)
+        && nat_eq (time_at times.now event) (time_at earliest.now event)) }
+{
+    is_source(reasons, event) && times[event] == earliest[event]
 }
 
 // Marks the heads of tight activities that are named by the reasons of these.

@@ -1,4 +1,4 @@
-use Rattle.std.proofs.Common.{◌≡◌, ◌∙◌, ℕ, Bool, false, get_or, length, slice_get, ap, sym, not, arith}
+use Rattle.std.proofs.Common.{◌∙◌, ℕ, Bool, false, get_or, length, slice_get, ap, sym, arith}
 use Rattle.delay_management.proofs.Firsts.{all_left, first_fails, first_passes, none_left}
 use Rattle.delay_management.proofs.marks.first_marked.Goals as goal
 

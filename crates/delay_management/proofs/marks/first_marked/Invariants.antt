@@ -1,5 +1,5 @@
 -- The first of the events that are left is the first of all.
-use Rattle.std.proofs.Common.{◌≡◌, ◌-◌, false, filter, get_or, length, not}
+use Rattle.std.proofs.Common.{◌≡◌, ◌-◌, false, filter, get_or, length}
 use Rattle.std.specs.List.{range_with_len}
 use Rattle.delay_management.proofs.marks.first_marked.Given as goal
 

@@ -1,8 +1,7 @@
 -- The marks go on from here as they do from the first ones.
-use Rattle.std.proofs.Common.{◌≡◌, ◌&&◌, drop, length, nat_eq, nat_lt}
+use Rattle.std.proofs.Common.{◌≡◌, ◌&&◌, drop, length}
 use Rattle.delay_management.specs.EarlyEvents.{is_just}
-use Rattle.delay_management.specs.LeastTimes.{asked, time_at}
-use Rattle.delay_management.specs.Marks.{is_turn, marked_by, names}
+use Rattle.delay_management.specs.Marks.{is_turn, marked_by}
 use Rattle.delay_management.specs.Reasons.{reason_for}
 use Rattle.delay_management.proofs.wrong.mark_turns.Given as goal
 
