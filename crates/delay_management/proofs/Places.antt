@@ -3,7 +3,7 @@ use Rattle.std.proofs.Common.{◌≡◌, ◌≢◌, ◌∙◌, ℕ, ◌+◌, ◌
 use Rattle.std.specs.List.{range_with_len}
 use Rattle.std.proofs.lemmas.Bool.{eqb-true, eqb-false}
 use Rattle.std.proofs.lemmas.List.{ext_get_or, get_or-map, get_or-set_same, get_or-set_other, length-set}
-use Rattle.std.proofs.lemmas.List.FromFn.{get_or-map-range_with_len, get_or-range_with_len, length-map-range_with_len}
+use Rattle.std.proofs.lemmas.List.FromFn.{get_or-map-range_with_len, get_or-range_with_len, length-map-range_with_len, map-range_with_len_more}
 use Rattle.event_tables.specs.Places.{AreNumbered}
 
 -- what is told of a place changes at one of them
@@ -59,3 +59,9 @@ told_alike f g n same =
     let here : 0 + k ≡ k = omega arith in
     get_or-map-range_with_len f 0 n k k (f 0) inside here ∙ same k inside
     ∙ sym (get_or-map-range_with_len g 0 n k k (f 0) inside here))
+
+-- what is pushed behind what is told of the first places
+pub told_more : {X : Type 0} (f : ℕ → X) (i : ℕ) (old new : List X) (one : X) → new ≡ old ++ one ∷ []
+    → old ≡ map f (range_with_len 0 i) → one ≡ f i → new ≡ map f (range_with_len 0 (i + 1))
+told_more f i old new one is told same =
+    is ∙ (λ j. told j ++ same j ∷ []) ∙ sym (map-range_with_len_more f 0 i i (omega arith))

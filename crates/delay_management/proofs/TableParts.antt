@@ -23,6 +23,12 @@ module _ {X Y : Type 0} (of : List ℤ → X) (part : X → Y) (table : List Tab
       ∙ ap (λ one. take i (map whole table) ++ one ∷ []) (get_or-map whole table i no_row (whole no_row) inside)
       ∙ ap (λ some. take i some ++ whole (get_or table i no_row) ∷ []) (sym at_once)
 
+  -- what is pushed behind the first parts
+  pub part_pushed : (old new : List Y) (one : Y) → i < length table → new ≡ old ++ one ∷ []
+      → old ≡ take i parts → one ≡ whole (get_or table i no_row) → new ≡ take (i + 1) parts
+  part_pushed old new one inside is told same =
+      is ∙ (λ j. told j ++ same j ∷ []) ∙ sym (part_more inside)
+
   pub parts_whole : length table ≤ i → take i parts ≡ parts
   parts_whole past = take_all i parts (omega (arith, past, ap length at_once, length-map table whole))
 

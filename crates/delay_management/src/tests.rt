@@ -69,6 +69,17 @@ fn judged(
     Ok(check_reasons(alloc, &bundle, times, reasons))
 }
 
+// The texts of times and of reasons that were made.
+fn texts(made: &Made) -> Result<(&[u8], &[u8]), Fail> {
+    if made.files.len() != 2 {
+        return Err(Fail::from("there are two files"));
+    }
+    Ok((
+        made.files.get(0).text.as_bytes(),
+        made.files.get(1).text.as_bytes(),
+    ))
+}
+
 // Whether a text is a header and some rows.
 fn has_rows(text: &[u8], header: &[u8], rows: &[u8]) -> bool {
     text.strip_prefix(header) == Some(rows)
@@ -119,9 +130,8 @@ fn a_disposition_is_made(rt: HostRuntime) -> Result<(), Fail> {
 #[test]
 fn vehicles_turn_and_activities_are_late(rt: HostRuntime) -> Result<(), Fail> {
     let made = run(rt.alloc(), -2, [EVENTS, ACTIVITIES, ONE_VEHICLE, LATE, b""])??;
-    let times = made.files.get(0).text.as_bytes();
+    let (times, reasons) = texts(&made)?;
     assert!(rt; has_rows(times, b"# event-id; time\n", b"1; 5\n2; 13\n3; 19\n4; 26\n"));
-    let reasons = made.files.get(1).text.as_bytes();
     let header = b"# event-id; reason; activity-id\n";
     let rows = b"1; source; 0\n2; activity; 1\n3; turn; 0\n4; activity; 2\n";
     assert!(rt; has_rows(reasons, header, rows));
@@ -131,7 +141,7 @@ fn vehicles_turn_and_activities_are_late(rt: HostRuntime) -> Result<(), Fail> {
         -1,
         [EVENTS, ACTIVITIES, SCHEDULE, b"1; 5\n3; 3\n", late],
     )??;
-    let times = made.files.get(0).text.as_bytes();
+    let (times, _) = texts(&made)?;
     assert!(rt; has_rows(times, b"# event-id; time\n", b"1; 5\n2; 15\n3; 18\n4; 25\n"));
     let report = b"disposition: delay 10, 0 missed, optimal".as_slice();
     assert_eq!(rt; made.report.as_bytes(), report);
@@ -141,7 +151,7 @@ fn vehicles_turn_and_activities_are_late(rt: HostRuntime) -> Result<(), Fail> {
 #[test]
 fn nothing_is_made_of_nothing(rt: HostRuntime) -> Result<(), Fail> {
     let made = run(rt.alloc(), 3, [b"# none\n", b"", b"", b"", b""])??;
-    let times = made.files.get(0).text.as_bytes();
+    let (times, _) = texts(&made)?;
     assert_eq!(rt; times, b"# event-id; time\n".as_slice());
     let report = b"disposition: delay 0, 0 missed, optimal".as_slice();
     assert_eq!(rt; made.report.as_bytes(), report);
