@@ -19,6 +19,7 @@ mod reasons;
 mod rows;
 mod stage;
 mod step;
+mod times;
 mod turns;
 mod waiting;
 mod wrong;
@@ -30,6 +31,7 @@ pub use reason::Reason;
 pub use reason_row::ReasonRow;
 pub use stage::make_disposition;
 pub use step::{Activity, Step};
+pub use times::Times;
 
 #[cfg(test)]
 mod tests;

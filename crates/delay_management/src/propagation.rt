@@ -121,7 +121,7 @@ impl Propagation {
 
     /// The least times where some changes are kept, told by one value for each change: no event is
     /// before its earliest time, and each step has its minutes.
-    pub(crate) fn least(&self, alloc: Global, kept: &[bool]) -> Result<Vec<u64>, NoMemory>
+    pub(crate) fn least_times(&self, alloc: Global, kept: &[bool]) -> Result<Vec<u64>, NoMemory>
         ensures times { IfOk result
             (λ times. times.items ≡ least_times self.now (chosen_changes self.now kept.now)) }
         ensures least { IfOk result

@@ -40,7 +40,7 @@ fn disposed(alloc: Global, bundle: &Bundle) -> Result<Made, StageFault>
 {
     let problem = Propagation::from_bundle(alloc, bundle)?;
     let kept = waiting_changes(alloc, &problem, wait_of(bundle))?;
-    let times = problem.least(alloc, &kept)?;
+    let times = problem.least_times(alloc, &kept)?;
     let reasons = canonical_reasons(alloc, &problem, &kept, &times)?;
     Ok(disposition_made(alloc, &problem, &times, &reasons)?)
 }

@@ -21,7 +21,7 @@ pub(crate) fn waiting_changes(
     ensures { IfOk result
         (λ kept. chosen_changes problem.now kept.items ≡ kept_changes problem.now wait) }
 {
-    let alone = problem.least(alloc, &[])?;
+    let alone = problem.least_times(alloc, &[])?;
     kept_by(alloc, problem.events(), problem.changes(), &alone, wait)
 }
 

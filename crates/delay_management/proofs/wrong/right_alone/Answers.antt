@@ -9,6 +9,6 @@ pub loop-event-preserved : goal.loop-event-preserved
 loop-event-preserved c =
     let reasons = c.args.reasons.now in
     let f : ℕ → Bool = λ event. is_source (reason_for reasons event)
-        && nat_eq (time_at c.args.times.now event) (time_at c.args.earliest.now event) in
+    && nat_eq (time_at c.args.times.now event) (time_at c.args.earliest.now event) in
     told_more f c.loop-event.event c.loop-event.marks.items c.push.new.self.items c.is_own.result
     c.in_ok-push.ensures.items c.loop-event.invariant c.is_own.ensures

@@ -1,5 +1,5 @@
 use Rattle.delay_management.proofs.PassIsLeast.{ends_there, least_told, told_least}
-use Rattle.delay_management.proofs.propagation.Propagation.least.Goals as goal
+use Rattle.delay_management.proofs.propagation.Propagation.least_times.Goals as goal
 
 pub pushed_along-requires-clause-ends : goal.pushed_along-requires-clause-ends
 pushed_along-requires-clause-ends c =
