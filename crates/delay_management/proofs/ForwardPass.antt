@@ -1,4 +1,5 @@
--- One pass along links in the forward order satisfies each of them, and is no later than it has to be.
+-- One pass along links in the forward order satisfies each of them, and is no later than it has to
+-- be.
 use Rattle.std.proofs.Common.{◌≡◌, ◌≢◌, ◌∙◌, ℕ, suc, ◌<◌, ◌≤◌, ◌⊎◌, inl, inr, Bool, true, false, cond, eqb, List, [], ◌∷◌, length, get_or, All, refl, ap, sym, subst, arith}
 use Rattle.std.specs.List.Sorted.{IsNonDecreasingBy}
 use Rattle.std.proofs.lemmas.Bool.{eqb-true, eqb-false}
@@ -10,7 +11,8 @@ use Rattle.delay_management.specs.LeastTimes.{asked, later, time_at}
 use Rattle.delay_management.specs.Links.{counts, head_pushed, pushed_along, pushed_by}
 use Rattle.delay_management.proofs.Later.{later_is}
 
--- a link between two of so many events, the first of which has its rank, and the second a greater one
+-- a link between two of so many events, the first of which has its rank, and the second a greater
+-- one
 pub record Joins (n : ℕ) (ranks : ℕ → ℕ) (link : Link) : Type 0 where
   pub from : link.step.from < n
   pub to : link.step.to < n

@@ -1,4 +1,5 @@
--- Two texts that break no rule of a disposition hold feasible times with right reasons, and conversely.
+-- Two texts that break no rule of a disposition hold feasible times with right reasons, and
+-- conversely.
 use Rattle.std.proofs.Common.{◌≡◌, ◌∙◌, ℕ, zero, suc, ◌+◌, ◌<◌, ◌≤◌, ◌==◌, ◌&&◌, ◌||◌, not, Bool, true, false, cond, eqb, ltb, nat_eq, nat_lt, List, [], ◌∷◌, length, map, filter, get_or, slice_get, All, None, refl, ap, sym, subst, arith}
 use Rattle.std.specs.List.{enumerate_from, list_all, list_any, range_with_len}
 use Rattle.std.proofs.lemmas.Bool.{and_from, and_parts, eq-eqb, eqb-true, ltb-false, ltb-true, le-ltb, not-false, or_parts}

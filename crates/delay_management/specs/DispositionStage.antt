@@ -1,5 +1,5 @@
--- The stage of dispositions: the least times of all events where delays have come and some changes wait, and
--- a reason for each.
+-- The stage of dispositions: the least times of all events where delays have come and some changes
+-- wait, and a reason for each.
 use Rattle.std.specs.Prelude.{ℕ, ℤ, pos, List, [], ◌∷◌, ◌++◌, map, codes, decimal, Result}
 use Rattle.std.specs.Fmt.{signed_decimal}
 use Rattle.std.specs.List.{enumerate_from}
@@ -32,7 +32,8 @@ use Rattle.delay_management.specs.Problems.{DelayProblem, problem_over}
 use Rattle.delay_management.specs.Reasons.{canonical_reasons}
 use Rattle.delay_management.specs.Waiting.{wait_of, kept_changes}
 
--- what the input texts hold: events, activities, a vehicle schedule, the delays of events and of activities
+-- what the input texts hold: events, activities, a vehicle schedule, the delays of events and of
+-- activities
 unfoldable pub events_in : BundleParts → List ExpandedEvent
 events_in bundle = records_of expanded_event_input (input_text bundle 0)
 
@@ -48,9 +49,11 @@ event_delays_in bundle =
 
 unfoldable pub activity_delays_in : BundleParts → List DelayRow
 activity_delays_in bundle =
-    records_of (activity_delay_input (expanded_activity_ids (activities_in bundle))) (input_text bundle 4)
+    records_of (activity_delay_input (expanded_activity_ids (activities_in bundle)))
+    (input_text bundle 4)
 
--- the faults of the files that earlier stages make, and of those of delays, in the order of the inputs
+-- the faults of the files that earlier stages make, and of those of delays, in the order of the
+-- inputs
 abbrev pub made_faults : BundleParts → List Refusal
 made_faults bundle =
     input_faults expanded_event_input (input_text bundle 0)
@@ -127,8 +130,8 @@ disposition_made problem times reasons = record {
   report = disposition_line problem times;
 }
 
--- what is made of a problem where some changes are kept: the least times, and the reasons that are written of
--- them
+-- what is made of a problem where some changes are kept: the least times, and the reasons that are
+-- written of them
 unfoldable pub disposed_of : DelayProblem → List Activity → Made
 disposed_of problem kept =
     let times = least_times problem kept in

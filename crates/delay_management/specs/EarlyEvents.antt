@@ -1,4 +1,5 @@
--- Inner words: events that are early, or whose reasons are right, by the activities that count and the turns.
+-- Inner words: events that are early, or whose reasons are right, by the activities that count and
+-- the turns.
 use Rattle.std.specs.Prelude.{ℕ, ◌&&◌, ◌||◌, ◌==◌, nat_eq, nat_lt, Bool, List}
 use Rattle.std.specs.List.{list_any}
 use Rattle.delay_management.specs.declared.reason.Reason.{Reason}
@@ -19,7 +20,8 @@ is_just times step = nat_eq (asked times step) (time_at times step.to)
 abbrev pub is_early_by : List ℕ → List Activity → List Step → List ℕ → ℕ → Bool
 is_early_by earliest activities turns times event =
     (nat_lt (time_at times event) (time_at earliest event)
-    || list_any (λ activity. (activity.step.to == event) && is_before times activity.step) activities)
+    || list_any (λ activity. (activity.step.to == event) && is_before times activity.step)
+    activities)
     || list_any (λ turn. (turn.to == event) && is_before times turn) turns
 
 -- the reason of an event is right
@@ -27,6 +29,7 @@ abbrev pub is_right_by : List ℕ → List Activity → List Step → List ℕ �
 is_right_by earliest activities turns times reasons event =
     ((is_source (reason_for reasons event) && nat_eq (time_at times event) (time_at earliest event))
     || list_any (λ activity. (activity.step.to == event)
-    && (names (reason_for reasons activity.step.to) activity.id && is_just times activity.step)) activities)
+    && (names (reason_for reasons activity.step.to) activity.id && is_just times activity.step))
+    activities)
     || list_any (λ turn. (turn.to == event)
     && (is_turn (reason_for reasons turn.to) && is_just times turn)) turns

@@ -42,7 +42,8 @@ is_table columns text = length (faults columns text) == 0
 
 -- ids are those of so many events, in their order
 abbrev pub are_all : ℕ → List ℕ → Bool
-are_all count ids = (length ids == count) && list_all (λ at. nat_eq at.1 at.0) (enumerate_from 1 ids)
+are_all count ids =
+    (length ids == count) && list_all (λ at. nat_eq at.1 at.0) (enumerate_from 1 ids)
 
 -- a rule, where it is broken
 abbrev pub broken_where : Bool → ReasonFault → List ReasonFault
@@ -59,17 +60,21 @@ is_ahead times event step = (step.to == event) && nat_lt (time_at times event) (
 -- an event is before its earliest time, or before what a step into it asks
 abbrev pub is_early : DelayProblem → List Step → List ℕ → ℕ → Bool
 is_early problem steps times event =
-    nat_lt (time_at times event) (earliest_at problem event) || list_any (is_ahead times event) steps
+    nat_lt (time_at times event) (earliest_at problem event)
+    || list_any (is_ahead times event) steps
 
 -- the reason of an event is wrong
 abbrev pub is_wrong : DelayProblem → List Activity → List ℕ → List Reason → ℕ → Bool
 is_wrong problem kept times reasons event =
     not (is_right problem kept times event (reason_for reasons event))
 
--- the rules that rows of reasons break for some times: they are not those of all events, a reason is wrong
-abbrev pub broken_reasons : DelayProblem → List Activity → List ℕ → List ReasonRow → List ReasonFault
+-- the rules that rows of reasons break for some times: they are not those of all events, a reason
+-- is wrong
+abbrev pub broken_reasons : DelayProblem → List Activity → List ℕ → List ReasonRow
+    → List ReasonFault
 broken_reasons problem kept times rows =
-    broken_where (not (are_all (length problem.events) (map (λ row. row.event) rows))) fault.ReasonsRow
+    broken_where (not (are_all (length problem.events) (map (λ row. row.event) rows)))
+    fault.ReasonsRow
     ++ map (λ event. fault.Reason event)
     (events_where problem (is_wrong problem kept times (map (λ row. row.reason) rows)))
 
@@ -86,9 +91,10 @@ broken_times problem kept times reasons_text =
     (events_where problem (is_early problem (steps_with problem kept) times))
     ++ reason_faults problem kept times reasons_text
 
--- the rules that rows of times break, with a text of reasons: they are not those of all events, and those
--- that their times break
-abbrev pub broken_rows : DelayProblem → List Activity → List DisposedTime → List ℕ → List ReasonFault
+-- the rules that rows of times break, with a text of reasons: they are not those of all events, and
+-- those that their times break
+abbrev pub broken_rows : DelayProblem → List Activity → List DisposedTime → List ℕ
+    → List ReasonFault
 broken_rows problem kept rows reasons_text =
     broken_where (not (are_all (length problem.events) (map (λ row. row.event) rows))) fault.Events
     ++ broken_times problem kept (map (λ row. row.time) rows) reasons_text
@@ -100,12 +106,13 @@ broken_rules problem kept times_text reasons_text =
     ++ broken_rows problem kept (times_read times_text) reasons_text
 
 -- the first of them, or none
-unfoldable pub first_broken_rule : DelayProblem → List Activity → List ℕ → List ℕ → Option ReasonFault
+unfoldable pub first_broken_rule : DelayProblem → List Activity → List ℕ → List ℕ
+    → Option ReasonFault
 first_broken_rule problem kept times_text reasons_text =
     slice_get (broken_rules problem kept times_text reasons_text) 0
 
--- two texts pass over a bundle: they are tables of one row for each event in order, the times are its
--- disposition, so no feasible times are earlier at any event, and each reason is right
+-- two texts pass over a bundle: they are tables of one row for each event in order, the times are
+-- its disposition, so no feasible times are earlier at any event, and each reason is right
 pub record Passes (bundle : BundleParts) (times_text reasons_text : List ℕ) : Type 0 where
   pub times : List ℕ
   pub reasons : List Reason

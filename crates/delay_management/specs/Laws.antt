@@ -22,7 +22,8 @@ LeastIsOne = (problem : DelayProblem) (kept : List Activity) (times others : Lis
 abbrev pub ReasonsProveLeast : Type 0
 ReasonsProveLeast = (problem : DelayProblem) (kept : List Activity) (times : List ℕ)
     (reasons : List Reason) → IsForward problem → AreChanges problem kept
-    → IsFeasible problem kept times → AreRight problem kept times reasons → IsLeast problem kept times
+    → IsFeasible problem kept times → AreRight problem kept times reasons
+    → IsLeast problem kept times
 
 -- the reasons that are written of least times are right
 abbrev pub WrittenReasonsAreRight : Type 0

@@ -13,9 +13,10 @@ time_at times event = get_or times event 0
 abbrev pub asked : List ℕ → Step → ℕ
 asked times step = time_at times step.from + minutes step
 
--- times are feasible where some changes are kept: each event has one, none is before its earliest time, and
--- each step has its minutes
-pub record IsFeasible (problem : DelayProblem) (kept : List Activity) (times : List ℕ) : Type 0 where
+-- times are feasible where some changes are kept: each event has one, none is before its earliest
+-- time, and each step has its minutes
+pub record IsFeasible (problem : DelayProblem) (kept : List Activity)
+    (times : List ℕ) : Type 0 where
   pub each : length times ≡ length problem.events
   pub earliest : (event : ℕ) → event < length problem.events
       → earliest_at problem event ≤ time_at times event
@@ -49,6 +50,7 @@ unfoldable pub pushed_often : DelayProblem → List Step → ℕ → List ℕ
 pushed_often problem steps zero = problem.earliest
 pushed_often problem steps (suc more) = pushed problem steps (pushed_often problem steps more)
 
--- the least times where some changes are kept: nothing moves any more once each event could push another
+-- the least times where some changes are kept: nothing moves any more once each event could push
+-- another
 unfoldable pub least_times : DelayProblem → List Activity → List ℕ
 least_times problem kept = pushed_often problem (steps_with problem kept) (length problem.events)

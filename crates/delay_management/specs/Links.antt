@@ -11,7 +11,8 @@ use Rattle.delay_management.specs.declared.step.Step.{Step}
 use Rattle.delay_management.specs.LeastTimes.{asked, later, time_at}
 use Rattle.delay_management.specs.Problems.{DelayProblem, IsForward, event_at, planned_at}
 
--- where an event stands in the forward order, as one number: its time, then arrivals, then its index
+-- where an event stands in the forward order, as one number: its time, then arrivals, then its
+-- index
 abbrev pub departs_later : ExpandedEvent → ℕ
 departs_later event = if is_arrival event.kind then 0 else 2147483648
 
@@ -59,8 +60,8 @@ pushed_by kept times link =
 abbrev pub pushed_along : List Bool → List Link → List ℕ → List ℕ
 pushed_along kept links times = fold (pushed_by kept) times links
 
--- what is known of a problem that was read: its events are numbered and not too many, its steps go forward,
--- there are not too many of them, and its links stand in order
+-- what is known of a problem that was read: its events are numbered and not too many, its steps go
+-- forward, there are not too many of them, and its links stand in order
 pub record IsLinked (problem : DelayProblem) (links : List Link) : Type 0 where
   pub numbered : AreNumbered (λ event. event.id) problem.events
   pub few : length problem.events ≤ 100000

@@ -10,7 +10,8 @@ with_mark marks event is = slice_set marks event (get_or marks event false || is
 
 -- the same for the events of some items, one after the other
 abbrev pub marked_by : {X : Type 0} → (X → ℕ) → (X → Bool) → List Bool → List X → List Bool
-marked_by event is marks items = fold (λ marks item. with_mark marks (event item) (is item)) marks items
+marked_by event is marks items =
+    fold (λ marks item. with_mark marks (event item) (is item)) marks items
 
 -- a reason is the earliest time, it names an activity, or it is a turn
 abbrev pub is_source : Reason → Bool

@@ -1,4 +1,5 @@
--- What a disposition is about: events with their earliest times, and the steps by which delays go on.
+-- What a disposition is about: events with their earliest times, and the steps by which delays go
+-- on.
 use Rattle.std.specs.Prelude.{ℕ, ◌+◌, ◌-◌, ◌<◌, ◌≡◌, ◌==◌, Bool, true, false, not, if◌then◌else◌, List, [], ◌∷◌, ◌++◌, length, map, filter, get_or, All}
 use Rattle.std.specs.List.{Contains}
 use Rattle.event_tables.specs.declared.activity_kind.ActivityKind.{ActivityKind}
@@ -13,8 +14,8 @@ use Rattle.event_tables.specs.Schedules.{is_empty_row}
 use Rattle.delay_management.specs.declared.step.Activity.{Activity}
 use Rattle.delay_management.specs.declared.step.Step.{Step}
 
--- the events, the earliest time of each, the drives and waits, the changes, and the turns of vehicles between
--- trips; events are told by their indexes
+-- the events, the earliest time of each, the drives and waits, the changes, and the turns of
+-- vehicles between trips; events are told by their indexes
 pub record DelayProblem : Type 0 where
   pub events : List ExpandedEvent
   pub earliest : List ℕ

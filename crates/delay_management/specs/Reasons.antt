@@ -22,8 +22,8 @@ tight_among times event activities =
 abbrev pub tight_ids : DelayProblem → List Activity → List ℕ → ℕ → List ℕ
 tight_ids problem kept times event = tight_among times event (problem.rides ++ kept)
 
--- a reason of an event is right: the event is at its earliest time, or the named activity or some turn into
--- it is tight
+-- a reason of an event is right: the event is at its earliest time, or the named activity or some
+-- turn into it is tight
 abbrev pub is_right : DelayProblem → List Activity → List ℕ → ℕ → Reason → Bool
 is_right problem kept times event reason.Source =
     nat_eq (time_at times event) (earliest_at problem event)
@@ -40,8 +40,8 @@ abbrev pub by_activity : Option ℕ → Reason
 by_activity None = reason.Turn
 by_activity (Some id) = reason.Activity id
 
--- the reason of an event that is written: its earliest time where that is right, or else the least activity
--- that is, or else a turn
+-- the reason of an event that is written: its earliest time where that is right, or else the least
+-- activity that is, or else a turn
 abbrev pub canonical_reason : DelayProblem → List Activity → List ℕ → ℕ → Reason
 canonical_reason problem kept times event =
     if is_right problem kept times event reason.Source then reason.Source

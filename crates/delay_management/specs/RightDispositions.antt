@@ -16,10 +16,11 @@ use Rattle.delay_management.specs.Judged.{first_broken_rule, reason_row}
 use Rattle.delay_management.specs.Reasons.{AreRight, canonical_reasons}
 use Rattle.delay_management.specs.Waiting.{IsDisposition, wait_of}
 
--- The files that are made are right: the inputs have no fault, and there are two files. Read again, the first
--- one has the disposition, so one time for each event in order, and no feasible times are earlier at any
--- event; the second one has the reasons that are written of them, and each is right. The two break no rule of
--- a disposition from any hand, and the first one has no fault by the rules of its kind.
+-- The files that are made are right: the inputs have no fault, and there are two files. Read again,
+-- the first one has the disposition, so one time for each event in order, and no feasible times are
+-- earlier at any event; the second one has the reasons that are written of them, and each is right.
+-- The two break no rule of a disposition from any hand, and the first one has no fault by the rules
+-- of its kind.
 pub record DispositionFilesAreRight (bundle : BundleParts) (files : List MadeFile) : Type 0 where
   pub inputs : disposition_faults bundle ≡ []
   pub times : List ℕ
@@ -34,7 +35,8 @@ pub record DispositionFilesAreRight (bundle : BundleParts) (files : List MadeFil
   pub times_back : ReadsAs disposed_columns disposed_time (time_rows times) times_text
   pub reasons_back : ReadsAs reasons_columns reason_row (reason_rows reasons) reasons_text
   pub passes : first_broken_rule (problem_in bundle) (kept_in bundle) times_text reasons_text ≡ None
-  pub accepted : input_faults (disposed_time_input (expanded_event_ids (events_in bundle))) times_text ≡ []
+  pub accepted : input_faults (disposed_time_input (expanded_event_ids (events_in bundle)))
+      times_text ≡ []
 
 -- what is made is right
 abbrev pub DispositionIsRight : BundleParts → Made → Type 0

@@ -40,8 +40,8 @@ kept_changes problem wait = filter (is_kept problem wait (times_alone problem)) 
 abbrev pub disposition : DelayProblem → ℤ → List ℕ
 disposition problem wait = least_times problem (kept_changes problem wait)
 
--- times are the disposition of a problem: the least ones where those changes are kept that wait by the least
--- times without any change
+-- times are the disposition of a problem: the least ones where those changes are kept that wait by
+-- the least times without any change
 pub record IsDisposition (problem : DelayProblem) (wait : ℤ) (times : List ℕ) : Type 0 where
   pub alone : List ℕ
   pub alone_least : IsLeast problem [] alone
