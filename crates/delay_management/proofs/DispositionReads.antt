@@ -1,5 +1,5 @@
 -- The disposition that is made is right over what the stage was given.
-use Rattle.std.proofs.Common.{◌≡◌, ◌∙◌, ℕ, ◌<◌, ◌≤◌, List, [], ◌++◌, length, map, All, Result, Ok, Err, IfOk, None, refl, sym, subst, arith}
+use Rattle.std.proofs.Common.{filter, ◌≡◌, ◌∙◌, ℕ, ◌<◌, ◌≤◌, List, [], ◌++◌, length, map, All, Result, Ok, Err, IfOk, None, refl, sym, subst, arith}
 use Rattle.std.specs.List.{range_with_len}
 use Rattle.std.proofs.lemmas.List.Elements.{All-append, All-contains}
 use Rattle.giv_files.specs.declared.made.Made.{Made}
@@ -25,7 +25,7 @@ use Rattle.delay_management.proofs.InputsSound.{activity_ids, are_inputs, earlie
 use Rattle.delay_management.proofs.JudgedTexts.{none_told, told_by}
 use Rattle.delay_management.proofs.PassIsLeast.{back_all, front_all}
 use Rattle.delay_management.proofs.ReasonsProve.{forward_with, reasons_prove_least}
-use Rattle.delay_management.proofs.Rounds.{disposition_is_one, kept_are_changes, least_times_are_least, steps_fewer}
+use Rattle.delay_management.proofs.Rounds.{disposition_is_one, kept_are_changes, least_is_one, least_times_are_least, steps_fewer}
 use Rattle.delay_management.proofs.SmallTimes.{least_small}
 use Rattle.delay_management.proofs.TextsBack.{reasons_again, times_accepted, times_again}
 use Rattle.delay_management.proofs.WrittenReasons.{written_reasons_are_right}
@@ -84,6 +84,25 @@ module _ (bundle : BundleParts) (none : disposition_faults bundle ≡ []) where
         };
         right = told.right;
       }
+
+  -- and those that pass break none
+  pub breaking_none : (times_text reasons_text : List ℕ) → Passes bundle times_text reasons_text
+      → first_broken_rule problem kept times_text reasons_text ≡ None
+  unfolding kept_changes
+  breaking_none times_text reasons_text passes =
+      let wait = wait_of bundle.settings in
+      let is = passes.disposition in
+      let alone : is.alone ≡ times_alone problem = least_is_one problem [] is.alone (times_alone problem) is.alone_least
+          (least_times_are_least problem [] forward (λ k d within. absurd (omega (arith, within)))) in
+      let least = subst (λ alone. IsLeast problem (filter (is_kept problem wait alone) problem.changes) passes.times) alone is.least in
+      none_told problem kept times_text reasons_text (record {
+        times = passes.times;
+        reasons = passes.reasons;
+        times_again = passes.times_read;
+        reasons_again = passes.reasons_read;
+        feasible = least.feasible;
+        right = passes.right;
+      })
 
   module _ (own : bundle.stage ≡ stage.Disposition) (fits : Fits bundle) where
     abbrev times : List ℕ

@@ -18,7 +18,7 @@ use Rattle.delay_management.specs.DispositionStage.{disposition_faults, kept_in,
 use Rattle.delay_management.specs.EarlyEvents.{is_early_by, is_right_by}
 use Rattle.delay_management.specs.Judged.{Passes, are_all, broken_reasons, broken_rows, broken_times, broken_where, events_where, first_broken_rule, is_early, is_table, is_wrong, reason_faults}
 use Rattle.delay_management.specs.Problems.{DelayProblem, steps_with}
-use Rattle.delay_management.proofs.DispositionReads.{passing}
+use Rattle.delay_management.proofs.DispositionReads.{breaking_none, passing}
 use Rattle.delay_management.proofs.EventTests.{early_is, right_is}
 use Rattle.delay_management.proofs.MarksTell.{filter_alike}
 
@@ -126,3 +126,10 @@ pub passes_by : (bundle : BundleParts) (text reasons : List ℕ) → disposition
     → IfNone answer (Passes bundle text reasons)
 passes_by bundle text reasons none None is = passing bundle none text reasons (sym is)
 passes_by bundle text reasons none (Some rule) is = tt
+
+pub passes_only : (bundle : BundleParts) (text reasons : List ℕ) → disposition_faults bundle ≡ []
+    → (answer : Option ReasonFault)
+    → answer ≡ first_broken_rule (problem_in bundle) (kept_in bundle) text reasons
+    → Passes bundle text reasons → answer ≡ None
+passes_only bundle text reasons none answer is passes =
+    is ∙ breaking_none bundle none text reasons passes

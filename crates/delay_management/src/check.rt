@@ -1,5 +1,5 @@
 // The test of a disposition.
-ghost use Rattle.std.specs.Prelude.{◌≡◌, IfOk, IfNone};
+ghost use Rattle.std.specs.Prelude.{◌≡◌, None, IfOk, IfNone};
 ghost use Rattle.giv_files.specs.declared.stage.Stage.TheVariants as stages;
 ghost use Rattle.giv_files.specs.Inputs.{UnlessFault};
 ghost use Rattle.giv_files.specs.Settings.{Fits};
@@ -15,8 +15,8 @@ use giv_files::{Bundle, StageFault};
 use std::alloc::Global;
 
 /// The first rule that the texts of times and of their reasons break, over the inputs of the
-/// stage; none where they pass, and then no feasible times are earlier at any event. Refused is
-/// only what these inputs are refused for.
+/// stage; none exactly where they pass, and then no feasible times are earlier at any event.
+/// Refused is only what these inputs are refused for.
 pub fn check_reasons(
     alloc: Global,
     bundle: &Bundle,
@@ -25,10 +25,13 @@ pub fn check_reasons(
 ) -> Result<Option<ReasonFault>, StageFault>
     requires stage { bundle.now.stage ≡ stages.Disposition }
     requires fits { Fits bundle.now }
-    ensures first { UnlessFault (disposition_faults bundle.now) (λ answer. answer
-        ≡ first_broken_rule (problem_in bundle.now) (kept_in bundle.now) times.now reasons.now) result }
+    ensures first { UnlessFault (disposition_faults bundle.now) (λ answer.
+        answer ≡ first_broken_rule (problem_in bundle.now) (kept_in bundle.now) times.now
+        reasons.now) result }
     ensures passes { IfOk result
         (λ answer. IfNone answer (Passes bundle.now times.now reasons.now)) }
+    ensures only { IfOk result
+        (λ answer. Passes bundle.now times.now reasons.now → answer ≡ None) }
 {
     let problem = Propagation::from_bundle(alloc, bundle)?;
     let kept = waiting_changes(alloc, &problem, wait_of(bundle))?;
