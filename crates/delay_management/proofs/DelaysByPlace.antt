@@ -1,0 +1,101 @@
+-- The delays of things by their places.
+use Rattle.std.proofs.Common.{◌≡◌, ◌∙◌, ℕ, ◌+◌, ◌-◌, ◌<◌, Bool, true, false, cond, eqb, List, [], ◌∷◌, length, map, filter, drop, get_or, slice_set, replicate, refl, ap, sym, arith}
+use Rattle.std.specs.List.{range_with_len}
+use Rattle.std.proofs.lemmas.Bool.{eq-eqb, ne_eqb}
+use Rattle.std.proofs.lemmas.List.{drop_more, ext_get_or, get_or-replicate, length-replicate}
+use Rattle.std.proofs.lemmas.List.FromFn.{get_or-map-range_with_len, length-map-range_with_len}
+use Rattle.event_tables.specs.declared.delay_row.DelayRow.{DelayRow}
+use Rattle.event_tables.specs.declared.expanded_activity.ExpandedActivity.{ExpandedActivity}
+use Rattle.event_tables.specs.declared.expanded_event.ExpandedEvent.{ExpandedEvent}
+use Rattle.event_tables.specs.Places.{AreNumbered, IsOneOf}
+use Rattle.delay_management.specs.declared.step.Activity.{Activity}
+use Rattle.delay_management.specs.Problems.{delay_of, delayed, earliest_of, is_of}
+use Rattle.delay_management.proofs.Places.{id_at, told_anew}
+
+abbrev pub by_place : ℕ → List DelayRow → List ℕ
+by_place count rows = map (delay_of rows) (range_with_len 1 count)
+
+nothing : (id : ℕ) → delay_of [] id ≡ 0
+unfolding delay_of
+nothing id = refl
+
+own : (row : DelayRow) (rows : List DelayRow) (id : ℕ) → eqb row.id id ≡ true
+    → delay_of (row ∷ rows) id ≡ row.delay
+unfolding delay_of
+own row rows id is = rw is refl
+
+other : (row : DelayRow) (rows : List DelayRow) (id : ℕ) → eqb row.id id ≡ false
+    → delay_of (row ∷ rows) id ≡ delay_of rows id
+unfolding delay_of
+other row rows id is = rw is refl
+
+-- no rows, no delays
+pub none_placed : (count : ℕ) → replicate count 0 ≡ by_place count []
+none_placed count =
+    ext_get_or 0 (replicate count 0) (by_place count [])
+    (length-replicate {A = ℕ} count 0 ∙ sym (length-map-range_with_len (delay_of []) 1 count))
+    (λ k within. let inside : k < count = omega (arith, within, length-replicate {A = ℕ} count 0) in
+    get_or-replicate count k 0 0 inside
+    ∙ sym (get_or-map-range_with_len (delay_of []) 1 count k (1 + k) 0 inside refl ∙ nothing (1 + k)))
+
+-- a row before others
+pub more_placed : (count : ℕ) (row : DelayRow) (rows : List DelayRow) → IsOneOf count row.id
+    → slice_set (by_place count rows) (row.id - 1) row.delay ≡ by_place count (row ∷ rows)
+more_placed count row rows one =
+    let place : 1 + (row.id - 1) ≡ row.id = omega (arith, one.0) in
+    told_anew (delay_of rows) (delay_of (row ∷ rows)) 1 count (row.id - 1) row.delay
+    (omega (arith, one.0, one.1))
+    (own row rows (1 + (row.id - 1)) (eq-eqb row.id (1 + (row.id - 1)) (sym place)))
+    (λ k inside apart. other row rows (1 + k) (ne_eqb row.id (1 + k) (λ e. apart (omega (arith, e)))))
+
+-- the delay of what stands at a place
+pub placed : (count : ℕ) (rows : List DelayRow) (delays : List ℕ) (i id d : ℕ)
+    → delays ≡ by_place count rows → i < count → id ≡ i + 1 → get_or delays i d ≡ delay_of rows id
+placed count rows delays i id d are inside is =
+    ap (λ all. get_or all i d) are
+    ∙ get_or-map-range_with_len (delay_of rows) 1 count i id d inside (omega (arith, is))
+
+-- ---- one event more, and one activity more
+
+module _ (rows : List DelayRow) (delays : List ℕ) (i : ℕ) where
+  pub event_more : (events : List ExpandedEvent) (d : ExpandedEvent) (delay : ℕ)
+      → delay ≡ get_or delays i delay → AreNumbered (λ event. event.id) events → delays ≡ by_place (length events) rows
+      → i < length events
+      → map (earliest_of rows) (drop i events)
+      ≡ ((get_or events i d).time + delay) ∷ map (earliest_of rows) (drop (i + 1) events)
+  event_more events d delay told are is inside =
+      ap (map (earliest_of rows)) (drop_more events i d inside)
+      ∙ ap (λ delay. ((get_or events i d).time + delay) ∷ map (earliest_of rows) (drop (i + 1) events))
+      (sym (told ∙ placed (length events) rows delays i (get_or events i d).id delay is inside
+      (id_at (λ event. event.id) events i d are inside)))
+
+  module _ (changes : Bool) (activities : List ExpandedActivity) (d : ExpandedActivity)
+      (are : AreNumbered (λ activity. activity.id) activities)
+      (is : delays ≡ by_place (length activities) rows) (inside : i < length activities) where
+    abbrev rest_from : ℕ → List Activity
+    rest_from i = map (delayed rows) (filter (is_of changes) (drop i activities))
+
+    pub activity_left_out : is_of changes (get_or activities i d) ≡ false
+        → rest_from i ≡ rest_from (i + 1)
+    activity_left_out out =
+        ap (λ left. map (delayed rows) (filter (is_of changes) left)) (drop_more activities i d inside)
+        ∙ ap (λ b. map (delayed rows) (cond b (get_or activities i d ∷ filter (is_of changes) (drop (i + 1) activities)) (filter (is_of changes) (drop (i + 1) activities)))) out
+
+    pub activity_more : (delay : ℕ) → delay ≡ get_or delays i delay
+        → is_of changes (get_or activities i d) ≡ true
+        → rest_from i ≡ record {
+          id = (get_or activities i d).id;
+          step = record {
+            from = (get_or activities i d).from - 1;
+            to = (get_or activities i d).to - 1;
+            lower = (get_or activities i d).lower;
+            extra = delay;
+          };
+        } ∷ rest_from (i + 1)
+    activity_more delay told there =
+        let at = get_or activities i d in
+        ap (λ left. map (delayed rows) (filter (is_of changes) left)) (drop_more activities i d inside)
+        ∙ ap (λ b. map (delayed rows) (cond b (at ∷ filter (is_of changes) (drop (i + 1) activities)) (filter (is_of changes) (drop (i + 1) activities)))) there
+        ∙ ap (λ delay. record { id = at.id; step = record { from = at.from - 1; to = at.to - 1; lower = at.lower; extra = delay } } ∷ rest_from (i + 1))
+        (sym (told ∙ placed (length activities) rows delays i at.id delay is inside
+        (id_at (λ activity. activity.id) activities i d are inside)))

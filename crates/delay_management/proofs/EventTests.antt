@@ -1,0 +1,115 @@
+-- Whether an event is early, or its reason is right, by the activities that count and the turns.
+use Rattle.std.proofs.Common.{◌≡◌, ◌∙◌, ℕ, ◌==◌, ◌&&◌, ◌||◌, Bool, true, false, cond, eqb, nat_eq, nat_lt, List, [], ◌∷◌, ◌++◌, map, filter, refl, ap, sym}
+use Rattle.std.specs.List.{list_any}
+use Rattle.std.proofs.lemmas.Bool.{eqb-true}
+use Rattle.std.proofs.lemmas.List.Folds.{list_any-append}
+use Rattle.delay_management.specs.declared.reason.Reason.{Reason}
+use Rattle.delay_management.specs.declared.reason.Reason.TheVariants as reason
+use Rattle.delay_management.specs.declared.step.Activity.{Activity}
+use Rattle.delay_management.specs.declared.step.Step.{Step}
+use Rattle.delay_management.specs.EarlyEvents.{is_before, is_early_by, is_just, is_right_by}
+use Rattle.delay_management.specs.Judged.{is_ahead, is_early}
+use Rattle.delay_management.specs.LeastTimes.{asked, time_at}
+use Rattle.delay_management.specs.Marks.{is_source, is_turn, names}
+use Rattle.delay_management.specs.Problems.{DelayProblem, earliest_at, steps_with}
+use Rattle.delay_management.specs.Reasons.{is_right, is_tight, reason_for}
+use Rattle.delay_management.proofs.MarksTell.{or_assoc, or_none}
+
+any_alike : {X : Type 0} (p q : X → Bool) → ((x : X) → p x ≡ q x) → (xs : List X) → list_any p xs ≡ list_any q xs
+any_alike p q same [] = refl
+any_alike p q same (x ∷ xs) = λ i. same x i || any_alike p q same xs i
+
+any_map : {X Y : Type 0} (p : Y → Bool) (f : X → Y) (xs : List X) → list_any p (map f xs) ≡ list_any (λ x. p (f x)) xs
+any_map p f [] = refl
+any_map p f (x ∷ xs) = ap (λ rest. p (f x) || rest) (any_map p f xs)
+
+any_none : {X : Type 0} (p : X → Bool) → ((x : X) → p x ≡ false) → (xs : List X) → list_any p xs ≡ false
+any_none p none [] = refl
+any_none p none (x ∷ xs) = ap (λ b. b || list_any p xs) (none x) ∙ any_none p none xs
+
+any_filter : {X : Type 0} (q p : X → Bool) (xs : List X) → list_any q (filter p xs) ≡ list_any (λ x. p x && q x) xs
+any_filter q p [] = refl
+any_filter q p (x ∷ xs) =
+    elim (p x) as (λ b. list_any q (cond b (x ∷ filter p xs) (filter p xs)) ≡ ((b && q x) || list_any (λ x. p x && q x) xs)) [
+      | true ↦ ap (λ rest. q x || rest) (any_filter q p xs)
+      | false ↦ any_filter q p xs
+    ]
+
+-- what is asked of a head is asked of the event where the head is the event
+at_head : (head event : ℕ) (test : ℕ → Bool) → ((head == event) && test head) ≡ ((head == event) && test event)
+at_head head event test =
+    elim (eqb head event) as (λ b. eqb head event ≡ b → (b && test head) ≡ (b && test event)) [
+      | true ↦ λ same. ap test (eqb-true head event same)
+      | false ↦ λ other. refl
+    ] refl
+
+never : (b : Bool) → (b && false) ≡ false
+never true = refl
+never false = refl
+
+swapped : (a b c : Bool) → ((a && b) && c) ≡ (a && (c && b))
+swapped true true true = refl
+swapped true true false = refl
+swapped true false true = refl
+swapped true false false = refl
+swapped false b c = refl
+
+module _ (problem : DelayProblem) (kept : List Activity) (times : List ℕ) (event : ℕ) where
+  abbrev activities : List Activity
+  activities = problem.rides ++ kept
+
+  pub early_is : is_early problem (steps_with problem kept) times event
+      ≡ is_early_by problem.earliest activities problem.turns times event
+  early_is =
+      let A = nat_lt (time_at times event) (earliest_at problem event) in
+      let ahead = λ (step : Step). at_head step.to event (λ e. nat_lt (time_at times e) (asked times step)) in
+      ap (λ rest. A || rest) (list_any-append (is_ahead times event) (map (λ (at : Activity). at.step) activities) problem.turns
+      ∙ (λ i. (any_map (is_ahead times event) (λ (at : Activity). at.step) activities
+      ∙ any_alike (λ at. is_ahead times event at.step) (λ at. (at.step.to == event) && is_before times at.step) (λ at. sym (ahead at.step)) activities) i
+      || any_alike (is_ahead times event) (λ turn. (turn.to == event) && is_before times turn) (λ turn. sym (ahead turn)) problem.turns i))
+      ∙ sym (or_assoc A (list_any (λ at. (at.step.to == event) && is_before times at.step) activities)
+      (list_any (λ turn. (turn.to == event) && is_before times turn) problem.turns))
+
+  -- the same with one reason
+  abbrev right_by : Reason → Bool
+  right_by why =
+      ((is_source why && nat_eq (time_at times event) (earliest_at problem event))
+      || list_any (λ (at : Activity). (at.step.to == event) && (names why at.id && is_just times at.step)) activities)
+      || list_any (λ (turn : Step). (turn.to == event) && (is_turn why && is_just times turn)) problem.turns
+
+  no_activity : list_any (λ (at : Activity). (at.step.to == event) && false) activities ≡ false
+  no_activity = any_none (λ (at : Activity). (at.step.to == event) && false) (λ at. never (at.step.to == event)) activities
+
+  no_turn : list_any (λ (turn : Step). (turn.to == event) && false) problem.turns ≡ false
+  no_turn = any_none (λ (turn : Step). (turn.to == event) && false) (λ turn. never (turn.to == event)) problem.turns
+
+  just : (step : Step) → is_tight times event step ≡ ((step.to == event) && is_just times step)
+  just step = sym (at_head step.to event (λ e. nat_eq (asked times step) (time_at times e)))
+
+  by_reason : (why : Reason) → is_right problem kept times event why ≡ right_by why
+  by_reason reason.Source =
+      let A = nat_eq (time_at times event) (earliest_at problem event) in
+      sym (ap (λ rest. (A || rest) || list_any (λ (turn : Step). (turn.to == event) && false) problem.turns) no_activity
+      ∙ ap (λ rest. (A || false) || rest) no_turn ∙ or_none (A || false) ∙ or_none A)
+  by_reason (reason.Activity id) =
+      any_map (nat_eq id) (λ (at : Activity). at.id) (filter (λ at. is_tight times event at.step) activities)
+      ∙ any_filter (λ (at : Activity). nat_eq id at.id) (λ at. is_tight times event at.step) activities
+      ∙ any_alike (λ at. is_tight times event at.step && nat_eq id at.id) (λ at. (at.step.to == event) && (nat_eq id at.id && is_just times at.step))
+      (λ at. ap (λ b. b && nat_eq id at.id) (just at.step) ∙ swapped (at.step.to == event) (is_just times at.step) (nat_eq id at.id)) activities
+      ∙ sym (ap (λ rest. list_any (λ (at : Activity). (at.step.to == event) && (nat_eq id at.id && is_just times at.step)) activities || rest) no_turn
+      ∙ or_none (list_any (λ (at : Activity). (at.step.to == event) && (nat_eq id at.id && is_just times at.step)) activities))
+  by_reason reason.Turn =
+      any_alike (is_tight times event) (λ turn. (turn.to == event) && is_just times turn) just problem.turns
+      ∙ sym (ap (λ rest. rest || list_any (λ (turn : Step). (turn.to == event) && is_just times turn) problem.turns) no_activity)
+
+  pub right_is : (reasons : List Reason) → is_right problem kept times event (reason_for reasons event)
+      ≡ is_right_by problem.earliest activities problem.turns times reasons event
+  right_is reasons =
+      by_reason (reason_for reasons event)
+      ∙ (λ i. ((is_source (reason_for reasons event) && nat_eq (time_at times event) (earliest_at problem event))
+      || any_alike (λ at. (at.step.to == event) && (names (reason_for reasons event) at.id && is_just times at.step))
+      (λ at. (at.step.to == event) && (names (reason_for reasons at.step.to) at.id && is_just times at.step))
+      (λ at. sym (at_head at.step.to event (λ e. names (reason_for reasons e) at.id && is_just times at.step))) activities i)
+      || any_alike (λ turn. (turn.to == event) && (is_turn (reason_for reasons event) && is_just times turn))
+      (λ turn. (turn.to == event) && (is_turn (reason_for reasons turn.to) && is_just times turn))
+      (λ turn. sym (at_head turn.to event (λ e. is_turn (reason_for reasons e) && is_just times turn))) problem.turns i)

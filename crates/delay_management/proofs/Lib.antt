@@ -1,0 +1,34 @@
+mod Canonical
+mod ChosenChanges
+mod DelaysByPlace
+pub mod DispositionMakes
+pub mod DispositionReads
+mod EventTests
+mod FirstTold
+mod Firsts
+mod ForwardInputs
+mod ForwardPass
+mod ForwardSteps
+mod InputsSound
+mod JudgedFaults
+mod JudgedTexts
+mod Late
+mod Later
+mod MarksTell
+mod PassIsLeast
+mod Passing
+mod Places
+mod Ranks
+pub mod ReasonsProve
+mod RefusedInputs
+mod ReportLine
+pub mod Rounds
+mod SmallTimes
+mod StageResults
+mod TableParts
+mod TextsBack
+mod TightMore
+mod Tried
+mod WrittenBy
+pub mod WrittenReasons
+mod WrittenRows

@@ -1,0 +1,67 @@
+-- Lists that tell one thing of each place.
+use Rattle.std.proofs.Common.{◌≡◌, ◌≢◌, ◌∙◌, ℕ, ◌+◌, ◌<◌, ◌++◌, append_assoc, true, false, eqb, List, [], ◌∷◌, length, map, get_or, slice_set, refl, ap, sym, arith}
+use Rattle.std.specs.List.{range_with_len}
+use Rattle.std.proofs.lemmas.Bool.{eqb-true, eqb-false}
+use Rattle.std.proofs.lemmas.List.{ext_get_or, get_or-map, get_or-set_same, get_or-set_other, length-set}
+use Rattle.std.proofs.lemmas.List.FromFn.{get_or-map-range_with_len, get_or-range_with_len, length-map-range_with_len, map-range_with_len_more}
+use Rattle.event_tables.specs.Places.{AreNumbered}
+
+-- what is told of a place changes at one of them
+pub told_anew : {X : Type 0} (f g : ℕ → X) (a n i : ℕ) (x : X) → i < n → g (a + i) ≡ x
+    → ((k : ℕ) → k < n → k ≢ i → g (a + k) ≡ f (a + k))
+    → slice_set (map f (range_with_len a n)) i x ≡ map g (range_with_len a n)
+told_anew f g a n i x inside here others =
+    let some = map f (range_with_len a n) in
+    let long : length some ≡ n = length-map-range_with_len f a n in
+    ext_get_or x (slice_set some i x) (map g (range_with_len a n))
+    (length-set some i x ∙ long ∙ sym (length-map-range_with_len g a n))
+    (λ k within.
+    let in_n : k < n = omega (arith, within, length-set some i x, long) in
+    elim (eqb k i) as (λ b. eqb k i ≡ b → get_or (slice_set some i x) k x ≡ get_or (map g (range_with_len a n)) k x) [
+      | true ↦ λ is. let same : k ≡ i = eqb-true k i is in
+          ap (λ j. get_or (slice_set some i x) j x) same
+          ∙ get_or-set_same some i x x (omega (arith, inside, long))
+          ∙ sym (get_or-map-range_with_len g a n i (a + i) x inside refl ∙ here)
+          ∙ sym (ap (λ j. get_or (map g (range_with_len a n)) j x) same)
+      | false ↦ λ is. let other : k ≢ i = eqb-false k i is in
+          get_or-set_other some i k x x other
+          ∙ get_or-map-range_with_len f a n k (a + k) x in_n refl
+          ∙ sym (others k in_n other)
+          ∙ sym (get_or-map-range_with_len g a n k (a + k) x in_n refl)
+    ] refl)
+
+-- things that are numbered in their order have the ids of their places
+pub id_at : {X : Type 0} (id : X → ℕ) (rows : List X) (i : ℕ) (d : X) → AreNumbered id rows
+    → i < length rows → id (get_or rows i d) ≡ i + 1
+id_at id rows i d are inside =
+    let place : 1 + i ≡ i + 1 = omega arith in
+    sym (get_or-map id rows i d 0 inside)
+    ∙ ap (λ ids. get_or ids i 0) are
+    ∙ get_or-range_with_len 1 (length rows) i 0 inside
+    ∙ place
+
+-- one item more is done, and the others are left
+pub moved : {X : Type 0} (done new left rest all : List X) (x y : X) → left ≡ x ∷ rest
+    → new ≡ done ++ y ∷ [] → y ≡ x → done ++ left ≡ all → new ++ rest ≡ all
+moved done new left rest all x y first is same told =
+    ap (λ some. some ++ rest) is ∙ ap (λ z. (done ++ z ∷ []) ++ rest) same
+    ∙ append_assoc done (x ∷ []) rest ∙ ap (λ some. done ++ some) (sym first) ∙ told
+
+-- what is told of each place in two ways
+pub told_alike : {X : Type 0} (f g : ℕ → X) (n : ℕ) → ((k : ℕ) → k < n → f k ≡ g k)
+    → map f (range_with_len 0 n) ≡ map g (range_with_len 0 n)
+told_alike f g n same =
+    let long = length-map-range_with_len f 0 n in
+    ext_get_or (f 0) (map f (range_with_len 0 n)) (map g (range_with_len 0 n))
+    (long ∙ sym (length-map-range_with_len g 0 n))
+    (λ k within.
+    let inside : k < n = omega (arith, within, long) in
+    let here : 0 + k ≡ k = omega arith in
+    get_or-map-range_with_len f 0 n k k (f 0) inside here ∙ same k inside
+    ∙ sym (get_or-map-range_with_len g 0 n k k (f 0) inside here))
+
+-- what is pushed behind what is told of the first places
+pub told_more : {X : Type 0} (f : ℕ → X) (i : ℕ) (old new : List X) (one : X) → new ≡ old ++ one ∷ []
+    → old ≡ map f (range_with_len 0 i) → one ≡ f i → new ≡ map f (range_with_len 0 (i + 1))
+told_more f i old new one is told same =
+    is ∙ (λ j. told j ++ same j ∷ []) ∙ sym (map-range_with_len_more f 0 i i (omega arith))

@@ -1,0 +1,7 @@
+-- The rows so far are those of the first times.
+use Rattle.std.proofs.Common.{◌≡◌, take}
+use Rattle.delay_management.specs.DispositionStage.{time_rows}
+use Rattle.delay_management.proofs.files.time_rows.Given as goal
+
+abbrev pub invariant-loop-index : goal.invariant-loop-index
+invariant-loop-index l = l.rows.items ≡ take l.index (time_rows l.times)

@@ -1,0 +1,11 @@
+use Rattle.std.proofs.Common.{sym, subst}
+use Rattle.std.specs.List.{All}
+use Rattle.giv_files.specs.Columns.{reasons_columns}
+use Rattle.giv_files.specs.Writing.{InColumns}
+use Rattle.giv_files.proofs.Ranges.{table_in_columns}
+use Rattle.delay_management.proofs.judge.reason_table.Goals as goal
+
+pub returns-in-Ok-clause-cells : goal.returns-in-Ok-clause-cells
+returns-in-Ok-clause-cells c =
+    subst (All (λ row. InColumns reasons_columns row.cells)) (sym c.in-Ok.ensures.1)
+    (table_in_columns reasons_columns c.args.text.now c.in-Ok.ensures.0)

@@ -1,0 +1,13 @@
+use Rattle.std.proofs.Common.{◌≤◌, All, length, subst}
+use Rattle.delay_management.specs.Problems.{Joins}
+use Rattle.delay_management.proofs.ForwardSteps.{changes_join, change_ids}
+use Rattle.delay_management.proofs.propagation.Propagation.changes.Goals as goal
+
+pub returns-clause-ends : goal.returns-clause-ends
+returns-clause-ends c =
+    subst (λ p. All (λ at. Joins (length p.events) at.step) p.changes) c.self.view_is
+    (changes_join _ _ c.self.invariant)
+
+pub returns-clause-ids : goal.returns-clause-ids
+returns-clause-ids c =
+    subst (λ p. All (λ at. at.id ≤ 500000) p.changes) c.self.view_is (change_ids _ _ c.self.invariant)

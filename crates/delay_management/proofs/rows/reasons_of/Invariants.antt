@@ -1,0 +1,8 @@
+-- The reasons so far are those of the first rows.
+use Rattle.std.proofs.Common.{◌≡◌, map, take}
+use Rattle.event_tables.specs.RowsOfTables.{records_by}
+use Rattle.delay_management.specs.Judged.{reason_row}
+use Rattle.delay_management.proofs.rows.reasons_of.Given as goal
+
+abbrev pub invariant-loop-row : goal.invariant-loop-row
+invariant-loop-row l = l.reasons.items ≡ take l.row (map (λ row. row.reason) (records_by reason_row l.table))

@@ -1,0 +1,11 @@
+-- The times so far are those of the first rows.
+use Rattle.std.proofs.Common.{◌≡◌, ◌≤◌, All, map, take}
+use Rattle.event_tables.specs.Cells.{disposed_time}
+use Rattle.event_tables.specs.RowsOfTables.{records_by}
+use Rattle.delay_management.proofs.rows.times_of.Given as goal
+
+abbrev pub invariant-loop-row : goal.invariant-loop-row
+invariant-loop-row l = record {
+  told : l.times.items ≡ take l.row (map (λ row. row.time) (records_by disposed_time l.table));
+  small : All (λ time. time ≤ 1000000000000000000) l.times.items;
+}

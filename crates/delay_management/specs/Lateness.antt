@@ -1,0 +1,33 @@
+-- How late times are: the delay of all arrivals, and the changes that are missed.
+use Rattle.std.specs.Prelude.{ℕ, ℤ, pos, ◌+◌, ◌+ℤ◌, ◌-ℤ◌, nat_lt, Bool, List, length, filter, zip}
+use Rattle.std.specs.List.{fold}
+use Rattle.event_tables.specs.declared.expanded_event.ExpandedEvent.{ExpandedEvent}
+use Rattle.event_tables.specs.Kinds.{is_arrival}
+use Rattle.delay_management.specs.declared.step.Activity.{Activity}
+use Rattle.delay_management.specs.LeastTimes.{time_at, asked}
+
+-- how much later than planned an event is
+abbrev pub lateness : ExpandedEvent × ℕ → ℤ
+lateness timed = pos timed.1 -ℤ pos timed.0.time
+
+-- an event with its time that is an arrival
+abbrev pub arrives : ExpandedEvent × ℕ → Bool
+arrives timed = is_arrival timed.0.kind
+
+-- the delay: how late all arrivals are together
+abbrev pub delay_at : List ExpandedEvent → List ℕ → ℤ
+delay_at events times =
+    fold (λ sum timed. sum +ℤ lateness timed) (pos 0) (filter arrives (zip events times))
+
+-- a change is missed where its departure is earlier than its least minutes as planned allow
+abbrev pub is_missed : List ℕ → Activity → Bool
+is_missed times change =
+    nat_lt (time_at times change.step.to) (time_at times change.step.from + change.step.lower)
+
+-- how many changes are missed
+abbrev pub missed_at : List Activity → List ℕ → ℕ
+missed_at changes times = length (filter (is_missed times) changes)
+
+-- times break a change: its departure is earlier than its least minutes and its delay allow
+abbrev pub is_broken : List ℕ → Activity → Bool
+is_broken times change = nat_lt (time_at times change.step.to) (asked times change.step)

@@ -1,0 +1,13 @@
+pub mod DispositionStage
+pub mod EarlyEvents
+pub mod Judged
+pub mod Lateness
+pub mod Laws
+pub mod LeastTimes
+pub mod Links
+pub mod Marks
+pub mod Problems
+pub mod Reasons
+pub mod RightDispositions
+pub mod TightIds
+pub mod Waiting

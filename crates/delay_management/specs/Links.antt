@@ -1,0 +1,73 @@
+-- Inner words: the steps in the forward order of their first events, and one pass along them.
+use Rattle.std.specs.Prelude.{ℕ, ◌+◌, ◌*◌, ◌≤◌, Bool, true, false, if◌then◌else◌, List, ◌++◌, length, map, get_or, slice_set, All, Option, Some, None}
+use Rattle.std.specs.List.{enumerate_from, fold}
+use Rattle.std.specs.List.Sorted.{IsNonDecreasingBy, IsPermutation}
+use Rattle.event_tables.specs.declared.expanded_event.ExpandedEvent.{ExpandedEvent}
+use Rattle.event_tables.specs.Kinds.{is_arrival}
+use Rattle.event_tables.specs.Places.{AreNumbered}
+use Rattle.delay_management.specs.declared.links.Link.{Link}
+use Rattle.delay_management.specs.declared.step.Activity.{Activity}
+use Rattle.delay_management.specs.declared.step.Step.{Step}
+use Rattle.delay_management.specs.LeastTimes.{asked, later, time_at}
+use Rattle.delay_management.specs.Problems.{DelayProblem, IsForward, event_at, planned_at}
+
+-- where an event stands in the forward order, as one number: its time, then arrivals, then its
+-- index
+abbrev pub departs_later : ExpandedEvent → ℕ
+departs_later event = if is_arrival event.kind then 0 else 2147483648
+
+abbrev pub forward_rank : List ExpandedEvent → ℕ → ℕ
+forward_rank events event =
+    planned_at events event * 4294967296 + (departs_later (event_at events event) + event)
+
+-- a step with the rank of its first event, and the index of its change, where it is that of one
+abbrev pub link_of : List ExpandedEvent → Option ℕ → Step → Link
+link_of events change step =
+    record { rank = forward_rank events step.from; step = step; change = change }
+
+-- the links of drives and waits, of turns, and of all changes
+abbrev pub ride_links : List ExpandedEvent → List Activity → List Link
+ride_links events rides = map (λ ride. link_of events None ride.step) rides
+
+abbrev pub turn_links : List ExpandedEvent → List Step → List Link
+turn_links events turns = map (link_of events None) turns
+
+abbrev pub change_links : List ExpandedEvent → ℕ → List Activity → List Link
+change_links events first changes =
+    map (λ at. link_of events (Some at.0) at.1.step) (enumerate_from first changes)
+
+abbrev pub links_of : DelayProblem → List Link
+links_of problem =
+    ride_links problem.events problem.rides
+    ++ (turn_links problem.events problem.turns ++ change_links problem.events 0 problem.changes)
+
+-- a link counts, where some changes are chosen
+abbrev pub counts : List Bool → Option ℕ → Bool
+counts kept None = true
+counts kept (Some change) = get_or kept change false
+
+-- times where the head of a step is no earlier than the step asks
+abbrev pub head_pushed : List ℕ → Step → List ℕ
+head_pushed times step =
+    slice_set times step.to (later (time_at times step.to) (asked times step))
+
+-- times behind a link: its head is no earlier than it asks, where it counts
+abbrev pub pushed_by : List Bool → List ℕ → Link → List ℕ
+pushed_by kept times link =
+    if counts kept link.change then head_pushed times link.step else times
+
+-- times behind links, one after the other
+abbrev pub pushed_along : List Bool → List Link → List ℕ → List ℕ
+pushed_along kept links times = fold (pushed_by kept) times links
+
+-- what is known of a problem that was read: its events are numbered and not too many, its steps go
+-- forward, there are not too many of them, and its links stand in order
+pub record IsLinked (problem : DelayProblem) (links : List Link) : Type 0 where
+  pub numbered : AreNumbered (λ event. event.id) problem.events
+  pub few : length problem.events ≤ 100000
+  pub forward : IsForward problem
+  pub ids : All (λ activity. activity.id ≤ 500000) (problem.rides ++ problem.changes)
+  pub soon : All (λ time. time ≤ 8589934590) problem.earliest
+  pub few_links : length links ≤ 502000
+  pub all : IsPermutation (links_of problem) links
+  pub in_order : IsNonDecreasingBy (λ link. link.rank) links

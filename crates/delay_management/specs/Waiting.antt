@@ -1,0 +1,48 @@
+-- Which changes are kept, and the disposition that keeps them.
+use Rattle.std.specs.Prelude.{ℕ, ℤ, pos, negsuc, zero, suc, ◌+◌, nat_le, Bool, true, false, List, [], filter, unwrap_or}
+use Rattle.std.specs.List.{items_where_true}
+use Rattle.giv_files.specs.declared.key.Key.TheVariants as key
+use Rattle.giv_files.specs.declared.setting.Setting.{Setting}
+use Rattle.giv_files.specs.Settings.{value_of}
+use Rattle.delay_management.specs.declared.step.Activity.{Activity}
+use Rattle.delay_management.specs.LeastTimes.{IsLeast, time_at, least_times}
+use Rattle.delay_management.specs.Problems.{DelayProblem, planned_at}
+
+-- the changes that are chosen, by one truth value for each change
+abbrev pub chosen_changes : DelayProblem → List Bool → List Activity
+chosen_changes problem kept = items_where_true kept problem.changes
+
+-- how long a departure waits: so many minutes, for all changes (-1), or for none (-2)
+abbrev pub wait_of : List Setting → ℤ
+wait_of settings = unwrap_or (value_of settings key.DmWait) (pos 0)
+
+-- a departure waits for passengers who are ready at a time, where it is planned at another
+abbrev pub waits : ℤ → ℕ → ℕ → Bool
+waits (pos more) ready planned = nat_le ready (planned + more)
+waits (negsuc zero) ready planned = true
+waits (negsuc (suc more)) ready planned = false
+
+-- a change is kept, by the times where none is; its delay does not count
+abbrev pub is_kept : DelayProblem → ℤ → List ℕ → Activity → Bool
+is_kept problem wait alone change =
+    waits wait (time_at alone change.step.from + change.step.lower)
+    (planned_at problem.events change.step.to)
+
+-- the times where no change is kept
+abbrev pub times_alone : DelayProblem → List ℕ
+times_alone problem = least_times problem []
+
+-- the changes that are kept
+unfoldable pub kept_changes : DelayProblem → ℤ → List Activity
+kept_changes problem wait = filter (is_kept problem wait (times_alone problem)) problem.changes
+
+-- the disposition: the least times where these changes are kept
+abbrev pub disposition : DelayProblem → ℤ → List ℕ
+disposition problem wait = least_times problem (kept_changes problem wait)
+
+-- times are the disposition of a problem: the least ones where those changes are kept that wait by
+-- the least times without any change
+pub record IsDisposition (problem : DelayProblem) (wait : ℤ) (times : List ℕ) : Type 0 where
+  pub alone : List ℕ
+  pub alone_least : IsLeast problem [] alone
+  pub least : IsLeast problem (filter (is_kept problem wait alone) problem.changes) times

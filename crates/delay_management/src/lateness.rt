@@ -1,0 +1,66 @@
+// How late times are.
+ghost use Rattle.std.specs.Prelude.{◌≡◌, ◌≤◌, ◌≤ℤ◌, pos, neg_ℤ, length, All};
+ghost use Rattle.event_tables.specs.Kinds.{is_arrival};
+ghost use Rattle.delay_management.specs.Lateness.{delay_at, is_missed, lateness, missed_at};
+ghost use Rattle.delay_management.specs.Problems.{Joins};
+
+use crate::step::Activity;
+use event_tables::{EventKind, ExpandedEvent};
+
+/// How late all arrivals are together, in minutes.
+pub(crate) fn delay_at(events: &[ExpandedEvent], times: &[u64]) -> i128
+    requires few { length events.now ≤ 100000 }
+    requires each { length times.now ≡ length events.now }
+    requires small { All (λ time. time ≤ 1000000000000000000) times.now }
+    ensures { result ≡ delay_at events.now times.now }
+{
+    let mut sum = 0;
+    for (index, event) in events.iter().enumerate() {
+        if is_arrival(event.kind) {
+            sum += lateness(event, times[index]);
+        }
+    }
+    sum
+}
+
+// Whether events of a kind are arrivals.
+fn is_arrival(kind: EventKind) -> bool
+    ensures { result ≡ is_arrival kind }
+{
+    matches!(kind, EventKind::Arrival)
+}
+
+// How much later than planned an event is.
+fn lateness(event: &ExpandedEvent, time: u64) -> i128
+    requires { time ≤ 1000000000000000000 }
+    ensures value { result ≡ lateness (event.now, time) }
+    ensures most { result ≤ℤ pos 1000000000000000000 }
+    ensures least { neg_ℤ (pos 1000000000000000000) ≤ℤ result }
+{
+    i128::from(time) - i128::from(event.time)
+}
+
+/// How many changes are missed.
+pub(crate) fn missed_at(changes: &[Activity], times: &[u64]) -> usize
+    requires ends { All (λ change. Joins (length times.now) change.step) changes.now }
+    requires small { All (λ time. time ≤ 1000000000000000000) times.now }
+    ensures { result ≡ missed_at changes.now times.now }
+{
+    let mut missed = 0;
+    for change in changes {
+        if is_missed(change, times) {
+            missed += 1;
+        }
+    }
+    missed
+}
+
+// Whether a change is missed.
+fn is_missed(change: &Activity, times: &[u64]) -> bool
+    requires ends { Joins (length times.now) change.now.step }
+    requires small { All (λ time. time ≤ 1000000000000000000) times.now }
+    ensures { result ≡ is_missed times.now change.now }
+{
+    let (from, to) = (change.step.from as usize, change.step.to as usize);
+    times[to] < times[from] + u64::from(change.step.lower)
+}

@@ -1,0 +1,37 @@
+//! Dispositions: how delays go on through a day, which changes wait, and why each event is as late
+//! as it is.
+#![tactic(auto)]
+
+mod check;
+mod delays;
+mod early;
+mod fault;
+mod files;
+mod judge;
+mod lateness;
+mod links;
+mod marks;
+mod pass;
+mod propagation;
+mod reason;
+mod reason_row;
+mod reasons;
+mod rows;
+mod stage;
+mod step;
+mod times;
+mod turns;
+mod waiting;
+mod wrong;
+
+pub use check::check_reasons;
+pub use fault::ReasonFault;
+pub use propagation::Propagation;
+pub use reason::Reason;
+pub use reason_row::ReasonRow;
+pub use stage::make_disposition;
+pub use step::{Activity, Step};
+pub use times::Times;
+
+#[cfg(test)]
+mod tests;

@@ -1,0 +1,149 @@
+// Steps in the forward order of their first events.
+ghost use Rattle.std.specs.Prelude.{◌≡◌, ◌<◌, ◌≤◌, ◌++◌, length, All, IfOk, OnOk};
+ghost use Rattle.std.specs.List.Sorted.{IsNonDecreasingBy, IsPermutation};
+ghost use Rattle.delay_management.specs.Links.{change_links, departs_later, forward_rank, link_of, ride_links, turn_links};
+
+use crate::step::{Activity, Step};
+use event_tables::{EventKind, ExpandedEvent};
+use plan_num::NoMemory;
+use std::alloc::Global;
+
+/// A step with the rank of its first event in the forward order, and the index of its change,
+/// where it is the step of one.
+#[derive(Clone, Copy, Debug, PartialEq, Eq)]
+pub(crate) struct Link {
+    pub(crate) rank: u64,
+    pub(crate) step: Step,
+    pub(crate) change: Option<u32>,
+}
+
+/// The links of drives and waits, of turns, and of changes, by the ranks of their first events.
+pub(crate) fn links_in_order(
+    alloc: Global,
+    events: &[ExpandedEvent],
+    rides: &[Activity],
+    turns: &[Step],
+    changes: &[Activity],
+) -> Result<Vec<Link>, NoMemory>
+    requires few { length events.now ≤ 100000 }
+    requires few_changes { length changes.now ≤ 500000 }
+    requires rides { All (λ ride. ride.step.from < length events.now) rides.now }
+    requires turns { All (λ turn. turn.from < length events.now) turns.now }
+    requires changes { All (λ change. change.step.from < length events.now) changes.now }
+    ensures all { IfOk result (λ links. IsPermutation
+        (ride_links events.now rides.now ++ (turn_links events.now turns.now
+        ++ change_links events.now 0 changes.now)) links.items) }
+    ensures in_order { IfOk result (λ links. IsNonDecreasingBy (λ link. link.rank) links.items) }
+{
+    let mut links = all_links(alloc, events, rides, turns, changes)?;
+    links.sort_unstable_by_key(|link| link.rank);
+    Ok(links)
+}
+
+// The links of drives and waits, of turns, and of changes.
+fn all_links(
+    alloc: Global,
+    events: &[ExpandedEvent],
+    rides: &[Activity],
+    turns: &[Step],
+    changes: &[Activity],
+) -> Result<Vec<Link>, NoMemory>
+    requires few { length events.now ≤ 100000 }
+    requires few_changes { length changes.now ≤ 500000 }
+    requires rides { All (λ ride. ride.step.from < length events.now) rides.now }
+    requires turns { All (λ turn. turn.from < length events.now) turns.now }
+    requires changes { All (λ change. change.step.from < length events.now) changes.now }
+    ensures { IfOk result (λ links. links.items
+        ≡ ride_links events.now rides.now ++ (turn_links events.now turns.now
+        ++ change_links events.now 0 changes.now)) }
+{
+    let mut links = Vec::with_capacity(alloc, rides.len() + turns.len() + changes.len())?;
+    push_rides(&mut links, events, rides)?;
+    push_turns(&mut links, events, turns)?;
+    push_changes(&mut links, events, changes)?;
+    Ok(links)
+}
+
+// The links of drives and waits, behind others.
+fn push_rides(
+    links: &mut Vec<Link>,
+    events: &[ExpandedEvent],
+    rides: &[Activity],
+) -> Result<(), NoMemory>
+    requires few { length events.now ≤ 100000 }
+    requires ends { All (λ ride. ride.step.from < length events.now) rides.now }
+    ensures { OnOk result (links.new.items ≡ links.old.items ++ ride_links events.now rides.now) }
+{
+    for ride in rides {
+        links.push(link_of(events, None, &ride.step))?;
+    }
+    Ok(())
+}
+
+// The links of turns, behind others.
+fn push_turns(
+    links: &mut Vec<Link>,
+    events: &[ExpandedEvent],
+    turns: &[Step],
+) -> Result<(), NoMemory>
+    requires few { length events.now ≤ 100000 }
+    requires ends { All (λ turn. turn.from < length events.now) turns.now }
+    ensures { OnOk result (links.new.items ≡ links.old.items ++ turn_links events.now turns.now) }
+{
+    for turn in turns {
+        links.push(link_of(events, None, turn))?;
+    }
+    Ok(())
+}
+
+// The links of changes, behind others.
+fn push_changes(
+    links: &mut Vec<Link>,
+    events: &[ExpandedEvent],
+    changes: &[Activity],
+) -> Result<(), NoMemory>
+    requires few { length events.now ≤ 100000 }
+    requires few_changes { length changes.now ≤ 500000 }
+    requires ends { All (λ change. change.step.from < length events.now) changes.now }
+    ensures { OnOk result
+        (links.new.items ≡ links.old.items ++ change_links events.now 0 changes.now) }
+{
+    for (index, change) in changes.iter().enumerate() {
+        links.push(link_of(events, Some(index as u32), &change.step))?;
+    }
+    Ok(())
+}
+
+// The link of a step.
+fn link_of(events: &[ExpandedEvent], change: Option<u32>, step: &Step) -> Link
+    requires few { length events.now ≤ 100000 }
+    requires from { step.now.from < length events.now }
+    ensures { result ≡ link_of events.now change step.now }
+{
+    Link {
+        rank: forward_rank(events, step.from),
+        step: *step,
+        change,
+    }
+}
+
+// Where an event stands in the forward order, as one number.
+fn forward_rank(events: &[ExpandedEvent], event: u32) -> u64
+    requires few { length events.now ≤ 100000 }
+    requires there { event < length events.now }
+    ensures { result ≡ forward_rank events.now event }
+{
+    let at = &events[event as usize];
+    u64::from(at.time) * 4_294_967_296 + (departs_later(at) + u64::from(event))
+}
+
+// What a departure comes later than an arrival of the same time.
+fn departs_later(event: &ExpandedEvent) -> u64
+    ensures value { result ≡ departs_later event.now }
+    ensures small { result ≤ 2147483648 }
+{
+    match event.kind {
+        EventKind::Arrival => 0,
+        EventKind::Departure => 2_147_483_648,
+    }
+}

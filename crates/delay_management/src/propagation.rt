@@ -1,0 +1,187 @@
+// How delays go on through a day.
+ghost use Rattle.std.specs.Prelude.{◌≡◌, ◌≤◌, length, All, IfOk};
+ghost use Rattle.giv_files.specs.declared.stage.Stage.TheVariants as stages;
+ghost use Rattle.giv_files.specs.Inputs.{UnlessFault};
+ghost use Rattle.giv_files.specs.Settings.{Fits};
+ghost use Rattle.event_tables.specs.Delays.{AreDelays};
+ghost use Rattle.event_tables.specs.ExpandedFiles.{AreExpandedActivities, AreExpandedEvents};
+ghost use Rattle.event_tables.specs.Schedules.{AreScheduleRows};
+ghost use Rattle.delay_management.specs.DispositionStage.{disposition_faults, problem_in, turnover_in};
+ghost use Rattle.delay_management.specs.LeastTimes.{IsLeast, least_times};
+ghost use Rattle.delay_management.specs.Problems.{IsForward, Joins, problem_over};
+ghost use Rattle.delay_management.specs.Waiting.{chosen_changes};
+
+use crate::delays::{delayed_activities, earliest_times};
+use crate::links::{Link, links_in_order};
+use crate::pass::pushed_along;
+use crate::step::{Activity, Step};
+use crate::turns::turns_of;
+use event_tables::{
+    DelayRow, ExpandedActivity, ExpandedEvent, ScheduleRow, activity_delays, event_delays,
+    expanded_activities, expanded_events, schedule_rows,
+};
+use giv_files::{Bundle, Key, StageFault};
+use plan_num::NoMemory;
+use std::alloc::Global;
+use std::marker::Model;
+
+/// The events of a day with their earliest times, and the steps by which delays go on. Contracts
+/// see it as these.
+#[derive(Debug, Drop)]
+pub struct Propagation {
+    events: Vec<ExpandedEvent>,
+    earliest: Vec<u64>,
+    rides: Vec<Activity>,
+    changes: Vec<Activity>,
+    turns: Vec<Step>,
+    links: Vec<Link>,
+}
+
+impl Model for Propagation {
+    ghost use Rattle.delay_management.specs.Links.{IsLinked};
+    ghost use Rattle.delay_management.specs.Problems.{DelayProblem};
+
+    ghost Value = { DelayProblem };
+
+    ghost view = { λ p. record {
+      events = p.events.items;
+      earliest = p.earliest.items;
+      rides = p.rides.items;
+      changes = p.changes.items;
+      turns = p.turns.items;
+    } };
+
+    ghost invariant = { λ p. IsLinked (record {
+      events = p.events.items;
+      earliest = p.earliest.items;
+      rides = p.rides.items;
+      changes = p.changes.items;
+      turns = p.turns.items;
+    }) p.links.items };
+}
+
+impl Propagation {
+    /// The problem of the inputs of the stage of dispositions, or their first fault.
+    pub fn from_bundle(alloc: Global, bundle: &Bundle) -> Result<Propagation, StageFault>
+        requires stage { bundle.now.stage ≡ stages.Disposition }
+        requires fits { Fits bundle.now }
+        ensures read { UnlessFault (disposition_faults bundle.now)
+            (λ problem. problem ≡ problem_in bundle.now) result }
+    {
+        let events = expanded_events(alloc, bundle.input(0))?;
+        let activities = expanded_activities(alloc, &events, bundle.input(1))?;
+        let schedule = schedule_rows(alloc, &events, bundle.input(2))?;
+        let event_rows = event_delays(alloc, &events, bundle.input(3))?;
+        let activity_rows = activity_delays(alloc, &activities, bundle.input(4))?;
+        let turnover = turnover_of(bundle);
+        let problem = Propagation::of_rows(
+            alloc,
+            events,
+            &activities,
+            &schedule,
+            &event_rows,
+            &activity_rows,
+            turnover,
+        )?;
+        Ok(problem)
+    }
+
+    // The problem of what the five input files hold.
+    fn of_rows(
+        alloc: Global,
+        events: Vec<ExpandedEvent>,
+        activities: &[ExpandedActivity],
+        schedule: &[ScheduleRow],
+        event_rows: &[DelayRow],
+        activity_rows: &[DelayRow],
+        turnover: u32,
+    ) -> Result<Propagation, NoMemory>
+        requires events { AreExpandedEvents events.items }
+        requires activities { AreExpandedActivities events.items activities.now }
+        requires schedule { AreScheduleRows events.items schedule.now }
+        requires event_delays { AreDelays (length events.items) event_rows.now }
+        requires activity_delays { AreDelays (length activities.now) activity_rows.now }
+        ensures { IfOk result (λ problem. problem ≡ problem_over turnover events.items activities.now
+            schedule.now event_rows.now activity_rows.now) }
+    {
+        let earliest = earliest_times(alloc, &events, event_rows)?;
+        let rides = delayed_activities(alloc, activities, activity_rows, false)?;
+        let changes = delayed_activities(alloc, activities, activity_rows, true)?;
+        let turns = turns_of(alloc, schedule, turnover)?;
+        let links = links_in_order(alloc, &events, &rides, &turns, &changes)?;
+        Ok(Propagation {
+            events,
+            earliest,
+            rides,
+            changes,
+            turns,
+            links,
+        })
+    }
+
+    /// The least times where some changes are kept, told by one value for each change: no event is
+    /// before its earliest time, and each step has its minutes.
+    pub(crate) fn least_times(&self, alloc: Global, kept: &[bool]) -> Result<Vec<u64>, NoMemory>
+        ensures times { IfOk result
+            (λ times. times.items ≡ least_times self.now (chosen_changes self.now kept.now)) }
+        ensures least { IfOk result
+            (λ times. IsLeast self.now (chosen_changes self.now kept.now) times.items) }
+        ensures small { IfOk result
+            (λ times. All (λ time. time ≤ 1000000000000000000) times.items) }
+    {
+        pushed_along(alloc, &self.earliest, &self.links, kept)
+    }
+
+    /// The events.
+    pub(crate) fn events(&self) -> &[ExpandedEvent]
+        ensures value { result.now ≡ self.now.events }
+        ensures few { length self.now.events ≤ 100000 }
+        ensures forward { IsForward self.now }
+    {
+        &self.events
+    }
+
+    /// The earliest time of each event.
+    pub(crate) fn earliest(&self) -> &[u64]
+        ensures value { result.now ≡ self.now.earliest }
+        ensures each { length self.now.earliest ≡ length self.now.events }
+        ensures few { length self.now.events ≤ 100000 }
+    {
+        &self.earliest
+    }
+
+    /// The drives and waits.
+    pub(crate) fn rides(&self) -> &[Activity]
+        ensures value { result.now ≡ self.now.rides }
+        ensures ends { All (λ ride. Joins (length self.now.events) ride.step) self.now.rides }
+        ensures ids { All (λ ride. ride.id ≤ 500000) self.now.rides }
+    {
+        &self.rides
+    }
+
+    /// The changes.
+    pub(crate) fn changes(&self) -> &[Activity]
+        ensures value { result.now ≡ self.now.changes }
+        ensures ends { All (λ change. Joins (length self.now.events) change.step) self.now.changes }
+        ensures ids { All (λ change. change.id ≤ 500000) self.now.changes }
+    {
+        &self.changes
+    }
+
+    /// The turns of vehicles.
+    pub(crate) fn turns(&self) -> &[Step]
+        ensures value { result.now ≡ self.now.turns }
+        ensures ends { All (Joins (length self.now.events)) self.now.turns }
+    {
+        &self.turns
+    }
+}
+
+// The turnover time of a bundle of the stage, in minutes.
+fn turnover_of(bundle: &Bundle) -> u32
+    requires stage { bundle.now.stage ≡ stages.Disposition }
+    requires fits { Fits bundle.now }
+    ensures { result ≡ turnover_in bundle.now }
+{
+    bundle.settings().amount(Key::VsTurnOverTime) as u32
+}
