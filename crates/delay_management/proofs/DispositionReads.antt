@@ -93,7 +93,7 @@ module _ (bundle : BundleParts) (none : disposition_faults bundle ≡ []) where
       let wait = wait_of bundle.settings in
       let is = passes.disposition in
       let alone : is.alone ≡ times_alone problem = least_is_one problem [] is.alone (times_alone problem) is.alone_least
-          (least_times_are_least problem [] forward (λ k d within. absurd (omega (arith, within)))) in
+      (least_times_are_least problem [] forward (λ k d within. absurd (omega (arith, within)))) in
       let least = subst (λ alone. IsLeast problem (filter (is_kept problem wait alone) problem.changes) passes.times) alone is.least in
       none_told problem kept times_text reasons_text (record {
         times = passes.times;

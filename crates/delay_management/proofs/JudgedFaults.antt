@@ -11,7 +11,7 @@ use Rattle.event_tables.specs.RowsOfTables.{records_by}
 use Rattle.delay_management.specs.declared.fault.ReasonFault.{ReasonFault}
 use Rattle.delay_management.specs.declared.fault.ReasonFault.TheVariants as fault
 use Rattle.delay_management.specs.declared.reason.Reason.{Reason}
-use Rattle.delay_management.specs.declared.reason_row.ReasonRow.{ReasonRow}
+use Rattle.delay_management.specs.DispositionStage.{ReasonRow}
 use Rattle.delay_management.specs.declared.step.Activity.{Activity}
 use Rattle.delay_management.specs.declared.step.Step.{Step}
 use Rattle.delay_management.specs.DispositionStage.{disposition_faults, kept_in, problem_in}

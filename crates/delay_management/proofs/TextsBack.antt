@@ -27,7 +27,7 @@ use Rattle.event_tables.proofs.CellFacts.{columns_written}
 use Rattle.event_tables.proofs.Numbering.{none_of_places, some_missing}
 use Rattle.delay_management.specs.declared.reason.Reason.{Reason}
 use Rattle.delay_management.specs.declared.reason.Reason.TheVariants as reason
-use Rattle.delay_management.specs.declared.reason_row.ReasonRow.{ReasonRow}
+use Rattle.delay_management.specs.DispositionStage.{ReasonRow}
 use Rattle.delay_management.specs.DispositionStage.{reason_cells, reason_rows, reasons_header, reasons_text, time_rows, times_text}
 use Rattle.delay_management.specs.Judged.{reason_row}
 use Rattle.delay_management.proofs.WrittenRows.{ReasonFits, TimeFits, reason_table_fits, times_from}

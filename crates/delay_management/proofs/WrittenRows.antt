@@ -13,7 +13,7 @@ use Rattle.event_tables.specs.Cells.{disposed_time_cells}
 use Rattle.event_tables.specs.RowsOfTables.{rows_by}
 use Rattle.delay_management.specs.declared.reason.Reason.{Reason}
 use Rattle.delay_management.specs.declared.reason.Reason.TheVariants as reason
-use Rattle.delay_management.specs.declared.reason_row.ReasonRow.{ReasonRow}
+use Rattle.delay_management.specs.DispositionStage.{ReasonRow}
 use Rattle.delay_management.specs.DispositionStage.{named_activity, reason_cells, reason_place, reason_rows, time_rows}
 
 -- ---- one row more, of rows that are numbered from 1

@@ -24,7 +24,6 @@ use Rattle.event_tables.specs.RowsOfTables.{file_text}
 use Rattle.event_tables.specs.Schedules.{schedule_input}
 use Rattle.delay_management.specs.declared.reason.Reason.{Reason}
 use Rattle.delay_management.specs.declared.reason.Reason.TheVariants as reason
-use Rattle.delay_management.specs.declared.reason_row.ReasonRow.{ReasonRow}
 use Rattle.delay_management.specs.declared.step.Activity.{Activity}
 use Rattle.delay_management.specs.Lateness.{delay_at, missed_at}
 use Rattle.delay_management.specs.LeastTimes.{least_times}
@@ -83,6 +82,11 @@ problem_in bundle =
 -- the changes that are kept over a bundle
 abbrev pub kept_in : BundleParts → List Activity
 kept_in bundle = kept_changes (problem_in bundle) (wait_of bundle.settings)
+
+-- the row of the reason of an event
+pub record ReasonRow : Type 0 where
+  pub event : ℕ
+  pub reason : Reason
 
 -- the rows of times and of reasons: the events are numbered from 1
 abbrev pub time_rows : List ℕ → List DisposedTime

@@ -12,7 +12,7 @@ use Rattle.delay_management.specs.declared.fault.ReasonFault.{ReasonFault}
 use Rattle.delay_management.specs.declared.fault.ReasonFault.TheVariants as fault
 use Rattle.delay_management.specs.declared.reason.Reason.{Reason}
 use Rattle.delay_management.specs.declared.reason.Reason.TheVariants as reason
-use Rattle.delay_management.specs.declared.reason_row.ReasonRow.{ReasonRow}
+use Rattle.delay_management.specs.DispositionStage.{ReasonRow}
 use Rattle.delay_management.specs.declared.step.Activity.{Activity}
 use Rattle.delay_management.specs.declared.step.Step.{Step}
 use Rattle.delay_management.specs.DispositionStage.{kept_in, problem_in, reason_rows, time_rows}

@@ -8,7 +8,7 @@ use Rattle.event_tables.specs.RowsOfTables.{rows_by}
 use Rattle.event_tables.proofs.CellFacts.{columns_written}
 use Rattle.delay_management.specs.declared.reason.Reason.{Reason}
 use Rattle.delay_management.specs.declared.reason.Reason.TheVariants as reasons
-use Rattle.delay_management.specs.declared.reason_row.ReasonRow.{ReasonRow}
+use Rattle.delay_management.specs.DispositionStage.{ReasonRow}
 use Rattle.delay_management.specs.DispositionStage.{reason_cells, reason_rows, reasons_header}
 use Rattle.delay_management.proofs.WrittenRows.{reason_table_fits, reasons_fit, row_more, rows_whole}
 use Rattle.delay_management.proofs.files.reasons_text.Goals as goal

@@ -1,6 +1,6 @@
 use Rattle.std.proofs.Common.{arith}
 use Rattle.delay_management.specs.declared.reason.Reason.{Reason}
-use Rattle.delay_management.specs.declared.reason_row.ReasonRow.{ReasonRow}
+use Rattle.delay_management.specs.DispositionStage.{ReasonRow}
 use Rattle.delay_management.specs.Judged.{reason_row}
 use Rattle.delay_management.proofs.TableParts.{part_pushed}
 use Rattle.delay_management.proofs.rows.reasons_of.Goals as goal
