@@ -1,0 +1,67 @@
+-- Inner words: how far below 0 some walk goes that ends in each node, and steps that find walks that go
+-- further.
+use Rattle.std.specs.Prelude.{ℕ, ℤ, pos, neg_ℤ, ◌≡◌, ◌+◌, ◌<◌, ◌≤◌, ◌+ℤ◌, ◌≤ℤ◌, if◌then◌else◌, Bool, true, false, List, length, sum, get_or, Option, Some, None, IfSome}
+use Rattle.vehicle_model.specs.Trips.{Links}
+use Rattle.vehicle_model.specs.Plans.{next, is_next}
+use Rattle.flow_potentials.specs.Residual.{Node, root, left, right, walk_cost}
+
+-- a number for the root, and for the left and the right node of each trip
+pub record DropParts : Type 0 where
+  pub root : ℕ
+  pub left : List ℕ
+  pub right : List ℕ
+
+-- the number of a node
+abbrev pub drop_at : DropParts → Node → ℕ
+drop_at drops root = drops.root
+drop_at drops (left i) = get_or drops.left i 0
+drop_at drops (right j) = get_or drops.right j 0
+
+-- some walk that ends in each node costs so much less than nothing
+abbrev pub AreFound : Links → List (Option ℕ) → DropParts → Type 0
+AreFound links plan drops = (node : Node)
+    → (walk : List Node) × (walk_cost links plan node walk ≡ Some (neg_ℤ (pos (drop_at drops node))))
+
+-- numbers for the trips of a plan
+pub record AreDropsOver (count : ℕ) (drops : DropParts) : Type 0 where
+  pub left : length drops.left ≡ count
+  pub right : length drops.right ≡ count
+
+-- all numbers together
+abbrev pub depth : DropParts → ℕ
+depth drops = drops.root + sum drops.left + sum drops.right
+
+-- no arc into a right node finds a better walk
+abbrev pub PairKept : Links → DropParts → ℕ → ℕ → Type 0
+PairKept links drops i j = IfSome (links.gain i j)
+    (λ gain. (pos (get_or drops.left i 0) +ℤ gain) ≤ℤ pos (get_or drops.right j 0))
+
+-- nor does one between the left node of a trip and its link or the root
+abbrev pub NextKept : Links → DropParts → ℕ → Option ℕ → Type 0
+NextKept links drops i None = drops.root ≤ get_or drops.left i 0
+NextKept links drops i (Some j) = (get_or drops.left i 0 ≤ drops.root)
+    × IfSome (links.gain i j)
+    (λ gain. pos (get_or drops.right j 0) ≤ℤ (pos (get_or drops.left i 0) +ℤ gain))
+
+-- nor one between the right node of a trip and the root
+abbrev pub RootKept : DropParts → ℕ → Bool → Type 0
+RootKept drops j false = get_or drops.right j 0 ≤ drops.root
+RootKept drops j true = drops.root ≤ get_or drops.right j 0
+
+-- no arc finds a better walk
+pub record AreKept (links : Links) (plan : List (Option ℕ)) (drops : DropParts) : Type 0 where
+  pub pairs : (i j : ℕ) → i < links.count → j < links.count → PairKept links drops i j
+  pub nexts : (i : ℕ) → i < links.count → NextKept links drops i (next plan i)
+  pub roots : (j : ℕ) → j < links.count → RootKept drops j (is_next plan j)
+
+-- one, where something has changed
+abbrev pub one_if : Bool → ℕ
+one_if changed = if changed then 1 else 0
+
+-- a step: walks that were found stay found, the depth rises where something changes, and nothing is other
+-- where nothing does
+pub record IsStep (links : Links) (plan : List (Option ℕ)) (before after : DropParts) (changed : Bool) : Type 0 where
+  pub over : AreDropsOver links.count before → AreDropsOver links.count after
+  pub found : AreFound links plan before → AreFound links plan after
+  pub deeper : depth before + one_if changed ≤ depth after
+  pub same : changed ≡ false → after ≡ before
