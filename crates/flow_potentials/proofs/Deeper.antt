@@ -11,7 +11,7 @@ use Rattle.flow_potentials.specs.Drops.{DropParts, drop_at, AreFound, AreDropsOv
 use Rattle.flow_potentials.specs.Residual.{Node, root, left, right, arc, walk_cost}
 
 -- the cost of a walk with one arc more
-joined : (cost_of_arc cost_before : Option ℤ) (more rest : ℤ) → cost_of_arc ≡ Some more
+pub joined : (cost_of_arc cost_before : Option ℤ) (more rest : ℤ) → cost_of_arc ≡ Some more
     → cost_before ≡ Some rest
     → option_and_then (λ cost. option_map (λ before. before +ℤ cost) cost_before) cost_of_arc
     ≡ Some (rest +ℤ more)

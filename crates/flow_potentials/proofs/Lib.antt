@@ -1,6 +1,7 @@
 pub mod Certified
 mod Checked
 mod Deeper
+mod Shallow
 mod Slack
 mod Tables
 pub mod TablesBack

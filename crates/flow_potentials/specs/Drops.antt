@@ -1,8 +1,9 @@
 -- Inner words: how far below 0 some walk goes that ends in each node, and steps that find walks that go
 -- further.
-use Rattle.std.specs.Prelude.{ℕ, ℤ, pos, neg_ℤ, ◌≡◌, ◌+◌, ◌<◌, ◌≤◌, ◌+ℤ◌, ◌≤ℤ◌, if◌then◌else◌, Bool, true, false, List, length, sum, get_or, Option, Some, None, IfSome}
+use Rattle.std.specs.Prelude.{ℕ, ℤ, pos, neg_ℤ, ◌≡◌, ◌+◌, ◌<◌, ◌≤◌, ◌+ℤ◌, ◌≤ℤ◌, if◌then◌else◌, Bool, true, false, List, length, sum, map, ◌-◌, get_or, MatchOption, Option, Some, None, IfSome}
 use Rattle.vehicle_model.specs.Trips.{Links}
-use Rattle.vehicle_model.specs.Plans.{next, is_next}
+use Rattle.vehicle_model.specs.Plans.{next, is_next, IsPlan}
+use Rattle.flow_potentials.specs.Potentials.{PotentialParts, AreValid}
 use Rattle.flow_potentials.specs.Residual.{Node, root, left, right, walk_cost}
 
 -- a number for the root, and for the left and the right node of each trip
@@ -65,3 +66,26 @@ pub record IsStep (links : Links) (plan : List (Option ℕ)) (before after : Dro
   pub found : AreFound links plan before → AreFound links plan after
   pub deeper : depth before + one_if changed ≤ depth after
   pub same : changed ≡ false → after ≡ before
+
+-- some potentials are valid for a plan
+abbrev pub IsCertified : Links → List (Option ℕ) → Type 0
+IsCertified links plan = (potentials : PotentialParts) × AreValid links plan potentials
+
+-- what is known of numbers while better walks are looked for
+pub record IsSearched (links : Links) (plan : List (Option ℕ)) (drops : DropParts) : Type 0 where
+  pub plan_is : IsPlan links plan
+  pub certified : IsCertified links plan
+  pub over : AreDropsOver links.count drops
+  pub found : AreFound links plan drops
+
+-- the potentials of numbers that no arc makes better
+abbrev pub potentials_by : DropParts → PotentialParts
+potentials_by drops = record {
+  u = map (λ left. drops.root - left) drops.left;
+  v = map (λ right. right - drops.root) drops.right;
+}
+
+-- a number is raised to another one and a gain, where this is more
+abbrev pub IsRaised : ℕ → ℤ → ℕ → Option ℕ → Type 0
+IsRaised from gain to raised = MatchOption raised ((pos from +ℤ gain) ≤ℤ pos to)
+    (λ number. (pos number ≡ (pos from +ℤ gain)) × (to < number))

@@ -2,6 +2,7 @@
 #![tactic(auto)]
 
 mod checking;
+mod drops;
 mod numbers;
 mod potential_fault;
 mod table_reading;

@@ -1,0 +1,194 @@
+// How far below 0 walks of the residual graph go.
+ghost use Rattle.std.specs.Prelude.{◌≡◌, ◌<◌, ◌≤◌, ◌+ℤ◌, ◌-ℤ◌, ◌≤ℤ◌, pos, neg_ℤ, true, false, length, replicate, slice_set, get_or, is_some, MatchOption, Some, None, IfOk, IfSome};
+ghost use Rattle.flow_potentials.specs.Drops.{PairKept, NextKept, RootKept, IsSearched, IsStep, IsRaised, potentials_by};
+ghost use Rattle.vehicle_model.specs.Plans.{next, is_next};
+ghost use Rattle.vehicle_model.specs.Trips.{links_of};
+
+use crate::numbers::zeros;
+use plan_num::NoMemory;
+use std::alloc::Global;
+use std::marker::Model;
+use vehicle_model::{Plan, Trips};
+
+/// For the root, and for the left and the right node of each trip, how much less than nothing some
+/// walk costs that ends there.
+#[derive(Drop)]
+pub(crate) struct Drops {
+    root: u64,
+    left: Vec<u64>,
+    right: Vec<u64>,
+}
+
+impl Model for Drops {
+    ghost use Rattle.flow_potentials.specs.Drops.{DropParts};
+
+    ghost Value = { DropParts };
+
+    ghost view = { λ drops. record {
+      root = drops.root;
+      left = drops.left.items;
+      right = drops.right.items;
+    } };
+}
+
+impl Drops {
+    /// What walks without an arc cost.
+    pub(crate) fn new(alloc: Global, trips: usize) -> Result<Drops, NoMemory>
+        ensures { IfOk result (λ drops. drops
+            ≡ record { root = 0; left = replicate trips 0; right = replicate trips 0 }) }
+    {
+        Ok(Drops {
+            root: 0,
+            left: zeros(alloc, trips)?,
+            right: zeros(alloc, trips)?,
+        })
+    }
+
+    // The link from a trip to another may make a better walk.
+    fn relax_pair(&mut self, trips: &Trips, plan: &Plan, i: usize, j: usize) -> bool
+        requires known { IsSearched (links_of trips.now) plan.now self.old }
+        requires from { i < length trips.now.trips }
+        requires to { j < length trips.now.trips }
+        ensures step { IsStep (links_of trips.now) plan.now self.old self.new result }
+        ensures kept { result ≡ false → PairKept (links_of trips.now) self.old i j }
+    {
+        let _ = (trips.len(), plan.len());
+        match over_pair(trips, i, j, self.left(i), self.right(j)) {
+            Some(number) => {
+                self.set_right(j, number);
+                true
+            }
+            None => false,
+        }
+    }
+
+    // The arcs that leave the left node of a trip or go there, but for new links, may make a better walk.
+    fn relax_next(&mut self, trips: &Trips, plan: &Plan, i: usize) -> bool
+        requires known { IsSearched (links_of trips.now) plan.now self.old }
+        requires within { i < length trips.now.trips }
+        ensures step { IsStep (links_of trips.now) plan.now self.old self.new result }
+        ensures kept { result ≡ false
+            → NextKept (links_of trips.now) self.old i (next plan.now i) }
+    {
+        match plan.next(i) {
+            Some(j) => self.relax_link(trips, plan, i, j) | self.relax_back(trips, plan, i),
+            None => self.relax_alone(trips, plan, i),
+        }
+    }
+
+    // A link of the plan that is given up may make a better walk.
+    fn relax_link(&mut self, trips: &Trips, plan: &Plan, i: usize, j: usize) -> bool
+        requires known { IsSearched (links_of trips.now) plan.now self.old }
+        requires link { next plan.now i ≡ Some j }
+        ensures step { IsStep (links_of trips.now) plan.now self.old self.new result }
+        ensures kept { result ≡ false → IfSome ((links_of trips.now).gain i j)
+            (λ gain. pos (get_or self.old.right j 0) ≤ℤ (pos (get_or self.old.left i 0) +ℤ gain)) }
+    {
+        let _ = trips.len();
+        match over_link(trips, i, j, self.right(j), self.left(i)) {
+            Some(number) => {
+                self.set_left(i, number);
+                true
+            }
+            None => false,
+        }
+    }
+
+    // The arc from the left node of a trip with a successor to the root may make a better walk.
+    fn relax_back(&mut self, trips: &Trips, plan: &Plan, i: usize) -> bool
+        requires known { IsSearched (links_of trips.now) plan.now self.old }
+        requires link { is_some (next plan.now i) ≡ true }
+        ensures step { IsStep (links_of trips.now) plan.now self.old self.new result }
+        ensures kept { result ≡ false → get_or self.old.left i 0 ≤ self.old.root }
+    {
+        let number = self.left(i);
+        let is_better = self.root < number;
+        if is_better {
+            self.root = number;
+        }
+        is_better
+    }
+
+    // The arc from the root to the left node of a trip without a successor may make a better walk.
+    fn relax_alone(&mut self, trips: &Trips, plan: &Plan, i: usize) -> bool
+        requires known { IsSearched (links_of trips.now) plan.now self.old }
+        requires within { i < length trips.now.trips }
+        requires alone { next plan.now i ≡ None }
+        ensures step { IsStep (links_of trips.now) plan.now self.old self.new result }
+        ensures kept { result ≡ false → self.old.root ≤ get_or self.old.left i 0 }
+    {
+        let number = self.root;
+        let is_better = self.left(i) < number;
+        if is_better {
+            self.set_left(i, number);
+        }
+        is_better
+    }
+
+    // The number of the left node of a trip.
+    fn left(&self, i: usize) -> u64
+        requires { i < length self.now.left }
+        ensures { result ≡ get_or self.now.left i 0 }
+    {
+        self.left[i]
+    }
+
+    // The number of the right node of a trip.
+    fn right(&self, j: usize) -> u64
+        requires { j < length self.now.right }
+        ensures { result ≡ get_or self.now.right j 0 }
+    {
+        self.right[j]
+    }
+
+    fn set_left(&mut self, i: usize, number: u64)
+        requires { i < length self.old.left }
+        ensures { self.new ≡ record { root = self.old.root; left = slice_set self.old.left i number; right = self.old.right } }
+    {
+        self.left[i] = number;
+    }
+
+    fn set_right(&mut self, j: usize, number: u64)
+        requires { j < length self.old.right }
+        ensures { self.new ≡ record { root = self.old.root; left = self.old.left; right = slice_set self.old.right j number } }
+    {
+        self.right[j] = number;
+    }
+}
+
+// A number and what the link from a trip to another gains, where they are more than another number.
+fn over_pair(trips: &Trips, i: usize, j: usize, from: u64, to: u64) -> Option<u64>
+    requires i { i < length trips.now.trips }
+    requires j { j < length trips.now.trips }
+    requires most { IfSome ((links_of trips.now).gain i j)
+        (λ gain. (pos from +ℤ gain) ≤ℤ pos 2000000000000000) }
+    ensures { MatchOption ((links_of trips.now).gain i j) (result ≡ None)
+        (λ gain. IsRaised from gain to result) }
+{
+    match trips.link_gain(i, j) {
+        Some(gain) => {
+            let number = i128::from(from) + gain;
+            if number > i128::from(to) {
+                Some(number as u64)
+            } else {
+                None
+            }
+        }
+        None => None,
+    }
+}
+
+// A number without what a link gains, where this is more than another number.
+fn over_link(trips: &Trips, i: usize, j: usize, from: u64, to: u64) -> Option<u64>
+    requires link { is_some ((links_of trips.now).gain i j) ≡ true }
+    requires most { IfSome ((links_of trips.now).gain i j)
+        (λ gain. (pos from -ℤ gain) ≤ℤ pos 2000000000000000) }
+    ensures { IfSome ((links_of trips.now).gain i j) (λ gain. IsRaised from (neg_ℤ gain) to result) }
+{
+    let number = i128::from(from) - trips.gain(i, j);
+    if number > i128::from(to) {
+        Some(number as u64)
+    } else {
+        None
+    }
+}
