@@ -1,7 +1,9 @@
 pub mod Certified
 mod Checked
 mod Deeper
+mod Loops
 mod Shallow
 mod Slack
+mod Steps
 mod Tables
 pub mod TablesBack

@@ -145,3 +145,12 @@ pub back_most : (trips : TripsParts) (plan : List (Option ℕ)) (drops : DropPar
 back_most trips plan drops are known i j gain is e =
     arc_most trips plan drops are known (right j) (left i) gain (back_arc (links_of trips) plan i j is ∙ e)
 
+
+-- each number is small
+pub found_most : (trips : TripsParts) (plan : List (Option ℕ)) (drops : DropParts) → AreTrips trips
+    → IsSearched (links_of trips) plan drops → (node : Node) → drop_at drops node ≤ 2000000000000000
+found_most trips plan drops are known node =
+    let walk = known.found node in
+    let least = walk_least (links_of trips) plan known.certified.0 known.certified.1 known.plan_is node walk.0
+        (neg_ℤ (pos (drop_at drops node))) walk.1 in
+    omega (arith, ints, least, total_most trips plan known.certified.0 are known.plan_is known.certified.1)

@@ -37,23 +37,35 @@ abbrev pub PairKept : Links → DropParts → ℕ → ℕ → Type 0
 PairKept links drops i j = IfSome (links.gain i j)
     (λ gain. (pos (get_or drops.left i 0) +ℤ gain) ≤ℤ pos (get_or drops.right j 0))
 
--- nor does one between the left node of a trip and its link or the root
+-- nor one from a left node to those before some
+abbrev pub PairsKept : Links → DropParts → ℕ → ℕ → Type 0
+PairsKept links drops i most = (j : ℕ) → j < most → PairKept links drops i j
+
+-- nor does one back over a link
+abbrev pub LinkKept : Links → DropParts → ℕ → ℕ → Type 0
+LinkKept links drops i j = IfSome (links.gain i j)
+    (λ gain. pos (get_or drops.right j 0) ≤ℤ (pos (get_or drops.left i 0) +ℤ gain))
+
+-- nor one between the left node of a trip and its link or the root
 abbrev pub NextKept : Links → DropParts → ℕ → Option ℕ → Type 0
 NextKept links drops i None = drops.root ≤ get_or drops.left i 0
-NextKept links drops i (Some j) = (get_or drops.left i 0 ≤ drops.root)
-    × IfSome (links.gain i j)
-    (λ gain. pos (get_or drops.right j 0) ≤ℤ (pos (get_or drops.left i 0) +ℤ gain))
+NextKept links drops i (Some j) =
+    (get_or drops.left i 0 ≤ drops.root) × LinkKept links drops i j
 
 -- nor one between the right node of a trip and the root
 abbrev pub RootKept : DropParts → ℕ → Bool → Type 0
 RootKept drops j false = get_or drops.right j 0 ≤ drops.root
 RootKept drops j true = drops.root ≤ get_or drops.right j 0
 
+-- no arc of a trip finds a better walk
+pub record TripKept (links : Links) (plan : List (Option ℕ)) (drops : DropParts) (i : ℕ) : Type 0 where
+  pub pairs : PairsKept links drops i links.count
+  pub next_kept : NextKept links drops i (next plan i)
+  pub root_kept : RootKept drops i (is_next plan i)
+
 -- no arc finds a better walk
-pub record AreKept (links : Links) (plan : List (Option ℕ)) (drops : DropParts) : Type 0 where
-  pub pairs : (i j : ℕ) → i < links.count → j < links.count → PairKept links drops i j
-  pub nexts : (i : ℕ) → i < links.count → NextKept links drops i (next plan i)
-  pub roots : (j : ℕ) → j < links.count → RootKept drops j (is_next plan j)
+abbrev pub AreKept : Links → List (Option ℕ) → DropParts → Type 0
+AreKept links plan drops = (i : ℕ) → i < links.count → TripKept links plan drops i
 
 -- one, where something has changed
 abbrev pub one_if : Bool → ℕ

@@ -1,6 +1,6 @@
 // How far below 0 walks of the residual graph go.
-ghost use Rattle.std.specs.Prelude.{◌≡◌, ◌<◌, ◌≤◌, ◌+ℤ◌, ◌-ℤ◌, ◌≤ℤ◌, pos, neg_ℤ, true, false, length, replicate, slice_set, get_or, is_some, MatchOption, Some, None, IfOk, IfSome};
-ghost use Rattle.flow_potentials.specs.Drops.{PairKept, NextKept, RootKept, IsSearched, IsStep, IsRaised, potentials_by};
+ghost use Rattle.std.specs.Prelude.{◌≡◌, ◌<◌, ◌≤◌, ◌+ℤ◌, ◌-ℤ◌, ◌≤ℤ◌, ◌||◌, pos, neg_ℤ, true, false, length, replicate, slice_set, get_or, is_some, MatchOption, Some, None, IfOk, IfSome};
+ghost use Rattle.flow_potentials.specs.Drops.{PairKept, PairsKept, LinkKept, NextKept, RootKept, TripKept, AreKept, IsSearched, IsStep, IsRaised, potentials_by};
 ghost use Rattle.vehicle_model.specs.Plans.{next, is_next};
 ghost use Rattle.vehicle_model.specs.Trips.{links_of};
 
@@ -52,7 +52,8 @@ impl Drops {
         ensures step { IsStep (links_of trips.now) plan.now self.old self.new result }
         ensures kept { result ≡ false → PairKept (links_of trips.now) self.old i j }
     {
-        let _ = (trips.len(), plan.len());
+        let _ = trips.len();
+        let _ = plan.len();
         match over_pair(trips, i, j, self.left(i), self.right(j)) {
             Some(number) => {
                 self.set_right(j, number);
@@ -62,29 +63,15 @@ impl Drops {
         }
     }
 
-    // The arcs that leave the left node of a trip or go there, but for new links, may make a better walk.
-    fn relax_next(&mut self, trips: &Trips, plan: &Plan, i: usize) -> bool
-        requires known { IsSearched (links_of trips.now) plan.now self.old }
-        requires within { i < length trips.now.trips }
-        ensures step { IsStep (links_of trips.now) plan.now self.old self.new result }
-        ensures kept { result ≡ false
-            → NextKept (links_of trips.now) self.old i (next plan.now i) }
-    {
-        match plan.next(i) {
-            Some(j) => self.relax_link(trips, plan, i, j) | self.relax_back(trips, plan, i),
-            None => self.relax_alone(trips, plan, i),
-        }
-    }
-
     // A link of the plan that is given up may make a better walk.
     fn relax_link(&mut self, trips: &Trips, plan: &Plan, i: usize, j: usize) -> bool
         requires known { IsSearched (links_of trips.now) plan.now self.old }
         requires link { next plan.now i ≡ Some j }
         ensures step { IsStep (links_of trips.now) plan.now self.old self.new result }
-        ensures kept { result ≡ false → IfSome ((links_of trips.now).gain i j)
-            (λ gain. pos (get_or self.old.right j 0) ≤ℤ (pos (get_or self.old.left i 0) +ℤ gain)) }
+        ensures kept { result ≡ false → LinkKept (links_of trips.now) self.old i j }
     {
         let _ = trips.len();
+        let _ = plan.len();
         match over_link(trips, i, j, self.right(j), self.left(i)) {
             Some(number) => {
                 self.set_left(i, number);
@@ -97,16 +84,33 @@ impl Drops {
     // The arc from the left node of a trip with a successor to the root may make a better walk.
     fn relax_back(&mut self, trips: &Trips, plan: &Plan, i: usize) -> bool
         requires known { IsSearched (links_of trips.now) plan.now self.old }
+        requires within { i < length trips.now.trips }
         requires link { is_some (next plan.now i) ≡ true }
         ensures step { IsStep (links_of trips.now) plan.now self.old self.new result }
         ensures kept { result ≡ false → get_or self.old.left i 0 ≤ self.old.root }
     {
+        let _ = trips.len();
+        let _ = plan.len();
         let number = self.left(i);
-        let is_better = self.root < number;
-        if is_better {
-            self.root = number;
+        if self.root() < number {
+            self.set_root(number);
+            true
+        } else {
+            false
         }
-        is_better
+    }
+
+    // Both arcs from where a trip has a successor.
+    fn relax_linked(&mut self, trips: &Trips, plan: &Plan, i: usize, j: usize) -> bool
+        requires known { IsSearched (links_of trips.now) plan.now self.old }
+        requires within { i < length trips.now.trips }
+        requires link { next plan.now i ≡ Some j }
+        ensures step { IsStep (links_of trips.now) plan.now self.old self.new result }
+        ensures kept { result ≡ false → NextKept (links_of trips.now) self.old i (Some j) }
+    {
+        let link = self.relax_link(trips, plan, i, j);
+        let back = self.relax_back(trips, plan, i);
+        either(link, back)
     }
 
     // The arc from the root to the left node of a trip without a successor may make a better walk.
@@ -115,14 +119,150 @@ impl Drops {
         requires within { i < length trips.now.trips }
         requires alone { next plan.now i ≡ None }
         ensures step { IsStep (links_of trips.now) plan.now self.old self.new result }
-        ensures kept { result ≡ false → self.old.root ≤ get_or self.old.left i 0 }
+        ensures kept { result ≡ false → NextKept (links_of trips.now) self.old i None }
     {
-        let number = self.root;
-        let is_better = self.left(i) < number;
-        if is_better {
+        let _ = trips.len();
+        let _ = plan.len();
+        let number = self.root();
+        if self.left(i) < number {
             self.set_left(i, number);
+            true
+        } else {
+            false
         }
-        is_better
+    }
+
+    // The arcs between the left node of a trip and its link or the root.
+    fn relax_next(&mut self, trips: &Trips, plan: &Plan, i: usize) -> bool
+        requires known { IsSearched (links_of trips.now) plan.now self.old }
+        requires within { i < length trips.now.trips }
+        ensures step { IsStep (links_of trips.now) plan.now self.old self.new result }
+        ensures kept { result ≡ false
+            → NextKept (links_of trips.now) self.old i (next plan.now i) }
+    {
+        match plan.next(i) {
+            Some(j) => self.relax_linked(trips, plan, i, j),
+            None => self.relax_alone(trips, plan, i),
+        }
+    }
+
+    // The arc between the right node of a trip and the root.
+    fn relax_root(&mut self, trips: &Trips, plan: &Plan, j: usize) -> bool
+        requires known { IsSearched (links_of trips.now) plan.now self.old }
+        requires within { j < length trips.now.trips }
+        ensures step { IsStep (links_of trips.now) plan.now self.old self.new result }
+        ensures kept { result ≡ false → RootKept self.old j (is_next plan.now j) }
+    {
+        if plan.is_next(j) {
+            self.relax_from_root(trips, plan, j)
+        } else {
+            self.relax_to_root(trips, plan, j)
+        }
+    }
+
+    fn relax_from_root(&mut self, trips: &Trips, plan: &Plan, j: usize) -> bool
+        requires known { IsSearched (links_of trips.now) plan.now self.old }
+        requires within { j < length trips.now.trips }
+        requires linked { is_next plan.now j ≡ true }
+        ensures step { IsStep (links_of trips.now) plan.now self.old self.new result }
+        ensures kept { result ≡ false → RootKept self.old j true }
+    {
+        let _ = trips.len();
+        let _ = plan.len();
+        let number = self.root();
+        if self.right(j) < number {
+            self.set_right(j, number);
+            true
+        } else {
+            false
+        }
+    }
+
+    fn relax_to_root(&mut self, trips: &Trips, plan: &Plan, j: usize) -> bool
+        requires known { IsSearched (links_of trips.now) plan.now self.old }
+        requires within { j < length trips.now.trips }
+        requires alone { is_next plan.now j ≡ false }
+        ensures step { IsStep (links_of trips.now) plan.now self.old self.new result }
+        ensures kept { result ≡ false → RootKept self.old j false }
+    {
+        let _ = trips.len();
+        let _ = plan.len();
+        let number = self.right(j);
+        if self.root() < number {
+            self.set_root(number);
+            true
+        } else {
+            false
+        }
+    }
+
+    // The links from a trip to all others may make better walks.
+    fn relax_pairs(&mut self, trips: &Trips, plan: &Plan, i: usize) -> bool
+        requires known { IsSearched (links_of trips.now) plan.now self.old }
+        requires within { i < length trips.now.trips }
+        ensures step { IsStep (links_of trips.now) plan.now self.old self.new result }
+        ensures kept { result ≡ false → PairsKept (links_of trips.now) self.old i
+            (length trips.now.trips) }
+    {
+        let mut changed = false;
+        for j in 0..trips.len() {
+            let better = self.relax_pair(trips, plan, i, j);
+            changed = either(changed, better);
+        }
+        changed
+    }
+
+    // All arcs that leave the left node of a trip, or join its nodes to a link or to the root.
+    fn relax_trip(&mut self, trips: &Trips, plan: &Plan, i: usize) -> bool
+        requires known { IsSearched (links_of trips.now) plan.now self.old }
+        requires within { i < length trips.now.trips }
+        ensures step { IsStep (links_of trips.now) plan.now self.old self.new result }
+        ensures kept { result ≡ false → TripKept (links_of trips.now) plan.now self.old i }
+    {
+        let next = self.relax_next(trips, plan, i);
+        let pairs = self.relax_pairs(trips, plan, i);
+        let root = self.relax_root(trips, plan, i);
+        either(either(next, pairs), root)
+    }
+
+    // All arcs.
+    fn relax_all(&mut self, trips: &Trips, plan: &Plan) -> bool
+        requires { IsSearched (links_of trips.now) plan.now self.old }
+        ensures step { IsStep (links_of trips.now) plan.now self.old self.new result }
+        ensures kept { result ≡ false → AreKept (links_of trips.now) plan.now self.old }
+    {
+        let mut changed = false;
+        for i in 0..trips.len() {
+            let better = self.relax_trip(trips, plan, i);
+            changed = either(changed, better);
+        }
+        changed
+    }
+
+    /// Looks for better walks until there are none.
+    pub(crate) fn settle(&mut self, trips: &Trips, plan: &Plan)
+        requires { IsSearched (links_of trips.now) plan.now self.old }
+        ensures known { IsSearched (links_of trips.now) plan.now self.new }
+        ensures kept { AreKept (links_of trips.now) plan.now self.new }
+    {
+        let _ = trips.len();
+        let mut changed = true;
+        while changed {
+            changed = self.relax_all(trips, plan);
+        }
+    }
+
+    // The number of the root.
+    fn root(&self) -> u64
+        ensures { result ≡ self.now.root }
+    {
+        self.root
+    }
+
+    fn set_root(&mut self, number: u64)
+        ensures { self.new ≡ record { root = number; left = self.old.left; right = self.old.right } }
+    {
+        self.root = number;
     }
 
     // The number of the left node of a trip.
@@ -191,4 +331,11 @@ fn over_link(trips: &Trips, i: usize, j: usize, from: u64, to: u64) -> Option<u6
     } else {
         None
     }
+}
+
+// Whether one of two is so.
+fn either(a: bool, b: bool) -> bool
+    ensures { result ≡ (a || b) }
+{
+    a || b
 }
