@@ -2,6 +2,7 @@ pub mod Certified
 mod Checked
 mod Deeper
 mod Loops
+pub mod Settled
 mod Shallow
 mod Slack
 mod Steps

@@ -91,3 +91,12 @@ module _ (links : Links) (plan : List (Option ℕ)) (before : DropParts) (i : �
           next_kept = nexts inner.0;
           root_kept = subst (λ drops. RootKept drops i (is_next plan i)) same_two (roots outer.1);
         }
+
+-- the measure goes down
+pub goes_down : (d deeper : ℕ) (changed better : Bool) → changed ≡ true → d + one_if better ≤ deeper
+    → deeper ≤ 8002000000000000000
+    → (8002000000000000000 - deeper) + one_if better < (8002000000000000000 - d) + one_if changed
+goes_down d deeper changed true is rises most =
+    let one : one_if changed ≡ 1 = ap one_if is in omega (arith, one, rises, most)
+goes_down d deeper changed false is rises most =
+    let one : one_if changed ≡ 1 = ap one_if is in omega (arith, one, rises, most)

@@ -24,11 +24,11 @@ pub free_is : (b : Bool) (cost : ℤ) → free_arc b ≡ Some cost → (b ≡ tr
 free_is true cost e = (refl, sym (same_Some (pos 0) cost e))
 free_is false cost e = absurd (none-some cost e)
 
-none_there : (at : Option ℕ) → not (is_some at) ≡ true → at ≡ None
+pub none_there : (at : Option ℕ) → not (is_some at) ≡ true → at ≡ None
 none_there None h = refl
 none_there (Some i) h = absurd (false≢true h)
 
-untrue : (b : Bool) → not b ≡ true → b ≡ false
+pub untrue : (b : Bool) → not b ≡ true → b ≡ false
 untrue true h = absurd (false≢true h)
 untrue false h = refl
 

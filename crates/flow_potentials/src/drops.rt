@@ -1,10 +1,12 @@
 // How far below 0 walks of the residual graph go.
-ghost use Rattle.std.specs.Prelude.{◌≡◌, ◌<◌, ◌≤◌, ◌+ℤ◌, ◌-ℤ◌, ◌≤ℤ◌, ◌||◌, pos, neg_ℤ, true, false, length, replicate, slice_set, get_or, is_some, MatchOption, Some, None, IfOk, IfSome};
+ghost use Rattle.std.specs.Prelude.{map, ◌-◌, ◌≡◌, ◌<◌, ◌≤◌, ◌+ℤ◌, ◌-ℤ◌, ◌≤ℤ◌, ◌||◌, pos, neg_ℤ, true, false, length, replicate, slice_set, get_or, is_some, MatchOption, Some, None, IfOk, IfSome};
+ghost use Rattle.flow_potentials.specs.Canonical.{AreCanonical};
 ghost use Rattle.flow_potentials.specs.Drops.{PairKept, PairsKept, LinkKept, NextKept, RootKept, TripKept, AreKept, IsSearched, IsStep, IsRaised, potentials_by};
+ghost use Rattle.flow_potentials.specs.Potentials.{AreValid};
 ghost use Rattle.vehicle_model.specs.Plans.{next, is_next};
 ghost use Rattle.vehicle_model.specs.Trips.{links_of};
 
-use crate::numbers::zeros;
+use crate::numbers::{Potentials, zeros};
 use plan_num::NoMemory;
 use std::alloc::Global;
 use std::marker::Model;
@@ -252,6 +254,27 @@ impl Drops {
         }
     }
 
+    /// The potentials of numbers that no arc makes better.
+    pub(crate) fn into_potentials(
+        self,
+        alloc: Global,
+        trips: &Trips,
+        plan: &Plan,
+    ) -> Result<Potentials, NoMemory>
+        requires known { IsSearched (links_of trips.now) plan.now self }
+        requires kept { AreKept (links_of trips.now) plan.now self }
+        ensures least { IfOk result (AreCanonical (links_of trips.now) plan.now) }
+        ensures valid { IfOk result (AreValid (links_of trips.now) plan.now) }
+    {
+        let _ = trips.len();
+        let _ = plan.len();
+        let root = self.root;
+        Ok(Potentials {
+            u: below(alloc, root, &self.left)?,
+            v: above(alloc, root, &self.right)?,
+        })
+    }
+
     // The number of the root.
     fn root(&self) -> u64
         ensures { result ≡ self.now.root }
@@ -338,4 +361,26 @@ fn either(a: bool, b: bool) -> bool
     ensures { result ≡ (a || b) }
 {
     a || b
+}
+
+// How far numbers lie below another one.
+fn below(alloc: Global, root: u64, numbers: &[u64]) -> Result<Vec<u64>, NoMemory>
+    ensures { IfOk result (λ made. made.items ≡ map (λ number. root - number) numbers.now) }
+{
+    let mut made = Vec::new(alloc);
+    for number in numbers {
+        made.push(root.saturating_sub(*number))?;
+    }
+    Ok(made)
+}
+
+// How far numbers lie above another one.
+fn above(alloc: Global, root: u64, numbers: &[u64]) -> Result<Vec<u64>, NoMemory>
+    ensures { IfOk result (λ made. made.items ≡ map (λ number. number - root) numbers.now) }
+{
+    let mut made = Vec::new(alloc);
+    for number in numbers {
+        made.push(number.saturating_sub(root))?;
+    }
+    Ok(made)
 }
