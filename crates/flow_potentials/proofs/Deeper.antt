@@ -1,5 +1,5 @@
 -- A walk that goes on over an arc, and what it leaves of the numbers of nodes.
-use Rattle.std.proofs.Common.{◌≡◌, ◌≢◌, ℕ, ℤ, zero, suc, pos, neg_ℤ, ◌+◌, ◌<◌, ◌≤◌, ◌+ℤ◌, ◌-ℤ◌, ◌≤ℤ◌, ◌||◌, Bool, true, false, List, [], ◌∷◌, length, sum, get_or, slice_set, Option, Some, None, option_map, option_and_then, unwrap_or, refl, ap, sym, ◌∙◌, subst, arith, get_or-set_same, get_or-set_other}
+use Rattle.std.proofs.Common.{◌≡◌, ℕ, ℤ, zero, suc, pos, neg_ℤ, ◌+◌, ◌<◌, ◌≤◌, ◌+ℤ◌, ◌-ℤ◌, ◌≤ℤ◌, ◌||◌, Bool, true, false, List, [], ◌∷◌, length, sum, get_or, slice_set, Option, Some, None, option_map, option_and_then, refl, ap, sym, ◌∙◌, subst, arith, get_or-set_same, get_or-set_other}
 use Rattle.std.proofs.lemmas.Bool.{false≢true, or_parts}
 use Rattle.std.proofs.lemmas.Int.{ints}
 use Rattle.std.proofs.lemmas.List.{length-set}
@@ -7,7 +7,7 @@ use Rattle.std.proofs.lemmas.List.Sums.{sum_by-cons}
 use Rattle.std.proofs.lemmas.Option.{none-some, same_Some}
 use Rattle.vehicle_model.specs.Trips.{Links}
 use Rattle.vehicle_model.proofs.Linking.{by_number}
-use Rattle.flow_potentials.specs.Drops.{DropParts, drop_at, AreFound, AreDropsOver, depth, one_if, IsStep}
+use Rattle.flow_potentials.specs.Drops.{DropParts, drop_at, AreFound, depth, one_if, IsStep}
 use Rattle.flow_potentials.specs.Residual.{Node, root, left, right, arc, walk_cost}
 
 -- the cost of a walk with one arc more
@@ -25,7 +25,7 @@ sum_set (first ∷ numbers) zero number within =
     omega (arith, sum_by-cons (λ n. n) first numbers, sum_by-cons (λ n. n) number numbers)
 sum_set (first ∷ numbers) (suc i) number within =
     let rest : sum (slice_set numbers i number) + get_or numbers i 0 ≡ sum numbers + number =
-        sum_set numbers i number (omega (arith, within)) in
+    sum_set numbers i number (omega (arith, within)) in
     omega (arith, sum_by-cons (λ n. n) first numbers, sum_by-cons (λ n. n) first (slice_set numbers i number), rest)
 
 -- nothing changes
@@ -91,11 +91,11 @@ module _ (links : Links) (plan : List (Option ℕ)) (drops : DropParts) (from : 
       found_at found (right j) = found (right j)
       found_at found (left k) = by_number k i
           (λ same. subst (λ at. (walk : List Node) × (walk_cost links plan (left at) walk ≡ Some (neg_ℤ (pos (get_or (slice_set drops.left i number) at 0)))))
-              (sym same)
-              (subst (λ n. (walk : List Node) × (walk_cost links plan (left i) walk ≡ Some (neg_ℤ (pos n))))
-                  (sym (get_or-set_same drops.left i number 0 within)) (goes_on found (left i) over)))
+          (sym same)
+          (subst (λ n. (walk : List Node) × (walk_cost links plan (left i) walk ≡ Some (neg_ℤ (pos n))))
+          (sym (get_or-set_same drops.left i number 0 within)) (goes_on found (left i) over)))
           (λ apart. subst (λ n. (walk : List Node) × (walk_cost links plan (left k) walk ≡ Some (neg_ℤ (pos n))))
-              (sym (get_or-set_other drops.left i k number 0 apart)) (found (left k)))
+          (sym (get_or-set_other drops.left i k number 0 apart)) (found (left k)))
 
   pub step_right : (j : ℕ) → j < length drops.right → arc links plan from (right j) ≡ Some cost
       → get_or drops.right j 0 < number
@@ -113,11 +113,11 @@ module _ (links : Links) (plan : List (Option ℕ)) (drops : DropParts) (from : 
       found_at found (left i) = found (left i)
       found_at found (right k) = by_number k j
           (λ same. subst (λ at. (walk : List Node) × (walk_cost links plan (right at) walk ≡ Some (neg_ℤ (pos (get_or (slice_set drops.right j number) at 0)))))
-              (sym same)
-              (subst (λ n. (walk : List Node) × (walk_cost links plan (right j) walk ≡ Some (neg_ℤ (pos n))))
-                  (sym (get_or-set_same drops.right j number 0 within)) (goes_on found (right j) over)))
+          (sym same)
+          (subst (λ n. (walk : List Node) × (walk_cost links plan (right j) walk ≡ Some (neg_ℤ (pos n))))
+          (sym (get_or-set_same drops.right j number 0 within)) (goes_on found (right j) over)))
           (λ apart. subst (λ n. (walk : List Node) × (walk_cost links plan (right k) walk ≡ Some (neg_ℤ (pos n))))
-              (sym (get_or-set_other drops.right j k number 0 apart)) (found (right k)))
+          (sym (get_or-set_other drops.right j k number 0 apart)) (found (right k)))
 
 -- ---- no walk goes too far
 
@@ -144,5 +144,5 @@ walk_bound links plan height low over end [] cost same =
     subst (λ x. height end ≤ℤ x) (same_Some (pos 0) cost same) (low end)
 walk_bound links plan height low over end (before ∷ walk) cost same =
     behind_arc (arc links plan before end) (walk_cost links plan before walk) (height before) (height end)
-        (λ more. over before end more)
-        (λ rest. walk_bound links plan height low over before walk rest) cost same
+    (λ more. over before end more)
+    (λ rest. walk_bound links plan height low over before walk rest) cost same

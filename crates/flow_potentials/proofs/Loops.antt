@@ -1,9 +1,9 @@
 -- Steps over many arcs.
-use Rattle.std.proofs.Common.{◌≡◌, ℕ, ◌+◌, ◌-◌, ◌<◌, ◌≤◌, ◌||◌, Bool, true, false, List, get_or, Option, Some, None, ap, sym, ◌∙◌, subst, arith}
+use Rattle.std.proofs.Common.{◌≡◌, ℕ, ◌+◌, ◌-◌, ◌<◌, ◌≤◌, ◌||◌, Bool, true, false, List, get_or, Option, Some, ap, sym, ◌∙◌, subst, arith}
 use Rattle.std.proofs.lemmas.Bool.{or_parts}
 use Rattle.vehicle_model.specs.Plans.{next, is_next}
 use Rattle.vehicle_model.specs.Trips.{Links}
-use Rattle.flow_potentials.specs.Drops.{DropParts, depth, one_if, IsStep, IsSearched, PairKept, PairsKept, LinkKept, NextKept, RootKept, TripKept, AreKept}
+use Rattle.flow_potentials.specs.Drops.{DropParts, one_if, IsStep, PairKept, PairsKept, LinkKept, NextKept, RootKept, TripKept}
 use Rattle.flow_potentials.proofs.Certified.{by_bound}
 use Rattle.flow_potentials.proofs.Deeper.{no_step, two_steps}
 
@@ -43,9 +43,9 @@ module _ (links : Links) (plan : List (Option ℕ)) (before : DropParts) (i : �
       → IsPassed links plan before after both (PairsKept links before i (j + 1))
   one_pair j now after changed better both passed step kept is =
       passed_more links plan before now after changed better both (PairsKept links before i j) (PairKept links before i j)
-          (PairsKept links before i (j + 1)) passed step
-          (λ e same. subst (λ drops. PairKept links drops i j) same (kept e))
-          (below_next (PairKept links before i) j) is
+      (PairsKept links before i (j + 1)) passed step
+      (λ e same. subst (λ drops. PairKept links drops i j) same (kept e))
+      (below_next (PairKept links before i) j) is
 
   pub one_trip : (now after : DropParts) (changed better both : Bool)
       → IsPassed links plan before now changed (TripsKept links plan before i) → IsStep links plan now after better
@@ -53,9 +53,9 @@ module _ (links : Links) (plan : List (Option ℕ)) (before : DropParts) (i : �
       → IsPassed links plan before after both (TripsKept links plan before (i + 1))
   one_trip now after changed better both passed step kept is =
       passed_more links plan before now after changed better both (TripsKept links plan before i) (TripKept links plan before i)
-          (TripsKept links plan before (i + 1)) passed step
-          (λ e same. subst (λ drops. TripKept links plan drops i) same (kept e))
-          (below_next (TripKept links plan before) i) is
+      (TripsKept links plan before (i + 1)) passed step
+      (λ e same. subst (λ drops. TripKept links plan drops i) same (kept e))
+      (below_next (TripKept links plan before) i) is
 
   -- two arcs of a trip that has a successor
   module _ (j : ℕ) (mid after : DropParts) (link back both : Bool) (is : both ≡ (link || back))

@@ -1,20 +1,20 @@
 -- Numbers that no arc makes better are the least costs of walks, and their potentials are valid.
-use Rattle.std.proofs.Common.{◌≡◌, ℕ, ℤ, zero, suc, pos, neg_ℤ, ◌+◌, ◌-◌, ◌<◌, ◌≤◌, ◌+ℤ◌, ◌-ℤ◌, ◌≤ℤ◌, ◌&&◌, nat_lt, not, is_some, Bool, true, false, cond, List, [], ◌∷◌, length, map, sum, get_or, replicate, Option, Some, None, IfSome, option_map, unwrap_or, All, refl, ap, sym, ◌∙◌, subst, arith}
+use Rattle.std.proofs.Common.{◌≡◌, ℕ, ℤ, zero, suc, pos, neg_ℤ, ◌+◌, ◌-◌, ◌<◌, ◌≤◌, ◌+ℤ◌, ◌-ℤ◌, ◌≤ℤ◌, ◌&&◌, nat_lt, not, is_some, Bool, true, false, cond, List, [], length, map, get_or, replicate, Option, Some, None, IfSome, option_map, unwrap_or, refl, ap, sym, ◌∙◌, subst, arith}
 use Rattle.std.specs.Int.{int_max}
 use Rattle.std.proofs.Math.ListN.{get_or-eq_default}
-use Rattle.std.proofs.lemmas.Bool.{false≢true, and_parts, ltb-true}
+use Rattle.std.proofs.lemmas.Bool.{and_parts, ltb-true}
 use Rattle.std.proofs.lemmas.Int.{ints, int_max_is}
-use Rattle.std.proofs.lemmas.List.{length-map, length-replicate, get_or-map, get_or-replicate, get_or_default}
+use Rattle.std.proofs.lemmas.List.{length-map, length-replicate, get_or-map, get_or_default}
 use Rattle.std.proofs.lemmas.List.Elements.{All-map}
 use Rattle.std.proofs.lemmas.Option.{none-some, same_Some}
-use Rattle.vehicle_model.specs.Plans.{next, is_next, is_trip, plan_gain, IsPlan}
+use Rattle.vehicle_model.specs.Plans.{next, is_next, is_trip, IsPlan}
 use Rattle.vehicle_model.specs.Trips.{TripsParts, Links, AreTrips, links_of}
 use Rattle.vehicle_model.proofs.Following.{some_of, links_within}
 use Rattle.vehicle_model.proofs.Linking.{next_found, followed, is_trip_same}
 use Rattle.flow_potentials.specs.Canonical.{AreCanonical}
-use Rattle.flow_potentials.specs.Drops.{DropParts, drop_at, AreFound, AreDropsOver, IsSearched, PairKept, LinkKept, NextKept, RootKept, TripKept, AreKept, potentials_by}
-use Rattle.flow_potentials.specs.Potentials.{PotentialParts, at, total, IsSmall, ArePotentials, AreOver, AreValid}
-use Rattle.flow_potentials.specs.Residual.{Node, root, left, right, arc, free_arc, walk_cost, IsLeastCost}
+use Rattle.flow_potentials.specs.Drops.{DropParts, drop_at, AreFound, IsSearched, NextKept, RootKept, AreKept, potentials_by}
+use Rattle.flow_potentials.specs.Potentials.{PotentialParts, at, IsSmall, ArePotentials, AreOver, AreValid}
+use Rattle.flow_potentials.specs.Residual.{Node, root, left, right, arc, IsLeastCost}
 use Rattle.flow_potentials.proofs.Certified.{by_bound}
 use Rattle.flow_potentials.proofs.Deeper.{walk_bound}
 use Rattle.flow_potentials.proofs.Shallow.{free_is, none_there, untrue, found_most}
@@ -74,8 +74,8 @@ module _ (trips : TripsParts) (plan : List (Option ℕ)) (drops : DropParts) (kn
       split (Some gain) e =
           let there = links_within trips i j (ap is_some e) in
           let pair : (pos (get_or drops.left i 0) +ℤ gain) ≤ℤ pos (get_or drops.right j 0) =
-              subst (λ some. IfSome some (λ value. (pos (get_or drops.left i 0) +ℤ value) ≤ℤ pos (get_or drops.right j 0))) e
-                  ((kept i there.0).pairs j there.1) in
+          subst (λ some. IfSome some (λ value. (pos (get_or drops.left i 0) +ℤ value) ≤ℤ pos (get_or drops.right j 0))) e
+          ((kept i there.0).pairs j there.1) in
           omega (arith, ints, pair, u_at i there.0, v_at j there.1)
 
   -- what is known of a link of the plan
@@ -84,13 +84,13 @@ module _ (trips : TripsParts) (plan : List (Option ℕ)) (drops : DropParts) (kn
   linked i j e gain has =
       let there = next_in i j e in
       let pair : (pos (get_or drops.left i 0) +ℤ gain) ≤ℤ pos (get_or drops.right j 0) =
-          subst (λ some. IfSome some (λ value. (pos (get_or drops.left i 0) +ℤ value) ≤ℤ pos (get_or drops.right j 0))) has
-              ((kept i there.0).pairs j there.1) in
+      subst (λ some. IfSome some (λ value. (pos (get_or drops.left i 0) +ℤ value) ≤ℤ pos (get_or drops.right j 0))) has
+      ((kept i there.0).pairs j there.1) in
       let both = subst (NextKept (links_of trips) drops i) e (kept i there.0).next_kept in
       let back : pos (get_or drops.right j 0) ≤ℤ (pos (get_or drops.left i 0) +ℤ gain) =
-          subst (λ some. IfSome some (λ value. pos (get_or drops.right j 0) ≤ℤ (pos (get_or drops.left i 0) +ℤ value))) has both.1 in
+      subst (λ some. IfSome some (λ value. pos (get_or drops.right j 0) ≤ℤ (pos (get_or drops.left i 0) +ℤ value))) has both.1 in
       let high : drops.root ≤ get_or drops.right j 0 =
-          subst (RootKept drops j) (next_found plan i j e) (kept j there.1).root_kept in
+      subst (RootKept drops j) (next_found plan i j e) (kept j there.1).root_kept in
       omega (arith, ints, pair, back, both.0, high, u_at i there.0, v_at j there.1)
 
   plain : (k : ℕ) → k ≡ 0 + k
@@ -117,8 +117,8 @@ module _ (trips : TripsParts) (plan : List (Option ℕ)) (drops : DropParts) (kn
         omega (arith, low, u_at k within);
     first = λ j h. by_bound j (length trips.trips)
         (λ within.
-            let low = subst (RootKept drops j) h (kept j within).root_kept in
-            omega (arith, low, v_at j within))
+        let low = subst (RootKept drops j) h (kept j within).root_kept in
+        omega (arith, low, v_at j within))
         (λ past. get_or-eq_default made.v 0 (omega (arith, past, over_all.each_v)));
   }
 
@@ -141,7 +141,7 @@ module _ (trips : TripsParts) (plan : List (Option ℕ)) (drops : DropParts) (kn
       let free = free_is (nat_lt i n && not (is_some (next plan i))) cost e in
       let parts = and_parts (nat_lt i n) (not (is_some (next plan i))) free.0 in
       let low = subst (NextKept (links_of trips) drops i) (none_there (next plan i) parts.1)
-          (kept i (ltb-true i n parts.0)).next_kept in
+      (kept i (ltb-true i n parts.0)).next_kept in
       omega (arith, ints, free.1, low)
   rises root (right j) cost e =
       let free = free_is (is_next plan j) cost e in
@@ -162,8 +162,8 @@ module _ (trips : TripsParts) (plan : List (Option ℕ)) (drops : DropParts) (kn
       over_pair (Some gain) f g =
           let there = links_within trips i j (ap is_some f) in
           let pair : (pos (get_or drops.left i 0) +ℤ gain) ≤ℤ pos (get_or drops.right j 0) =
-              subst (λ some. IfSome some (λ value. (pos (get_or drops.left i 0) +ℤ value) ≤ℤ pos (get_or drops.right j 0))) f
-                  ((kept i there.0).pairs j there.1) in
+          subst (λ some. IfSome some (λ value. (pos (get_or drops.left i 0) +ℤ value) ≤ℤ pos (get_or drops.right j 0))) f
+          ((kept i there.0).pairs j there.1) in
           let same : neg_ℤ gain ≡ cost = same_Some (neg_ℤ gain) cost g in
           omega (arith, ints, pair, same)
   rises (right j) root cost e =
@@ -181,7 +181,7 @@ module _ (trips : TripsParts) (plan : List (Option ℕ)) (drops : DropParts) (kn
           let there = next_in i j is in
           let both = subst (NextKept (links_of trips) drops i) is (kept i there.0).next_kept in
           let back : pos (get_or drops.right j 0) ≤ℤ (pos (get_or drops.left i 0) +ℤ cost) =
-              subst (λ some. IfSome some (λ value. pos (get_or drops.right j 0) ≤ℤ (pos (get_or drops.left i 0) +ℤ value))) g both.1 in
+          subst (λ some. IfSome some (λ value. pos (get_or drops.right j 0) ≤ℤ (pos (get_or drops.left i 0) +ℤ value))) g both.1 in
           omega (arith, ints, back)
   rises (right j) (right k) cost e = absurd (none-some cost e)
 
@@ -205,10 +205,20 @@ module _ (trips : TripsParts) (plan : List (Option ℕ)) (drops : DropParts) (kn
     over = over_all;
     base = neg_ℤ (pos drops.root);
     base_least = least_at root;
-    u = λ i within. (neg_ℤ (pos (get_or drops.left i 0)), (least_at (left i),
-        ap pos (u_at i within) ∙ greater drops.root (get_or drops.left i 0)));
-    v = λ j within. (neg_ℤ (pos (get_or drops.right j 0)), (least_at (right j),
-        ap pos (v_at j within) ∙ greater (get_or drops.right j 0) drops.root));
+    u = λ i within. (
+      neg_ℤ (pos (get_or drops.left i 0)),
+      (
+        least_at (left i),
+        ap pos (u_at i within) ∙ greater drops.root (get_or drops.left i 0),
+      ),
+    );
+    v = λ j within. (
+      neg_ℤ (pos (get_or drops.right j 0)),
+      (
+        least_at (right j),
+        ap pos (v_at j within) ∙ greater (get_or drops.right j 0) drops.root,
+      ),
+    );
   }
 
   pub settled_small : AreTrips trips → ArePotentials made
@@ -218,9 +228,9 @@ module _ (trips : TripsParts) (plan : List (Option ℕ)) (drops : DropParts) (kn
         (λ k d h. omega (arith, found_most trips plan drops are known root));
     v_small = All-map IsSmall (λ number. number - drops.root) drops.right
         (λ k d h.
-            let small = found_most trips plan drops are known (right k) in
-            let same = get_or_default drops.right k d 0 h in
-            omega (arith, small, same));
+        let small = found_most trips plan drops are known (right k) in
+        let same = get_or_default drops.right k d 0 h in
+        omega (arith, small, same));
   }
 
 -- potentials that are made of numbers
@@ -229,5 +239,5 @@ pub made_is : (drops : DropParts) (u v : List ℕ) → u ≡ map (λ number. dro
 made_is drops u v u_is v_is =
     let of_u : List ℕ → PotentialParts = λ some. record { u = some; v = v } in
     let of_v : List ℕ → PotentialParts =
-        λ some. record { u = map (λ number. drops.root - number) drops.left; v = some } in
+    λ some. record { u = map (λ number. drops.root - number) drops.left; v = some } in
     ap of_u u_is ∙ ap of_v v_is

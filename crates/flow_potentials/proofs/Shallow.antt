@@ -1,14 +1,14 @@
 -- Where potentials are valid, no walk goes further below 0 than all of them together.
-use Rattle.std.proofs.Common.{◌≡◌, ℕ, ℤ, zero, suc, pos, neg_ℤ, ◌+◌, ◌*◌, ◌<◌, ◌≤◌, ◌+ℤ◌, ◌-ℤ◌, ◌≤ℤ◌, ◌&&◌, nat_lt, not, is_some, Bool, true, false, cond, List, [], ◌∷◌, length, sum, get_or, Option, Some, None, IfSome, option_map, unwrap_or, refl, ap, sym, ◌∙◌, subst, arith}
-use Rattle.std.proofs.lemmas.Bool.{false≢true, and_parts, not-false}
+use Rattle.std.proofs.Common.{◌≡◌, ℕ, ℤ, zero, suc, pos, neg_ℤ, ◌+◌, ◌*◌, ◌≤◌, ◌+ℤ◌, ◌-ℤ◌, ◌≤ℤ◌, ◌&&◌, nat_lt, not, is_some, Bool, true, false, cond, List, [], ◌∷◌, length, sum, get_or, Option, Some, None, IfSome, option_map, refl, ap, sym, ◌∙◌, arith}
+use Rattle.std.proofs.lemmas.Bool.{false≢true, and_parts}
 use Rattle.std.proofs.lemmas.Int.{ints}
 use Rattle.std.proofs.lemmas.List.Sums.{sum_by-cons}
 use Rattle.std.proofs.lemmas.Option.{none-some, same_Some}
-use Rattle.vehicle_model.specs.Plans.{next, is_next, is_trip, plan_gain, IsPlan}
+use Rattle.vehicle_model.specs.Plans.{next, is_next, is_trip, IsPlan}
 use Rattle.vehicle_model.specs.Trips.{TripsParts, Links, AreTrips, links_of}
 use Rattle.vehicle_model.proofs.Costs.{cost_by_gain}
 use Rattle.vehicle_model.proofs.Linking.{is_trip_same, same_is_trip}
-use Rattle.flow_potentials.specs.Drops.{DropParts, drop_at, AreFound, IsSearched}
+use Rattle.flow_potentials.specs.Drops.{DropParts, drop_at, IsSearched}
 use Rattle.flow_potentials.specs.Potentials.{PotentialParts, at, total, AreValid, IsTight}
 use Rattle.flow_potentials.specs.Residual.{Node, root, left, right, arc, free_arc, walk_cost}
 use Rattle.flow_potentials.proofs.Certified.{gains_all}
@@ -107,7 +107,7 @@ pub total_most : (trips : TripsParts) (plan : List (Option ℕ)) (potentials : P
     → IsPlan (links_of trips) plan → AreValid (links_of trips) plan potentials → total potentials ≤ 2000000000000000
 total_most trips plan potentials are is valid =
     let product : trips.vehicle * length trips.trips ≤ 1000000000000 * 2000 =
-        mul_most are.cheap_vehicle are.rows.few in
+    mul_most are.cheap_vehicle are.rows.few in
     omega (arith, ints, valid.exact, cost_by_gain trips plan is, product)
   where
     mul_most : {a b c d : ℕ} → a ≤ c → b ≤ d → a * b ≤ c * d
@@ -120,9 +120,9 @@ pub arc_most : (trips : TripsParts) (plan : List (Option ℕ)) (drops : DropPart
 arc_most trips plan drops are known from to cost e =
     let before = known.found from in
     let whole = joined (arc (links_of trips) plan from to) (walk_cost (links_of trips) plan from before.0) cost
-        (neg_ℤ (pos (drop_at drops from))) e before.1 in
+    (neg_ℤ (pos (drop_at drops from))) e before.1 in
     let least = walk_least (links_of trips) plan known.certified.0 known.certified.1 known.plan_is to (from ∷ before.0)
-        (neg_ℤ (pos (drop_at drops from)) +ℤ cost) whole in
+    (neg_ℤ (pos (drop_at drops from)) +ℤ cost) whole in
     omega (arith, ints, least, total_most trips plan known.certified.0 are known.plan_is known.certified.1)
 
 -- by a gain
@@ -131,7 +131,7 @@ pub pair_most : (trips : TripsParts) (plan : List (Option ℕ)) (drops : DropPar
     → (pos (get_or drops.left i 0) +ℤ gain) ≤ℤ pos 2000000000000000
 pair_most trips plan drops are known i j gain e =
     let most : (pos (get_or drops.left i 0) -ℤ neg_ℤ gain) ≤ℤ pos 2000000000000000 =
-        arc_most trips plan drops are known (left i) (right j) (neg_ℤ gain) (ap (option_map neg_ℤ) e) in
+    arc_most trips plan drops are known (left i) (right j) (neg_ℤ gain) (ap (option_map neg_ℤ) e) in
     omega (arith, ints, most)
 
 -- back over a link of the plan
@@ -145,12 +145,11 @@ pub back_most : (trips : TripsParts) (plan : List (Option ℕ)) (drops : DropPar
 back_most trips plan drops are known i j gain is e =
     arc_most trips plan drops are known (right j) (left i) gain (back_arc (links_of trips) plan i j is ∙ e)
 
-
 -- each number is small
 pub found_most : (trips : TripsParts) (plan : List (Option ℕ)) (drops : DropParts) → AreTrips trips
     → IsSearched (links_of trips) plan drops → (node : Node) → drop_at drops node ≤ 2000000000000000
 found_most trips plan drops are known node =
     let walk = known.found node in
     let least = walk_least (links_of trips) plan known.certified.0 known.certified.1 known.plan_is node walk.0
-        (neg_ℤ (pos (drop_at drops node))) walk.1 in
+    (neg_ℤ (pos (drop_at drops node))) walk.1 in
     omega (arith, ints, least, total_most trips plan known.certified.0 are known.plan_is known.certified.1)

@@ -1,16 +1,15 @@
 -- Steps over arcs, as they are made.
-use Rattle.std.proofs.Common.{◌≡◌, ℕ, ℤ, pos, neg_ℤ, ◌+◌, ◌-◌, ◌*◌, ◌<◌, ◌≤◌, ◌+ℤ◌, ◌-ℤ◌, ◌≤ℤ◌, ◌&&◌, ◌||◌, nat_lt, not, is_some, Bool, true, false, cond, List, [], ◌∷◌, suc, length, sum, get_or, slice_set, Option, Some, None, IfSome, MatchOption, option_map, refl, ap, sym, ◌∙◌, subst, arith}
-use Rattle.std.proofs.lemmas.Bool.{false≢true, or_parts, lt-ltb}
+use Rattle.std.proofs.Common.{◌≡◌, ℕ, ℤ, pos, neg_ℤ, ◌+◌, ◌*◌, ◌<◌, ◌≤◌, ◌+ℤ◌, ◌-ℤ◌, ◌≤ℤ◌, ◌&&◌, not, is_some, Bool, true, false, List, [], ◌∷◌, suc, length, sum, get_or, slice_set, Option, Some, None, IfSome, MatchOption, option_map, refl, ap, sym, ◌∙◌, subst, arith}
+use Rattle.std.proofs.lemmas.Bool.{false≢true, lt-ltb}
 use Rattle.std.proofs.lemmas.Int.{ints}
 use Rattle.std.proofs.lemmas.List.Sums.{sum_by-cons}
 use Rattle.std.proofs.lemmas.Option.{none-some}
-use Rattle.vehicle_model.specs.Plans.{next, is_next, IsPlan}
+use Rattle.vehicle_model.specs.Plans.{next, is_next}
 use Rattle.vehicle_model.specs.Trips.{TripsParts, Links, AreTrips, links_of}
-use Rattle.vehicle_model.proofs.Following.{links_within}
-use Rattle.flow_potentials.specs.Drops.{DropParts, drop_at, AreFound, AreDropsOver, depth, one_if, IsStep, IsSearched, IsRaised, PairKept, PairsKept, LinkKept, NextKept, RootKept, TripKept, AreKept}
-use Rattle.flow_potentials.specs.Potentials.{at, total}
-use Rattle.flow_potentials.specs.Residual.{Node, root, left, right, arc, free_arc}
-use Rattle.flow_potentials.proofs.Deeper.{no_step, two_steps, step_root, step_left, step_right}
+use Rattle.flow_potentials.specs.Drops.{DropParts, depth, IsStep, IsSearched, IsRaised, PairKept, LinkKept}
+use Rattle.flow_potentials.specs.Potentials.{at}
+use Rattle.flow_potentials.specs.Residual.{root, left, right, free_arc}
+use Rattle.flow_potentials.proofs.Deeper.{step_root, step_left, step_right}
 use Rattle.flow_potentials.proofs.Shallow.{pair_most, back_most, back_arc, found_most}
 
 -- what is known stays known behind a step
@@ -38,8 +37,8 @@ module _ (links : Links) (plan : List (Option ℕ)) (drops : DropParts) (known :
       split (Some gain) e r =
           let facts = subst (IsRaised from gain to) is r in
           subst (λ some. IsStep links plan drops some true) (sym after_is)
-              (step_right links plan drops (left i) (neg_ℤ gain) number (omega (arith, ints, facts.0, from_is)) j
-                  (omega (arith, within, known.over.right)) (ap (option_map neg_ℤ) e) (omega (arith, facts.1, to_is)))
+          (step_right links plan drops (left i) (neg_ℤ gain) number (omega (arith, ints, facts.0, from_is)) j
+          (omega (arith, within, known.over.right)) (ap (option_map neg_ℤ) e) (omega (arith, facts.1, to_is)))
 
   -- back over a link
   module _ (linked : next plan i ≡ Some j) where
@@ -57,8 +56,8 @@ module _ (links : Links) (plan : List (Option ℕ)) (drops : DropParts) (known :
         split (Some gain) e some r =
             let facts = subst (IsRaised from (neg_ℤ gain) to) is r in
             subst (λ some. IsStep links plan drops some true) (sym after_is)
-                (step_left links plan drops (right j) gain number (omega (arith, ints, facts.0, from_is)) i
-                    (omega (arith, within, known.over.left)) (back_arc links plan i j linked ∙ e) (omega (arith, facts.1, to_is)))
+            (step_left links plan drops (right j) gain number (omega (arith, ints, facts.0, from_is)) i
+            (omega (arith, within, known.over.left)) (back_arc links plan i j linked ∙ e) (omega (arith, facts.1, to_is)))
 
     pub link_kept : (from to : ℕ) → from ≡ get_or drops.right j 0 → to ≡ get_or drops.left i 0
         → (told : Option ℕ) → IfSome (links.gain i j) (λ gain. IsRaised from (neg_ℤ gain) to told) → told ≡ None
@@ -116,22 +115,22 @@ module _ (links : Links) (plan : List (Option ℕ)) (drops : DropParts) (known :
       → IsStep links plan drops after true
   alone_step within alone number_is less after_is = subst (λ some. IsStep links plan drops some true) (sym after_is)
       (step_left links plan drops root (pos 0) number (omega (arith, ints, number_is)) i (omega (arith, within, known.over.left))
-          (ap (λ b. free_arc (b && not (is_some (next plan i)))) (lt-ltb i links.count within)
-              ∙ ap (λ at. free_arc (not (is_some at))) alone) less)
+      (ap (λ b. free_arc (b && not (is_some (next plan i)))) (lt-ltb i links.count within)
+      ∙ ap (λ at. free_arc (not (is_some at))) alone) less)
 
   pub from_root_step : i < links.count → is_next plan i ≡ true → number ≡ drops.root → get_or drops.right i 0 < number
       → after ≡ record { root = drops.root; left = drops.left; right = slice_set drops.right i number }
       → IsStep links plan drops after true
   from_root_step within linked number_is less after_is = subst (λ some. IsStep links plan drops some true) (sym after_is)
       (step_right links plan drops root (pos 0) number (omega (arith, ints, number_is)) i (omega (arith, within, known.over.right))
-          (ap free_arc linked) less)
+      (ap free_arc linked) less)
 
   pub to_root_step : i < links.count → is_next plan i ≡ false → number ≡ get_or drops.right i 0 → drops.root < number
       → after ≡ record { root = number; left = drops.left; right = drops.right } → IsStep links plan drops after true
   to_root_step within alone number_is less after_is = subst (λ some. IsStep links plan drops some true) (sym after_is)
       (step_root links plan drops (right i) (pos 0) number (omega (arith, ints, number_is))
-          (ap (λ b. free_arc (b && not (is_next plan i))) (lt-ltb i links.count within)
-              ∙ ap (λ b. free_arc (not b)) alone) less)
+      (ap (λ b. free_arc (b && not (is_next plan i))) (lt-ltb i links.count within)
+      ∙ ap (λ b. free_arc (not b)) alone) less)
 
 -- ---- the depth is bounded
 

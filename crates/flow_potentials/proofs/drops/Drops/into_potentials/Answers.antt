@@ -17,10 +17,10 @@ invariant_of-result c =
     let known = subst (IsSearched links c.args.plan.now) (sym c.self.view_is) c.requires.known in
     let kept = subst (AreKept links c.args.plan.now) (sym c.self.view_is) c.requires.kept in
     let same = made_is drops _ _
-        (c.in_ok-below.ensures ∙ ap (map (λ number. c.self.inside.root - number)) c.deref.ensures.value)
-        (c.in_ok-above.ensures ∙ ap (map (λ number. number - c.self.inside.root)) c.deref-2.ensures.value) in
+    (c.in_ok-below.ensures ∙ ap (map (λ number. c.self.inside.root - number)) c.deref.ensures.value)
+    (c.in_ok-above.ensures ∙ ap (map (λ number. number - c.self.inside.root)) c.deref-2.ensures.value) in
     subst ArePotentials (sym same)
-        (settled_small c.args.trips.now c.args.plan.now drops known kept c.len.ensures.trips)
+    (settled_small c.args.trips.now c.args.plan.now drops known kept c.len.ensures.trips)
 
 pub returns-clause-least : goal.returns-clause-least
 returns-clause-least c =
@@ -33,10 +33,10 @@ returns-clause-least c =
     let known = subst (IsSearched links c.args.plan.now) (sym c.self.view_is) c.requires.known in
     let kept = subst (AreKept links c.args.plan.now) (sym c.self.view_is) c.requires.kept in
     let same = made_is drops _ _
-        (c.in_ok-below.ensures ∙ ap (map (λ number. c.self.inside.root - number)) c.deref.ensures.value)
-        (c.in_ok-above.ensures ∙ ap (map (λ number. number - c.self.inside.root)) c.deref-2.ensures.value) in
+    (c.in_ok-below.ensures ∙ ap (map (λ number. c.self.inside.root - number)) c.deref.ensures.value)
+    (c.in_ok-above.ensures ∙ ap (map (λ number. number - c.self.inside.root)) c.deref-2.ensures.value) in
     subst (AreCanonical links c.args.plan.now) (sym same)
-        (settled_canonical c.args.trips.now c.args.plan.now drops known kept)
+    (settled_canonical c.args.trips.now c.args.plan.now drops known kept)
 
 pub returns-clause-valid : goal.returns-clause-valid
 returns-clause-valid c =
@@ -49,7 +49,7 @@ returns-clause-valid c =
     let known = subst (IsSearched links c.args.plan.now) (sym c.self.view_is) c.requires.known in
     let kept = subst (AreKept links c.args.plan.now) (sym c.self.view_is) c.requires.kept in
     let same = made_is drops _ _
-        (c.in_ok-below.ensures ∙ ap (map (λ number. c.self.inside.root - number)) c.deref.ensures.value)
-        (c.in_ok-above.ensures ∙ ap (map (λ number. number - c.self.inside.root)) c.deref-2.ensures.value) in
+    (c.in_ok-below.ensures ∙ ap (map (λ number. c.self.inside.root - number)) c.deref.ensures.value)
+    (c.in_ok-above.ensures ∙ ap (map (λ number. number - c.self.inside.root)) c.deref-2.ensures.value) in
     subst (AreValid links c.args.plan.now) (sym same)
-        (settled_valid c.args.trips.now c.args.plan.now drops known kept)
+    (settled_valid c.args.trips.now c.args.plan.now drops known kept)

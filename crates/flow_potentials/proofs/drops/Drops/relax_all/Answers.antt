@@ -1,4 +1,4 @@
-use Rattle.std.proofs.Common.{◌<◌, length, arith}
+use Rattle.std.proofs.Common.{arith}
 use Rattle.vehicle_model.specs.Trips.{links_of}
 use Rattle.flow_potentials.proofs.Loops.{one_trip}
 use Rattle.flow_potentials.proofs.drops.Drops.relax_all.Goals as goal

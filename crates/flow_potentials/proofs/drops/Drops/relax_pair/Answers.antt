@@ -9,6 +9,6 @@ over_pair-requires-clause-most c = pair_asks c.args.trips.now c.args.plan.now c.
 pub returns-in-Some-clause-step : goal.returns-in-Some-clause-step
 returns-in-Some-clause-step c =
     pair_step (links_of c.args.trips.now) c.args.plan.now c.args.self.now c.requires.known c.args.i
-        c.args.j c.requires.to c.left.result c.right.result c.in-Some.number c.left.ensures
-        c.right.ensures c.over_pair.result c.over_pair.ensures c.in-Some.is c.set_right.new.self
-        c.set_right.ensures
+    c.args.j c.requires.to c.left.result c.right.result c.in-Some.number c.left.ensures
+    c.right.ensures c.over_pair.result c.over_pair.ensures c.in-Some.is c.set_right.new.self
+    c.set_right.ensures

@@ -8,12 +8,12 @@ use Rattle.flow_potentials.proofs.drops.Drops.settle.Goals as goal
 pub loop-changed-smaller : goal.loop-changed-smaller
 loop-changed-smaller c =
     let known = still_searched (links_of c.args.trips.now) c.args.plan.now c.loop-changed.self
-        c.relax_all-changed.new.self c.relax_all-changed.result c.loop-changed.invariant.known
-        c.relax_all-changed.ensures.step in
+    c.relax_all-changed.new.self c.relax_all-changed.result c.loop-changed.invariant.known
+    c.relax_all-changed.ensures.step in
     goes_down (depth c.loop-changed.self) (depth c.relax_all-changed.new.self) c.loop-changed.changed
-        c.relax_all-changed.result c.loop-changed-test.true c.relax_all-changed.ensures.step.deeper
-        (depth_most c.args.trips.now c.args.plan.now c.relax_all-changed.new.self
-            c.len.ensures.trips known)
+    c.relax_all-changed.result c.loop-changed-test.true c.relax_all-changed.ensures.step.deeper
+    (depth_most c.args.trips.now c.args.plan.now c.relax_all-changed.new.self
+    c.len.ensures.trips known)
 
 pub loop-changed-preserved : goal.loop-changed-preserved
 loop-changed-preserved c = record {

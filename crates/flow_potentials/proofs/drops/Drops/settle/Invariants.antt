@@ -1,5 +1,5 @@
 -- Where nothing has changed no arc finds a better walk; else the depth has risen.
-use Rattle.std.proofs.Common.{ℕ, ◌≡◌, ◌+◌, ◌-◌, false}
+use Rattle.std.proofs.Common.{◌≡◌, ◌+◌, ◌-◌, false}
 use Rattle.vehicle_model.specs.Trips.{links_of}
 use Rattle.flow_potentials.specs.Drops.{depth, one_if, IsSearched, AreKept}
 use Rattle.flow_potentials.proofs.drops.Drops.settle.Given as goal
