@@ -134,7 +134,7 @@ module _ (links : Links) (plan : List (Option ℕ)) (drops : DropParts) (known :
 
 -- ---- the depth is bounded
 
-sum_most : (numbers : List ℕ) (most : ℕ) → ((k : ℕ) → at numbers k ≤ most) → sum numbers ≤ length numbers * most
+pub sum_most : (numbers : List ℕ) (most : ℕ) → ((k : ℕ) → at numbers k ≤ most) → sum numbers ≤ length numbers * most
 sum_most [] most each = omega arith
 sum_most (first ∷ numbers) most each =
     let rest : sum numbers ≤ length numbers * most = sum_most numbers most (λ k. each (suc k)) in

@@ -3,3 +3,4 @@ pub mod Drops
 pub mod Potentials
 pub mod PotentialTables
 pub mod Residual
+pub mod Rounds

@@ -1,7 +1,8 @@
 // The canonical potentials of a plan.
-ghost use Rattle.std.specs.Prelude.{IfOk};
+ghost use Rattle.std.specs.Prelude.{◌≡◌, IfOk};
 ghost use Rattle.flow_potentials.specs.Canonical.{AreCanonical};
 ghost use Rattle.flow_potentials.specs.Potentials.{AreValid};
+ghost use Rattle.flow_potentials.specs.Rounds.{canonical};
 ghost use Rattle.vehicle_model.specs.Plans.{IsPlan};
 ghost use Rattle.vehicle_model.specs.Trips.{links_of};
 
@@ -22,6 +23,7 @@ pub fn potentials(
 ) -> Result<Potentials, NoMemory>
     requires plan { IsPlan (links_of trips.now) plan.now }
     requires valid { AreValid (links_of trips.now) plan.now valid.now }
+    ensures made { IfOk result (λ made. made ≡ canonical (links_of trips.now) plan.now) }
     ensures least { IfOk result (AreCanonical (links_of trips.now) plan.now) }
     ensures valid { IfOk result (AreValid (links_of trips.now) plan.now) }
 {
