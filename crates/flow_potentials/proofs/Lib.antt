@@ -1,5 +1,12 @@
 pub mod Certified
 mod Checked
+mod Deeper
+mod Loops
+pub mod Rounds
+pub mod Settled
+mod Shallow
 mod Slack
+mod Steps
 mod Tables
 pub mod TablesBack
+mod Tried

@@ -1,2 +1,6 @@
+pub mod Canonical
+pub mod Drops
 pub mod Potentials
 pub mod PotentialTables
+pub mod Residual
+pub mod Rounds

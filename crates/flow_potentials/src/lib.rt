@@ -1,12 +1,15 @@
 //! Potentials of trips, which prove what a vehicle schedule costs at least.
 #![tactic(auto)]
 
+mod canonical;
 mod checking;
+mod drops;
 mod numbers;
 mod potential_fault;
 mod table_reading;
 mod table_writing;
 
+pub use canonical::potentials;
 pub use checking::check_potentials;
 pub use numbers::Potentials;
 pub use potential_fault::PotentialFault;

@@ -95,8 +95,8 @@ impl Potentials {
     }
 }
 
-// So many zeros.
-fn zeros(alloc: Global, count: usize) -> Result<Vec<u64>, NoMemory>
+/// So many zeros.
+pub(crate) fn zeros(alloc: Global, count: usize) -> Result<Vec<u64>, NoMemory>
     ensures { IfOk result (λ made. made.items ≡ replicate count 0) }
 {
     let mut numbers = Vec::new(alloc);

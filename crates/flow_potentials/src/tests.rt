@@ -1,6 +1,9 @@
 // Potentials of eight trips, and their table.
-use crate::{PotentialFault, Potentials, check_potentials, read_potentials, write_potentials};
+use crate::{
+    PotentialFault, Potentials, check_potentials, potentials, read_potentials, write_potentials,
+};
 use giv_files::{ReadFault, RowFault, RowWhy};
+use plan_num::Text;
 use std::alloc::Global;
 use std::test::Fail;
 use vehicle_model::{Trips, read_plan};
@@ -96,6 +99,52 @@ fn gaps_are_told(rt: HostRuntime) -> Result<(), Fail> {
     assert_eq!(rt;
         read_potentials(rt.alloc(), b"5; 0; 0\n2; x; 0\n", 2).err(),
         cell
+    );
+    Ok(())
+}
+
+// Three trips, of which two may follow the first one, and a link to the second one.
+const THREE: &[u8] =
+    b"2; 2; 1; 0; 3; 3; 2; 10; 1\n4; 4; 2; 12; 5; 5; 1; 22; 1\n6; 6; 2; 13; 7; 7; 1; 23; 1\n";
+
+const LINKED: &[u8] =
+    b"1; 1; 1; TRIP; 2; 2; 1; 0; 3; 3; 2; 10; 1\n1; 1; 2; EMPTY; 3; 3; 2; 10; 4; 4; 2; 10; 0\n\
+    1; 1; 3; TRIP; 4; 4; 2; 12; 5; 5; 1; 22; 1\n2; 2; 1; TRIP; 6; 6; 2; 13; 7; 7; 1; 23; 1\n";
+
+// The text of the canonical potentials of a schedule that a certificate certifies; none where it
+// does not.
+fn canonical(
+    alloc: Global,
+    trips: &[u8],
+    schedule: &[u8],
+    certificate: &[u8],
+) -> Result<Option<Text>, Fail> {
+    let trips = Trips::from_texts(alloc, STOPS, EDGES, trips, 2, 100_000_000, 1_000_000)?;
+    let plan = read_plan(alloc, schedule, &trips)?;
+    let valid = read_potentials(alloc, certificate, trips.len())?;
+    if check_potentials(&trips, &plan, &valid).is_some() {
+        return Ok(None);
+    }
+    let found = potentials(alloc, &trips, &plan, &valid)?;
+    if found.len() <= 1_000_000_000 {
+        Ok(Some(write_potentials(alloc, &found)?))
+    } else {
+        Ok(None)
+    }
+}
+
+#[test]
+fn canonical_potentials_are_found(rt: HostRuntime) -> Result<(), Fail> {
+    let found = canonical(rt.alloc(), EIGHT, SCHEDULE, CERTIFICATE)?;
+    assert_eq!(rt;
+        found.as_ref().map(|text| text.as_bytes()),
+        Some(CERTIFICATE)
+    );
+    let certificate = b"# trip; u; v\n1; 100; 0\n2; 0; 0\n3; 0; 0\n";
+    let found = canonical(rt.alloc(), THREE, LINKED, certificate)?;
+    assert_eq!(rt;
+        found.as_ref().map(|text| text.as_bytes()),
+        Some(certificate.as_slice())
     );
     Ok(())
 }

@@ -1,0 +1,243 @@
+-- Numbers that no arc makes better are the least costs of walks, and their potentials are valid.
+use Rattle.std.proofs.Common.{◌≡◌, ℕ, ℤ, zero, suc, pos, neg_ℤ, ◌+◌, ◌-◌, ◌<◌, ◌≤◌, ◌+ℤ◌, ◌-ℤ◌, ◌≤ℤ◌, ◌&&◌, nat_lt, not, is_some, Bool, true, false, cond, List, [], length, map, get_or, replicate, Option, Some, None, IfSome, option_map, unwrap_or, refl, ap, sym, ◌∙◌, subst, arith}
+use Rattle.std.specs.Int.{int_max}
+use Rattle.std.proofs.Math.ListN.{get_or-eq_default}
+use Rattle.std.proofs.lemmas.Bool.{and_parts, ltb-true}
+use Rattle.std.proofs.lemmas.Int.{ints, int_max_is}
+use Rattle.std.proofs.lemmas.List.{length-map, length-replicate, get_or-map, get_or_default}
+use Rattle.std.proofs.lemmas.List.Elements.{All-map}
+use Rattle.std.proofs.lemmas.Option.{none-some, same_Some}
+use Rattle.vehicle_model.specs.Plans.{next, is_next, is_trip, IsPlan}
+use Rattle.vehicle_model.specs.Trips.{TripsParts, Links, AreTrips, links_of}
+use Rattle.vehicle_model.proofs.Following.{some_of, links_within}
+use Rattle.vehicle_model.proofs.Linking.{next_found, followed, is_trip_same}
+use Rattle.flow_potentials.specs.Canonical.{AreCanonical}
+use Rattle.flow_potentials.specs.Drops.{DropParts, drop_at, AreFound, IsSearched, NextKept, RootKept, AreKept, potentials_by}
+use Rattle.flow_potentials.specs.Potentials.{PotentialParts, at, IsSmall, ArePotentials, AreOver, AreValid}
+use Rattle.flow_potentials.specs.Residual.{Node, root, left, right, arc, IsLeastCost}
+use Rattle.flow_potentials.proofs.Certified.{by_bound}
+use Rattle.flow_potentials.proofs.Deeper.{walk_bound}
+use Rattle.flow_potentials.proofs.Shallow.{free_is, none_there, untrue, found_most}
+use Rattle.flow_potentials.proofs.Slack.{AreCovering, AreTight, tight_gains}
+
+-- ---- before all passes
+
+zero_at : (n i : ℕ) → at (replicate n 0) i ≡ 0
+zero_at zero i = refl
+zero_at (suc n) zero = refl
+zero_at (suc n) (suc i) = zero_at n i
+
+pub searched_first : (links : Links) (plan : List (Option ℕ)) (potentials : PotentialParts) → IsPlan links plan
+    → AreValid links plan potentials → (n : ℕ) → n ≡ links.count → (drops : DropParts)
+    → drops ≡ record { root = 0; left = replicate n 0; right = replicate n 0 } → IsSearched links plan drops
+searched_first links plan potentials is valid n counted drops drops_is = subst (IsSearched links plan) (sym drops_is) (record {
+  plan_is = is;
+  certified = (potentials, valid);
+  over = record { left = length-replicate n 0 ∙ counted; right = length-replicate n 0 ∙ counted };
+  found = found_at;
+})
+  where
+    found_at : AreFound links plan (record { root = 0; left = replicate n 0; right = replicate n 0 })
+    found_at root = ([], refl)
+    found_at (left i) = ([], ap (λ k. Some (neg_ℤ (pos k))) (sym (zero_at n i)))
+    found_at (right j) = ([], ap (λ k. Some (neg_ℤ (pos k))) (sym (zero_at n j)))
+
+-- ---- behind all passes
+
+module _ (trips : TripsParts) (plan : List (Option ℕ)) (drops : DropParts) (known : IsSearched (links_of trips) plan drops) (kept : AreKept (links_of trips) plan drops) where
+  abbrev n : ℕ
+  n = length trips.trips
+
+  abbrev made : PotentialParts
+  made = potentials_by drops
+
+  u_at : (i : ℕ) → i < n → at made.u i ≡ drops.root - get_or drops.left i 0
+  u_at i within = get_or-map (λ number. drops.root - number) drops.left i 0 0 (omega (arith, within, known.over.left))
+
+  v_at : (j : ℕ) → j < n → at made.v j ≡ get_or drops.right j 0 - drops.root
+  v_at j within = get_or-map (λ number. number - drops.root) drops.right j 0 0 (omega (arith, within, known.over.right))
+
+  next_in : (i j : ℕ) → next plan i ≡ Some j → (i < n) × (j < n)
+  next_in i j e = links_within trips i j (known.plan_is.follow i j e)
+
+  over_all : AreOver n made
+  over_all = record {
+    each_u = length-map drops.left (λ number. drops.root - number) ∙ known.over.left;
+    each_v = length-map drops.right (λ number. number - drops.root) ∙ known.over.right;
+  }
+
+  covered : (i j : ℕ) → IfSome ((links_of trips).gain i j) (λ gain. gain ≤ℤ pos (at made.u i + at made.v j))
+  covered i j = split ((links_of trips).gain i j) refl
+    where
+      split : (gain : Option ℤ) → (links_of trips).gain i j ≡ gain → IfSome gain (λ value. value ≤ℤ pos (at made.u i + at made.v j))
+      split None e = tt
+      split (Some gain) e =
+          let there = links_within trips i j (ap is_some e) in
+          let pair : (pos (get_or drops.left i 0) +ℤ gain) ≤ℤ pos (get_or drops.right j 0) =
+          subst (λ some. IfSome some (λ value. (pos (get_or drops.left i 0) +ℤ value) ≤ℤ pos (get_or drops.right j 0))) e
+          ((kept i there.0).pairs j there.1) in
+          omega (arith, ints, pair, u_at i there.0, v_at j there.1)
+
+  -- what is known of a link of the plan
+  linked : (i j : ℕ) → next plan i ≡ Some j → (gain : ℤ) → (links_of trips).gain i j ≡ Some gain
+      → gain ≡ pos (at made.u i + at made.v j)
+  linked i j e gain has =
+      let there = next_in i j e in
+      let pair : (pos (get_or drops.left i 0) +ℤ gain) ≤ℤ pos (get_or drops.right j 0) =
+      subst (λ some. IfSome some (λ value. (pos (get_or drops.left i 0) +ℤ value) ≤ℤ pos (get_or drops.right j 0))) has
+      ((kept i there.0).pairs j there.1) in
+      let both = subst (NextKept (links_of trips) drops i) e (kept i there.0).next_kept in
+      let back : pos (get_or drops.right j 0) ≤ℤ (pos (get_or drops.left i 0) +ℤ gain) =
+      subst (λ some. IfSome some (λ value. pos (get_or drops.right j 0) ≤ℤ (pos (get_or drops.left i 0) +ℤ value))) has both.1 in
+      let high : drops.root ≤ get_or drops.right j 0 =
+      subst (RootKept drops j) (next_found plan i j e) (kept j there.1).root_kept in
+      omega (arith, ints, pair, back, both.0, high, u_at i there.0, v_at j there.1)
+
+  plain : (k : ℕ) → k ≡ 0 + k
+  plain k = omega arith
+
+  covering : AreCovering (links_of trips).gain 0 plan made.u made.v
+  covering = record {
+    size = over_all.each_u ∙ sym known.plan_is.each;
+    once = known.plan_is.once;
+    covered = λ k j e. subst (λ i. unwrap_or ((links_of trips).gain i j) (pos 0) ≤ℤ pos (at made.u k + at made.v j)) (plain k)
+        (let found = some_of ((links_of trips).gain k j) (known.plan_is.follow k j e) in
+        let exact = linked k j e found.0 found.1 in
+        subst (λ some. unwrap_or some (pos 0) ≤ℤ pos (at made.u k + at made.v j)) (sym found.1) (omega (arith, ints, exact)));
+  }
+
+  tight : AreTight (links_of trips).gain 0 plan made.u made.v
+  tight = record {
+    linked = λ k j e. ap (λ i. unwrap_or ((links_of trips).gain i j) (pos 0)) (sym (plain k))
+        ∙ (let found = some_of ((links_of trips).gain k j) (known.plan_is.follow k j e) in
+        ap (λ some. unwrap_or some (pos 0)) found.1 ∙ linked k j e found.0 found.1);
+    last = λ k h e.
+        let within : k < length trips.trips = omega (arith, h, known.plan_is.each) in
+        let low = subst (NextKept (links_of trips) drops k) e (kept k within).next_kept in
+        omega (arith, low, u_at k within);
+    first = λ j h. by_bound j (length trips.trips)
+        (λ within.
+        let low = subst (RootKept drops j) h (kept j within).root_kept in
+        omega (arith, low, v_at j within))
+        (λ past. get_or-eq_default made.v 0 (omega (arith, past, over_all.each_v)));
+  }
+
+  pub settled_valid : AreValid (links_of trips) plan made
+  settled_valid = record {
+    over = over_all;
+    covered = covered;
+    exact = sym (tight_gains (links_of trips).gain 0 plan made.u made.v covering tight);
+  }
+
+  -- ---- least costs
+
+  height : Node → ℤ
+  height node = neg_ℤ (pos (drop_at drops node))
+
+  rises : (from to : Node) (cost : ℤ) → arc (links_of trips) plan from to ≡ Some cost → height to ≤ℤ (height from +ℤ cost)
+  unfolding height
+  rises root root cost e = absurd (none-some cost e)
+  rises root (left i) cost e =
+      let free = free_is (nat_lt i n && not (is_some (next plan i))) cost e in
+      let parts = and_parts (nat_lt i n) (not (is_some (next plan i))) free.0 in
+      let low = subst (NextKept (links_of trips) drops i) (none_there (next plan i) parts.1)
+      (kept i (ltb-true i n parts.0)).next_kept in
+      omega (arith, ints, free.1, low)
+  rises root (right j) cost e =
+      let free = free_is (is_next plan j) cost e in
+      let found = followed plan j free.0 in
+      let low = subst (RootKept drops j) free.0 (kept j (next_in found.0 j found.1).1).root_kept in
+      omega (arith, ints, free.1, low)
+  rises (left i) root cost e =
+      let free = free_is (is_some (next plan i)) cost e in
+      let found = some_of (next plan i) free.0 in
+      let low = subst (NextKept (links_of trips) drops i) found.1 (kept i (next_in i found.0 found.1).0).next_kept in
+      omega (arith, ints, free.1, low.0)
+  rises (left i) (left k) cost e = absurd (none-some cost e)
+  rises (left i) (right j) cost e = over_pair ((links_of trips).gain i j) refl e
+    where
+      over_pair : (gain : Option ℤ) → (links_of trips).gain i j ≡ gain → option_map neg_ℤ gain ≡ Some cost
+          → neg_ℤ (pos (get_or drops.right j 0)) ≤ℤ (neg_ℤ (pos (get_or drops.left i 0)) +ℤ cost)
+      over_pair None f g = absurd (none-some cost g)
+      over_pair (Some gain) f g =
+          let there = links_within trips i j (ap is_some f) in
+          let pair : (pos (get_or drops.left i 0) +ℤ gain) ≤ℤ pos (get_or drops.right j 0) =
+          subst (λ some. IfSome some (λ value. (pos (get_or drops.left i 0) +ℤ value) ≤ℤ pos (get_or drops.right j 0))) f
+          ((kept i there.0).pairs j there.1) in
+          let same : neg_ℤ gain ≡ cost = same_Some (neg_ℤ gain) cost g in
+          omega (arith, ints, pair, same)
+  rises (right j) root cost e =
+      let free = free_is (nat_lt j n && not (is_next plan j)) cost e in
+      let parts = and_parts (nat_lt j n) (not (is_next plan j)) free.0 in
+      let low = subst (RootKept drops j) (untrue (is_next plan j) parts.1) (kept j (ltb-true j n parts.0)).root_kept in
+      omega (arith, ints, free.1, low)
+  rises (right j) (left i) cost e = over_back (is_trip j (next plan i)) refl e
+    where
+      over_back : (b : Bool) → is_trip j (next plan i) ≡ b → cond b ((links_of trips).gain i j) None ≡ Some cost
+          → neg_ℤ (pos (get_or drops.left i 0)) ≤ℤ (neg_ℤ (pos (get_or drops.right j 0)) +ℤ cost)
+      over_back false f g = absurd (none-some cost g)
+      over_back true f g =
+          let is = is_trip_same j (next plan i) f in
+          let there = next_in i j is in
+          let both = subst (NextKept (links_of trips) drops i) is (kept i there.0).next_kept in
+          let back : pos (get_or drops.right j 0) ≤ℤ (pos (get_or drops.left i 0) +ℤ cost) =
+          subst (λ some. IfSome some (λ value. pos (get_or drops.right j 0) ≤ℤ (pos (get_or drops.left i 0) +ℤ value))) g both.1 in
+          omega (arith, ints, back)
+  rises (right j) (right k) cost e = absurd (none-some cost e)
+
+  low_all : (node : Node) → height node ≤ℤ pos 0
+  unfolding height
+  low_all node = omega (arith, ints)
+
+  least_at : (node : Node) → IsLeastCost (links_of trips) plan node (neg_ℤ (pos (drop_at drops node)))
+  unfolding height
+  least_at node = record {
+    walk = (known.found node).0;
+    has_it = (known.found node).1;
+    least = λ other more e. walk_bound (links_of trips) plan height low_all rises node other more e;
+  }
+
+  greater : (a b : ℕ) → pos (a - b) ≡ int_max (pos 0) (neg_ℤ (pos b) -ℤ neg_ℤ (pos a))
+  greater a b = omega (arith, ints, int_max_is (pos 0) (neg_ℤ (pos b) -ℤ neg_ℤ (pos a)))
+
+  pub settled_canonical : AreCanonical (links_of trips) plan made
+  settled_canonical = record {
+    over = over_all;
+    base = neg_ℤ (pos drops.root);
+    base_least = least_at root;
+    u = λ i within. (
+      neg_ℤ (pos (get_or drops.left i 0)),
+      (
+        least_at (left i),
+        ap pos (u_at i within) ∙ greater drops.root (get_or drops.left i 0),
+      ),
+    );
+    v = λ j within. (
+      neg_ℤ (pos (get_or drops.right j 0)),
+      (
+        least_at (right j),
+        ap pos (v_at j within) ∙ greater (get_or drops.right j 0) drops.root,
+      ),
+    );
+  }
+
+  pub settled_small : AreTrips trips → ArePotentials made
+  settled_small are = record {
+    each = over_all.each_u ∙ sym over_all.each_v;
+    u_small = All-map IsSmall (λ number. drops.root - number) drops.left
+        (λ k d h. omega (arith, found_most trips plan drops are known root));
+    v_small = All-map IsSmall (λ number. number - drops.root) drops.right
+        (λ k d h.
+        let small = found_most trips plan drops are known (right k) in
+        let same = get_or_default drops.right k d 0 h in
+        omega (arith, small, same));
+  }
+
+-- potentials that are made of numbers
+pub made_is : (drops : DropParts) (u v : List ℕ) → u ≡ map (λ number. drops.root - number) drops.left
+    → v ≡ map (λ number. number - drops.root) drops.right → record { u = u; v = v } ≡ potentials_by drops
+made_is drops u v u_is v_is =
+    let of_u : List ℕ → PotentialParts = λ some. record { u = some; v = v } in
+    let of_v : List ℕ → PotentialParts =
+    λ some. record { u = map (λ number. drops.root - number) drops.left; v = some } in
+    ap of_u u_is ∙ ap of_v v_is

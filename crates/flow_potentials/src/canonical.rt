@@ -1,0 +1,34 @@
+// The canonical potentials of a plan.
+ghost use Rattle.std.specs.Prelude.{◌≡◌, IfOk};
+ghost use Rattle.flow_potentials.specs.Canonical.{AreCanonical};
+ghost use Rattle.flow_potentials.specs.Potentials.{AreValid};
+ghost use Rattle.flow_potentials.specs.Rounds.{canonical};
+ghost use Rattle.vehicle_model.specs.Plans.{IsPlan};
+ghost use Rattle.vehicle_model.specs.Trips.{links_of};
+
+use crate::drops::Drops;
+use crate::numbers::Potentials;
+use plan_num::NoMemory;
+use std::alloc::Global;
+use vehicle_model::{Plan, Trips};
+
+/// The canonical potentials of a plan for which some potentials are valid: how far the least costs of
+/// walks in its residual graph that end in the two nodes of a trip lie above and below that of the
+/// root. They are valid for the plan, and by trips and plan there are no others.
+pub fn potentials(
+    alloc: Global,
+    trips: &Trips,
+    plan: &Plan,
+    valid: &Potentials,
+) -> Result<Potentials, NoMemory>
+    requires plan { IsPlan (links_of trips.now) plan.now }
+    requires valid { AreValid (links_of trips.now) plan.now valid.now }
+    ensures made { IfOk result (λ made. made ≡ canonical (links_of trips.now) plan.now) }
+    ensures least { IfOk result (AreCanonical (links_of trips.now) plan.now) }
+    ensures valid { IfOk result (AreValid (links_of trips.now) plan.now) }
+{
+    let _ = valid.len();
+    let mut drops = Drops::new(alloc, trips.len())?;
+    drops.settle(trips, plan);
+    drops.into_potentials(alloc, trips, plan)
+}
