@@ -2,7 +2,7 @@
 use Rattle.std.proofs.Common.{◌≡◌, ℕ, ℤ, suc, pos, negsuc, ◌+◌, ◌<◌, ◌≤◌, ◌≤ℤ◌, nat_lt, Bool, true, false, cond, List, [], ◌∷◌, ◌++◌, length, map, take, drop, get_or, slice_get, unsigned_abs, All, Some, ap, sym, ◌∙◌, arith, append_assoc}
 use Rattle.std.proofs.Math.Seq.{drop-cons}
 use Rattle.std.proofs.lemmas.Int.{ints}
-use Rattle.std.proofs.lemmas.List.{take_more, take_all, map-append, drop_all, append-nil, length-map}
+use Rattle.std.proofs.lemmas.List.{take_more, take_all, map-append, drop_all, length-map}
 use Rattle.std.proofs.lemmas.List.Elements.{All-map}
 use Rattle.giv_files.specs.declared.row_why.RowWhy.TheVariants as why
 use Rattle.giv_files.specs.Tables.{TableRow, no_row}
@@ -112,9 +112,3 @@ rows_more u v i all rows new in_u in_v so_far added =
     ∙ ap (λ some. rows ++ rows_from (i + 1) some (at v i ∷ drop (i + 1) v)) (sym u_is)
     ∙ ap (λ some. rows ++ rows_from (i + 1) (drop i u) some) (sym v_is)
     ∙ so_far
-
-pub rows_end : (u v : List ℕ) (i : ℕ) (all rows : List TableRow) → length u ≤ i
-    → rows ++ rows_from (i + 1) (drop i u) (drop i v) ≡ all → rows ≡ all
-rows_end u v i all rows past so_far =
-    sym (append-nil rows)
-    ∙ ap (λ some. rows ++ rows_from (i + 1) some (drop i v)) (sym (drop_all i u past)) ∙ so_far

@@ -1,10 +1,8 @@
 -- The timetable of a bundle, from what each of its inputs gives.
-use Rattle.std.proofs.Common.{◌≡◌, ℕ, List, [], ◌++◌, map, ap, subst, sym, ◌∙◌}
+use Rattle.std.proofs.Common.{◌≡◌, ℕ, List, [], ◌++◌, ap, subst, sym, ◌∙◌}
 use Rattle.giv_files.specs.declared.file_id.FileId.TheVariants as file
 use Rattle.giv_files.specs.declared.refusal.StageFault.{StageFault}
-use Rattle.giv_files.specs.declared.row_why.RowWhy.TheVariants as why
-use Rattle.giv_files.specs.Columns.{activities_p_columns, events_p_columns}
-use Rattle.giv_files.specs.Inputs.{Refuses, input_faults, or_else, records_of}
+use Rattle.giv_files.specs.Inputs.{Refuses, input_faults, records_of}
 use Rattle.giv_files.specs.Settings.{BundleParts}
 use Rattle.giv_files.specs.StageCalls.{input_text}
 use Rattle.giv_files.proofs.Inputs.{refused_append}
@@ -15,8 +13,7 @@ use Rattle.event_tables.specs.declared.periodic_time.PeriodicTime.{PeriodicTime}
 use Rattle.event_tables.specs.PeriodicFiles.{periodic_activity_input, periodic_event_ids, periodic_event_input, periodic_time_input}
 use Rattle.pesp_model.specs.PespTexts.{activities_of, events_of, problem_faults}
 use Rattle.pesp_model.proofs.Texts.{activity_faults, refused_events}
-use Rattle.roll_out.specs.RolloutStage.{faults_at, file_faults, network_in, period_in, rollout_faults, run_faults, times_in}
-use Rattle.event_tables.specs.RunRules.{KeepRunRules}
+use Rattle.roll_out.specs.RolloutStage.{file_faults, network_in, period_in, times_in}
 
 module _ (bundle : BundleParts) (none : file_faults bundle ≡ []) where
   -- where the texts have no fault, each of them has none
@@ -117,23 +114,3 @@ module _ (bundle : BundleParts) where
             times =
                 same_times i;
           }
-
--- files without a fault by the rules of their kinds, that keep the rules of runs, are no fault of a
--- bundle
-pub nothing_refused : (bundle : BundleParts)
-    → problem_faults (input_text bundle 0) (input_text bundle 1) ≡ []
-    → input_faults (times_in bundle) (input_text bundle 2) ≡ []
-    → KeepRunRules (network_in bundle).events (network_in bundle).activities
-    → rollout_faults bundle ≡ []
-nothing_refused bundle problem times keep =
-    let first = faults_at file.EventsP events_p_columns (input_text bundle 0) why.BrokenRun in
-    let second = faults_at file.EventsP events_p_columns (input_text bundle 0) why.Unjoined in
-    let third = faults_at file.ActivitiesP activities_p_columns (input_text bundle 1)
-    why.StrayActivity in
-    let ids = λ (events : List PeriodicEvent). map (λ (event : PeriodicEvent). event.id) events in
-    let numbers = λ (rows : List PeriodicActivity). map (λ (row : PeriodicActivity). row.id) rows in
-    let files : file_faults bundle ≡ [] =
-    ap (λ some. some ++ input_faults (times_in bundle) (input_text bundle 2)) problem ∙ times in
-    ap (λ some. or_else some (run_faults bundle)) files
-    ∙ (λ i. first (ids (keep.whole i)) ++ second (ids (keep.joined i))
-    ++ third (numbers (keep.placed i)))

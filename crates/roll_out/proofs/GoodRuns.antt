@@ -32,10 +32,6 @@ or_none : (a b : Bool) → (a || b) ≡ false → (a ≡ false) × (b ≡ false)
 or_none false b none = (refl, none)
 or_none true b none = no_false none
 
-and_both : (a b : Bool) → (a && b) ≡ true → (a ≡ true) × (b ≡ true)
-and_both true b all = (refl, all)
-and_both false b all = no_true all
-
 pub nothing_mapped : {A X : Type 0} (f : A → X) (xs : List A) → map f xs ≡ [] → xs ≡ []
 nothing_mapped f [] none = refl
 nothing_mapped f (x ∷ xs) none = absurd (cc)

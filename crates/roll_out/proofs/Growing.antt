@@ -47,10 +47,6 @@ module _ {X Y : Type 0} (rest : ℕ → List X → List Y) (part : ℕ → X →
       sym (append-nil now) ∙ ap (λ ys. now ++ ys) (sym (none n) ∙ sym (at_drop_all (rest n) xs i h))
       ∙ so_far
 
--- a plan that is not there
-abbrev pub no_plan : PlanParts
-no_plan = record { run = []; start = 0; trips = 0 }
-
 abbrev pub plan_size : PlanParts → ℕ
 plan_size plan = plan.trips * length plan.run
 

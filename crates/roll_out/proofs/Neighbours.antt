@@ -18,10 +18,6 @@ pair_at event [] i d h = absurd (omega (arith, h))
 pair_at event (next ∷ run) zero d h = refl
 pair_at event (next ∷ run) (suc i) d h = pair_at next run i d (omega (arith, h))
 
-neighbours_are : (event : PeriodicEvent) (run : List PeriodicEvent) → neighbours (event ∷ run)
-    ≡ zip (event ∷ run) run
-neighbours_are event run = refl
-
 -- one pair more
 pub neighbours_more : (run : List PeriodicEvent) (i : ℕ) (d : PeriodicEvent) → 1 ≤ i → i
     < length run

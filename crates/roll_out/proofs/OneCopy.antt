@@ -90,9 +90,6 @@ first_ids (x ∷ xs) ys f (suc n) are sized =
       parts.1 ∙ ap (λ a. range_with_len a (length ys)) g,
     )
 
-abbrev pub plan_run : PlanParts → List TimedEvent
-plan_run plan = plan.run
-
 module _ (period : ℕ) where
   -- the copies of an event of a plan
   plan_has : (n f i : ℕ) (plan : PlanParts) → run_ids plan.run ≡ range_with_len f (length plan.run)

@@ -1,32 +1,24 @@
 -- Which files the stage of the roll-out makes, and which it names where it refuses a row.
-use Rattle.std.proofs.Common.{◌≡◌, ℕ, Bool, true, List, [], ◌∷◌, ◌++◌, Err, Ok, map, nat_lt, ap, lit<, subst, sym}
+use Rattle.std.proofs.Common.{◌≡◌, ℕ, Bool, true, List, [], ◌∷◌, ◌++◌, Err, Ok, nat_lt, ap, lit<, subst, sym}
 use Rattle.giv_files.specs.declared.column.ColumnKind.{ColumnKind}
 use Rattle.giv_files.specs.declared.counted.Counted.{Counted}
 use Rattle.giv_files.specs.declared.counted.Counted.TheVariants as counted
 use Rattle.giv_files.specs.declared.file_id.FileId.{FileId}
-use Rattle.giv_files.specs.declared.file_id.FileId.TheVariants as file
 use Rattle.giv_files.specs.declared.made.Made.{Made}
 use Rattle.giv_files.specs.declared.refusal.Refusal.{Refusal}
 use Rattle.giv_files.specs.declared.refusal.Refusal.TheVariants as refusal
 use Rattle.giv_files.specs.declared.row_why.RowWhy.{RowWhy}
-use Rattle.giv_files.specs.declared.row_why.RowWhy.TheVariants as why
 use Rattle.giv_files.specs.declared.stage.Stage.TheVariants as stage
-use Rattle.giv_files.specs.Columns.{activities_p_columns, events_p_columns}
-use Rattle.giv_files.specs.Inputs.{Limit, input_faults, limit_faults, row_limit}
+use Rattle.giv_files.specs.Inputs.{Limit, limit_faults, row_limit}
 use Rattle.giv_files.specs.MadeLists.{MakesAs, ids_of}
 use Rattle.giv_files.specs.NamedFiles.{NamesOnly}
 use Rattle.giv_files.specs.Settings.{BundleParts}
-use Rattle.giv_files.specs.StageCalls.{input_text}
-use Rattle.giv_files.proofs.Named.{AllName, input_names, names_both, names_or_else, names_where, refused_names}
+use Rattle.giv_files.proofs.Named.{AllName, names_both, names_or_else, names_where, refused_names}
 use Rattle.giv_files.proofs.StageCalls.{made_unless}
-use Rattle.event_tables.specs.PeriodicFiles.{periodic_activity_input, periodic_event_ids, periodic_event_input}
-use Rattle.event_tables.specs.RunRules.{broken_events, stray_activities, unjoined_events}
-use Rattle.pesp_model.specs.PespTexts.{events_of, problem_faults}
 use Rattle.roll_out.specs.DayActivities.{day_activities}
 use Rattle.roll_out.specs.DayTrips.{TripParts, day_events}
-use Rattle.roll_out.specs.RolloutStage.{faults_at, file_faults, long_lists, network_in, rollout_faults, rollout_stage, run_faults, times_in, trips_in}
+use Rattle.roll_out.specs.RolloutStage.{faults_at, long_lists, network_in, rollout_faults, rollout_stage, trips_in}
 use Rattle.roll_out.specs.TimedRuns.{TimedParts}
-use Rattle.roll_out.proofs.RuleRows.{activity_id, event_id}
 
 -- the files that are made are those that the stage is to make
 pub rollout_stage_makes : (bundle : BundleParts) (made : Made) → rollout_stage bundle ≡ Ok made
@@ -60,41 +52,6 @@ rows_name : (test : FileId → Bool) (file : FileId) → test file ≡ true
 rows_name test file named columns text why [] = tt
 rows_name test file named columns text why (id ∷ ids) =
     (named, rows_name test file named columns text why ids)
-
--- a refusal by a row names the file of periodic events, of periodic activities or of periodic times
-pub rollout_stage_names : (test : FileId → Bool) → test file.EventsP ≡ true → test file.ActivitiesP
-    ≡ true
-    → test file.TimesP ≡ true → (bundle : BundleParts) (reason : Refusal)
-    → rollout_stage bundle ≡ Err reason → NamesOnly test reason
-unfolding rollout_stage problem_faults
-rollout_stage_names test events activities times bundle reason is =
-    let ids = periodic_event_ids (events_of (input_text bundle 0)) in
-    let network = network_in bundle in
-    let first = input_faults periodic_event_input (input_text bundle 0) in
-    let second = input_faults (periodic_activity_input ids) (input_text bundle 1) in
-    let third = input_faults (times_in bundle) (input_text bundle 2) in
-    let files : AllName test (file_faults bundle) =
-    names_both test (first ++ second) third
-    (names_both test first second (input_names test periodic_event_input (input_text bundle 0)
-    events)
-    (input_names test (periodic_activity_input ids) (input_text bundle 1) activities))
-    (input_names test (times_in bundle) (input_text bundle 2) times) in
-    let broken = faults_at file.EventsP events_p_columns (input_text bundle 0) why.BrokenRun
-    (map event_id (broken_events network.events)) in
-    let unjoined = faults_at file.EventsP events_p_columns (input_text bundle 0) why.Unjoined
-    (map event_id (unjoined_events network.events network.activities)) in
-    let stray = faults_at file.ActivitiesP activities_p_columns (input_text bundle 1)
-    why.StrayActivity
-    (map activity_id (stray_activities network.events network.activities)) in
-    let runs : AllName test (run_faults bundle) =
-    names_both test (broken ++ unjoined) stray
-    (names_both test broken unjoined (rows_name test file.EventsP events _ _ _ _)
-    (rows_name test file.EventsP events _ _ _ _))
-    (rows_name test file.ActivitiesP activities _ _ _ _) in
-    refused_names test _ _ reason
-    (names_or_else test (rollout_faults bundle) (long_lists network (trips_in bundle))
-    (names_or_else test (file_faults bundle) (run_faults bundle) files runs)
-    (lists_name test network (trips_in bundle))) is
 
 -- and where the inputs have no fault, no refusal names a file
 pub rollout_names_none : (test : FileId → Bool) (bundle : BundleParts) (reason : Refusal)

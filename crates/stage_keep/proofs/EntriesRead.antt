@@ -55,9 +55,6 @@ blocks_last [] one = absurd (omega (arith, one))
 blocks_last (t ∷ []) one = refl
 blocks_last (t ∷ u ∷ ts) one = absurd (omega (arith, one))
 
-inputs_heads : Stage → List (List ℕ)
-inputs_heads at = map (λ _. codes "input") (stage_inputs at)
-
 heads_size : (at : Stage) (files : List FileId)
     → length (heads at files) ≡ 2 + length (stage_inputs at) + length files
 heads_size at files =
