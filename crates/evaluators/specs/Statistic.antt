@@ -1,5 +1,5 @@
 -- The fourteen values of the statistic.
-use Rattle.std.specs.Prelude.{ℕ, ℤ, pos, ◌+◌, ◌-◌, ◌*◌, ◌*ℤ◌, nat_lt, unsigned_abs, List, [], ◌∷◌, length, map, filter, zip, codes, get_or, Option, Some, None}
+use Rattle.std.specs.Prelude.{ℕ, ℤ, pos, ◌+◌, ◌-◌, ◌*◌, ◌*ℤ◌, true, nat_lt, unsigned_abs, List, [], ◌∷◌, length, map, filter, zip, codes, get_or, Option, Some, None}
 use Rattle.std.specs.List.{sum_by}
 use Rattle.event_tables.specs.declared.activity_kind.ActivityKind.{ActivityKind}
 use Rattle.event_tables.specs.declared.activity_kind.ActivityKind.TheVariants as kind

@@ -4,6 +4,7 @@ ghost use Rattle.giv_files.specs.Inputs.{UnlessFault, input_faults, records, rec
 ghost use Rattle.evaluators.specs.StatisticInputs.{cost_input};
 
 use crate::rows::CostRow;
+use crate::seen::note;
 use giv_files::{FileId, Refusal, RowWhy, StageFault, Table, columns, read_input};
 use std::alloc::Global;
 use std::collections::HashSet;
@@ -27,7 +28,7 @@ fn costs_of_table(alloc: Global, table: &Table<3>) -> Result<Vec<CostRow>, Stage
     let mut rows = Vec::new(alloc);
     for i in 0..table.len() {
         let row = CostRow::read(table, i);
-        if !seen.insert(row.line)? {
+        if !note(&mut seen, row.line)? {
             return Err(StageFault::Refused(Refusal::BadRow {
                 file: FileId::PoolCost,
                 row: table.number(i),

@@ -1,11 +1,12 @@
 // The first rows of lines, and of vehicles.
-ghost use Rattle.std.specs.Prelude.{◌≡◌, ◌≤◌, pos, length, map, take, IfOk};
+ghost use Rattle.std.specs.Prelude.{◌≡◌, ◌≤◌, pos, length, map, IfOk};
 ghost use Rattle.std.specs.List.{list_any};
-ghost use Rattle.giv_files.specs.Inputs.{records};
+ghost use Rattle.std.specs.Ordering.{int_eq};
 ghost use Rattle.evaluators.specs.FirstRows.{firsts};
-ghost use Rattle.evaluators.specs.StatisticInputs.{concept_input, line_row, lines_of};
+ghost use Rattle.evaluators.specs.StatisticInputs.{line_row, lines_of};
 
 use crate::rows::LineRow;
+use crate::seen::note;
 use event_tables::ScheduleRow;
 use giv_files::Table;
 use plan_num::NoMemory;
@@ -21,7 +22,7 @@ pub(crate) fn first_rows(alloc: Global, table: &Table<4>) -> Result<Vec<LineRow>
     let mut firsts = Vec::new(alloc);
     for i in 0..table.len() {
         let row = LineRow::read(table, i);
-        if seen.insert(row.line)? {
+        if note(&mut seen, row.line)? {
             firsts.push(row)?;
         }
     }
@@ -35,16 +36,17 @@ pub(crate) fn vehicle_count(rows: &[ScheduleRow]) -> u64
 {
     let mut count = 0;
     for i in 0..rows.len() {
-        if !has_vehicle(&rows[..i], rows[i].vehicle) {
+        if !has_vehicle(&rows[..i], &rows[i]) {
             count += 1;
         }
     }
     count
 }
 
-// Whether one of some rows has a vehicle.
-fn has_vehicle(rows: &[ScheduleRow], vehicle: u32) -> bool
-    ensures { result ≡ list_any (λ row. row.vehicle == vehicle) rows.now }
+// Whether one of some rows has the vehicle of a row.
+fn has_vehicle(rows: &[ScheduleRow], row: &ScheduleRow) -> bool
+    ensures { result ≡ list_any (λ other. int_eq (pos row.now.vehicle) (pos other.vehicle)) rows.now }
 {
-    rows.iter().any(|row| row.vehicle == vehicle)
+    rows.iter()
+        .any(|other| i64::from(row.vehicle) == i64::from(other.vehicle))
 }

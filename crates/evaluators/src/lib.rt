@@ -15,6 +15,7 @@ mod periodic;
 mod periodic_values;
 mod rows;
 mod schedule;
+mod seen;
 mod stage;
 mod statistic;
 mod text;

@@ -1,0 +1,3 @@
+mod FirstRowFacts
+mod ConceptRules
+mod SeenLines
