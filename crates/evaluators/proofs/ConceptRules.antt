@@ -186,12 +186,12 @@ module _ (costs : List CostRow) (table : List TableRow) (i : ℕ) (inside : i < 
 -- ---- costs
 
 -- a line that was there is repeated, and one that was not breaks no rule
-pub repeated : (before : List CostRow) (row : CostRow)
-    → list_any (λ other. int_eq row.line other.line) before ≡ true
-    → slice_get (broken_whys cost_input.row_rules before row) 0 ≡ Some why.RepeatedId
-repeated before row is = ap (λ b. slice_get (cond b (why.RepeatedId ∷ []) [] ++ []) 0) is
+pub repeated : (before : List CostRow) (one : CostRow)
+    → list_any (λ other. int_eq one.line other.line) before ≡ true
+    → slice_get (broken_whys cost_input.row_rules before one) 0 ≡ Some why.RepeatedId
+repeated before one is = ap (λ b. slice_get (cond b (why.RepeatedId ∷ []) [] ++ []) 0) is
 
-pub not_repeated : (before : List CostRow) (row : CostRow)
-    → list_any (λ other. int_eq row.line other.line) before ≡ false
-    → broken_whys cost_input.row_rules before row ≡ []
-not_repeated before row is = ap (λ b. cond b (why.RepeatedId ∷ []) [] ++ []) is
+pub not_repeated : (before : List CostRow) (one : CostRow)
+    → list_any (λ other. int_eq one.line other.line) before ≡ false
+    → broken_whys cost_input.row_rules before one ≡ []
+not_repeated before one is = ap (λ b. cond b (why.RepeatedId ∷ []) [] ++ []) is

@@ -1,3 +1,5 @@
 mod FirstRowFacts
+mod Bounded
 mod ConceptRules
+mod Parts
 mod SeenLines

@@ -1,5 +1,5 @@
 -- The fourteen values of the statistic.
-use Rattle.std.specs.Prelude.{ℕ, ℤ, pos, ◌+◌, ◌-◌, ◌*◌, ◌*ℤ◌, true, nat_lt, unsigned_abs, List, [], ◌∷◌, length, map, filter, zip, codes, get_or, Option, Some, None}
+use Rattle.std.specs.Prelude.{ℕ, ℤ, pos, ◌+◌, ◌-◌, ◌*◌, ◌*ℤ◌, true, nat_lt, unsigned_abs, List, [], ◌∷◌, length, map, filter, zip, codes, get_or, option_map, unwrap_or}
 use Rattle.std.specs.List.{sum_by}
 use Rattle.event_tables.specs.declared.activity_kind.ActivityKind.{ActivityKind}
 use Rattle.event_tables.specs.declared.activity_kind.ActivityKind.TheVariants as kind
@@ -30,14 +30,13 @@ use Rattle.evaluators.specs.StatisticInputs.{cost_with, lines_of}
 
 -- ---- the line concept
 
--- the cost of a row, or 0 where there is none
-abbrev pub cost_or_none : Option CostRow → ℕ
-cost_or_none None = 0
-cost_or_none (Some row) = row.cost
+-- the cost of a line
+abbrev pub cost_of : List CostRow → ℤ → ℕ
+cost_of costs line = unwrap_or (option_map (λ row. row.cost) (cost_with costs line)) 0
 
 -- what the runs of a line cost: its cost as often as it runs
 abbrev pub cost_of_runs : List CostRow → LineRow → ℕ
-cost_of_runs costs row = cost_or_none (cost_with costs row.line) * row.frequency
+cost_of_runs costs row = cost_of costs row.line * row.frequency
 
 -- what the line concept costs in millionths, where each line counts once, and how many lines run
 unfoldable pub line_values : List CostRow → List LineRow → LineValues

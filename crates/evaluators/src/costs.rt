@@ -1,6 +1,6 @@
 // Reading the costs of lines.
-ghost use Rattle.std.specs.Prelude.{◌≡◌, ◌≤◌, map, All, IfOk};
-ghost use Rattle.giv_files.specs.Inputs.{UnlessFault, input_faults, records, records_of, table_row_faults};
+ghost use Rattle.std.specs.Prelude.{◌≡◌};
+ghost use Rattle.giv_files.specs.Inputs.{UnlessFault, input_faults, records, records_of, table_faults};
 ghost use Rattle.evaluators.specs.StatisticInputs.{cost_input};
 
 use crate::rows::CostRow;
@@ -11,9 +11,8 @@ use std::collections::HashSet;
 
 /// The costs of lines of a text, or its first fault.
 pub(crate) fn read_costs(alloc: Global, text: &[u8]) -> Result<Vec<CostRow>, StageFault>
-    ensures read { UnlessFault (input_faults cost_input text.now)
+    ensures { UnlessFault (input_faults cost_input text.now)
         (λ rows. rows.items ≡ records_of cost_input text.now) result }
-    ensures small { IfOk result (λ rows. All (λ row. row.cost ≤ 1000000000000000000) rows.items) }
 {
     let table = read_input(alloc, FileId::PoolCost, text, &columns!(PoolCost))?;
     costs_of_table(alloc, &table)
@@ -21,7 +20,7 @@ pub(crate) fn read_costs(alloc: Global, text: &[u8]) -> Result<Vec<CostRow>, Sta
 
 // The costs of the rows of a table, or the first row whose line was there before.
 fn costs_of_table(alloc: Global, table: &Table<3>) -> Result<Vec<CostRow>, StageFault>
-    ensures { UnlessFault (table_row_faults cost_input table.now)
+    ensures { UnlessFault (table_faults cost_input table.now)
         (λ rows. rows.items ≡ records cost_input table.now) result }
 {
     let mut seen = HashSet::new(alloc);

@@ -18,7 +18,7 @@ pub(crate) fn line_values(
     costs_text: &[u8],
     concept_text: &[u8],
 ) -> Result<LineValues, StageFault>
-    ensures read { UnlessFault (line_faults costs_text.now concept_text.now)
+    ensures { UnlessFault (line_faults costs_text.now concept_text.now)
         (λ values. values ≡ lines_in costs_text.now concept_text.now) result }
 {
     let costs = read_costs(alloc, costs_text)?;

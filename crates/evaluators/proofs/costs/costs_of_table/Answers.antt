@@ -1,14 +1,15 @@
-use Rattle.std.proofs.Common.{◌≡◌, ◌<◌, ◌≤◌, ◌||◌, ◌∷◌, ◌++◌, [], length, ℤ, not, List, Some, ap, sym, ◌∙◌, arith, take, w64, get_or, slice_get, false, true, cond}
+use Rattle.std.proofs.Common.{◌≡◌, ◌<◌, ◌≤◌, ◌||◌, ◌∷◌, ◌++◌, [], length, ℤ, not, List, Some, refl, ap, sym, ◌∙◌, arith, take, w64, get_or, slice_get, false, true, cond}
 use Rattle.std.specs.HashSet.{contains}
 use Rattle.std.specs.List.{list_any}
 use Rattle.std.specs.Ordering.{int_eq}
 use Rattle.std.proofs.lemmas.Int.{to_z-of_z}
 use Rattle.giv_files.specs.declared.file_id.FileId.TheVariants as file
 use Rattle.giv_files.specs.declared.refusal.Refusal.TheVariants as refusal
+use Rattle.giv_files.specs.declared.refusal.StageFault.TheVariants as stage
 use Rattle.giv_files.specs.declared.row_why.RowWhy.TheVariants as why
 use Rattle.giv_files.specs.Inputs.{records}
 use Rattle.giv_files.specs.Tables.{TableRow, no_row}
-use Rattle.giv_files.proofs.Inputs.{row_met, row_refused, rows_met, records_all, records_more}
+use Rattle.giv_files.proofs.Inputs.{no_faults, refused_rows, row_met, row_refused, rows_met, records_all, records_more}
 use Rattle.evaluators.specs.declared.rows.CostRow.{CostRow}
 use Rattle.evaluators.specs.StatisticInputs.{cost_input, cost_row}
 use Rattle.evaluators.proofs.ConceptRules.{repeated, not_repeated}
@@ -28,10 +29,12 @@ returns-then-not-branch c =
     let new = c.in_ok-note.ensures.new ∙ ap (λ q. not (old q)) own in
     let there = was_there key of table i no_row inside old c.in_ok-note.field-0 row
         c.read-row.ensures c.loop-i.invariant.seen new in
-    row_refused cost_input table i why.RepeatedId inside
+    refused_rows cost_input table
+    (stage.Refused (refusal.BadRow file.PoolCost c.number.result why.RepeatedId)) refl
+    (row_refused cost_input table i why.RepeatedId inside
     (repeated (records cost_input (take i table)) (of (get_or table i no_row))
     (there true c.if-not-branch.true)) c.loop-i.invariant.sound
-    ∙ ap (λ number. Some (refusal.BadRow file.PoolCost number why.RepeatedId)) (sym c.number.ensures)
+    ∙ ap (λ number. Some (refusal.BadRow file.PoolCost number why.RepeatedId)) (sym c.number.ensures))
 
 pub loop-i-preserved : goal.loop-i-preserved
 loop-i-preserved c =
@@ -63,6 +66,7 @@ pub returns : goal.returns
 returns c =
     let table = c.args.table.now in
     let past : length table ≤ c.loop-i.i = omega (arith, c.loop-i-test.false, c.len-i-end.ensures.len) in (
-      rows_met cost_input table c.loop-i.i past c.loop-i.invariant.sound,
+      no_faults cost_input table refl (rows_met cost_input table c.loop-i.i past
+          c.loop-i.invariant.sound) refl,
       c.loop-i.invariant.rows ∙ records_all cost_input table c.loop-i.i past,
     )
