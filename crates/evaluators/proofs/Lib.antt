@@ -3,3 +3,5 @@ mod Bounded
 mod ConceptRules
 mod Parts
 mod SeenLines
+mod Small
+mod StageParts

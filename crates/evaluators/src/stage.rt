@@ -1,5 +1,5 @@
 // The stage of the statistic.
-ghost use Rattle.std.specs.Prelude.{◌≡◌, ◌≤◌, IfOk};
+ghost use Rattle.std.specs.Prelude.{◌≡◌, ◌≤◌, length, IfOk};
 ghost use Rattle.giv_files.specs.declared.key.Key.TheVariants as keys;
 ghost use Rattle.giv_files.specs.declared.stage.Stage.TheVariants as stages;
 ghost use Rattle.giv_files.specs.Inputs.{UnlessFault};
@@ -14,7 +14,7 @@ use crate::periodic::periodic_values;
 use crate::schedule::schedule_cost;
 use crate::statistic::Statistic;
 use crate::text::statistic_made;
-use event_tables::trips;
+use event_tables::{Trip, trips};
 use giv_files::{Bundle, Key, Made, StageFault};
 use plan_num::{Ledger, Steps};
 use std::alloc::Global;
@@ -73,7 +73,7 @@ fn statistic_of(alloc: Global, bundle: &Bundle) -> Result<Statistic, StageFault>
     Ok(Statistic {
         lines,
         periodic,
-        trips: trips.len() as u64,
+        trips: trip_count(&trips),
         day,
         schedule_cost: schedule_cost(
             vehicle_costs(bundle),
@@ -81,6 +81,13 @@ fn statistic_of(alloc: Global, bundle: &Bundle) -> Result<Statistic, StageFault>
             &day,
         ),
     })
+}
+
+// How many trips there are.
+fn trip_count(trips: &[Trip]) -> u64
+    ensures { result ≡ length trips.now }
+{
+    trips.len() as u64
 }
 
 // The period of a bundle of the stage, in minutes.
