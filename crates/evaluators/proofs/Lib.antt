@@ -5,3 +5,6 @@ mod Parts
 mod SeenLines
 mod Small
 mod StageParts
+pub mod StatisticMakes
+pub mod StatisticReads
+mod TextRows
