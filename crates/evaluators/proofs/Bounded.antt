@@ -1,15 +1,14 @@
 -- Numbers of inputs without a fault that are not too great.
-use Rattle.std.proofs.Common.{◌≡◌, ◌≤◌, ◌<◌, ◌≤ℤ◌, ℕ, suc, zero, ℤ, pos, negsuc, neg_ℤ, ◌*◌, ◌+◌, ◌-◌, ◌+ℤ◌, ◌-ℤ◌, ltb, true, Bool, false, cond, not, List, [], ◌∷◌, ◌++◌, length, map, filter, zip, get_or, refl, ap, sym, subst, ◌∙◌, arith, All, Option, Some, None, option_map, unwrap_or, unsigned_abs}
-use Rattle.std.specs.List.{find, fold, sum_by}
-use Rattle.std.specs.Int.{int_rem_euclid}
+use Rattle.std.proofs.Common.{◌≡◌, ◌≤◌, ◌≤ℤ◌, ℕ, ℤ, pos, negsuc, ◌*◌, true, false, cond, List, [], ◌∷◌, length, get_or, refl, ◌∙◌, arith, All, Some, option_map, unwrap_or, unsigned_abs}
+use Rattle.std.specs.List.{sum_by}
 use Rattle.std.specs.Ordering.{int_eq}
 use Rattle.std.proofs.lemmas.Int.{ints}
 use Rattle.std.proofs.lemmas.List.{length-map}
-use Rattle.std.proofs.lemmas.List.Elements.{All-cons, All-head, All-tail, All-map, All-filter, All-nil}
+use Rattle.std.proofs.lemmas.List.Elements.{All-cons, All-head, All-tail, All-map, All-filter}
 use Rattle.std.proofs.lemmas.List.Filters.{length-filter_both}
 use Rattle.std.proofs.lemmas.List.Sums.{sum_by-le}
-use Rattle.giv_files.specs.Columns.{pool_cost_columns, concept_columns, disposed_columns}
-use Rattle.giv_files.specs.Inputs.{input_faults, records_of, broken_whys}
+use Rattle.giv_files.specs.Columns.{pool_cost_columns, concept_columns}
+use Rattle.giv_files.specs.Inputs.{input_faults, records_of}
 use Rattle.giv_files.specs.Tables.{TableRow}
 use Rattle.giv_files.specs.Writing.{InColumns}
 use Rattle.giv_files.proofs.Inputs.{few_rows, sound_rows}
@@ -17,7 +16,6 @@ use Rattle.event_tables.specs.declared.disposed_time.DisposedTime.{DisposedTime}
 use Rattle.event_tables.specs.declared.expanded_activity.ExpandedActivity.{ExpandedActivity}
 use Rattle.event_tables.specs.declared.expanded_event.ExpandedEvent.{ExpandedEvent}
 use Rattle.event_tables.specs.declared.schedule_row.ScheduleRow.{ScheduleRow}
-use Rattle.event_tables.specs.Cells.{number_in}
 use Rattle.event_tables.specs.DisposedTimes.{AreDisposedTimes}
 use Rattle.event_tables.specs.ExpandedFiles.{AreExpandedActivities}
 use Rattle.event_tables.specs.Schedules.{AreScheduleRows, is_empty_row, is_trip_row}

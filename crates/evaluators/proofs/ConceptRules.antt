@@ -1,6 +1,5 @@
 -- The rules of the files of costs and of the line concept, row by row.
-use Rattle.std.proofs.Common.{◌≡◌, ℕ, ℤ, ◌+◌, ◌<◌, ◌≤◌, ◌||◌, not, Bool, true, false, cond, eqb, List, [], ◌∷◌, ◌++◌, length, map, take, drop, get_or, slice_get, refl, ap, sym, ◌∙◌, append-nil, Option, Some, None, option_map, is_some, unwrap_or, arith}
-use Rattle.std.specs.HashSet.{contains}
+use Rattle.std.proofs.Common.{◌≡◌, ℕ, ℤ, ◌+◌, ◌<◌, not, Bool, true, false, cond, eqb, List, [], ◌∷◌, ◌++◌, length, map, take, drop, get_or, slice_get, refl, ap, sym, ◌∙◌, Option, Some, None, option_map, is_some, arith}
 use Rattle.std.specs.List.{find, list_any}
 use Rattle.std.specs.Option.{option_or}
 use Rattle.std.specs.Ordering.{int_eq}
@@ -9,7 +8,6 @@ use Rattle.std.proofs.lemmas.Bool.Decides.{Decides-int_eq}
 use Rattle.std.proofs.lemmas.Cmp.{int_eq_equiv}
 use Rattle.std.proofs.lemmas.List.{drop_more, get_or-map, length-map, take-append-drop, take-map}
 use Rattle.std.proofs.lemmas.List.Folds.{find-append}
-use Rattle.giv_files.specs.declared.row_why.RowWhy.{RowWhy}
 use Rattle.giv_files.specs.declared.row_why.RowWhy.TheVariants as why
 use Rattle.giv_files.specs.Inputs.{broken_whys, records}
 use Rattle.giv_files.specs.Tables.{TableRow, no_row}
@@ -17,7 +15,6 @@ use Rattle.evaluators.specs.declared.costed_line.CostedLine.{CostedLine}
 use Rattle.evaluators.specs.declared.rows.CostRow.{CostRow}
 use Rattle.evaluators.specs.declared.rows.LineRow.{LineRow}
 use Rattle.evaluators.specs.CostedLines.{broken_by, costed}
-use Rattle.evaluators.specs.FirstRows.{firsts}
 use Rattle.evaluators.specs.StatisticInputs.{concept_input, cost_input, cost_with, differs, first_row, line_row, lines_of}
 use Rattle.evaluators.proofs.FirstRowFacts.{find_firsts}
 
@@ -36,8 +33,8 @@ first_of_all rows i d inside =
     let row = get_or rows i d in
     let p : LineRow → Bool = λ other. int_eq row.line other.line in
     let behind : find p (drop i rows) ≡ Some row =
-        ap (find p) (drop_more rows i d inside)
-        ∙ ap (λ b. cond b (Some row) (find p (drop (i + 1) rows))) (int_eq_equiv.refl row.line) in
+    ap (find p) (drop_more rows i d inside)
+    ∙ ap (λ b. cond b (Some row) (find p (drop (i + 1) rows))) (int_eq_equiv.refl row.line) in
     ap (find p) (sym (take-append-drop i rows)) ∙ find-append p (take i rows) (drop i rows)
     ∙ ap (option_or (find p (take i rows))) behind
 
@@ -128,8 +125,8 @@ module _ (costs : List CostRow) (rows : List LineRow) (i : ℕ) (d : LineRow)
       tells found own same first =
           let line_is : line ≡ costed costs found = cc in
           let known : is_some (costed costs found).cost ≡ is_some (cost_with costs row.line) =
-              some_mapped (cost_with costs found.line)
-              ∙ ap (λ id. is_some (cost_with costs id)) (sym own) in
+          some_mapped (cost_with costs found.line)
+          ∙ ap (λ id. is_some (cost_with costs id)) (sym own) in
           ap (λ line. broken_by line row.frequency) line_is
           ∙ ap (λ k. cond (not k) (Some why.UnknownLine) (cond (not (eqb row.frequency
           found.frequency)) (Some why.FrequencyDiffers) None)) known
@@ -138,6 +135,7 @@ module _ (costs : List CostRow) (rows : List LineRow) (i : ℕ) (d : LineRow)
           (sym (differs_from (first_row (take i rows) row.line) row found first))
           ∙ sym (told_by (is_some (cost_with costs row.line))
           (differs row (first_row (take i rows) row.line)))
+
       by : (o : Option LineRow) → first_row (take i rows) row.line ≡ o
           → broken_by line row.frequency
           ≡ slice_get (broken_whys (concept_input costs).row_rules (take i rows) row) 0

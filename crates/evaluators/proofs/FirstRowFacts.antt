@@ -1,5 +1,5 @@
 -- The first rows of keys, one row after the other.
-use Rattle.std.proofs.Common.{◌≡◌, ℕ, ℤ, ◌+◌, ◌<◌, ◌||◌, Bool, true, false, not, cond, List, [], ◌∷◌, ◌++◌, length, map, filter, get_or, take, refl, ap, sym, ◌∙◌, append-nil, Option, Some}
+use Rattle.std.proofs.Common.{◌≡◌, ℕ, ℤ, ◌+◌, ◌<◌, ◌||◌, Bool, true, false, not, cond, List, [], ◌∷◌, ◌++◌, length, filter, get_or, take, refl, ap, sym, ◌∙◌, append-nil, Some}
 use Rattle.std.specs.List.{find, list_any}
 use Rattle.std.specs.Ordering.{int_eq}
 use Rattle.std.proofs.lemmas.Bool.{false≢true}
@@ -74,12 +74,15 @@ module _ {X : Type 0} (key : X → ℤ) where
     where
       p : X → Bool
       p row = int_eq line (key row)
+
       test : X → Bool
       test other = not (int_eq (key first) (key other))
+
       passes : int_eq line (key first) ≡ false → (x : X) → p x ≡ true → test x ≡ true
       passes other x is =
           ap (λ k. not (int_eq (key first) k)) (sym ((Decides-int_eq line (key x)).0 is))
           ∙ ap not (int_eq_equiv.symm (key first) line ∙ other)
+
       by : (b : Bool) → int_eq line (key first) ≡ b → find p (firsts key rows) ≡ find p rows
           → cond b (Some first) (find p (filter test (firsts key rows)))
           ≡ cond b (Some first) (find p rows)

@@ -1,5 +1,5 @@
 -- The values of each part, put together.
-use Rattle.std.proofs.Common.{◌≡◌, ◌≤◌, ℕ, suc, ℤ, pos, ◌*◌, ◌+◌, ltb, true, Bool, false, cond, not, List, [], ◌∷◌, ◌++◌, length, map, filter, take, refl, ap, sym, ◌∙◌, arith, codes, append-nil}
+use Rattle.std.proofs.Common.{◌≡◌, ◌≤◌, ℕ, suc, ℤ, ◌+◌, ltb, true, Bool, false, cond, List, [], ◌∷◌, ◌++◌, length, map, filter, take, refl, ap, ◌∙◌, codes}
 use Rattle.std.specs.List.{flat_map, fold, sum_by}
 use Rattle.std.proofs.lemmas.List.{take_all}
 use Rattle.giv_files.specs.declared.refusal.Refusal.{Refusal}
@@ -13,13 +13,9 @@ use Rattle.event_tables.specs.declared.periodic_activity.PeriodicActivity.{Perio
 use Rattle.event_tables.specs.declared.periodic_event.PeriodicEvent.{PeriodicEvent}
 use Rattle.event_tables.specs.declared.periodic_time.PeriodicTime.{PeriodicTime}
 use Rattle.event_tables.specs.declared.schedule_row.ScheduleRow.{ScheduleRow}
-use Rattle.delay_management.specs.declared.step.Activity.{Activity}
 use Rattle.delay_management.specs.Lateness.{delay_at, missed_at}
 use Rattle.delay_management.specs.Problems.{activities_of}
 use Rattle.evaluators.specs.declared.costed_line.CostedLine.{CostedLine}
-use Rattle.evaluators.specs.declared.day_values.DayValues.{DayValues}
-use Rattle.evaluators.specs.declared.line_values.LineValues.{LineValues}
-use Rattle.evaluators.specs.declared.periodic_values.PeriodicValues.{PeriodicValues}
 use Rattle.evaluators.specs.declared.rows.CostRow.{CostRow}
 use Rattle.evaluators.specs.declared.rows.LineRow.{LineRow}
 use Rattle.evaluators.specs.declared.statistic.Statistic.{Statistic}
@@ -73,7 +69,7 @@ unfolding line_values
 lines_are costs rows lines cost running are c r =
     let first = c ∙ ap (sum_by runs_cost) are ∙ sum_costed costs (lines_of rows) in
     let second = r ∙ ap (λ lines. length (filter (λ (line : CostedLine). ltb 0 line.frequency) lines)) are
-        ∙ count_costed costs (lines_of rows) in
+    ∙ count_costed costs (lines_of rows) in
     λ i. record { cost = first i; running = second i }
 
 -- ---- the periodic timetable

@@ -3,7 +3,6 @@ use Rattle.std.proofs.Common.{◌≡◌, ℕ, ℤ, ◌+◌, ◌<◌, ◌||◌, n
 use Rattle.std.specs.List.{list_any}
 use Rattle.std.specs.Ordering.{int_eq}
 use Rattle.std.proofs.lemmas.List.{map_more}
-use Rattle.std.proofs.lemmas.List.Folds.{list_any_more}
 use Rattle.giv_files.specs.Tables.{TableRow}
 use Rattle.evaluators.specs.FirstRows.{firsts}
 use Rattle.evaluators.proofs.FirstRowFacts.{firsts_push, is_old}

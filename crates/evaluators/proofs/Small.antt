@@ -1,6 +1,6 @@
 -- The statistic of inputs without a fault can be printed.
-use Rattle.std.proofs.Common.{◌≡◌, ◌≤◌, ◌<◌, ◌≤ℤ◌, ◌^◌, ℕ, suc, zero, ℤ, pos, neg_ℤ, ◌*◌, ◌+◌, ◌-◌, ◌+ℤ◌, ◌-ℤ◌, ltb, true, Bool, false, cond, not, List, [], ◌∷◌, ◌++◌, length, map, filter, zip, get_or, refl, ap, sym, subst, ◌∙◌, arith, All, None, unsigned_abs}
-use Rattle.std.specs.List.{fold, sum_by}
+use Rattle.std.proofs.Common.{◌≡◌, ◌≤◌, ◌<◌, ◌≤ℤ◌, ℕ, suc, ℤ, pos, neg_ℤ, ◌*◌, ◌+◌, ◌-◌, ◌+ℤ◌, ltb, true, Bool, false, cond, not, List, [], ◌∷◌, ◌++◌, length, map, filter, zip, get_or, refl, ap, sym, subst, arith, All, None, unsigned_abs}
+use Rattle.std.specs.List.{fold}
 use Rattle.std.specs.Ordering.{int_eq}
 use Rattle.std.proofs.Math.Nat.{mod-lt}
 use Rattle.std.proofs.lemmas.Int.{ints}
@@ -34,17 +34,16 @@ use Rattle.event_tables.proofs.SoundFiles.{expanded_activities_sound, expanded_e
 use Rattle.event_tables.proofs.SoundTimes.{disposed_times_sound}
 use Rattle.event_tables.proofs.SoundTrips.{schedule_rows_sound}
 use Rattle.pesp_model.proofs.LeastTensions.{rest, tension_is}
-use Rattle.delay_management.specs.Lateness.{arrives, delay_at, is_missed, lateness, missed_at}
+use Rattle.delay_management.specs.Lateness.{arrives, is_missed, lateness}
 use Rattle.delay_management.specs.LeastTimes.{later, latest}
-use Rattle.delay_management.specs.Problems.{activities_of, delayed, is_of}
+use Rattle.delay_management.specs.Problems.{delayed, is_of}
 use Rattle.evaluators.specs.declared.day_values.DayValues.{DayValues}
-use Rattle.evaluators.specs.declared.statistic.Statistic.{Statistic}
 use Rattle.evaluators.specs.Bounds.{IsSmall}
 use Rattle.evaluators.specs.FirstRows.{firsts}
-use Rattle.evaluators.specs.Statistic.{day_values, empty_minutes, greatest_delay, line_values, minutes_late, minutes_of, minutes_of_row, minutes_with, periodic_values, schedule_cost, time_at, times_of, vehicle_count}
+use Rattle.evaluators.specs.Statistic.{day_values, empty_minutes, line_values, minutes_late, minutes_of, minutes_of_row, minutes_with, periodic_values, schedule_cost, time_at, times_of}
 use Rattle.evaluators.specs.StatisticInputs.{concept_input, cost_input, lines_of}
-use Rattle.evaluators.specs.StatisticStage.{bundle_day, costs_of, day_faults, day_in, day_part, events_of, faults_between, faults_over, line_faults, line_part, lines_in, period_in, periodic_events_of, periodic_faults, periodic_in, periodic_part, statistic_faults, statistic_in, trip_part}
-use Rattle.evaluators.proofs.Bounded.{cost_sum_below, costs_below, lines_few, rows_few, times_below, times_each}
+use Rattle.evaluators.specs.StatisticStage.{bundle_day, costs_of, day_faults, day_in, day_part, events_of, faults_between, faults_over, line_faults, line_part, lines_in, period_in, periodic_events_of, periodic_part, statistic_faults, statistic_in, trip_part}
+use Rattle.evaluators.proofs.Bounded.{cost_sum_below, costs_below, lines_few, rows_few, times_below}
 
 shorter : {X : Type 0} (p : X → Bool) (xs : List X) → length (filter p xs) ≤ length xs
 shorter p xs = let both = length-filter_both p (λ x. not (p x)) (λ x. refl) xs in omega (arith, both)
@@ -84,10 +83,10 @@ module _ (period : ℕ) (some : 1 ≤ period) (short : period ≤ 720) (times : 
   with_small count activities k are =
       let of = λ (activity : PeriodicActivity). same_kind activity.kind k in
       let each : All (λ activity. minutes_of period times activity ≤ 100720) (filter of activities) =
-          All-filter of (λ activity. minutes_of period times activity ≤ 100720) activities
-          (λ i d inside. minutes_short (get_or activities i d)
-          (let one = are.each i d inside in let fit = are.fit i d inside in
-          omega (arith, ints, one.in_order, fit.1.1.1.1.1.0.1))) in
+      All-filter of (λ activity. minutes_of period times activity ≤ 100720) activities
+      (λ i d inside. minutes_short (get_or activities i d)
+      (let one = are.each i d inside in let fit = are.fit i d inside in
+      omega (arith, ints, one.in_order, fit.1.1.1.1.1.0.1))) in
       let sum = sum_by-le (minutes_of period times) 100720 (filter of activities) each in
       let few = shorter of activities in
       omega (arith, sum, few, are.few)
@@ -106,9 +105,9 @@ minutes_small : (events : List ExpandedEvent) (rows : List ScheduleRow) → AreS
     → empty_minutes rows ≤ 4000000000000
 minutes_small events rows are =
     let each : All (λ row. minutes_of_row row ≤ 1000000000) (filter is_empty_row rows) =
-        All-filter is_empty_row (λ row. minutes_of_row row ≤ 1000000000) rows
-        (λ k d inside. let fit = are.fit k d inside in
-        omega (arith, ints, fit.1.1.1.1.1.1.1.1.1.1.1.0.1)) in
+    All-filter is_empty_row (λ row. minutes_of_row row ≤ 1000000000) rows
+    (λ k d inside. let fit = are.fit k d inside in
+    omega (arith, ints, fit.1.1.1.1.1.1.1.1.1.1.1.0.1)) in
     let sum = sum_by-le minutes_of_row 1000000000 (filter is_empty_row rows) each in
     let few = shorter is_empty_row rows in
     omega (arith, sum, few, rows_few events rows are)
@@ -119,7 +118,7 @@ latest_below time [] most h all = h
 latest_below time (other ∷ others) most h all =
     let head = All-head (λ t. t ≤ most) other others all in
     latest_below (later time other) others most
-    (elim (ltb time other) as (λ b. cond b other time ≤ most) [ | true ↦ head | false ↦ h ])
+    (elim (ltb time other) as (λ b. cond b other time ≤ most) [ true ↦ head | false ↦ h ])
     (All-tail (λ t. t ≤ most) other others all)
 
 late_below : (events : List ExpandedEvent) (times : List ℕ)
@@ -133,7 +132,7 @@ late_below (event ∷ events) (next ∷ times) all time h =
     late_below events times (All-tail (λ time. time ≤ 1000000000000000000) next times all)
     (later time (next - event.time))
     (elim (ltb time (next - event.time)) as (λ b. cond b (next - event.time) time ≤ 1000000000000000000)
-    [ | true ↦ omega (arith, head) | false ↦ h ])
+    [ true ↦ omega (arith, head) | false ↦ h ])
 
 -- the sum of how late events are, from a sum on, and a number that so many events can reach
 abbrev late_sum : ℤ → List (ExpandedEvent × ℕ) → ℤ
@@ -160,7 +159,7 @@ delay_within (event ∷ events) (time ∷ times) all planned sum before h =
     let head = All-head IsTime time times all in
     let first = All-head IsPlanned event events planned in
     let rest = delay_within events times (All-tail IsTime time times all)
-        (All-tail IsPlanned event events planned) in
+    (All-tail IsPlanned event events planned) in
     by (arrives (event, time)) (rest (sum +ℤ lateness (event, time)) (suc before)
     (omega (arith, ints, h.0, head), omega (arith, ints, h.1, first)))
     (rest sum (suc before) (omega (arith, ints, h.0), omega (arith, ints, h.1)))
@@ -227,9 +226,9 @@ module _ (events_text activities_text schedule_text disposed_text : List ℕ)
       let times = times_of (records_of (disposed_time_input (expanded_event_ids events)) disposed_text) in
       let soon = times_below (length events) _ are_times in
       let planned : All IsPlanned events = λ k d inside.
-          let fit = are_events.fit k d inside in omega (arith, ints, fit.1.1.1.0.1) in
+      let fit = are_events.fit k d inside in omega (arith, ints, fit.1.1.1.0.1) in
       let late = delay_within events times soon planned (pos 0) 0
-          (omega (arith, ints), omega (arith, ints)) in
+      (omega (arith, ints), omega (arith, ints)) in
       let rows = rows_few events schedule are_rows in
       let vehicles = firsts_fewer (λ (row : ScheduleRow). pos row.vehicle) schedule in
       let some = filter (is_of true) activities in
@@ -300,13 +299,13 @@ module _ (bundle : BundleParts) (own : bundle.stage ≡ stage.Statistic) (fits :
       let first = front_none (input_faults periodic_event_input (input_text bundle 2)) _ periodic_none in
       let are = periodic_events_sound (input_text bundle 2) first in
       let both : faults_between (period_in bundle) events (input_text bundle 3) (input_text bundle 4) ≡ [] =
-          back_none (input_faults periodic_event_input (input_text bundle 2)) _ periodic_none in
+      back_none (input_faults periodic_event_input (input_text bundle 2)) _ periodic_none in
       let second : input_faults (periodic_activity_input (periodic_event_ids events)) (input_text bundle 3) ≡ [] =
-          front_none _ _ both in
+      front_none _ _ both in
       let activities : ArePeriodicActivities count (records_of (periodic_activity_input (periodic_event_ids events)) (input_text bundle 3)) =
-          subst (λ ids. ArePeriodicActivities count (records_of (periodic_activity_input ids) (input_text bundle 3)))
-          (sym are.numbered) (periodic_activities_sound count (input_text bundle 3)
-          (subst (λ ids. input_faults (periodic_activity_input ids) (input_text bundle 3) ≡ []) are.numbered second)) in
+      subst (λ ids. ArePeriodicActivities count (records_of (periodic_activity_input ids) (input_text bundle 3)))
+      (sym are.numbered) (periodic_activities_sound count (input_text bundle 3)
+      (subst (λ ids. input_faults (periodic_activity_input ids) (input_text bundle 3) ≡ []) are.numbered second)) in
       let times = records_of (periodic_time_input file.TimesP (period_in bundle) (periodic_event_ids events)) (input_text bundle 4) in
       let of = records_of (periodic_activity_input (periodic_event_ids events)) (input_text bundle 3) in
       let within = period_within in

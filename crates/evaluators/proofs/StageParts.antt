@@ -1,5 +1,5 @@
 -- The parts of the stage: faults in their order, and what is made.
-use Rattle.std.proofs.Common.{◌≡◌, ℕ, List, [], ◌∷◌, ◌++◌, length, ap, sym, subst, ◌∙◌, None, Ok, Err}
+use Rattle.std.proofs.Common.{◌≡◌, ℕ, [], length, ap, ◌∙◌, None, Ok, Err}
 use Rattle.giv_files.specs.declared.key.Key.TheVariants as key
 use Rattle.giv_files.specs.declared.made.Made.{Made}
 use Rattle.giv_files.specs.declared.refusal.StageFault.{StageFault}

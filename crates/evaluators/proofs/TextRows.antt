@@ -1,5 +1,5 @@
 -- The rows of the text of a statistic.
-use Rattle.std.proofs.Common.{◌≡◌, ◌≤◌, ◌<◌, ◌≤ℤ◌, ◌^◌, ◌+◌, ◌*◌, ◌/◌, ◌%◌, ℕ, ℤ, suc, pos, negsuc, neg_ℤ, Bool, true, false, List, [], ◌∷◌, ◌++◌, length, map, refl, ap, sym, ◌∙◌, arith, codes, decimal, ne_eqb, append-nil, append_assoc, length-append, ⊎_elim}
+use Rattle.std.proofs.Common.{◌≡◌, ◌≤◌, ◌<◌, ◌≤ℤ◌, ◌^◌, ◌+◌, ◌*◌, ◌/◌, ◌%◌, ℕ, ℤ, pos, negsuc, neg_ℤ, true, List, [], ◌∷◌, ◌++◌, length, map, refl, ap, sym, ◌∙◌, arith, codes, decimal, ne_eqb, append-nil, append_assoc, length-append, ⊎_elim}
 use Rattle.std.specs.Char.{is_ascii_digit}
 use Rattle.std.specs.Cmp.Derive.{both_true}
 use Rattle.std.specs.List.{flat_map, list_all}
@@ -9,7 +9,7 @@ use Rattle.plan_num.specs.Number.{all_digits, is_number_byte}
 use Rattle.plan_num.specs.Print.{digits_at, fixed_text, fraction_text, magnitude_text, places}
 use Rattle.plan_num.proofs.Digits.{both_passed}
 use Rattle.plan_num.proofs.Printed.{decimal_digits, decimal_some, digits_at-digits, tens}
-use Rattle.giv_files.specs.Rows.{Row, parts_of, row_of, rows}
+use Rattle.giv_files.specs.Rows.{Row, parts_of, rows}
 use Rattle.giv_files.specs.Writing.{joined}
 use Rattle.giv_files.proofs.CellTexts.{number_plain, plain_word}
 use Rattle.giv_files.proofs.Headers.{plain_header}

@@ -10,7 +10,6 @@ use Rattle.giv_files.specs.declared.refusal.Refusal.{Refusal}
 use Rattle.giv_files.specs.Inputs.{input_faults, records_of}
 use Rattle.giv_files.specs.Settings.{BundleParts, amount}
 use Rattle.giv_files.specs.StageCalls.{input_text, unless_fault}
-use Rattle.event_tables.specs.declared.expanded_activity.ExpandedActivity.{ExpandedActivity}
 use Rattle.event_tables.specs.declared.expanded_event.ExpandedEvent.{ExpandedEvent}
 use Rattle.event_tables.specs.declared.periodic_activity.PeriodicActivity.{PeriodicActivity}
 use Rattle.event_tables.specs.declared.periodic_event.PeriodicEvent.{PeriodicEvent}
@@ -144,17 +143,18 @@ statistic_in bundle = record {
   lines = lines_in (input_text bundle 0) (input_text bundle 1);
   periodic =
       periodic_in (period_in bundle) (input_text bundle 2) (input_text bundle 3)
-        (input_text bundle 4);
+      (input_text bundle 4);
   trips = length (records_of (trip_input None) (input_text bundle 5));
   day = bundle_day bundle;
   schedule_cost =
       schedule_cost (amount bundle.settings key.VsVehicleCosts)
-        (amount bundle.settings key.VsEmptyCosts) (bundle_day bundle);
+      (amount bundle.settings key.VsEmptyCosts) (bundle_day bundle);
 }
 
 -- the line of a measure: its name and its value
 abbrev pub value_line : Statistic → Measure → List ℕ
-value_line all measure = measure_name measure ++ codes "; " ++ fixed_text (value_of all measure) ++ 10 ∷ []
+value_line all measure =
+    measure_name measure ++ codes "; " ++ fixed_text (value_of all measure) ++ 10 ∷ []
 
 -- the text of a statistic, under a header
 unfoldable pub statistic_text : Statistic → List ℕ

@@ -34,7 +34,13 @@ pub(crate) fn day_values(
         schedule_text.now disposed_text.now) result }
 {
     let events = expanded_events(alloc, events_text)?;
-    values_over(alloc, &events, activities_text, schedule_text, disposed_text)
+    values_over(
+        alloc,
+        &events,
+        activities_text,
+        schedule_text,
+        disposed_text,
+    )
 }
 
 // The values of the other three texts over some events, or their first fault.

@@ -75,11 +75,7 @@ fn statistic_of(alloc: Global, bundle: &Bundle) -> Result<Statistic, StageFault>
         periodic,
         trips: trip_count(&trips),
         day,
-        schedule_cost: schedule_cost(
-            vehicle_costs(bundle),
-            empty_costs(bundle),
-            &day,
-        ),
+        schedule_cost: schedule_cost(vehicle_costs(bundle), empty_costs(bundle), &day),
     })
 }
 

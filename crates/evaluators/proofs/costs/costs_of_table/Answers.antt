@@ -1,6 +1,5 @@
-use Rattle.std.proofs.Common.{◌≡◌, ◌<◌, ◌≤◌, ◌||◌, ◌∷◌, ◌++◌, [], length, ℤ, not, List, Some, refl, ap, sym, ◌∙◌, arith, take, w64, get_or, slice_get, false, true, cond}
+use Rattle.std.proofs.Common.{◌≡◌, ◌<◌, ◌≤◌, ◌||◌, ◌∷◌, ◌++◌, [], length, ℤ, not, Some, refl, ap, sym, ◌∙◌, arith, take, w64, get_or, false, true}
 use Rattle.std.specs.HashSet.{contains}
-use Rattle.std.specs.List.{list_any}
 use Rattle.std.specs.Ordering.{int_eq}
 use Rattle.std.proofs.lemmas.Int.{to_z-of_z}
 use Rattle.giv_files.specs.declared.file_id.FileId.TheVariants as file
@@ -28,7 +27,7 @@ returns-then-not-branch c =
     let own = to_z-of_z w64 row.line (record { sfits = omega (arith, c.read-row.type_inv) }) in
     let new = c.in_ok-note.ensures.new ∙ ap (λ q. not (old q)) own in
     let there = was_there key of table i no_row inside old c.in_ok-note.field-0 row
-        c.read-row.ensures c.loop-i.invariant.seen new in
+    c.read-row.ensures c.loop-i.invariant.seen new in
     refused_rows cost_input table
     (stage.Refused (refusal.BadRow file.PoolCost c.number.result why.RepeatedId)) refl
     (row_refused cost_input table i why.RepeatedId inside
@@ -48,9 +47,9 @@ loop-i-preserved c =
     let own = to_z-of_z w64 row.line (record { sfits = omega (arith, c.read-row.type_inv) }) in
     let new = c.in_ok-note.ensures.new ∙ ap (λ q. not (old q)) own in
     let there = was_there key of table i no_row inside old c.in_ok-note.field-0 row
-        c.read-row.ensures c.loop-i.invariant.seen new in
+    c.read-row.ensures c.loop-i.invariant.seen new in
     let adds : (id : ℤ) → contains int_eq c.note.new.seen id ≡ (old id || int_eq id row.line) =
-        λ id. c.in_ok-note.ensures.noted id ∙ ap (λ q. old id || int_eq id q) own in
+    λ id. c.in_ok-note.ensures.noted id ∙ ap (λ q. old id || int_eq id q) own in
     record {
       seen = known_more key of table i no_row inside old (contains int_eq c.note.new.seen) row
           c.read-row.ensures c.loop-i.invariant.seen adds;

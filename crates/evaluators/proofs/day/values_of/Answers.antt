@@ -1,4 +1,4 @@
-use Rattle.std.proofs.Common.{◌≡◌, ◌≤◌, ◌<◌, [], true, List, length, ℕ, All, ap, subst, sym, ◌∙◌}
+use Rattle.std.proofs.Common.{◌≡◌, ◌≤◌, length, All, ap, subst, sym, ◌∙◌}
 use Rattle.std.proofs.lemmas.Int.{to_z-of_z}
 use mir.Syntax.{w128}
 use Rattle.delay_management.specs.declared.step.Activity.{Activity}
@@ -20,8 +20,8 @@ delay_at-requires-clause-small c =
 pub missed_at-requires-clause-ends : goal.missed_at-requires-clause-ends
 missed_at-requires-clause-ends c =
     let each : length c.deref-4.result.now ≡ length c.args.events.now =
-        ap length (c.deref-4.ensures.value ∙ c.in_ok-times.ensures)
-        ∙ times_each _ c.args.disposed.now c.requires.disposed in
+    ap length (c.deref-4.ensures.value ∙ c.in_ok-times.ensures)
+    ∙ times_each _ c.args.disposed.now c.requires.disposed in
     subst (λ n. All (λ change. Joins n change.step) c.deref-3.result.now) (sym each)
     (subst (All (λ (change : Activity). Joins (length c.args.events.now) change.step))
     (sym (c.deref-3.ensures.value ∙ c.in_ok-changes.ensures))

@@ -1,4 +1,4 @@
-use Rattle.std.proofs.Common.{◌≡◌, ◌<◌, ◌||◌, length, ℤ, not, List, Vec, Global, ap, sym, ◌∙◌, arith, take, w64}
+use Rattle.std.proofs.Common.{◌≡◌, ◌<◌, ◌||◌, length, ℤ, not, Vec, Global, ap, sym, ◌∙◌, arith, w64}
 use Rattle.std.specs.HashSet.{contains}
 use Rattle.std.specs.List.{list_any}
 use Rattle.std.specs.Ordering.{int_eq}
@@ -28,10 +28,10 @@ loop-i-preserved c =
     let old = contains int_eq c.loop-i.seen in
     let own = to_z-of_z w64 row.line (record { sfits = omega (arith, c.read-row.type_inv) }) in
     let adds : (id : ℤ) → contains int_eq c.note.new.seen id ≡ (old id || int_eq id row.line) =
-        λ id. c.in_ok-note.ensures.noted id ∙ ap (λ q. old id || int_eq id q) own in
+    λ id. c.in_ok-note.ensures.noted id ∙ ap (λ q. old id || int_eq id q) own in
     let new = c.in_ok-note.ensures.new ∙ ap (λ q. not (old q)) own in
     let seen = known_more key of table i no_row inside old
-        (contains int_eq c.note.new.seen) row c.read-row.ensures c.loop-i.invariant.seen adds in
+    (contains int_eq c.note.new.seen) row c.read-row.ensures c.loop-i.invariant.seen adds in
     elim c.if-branch.branch [
       | then-branch+in_ok-push w ↦
           record {

@@ -1,6 +1,5 @@
-use Rattle.std.proofs.Common.{[], ◌≡◌, ◌+◌, length, pos, ap, ◌∙◌, sym, arith}
+use Rattle.std.proofs.Common.{length, pos, ap, ◌∙◌, sym, arith}
 use Rattle.event_tables.specs.declared.schedule_row.ScheduleRow.{ScheduleRow}
-use Rattle.event_tables.specs.Cells.{schedule_row}
 use Rattle.evaluators.proofs.FirstRowFacts.{no_firsts, new_counts, old_counts}
 use Rattle.evaluators.proofs.first_rows.vehicle_count.Goals.{then-not-has_vehicle, else-not-has_vehicle}
 use Rattle.evaluators.proofs.first_rows.vehicle_count.Goals as goal

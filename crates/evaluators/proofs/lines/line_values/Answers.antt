@@ -1,4 +1,4 @@
-use Rattle.std.proofs.Common.{◌≡◌, ◌≤◌, [], List, length, All, ap, map, subst, sym, ◌∙◌, arith, filter, ltb}
+use Rattle.std.proofs.Common.{◌≡◌, ◌≤◌, [], length, All, ap, subst, sym, ◌∙◌, arith, filter, ltb}
 use Rattle.std.specs.List.{sum_by}
 use Rattle.std.proofs.lemmas.List.{length-map}
 use Rattle.std.proofs.lemmas.List.Elements.{All-map}
@@ -19,10 +19,14 @@ cost_of_lines-requires-clause-few c =
     let read = c.in_ok-lines.ensures in
     let same = c.deref.ensures.value ∙ given.1 in
     let small = subst (All (λ (row : CostRow). row.cost ≤ 1000000000000000000)) (sym same)
-        (costs_below c.args.costs_text.now given.0) in
+    (costs_below c.args.costs_text.now given.0) in
     let lines = lines_of (records_of (concept_input costs) c.args.concept_text.now) in
-    omega (arith, ap length (c.deref-2.ensures.value ∙ read.1), length-map lines (costed costs),
-    lines_few costs c.args.concept_text.now small read.0)
+    omega (
+      arith,
+      ap length (c.deref-2.ensures.value ∙ read.1),
+      length-map lines (costed costs),
+      lines_few costs c.args.concept_text.now small read.0,
+    )
 
 pub cost_of_lines-requires-clause-small : goal.cost_of_lines-requires-clause-small
 cost_of_lines-requires-clause-small c =
@@ -31,7 +35,7 @@ cost_of_lines-requires-clause-small c =
     let read = c.in_ok-lines.ensures in
     let same = c.deref.ensures.value ∙ given.1 in
     let small = subst (All (λ (row : CostRow). row.cost ≤ 1000000000000000000)) (sym same)
-        (costs_below c.args.costs_text.now given.0) in
+    (costs_below c.args.costs_text.now given.0) in
     subst (All (λ (line : CostedLine). runs_cost line ≤ 1000000000000000000000))
     (sym (c.deref-2.ensures.value ∙ read.1))
     (All-map (λ (line : CostedLine). runs_cost line ≤ 1000000000000000000000) (costed costs) _

@@ -1,4 +1,3 @@
-use Rattle.std.proofs.Common.{◌≡◌}
 use Rattle.evaluators.proofs.Parts.{periodic_are}
 use Rattle.evaluators.proofs.periodic.values_of.Goals as goal
 

@@ -1,5 +1,4 @@
 use Rattle.std.proofs.Common.{◌∙◌, arith, length, ap}
-use Rattle.evaluators.specs.Statistic.{measures}
 use Rattle.evaluators.proofs.Parts.{text_whole}
 use Rattle.evaluators.proofs.text.statistic_text.Goals as goal
 
