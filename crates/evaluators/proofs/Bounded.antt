@@ -52,7 +52,8 @@ pub costs_below : (text : List ℕ) → input_faults cost_input text ≡ []
     → All (λ row. row.cost ≤ 1000000000000000000) (records_of cost_input text)
 costs_below text none =
     let rows = sound_rows cost_input text none in
-    All-map (λ (row : CostRow). row.cost ≤ 1000000000000000000) (λ (row : TableRow). cost_row row.cells) _
+    All-map (λ (row : CostRow). row.cost ≤ 1000000000000000000) (λ (row : TableRow). cost_row
+    row.cells) _
     (λ k d inside. cost_below _ (rows k d inside).2)
 
 pub frequencies_below : (costs : List CostRow) (text : List ℕ)
@@ -67,7 +68,8 @@ found_below : (costs : List CostRow) (line : ℤ) → All (λ row. row.cost ≤ 
     → cost_of costs line ≤ 1000000000000000000
 found_below [] line h = omega arith
 found_below (row ∷ costs) line h =
-    let rest = found_below costs line (All-tail (λ (row : CostRow). row.cost ≤ 1000000000000000000) row costs h) in
+    let rest = found_below costs line (All-tail (λ (row : CostRow). row.cost ≤
+    1000000000000000000) row costs h) in
     elim (int_eq line row.line) as (λ b. unwrap_or (option_map (λ (row : CostRow). row.cost)
     (cond b (Some row) (cost_with costs line))) 0 ≤ 1000000000000000000) [
       | true ↦ All-head (λ (row : CostRow). row.cost ≤ 1000000000000000000) row costs h
@@ -97,7 +99,8 @@ module _ (costs : List CostRow) (text : List ℕ)
 
   pub runs_below : All (λ row. cost_of_runs costs row ≤ 1000000000000000000000) lines
   runs_below =
-      all_firsts (λ (row : LineRow). row.line) (λ row. cost_of_runs costs row ≤ 1000000000000000000000)
+      all_firsts (λ (row : LineRow). row.line) (λ row. cost_of_runs costs row ≤
+      1000000000000000000000)
       (records_of (concept_input costs) text)
       (λ k d inside.
       let row = get_or (records_of (concept_input costs) text) k d in

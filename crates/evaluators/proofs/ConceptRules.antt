@@ -64,7 +64,8 @@ found_line line (first ∷ rows) row e = by (int_eq line first.line) refl e (fou
         (Decides-int_eq line first.line).0 is ∙ ap (λ (row : LineRow). row.line) same
     by false is e rest = rest e
 
-some_mapped : (o : Option CostRow) → is_some (option_map (λ (row : CostRow). row.cost) o) ≡ is_some o
+some_mapped : (o : Option CostRow) → is_some (option_map (λ (row : CostRow). row.cost) o) ≡
+    is_some o
 some_mapped None = refl
 some_mapped (Some row) = refl
 
@@ -81,7 +82,8 @@ differs_from (Some first) row found e =
     ap (λ (first : LineRow). not (eqb row.frequency first.frequency)) (sym same)
 
 told_by : (known differs : Bool)
-    → slice_get (cond (not known) (why.UnknownLine ∷ []) [] ++ (cond differs (why.FrequencyDiffers ∷ []) [] ++ [])) 0
+    → slice_get (cond (not known) (why.UnknownLine ∷ []) [] ++ (cond differs (why.FrequencyDiffers
+    ∷ []) [] ++ [])) 0
     ≡ cond (not known) (Some why.UnknownLine) (cond differs (Some why.FrequencyDiffers) None)
 told_by true true = refl
 told_by true false = refl

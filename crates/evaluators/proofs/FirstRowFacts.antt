@@ -27,7 +27,8 @@ step {X} first row some test false false is =
 find_passing : {X : Type 0} (p test : X → Bool) → ((x : X) → p x ≡ true → test x ≡ true)
     → (xs : List X) → find p (filter test xs) ≡ find p xs
 find_passing p test passes [] = refl
-find_passing {X} p test passes (x ∷ xs) = by (p x) (test x) refl refl (find_passing p test passes xs)
+find_passing {X} p test passes (x ∷ xs) = by (p x) (test x) refl refl (find_passing p test passes
+    xs)
   where
     by : (a b : Bool) → p x ≡ a → test x ≡ b → find p (filter test xs) ≡ find p xs
         → find p (cond b (x ∷ filter test xs) (filter test xs)) ≡ cond a (Some x) (find p xs)
@@ -91,7 +92,8 @@ module _ {X : Type 0} (key : X → ℤ) where
 
 -- ---- counts, and rows that are kept
 
-module _ {X : Type 0} (key : X → ℤ) (rows : List X) (i : ℕ) (d : X) (inside : i < length rows) (count : ℕ)
+module _ {X : Type 0} (key : X → ℤ) (rows : List X) (i : ℕ) (d : X) (inside : i < length rows)
+    (count : ℕ)
     (told : count ≡ length (firsts key (take i rows))) where
   abbrev so_far : List X
   so_far = firsts key (take i rows)

@@ -55,7 +55,8 @@ count_costed costs (row ∷ rows) = by (ltb 0 row.frequency) (count_costed costs
     by : (b : Bool) → length (filter (λ line. ltb 0 line.frequency) (map (costed costs) rows))
         ≡ length (filter (λ row. ltb 0 row.frequency) rows)
         → length (cond b (costed costs row ∷ filter (λ line. ltb 0 line.frequency)
-        (map (costed costs) rows)) (filter (λ line. ltb 0 line.frequency) (map (costed costs) rows)))
+        (map (costed costs) rows)) (filter (λ line. ltb 0 line.frequency) (map (costed costs)
+        rows)))
         ≡ length (cond b (row ∷ filter (λ row. ltb 0 row.frequency) rows)
         (filter (λ row. ltb 0 row.frequency) rows))
     by true e = ap suc e
@@ -68,7 +69,8 @@ pub lines_are : (costs : List CostRow) (rows : List LineRow) (lines : List Coste
 unfolding line_values
 lines_are costs rows lines cost running are c r =
     let first = c ∙ ap (sum_by runs_cost) are ∙ sum_costed costs (lines_of rows) in
-    let second = r ∙ ap (λ lines. length (filter (λ (line : CostedLine). ltb 0 line.frequency) lines)) are
+    let second = r ∙ ap (λ lines. length (filter (λ (line : CostedLine). ltb 0 line.frequency)
+    lines)) are
     ∙ count_costed costs (lines_of rows) in
     λ i. record { cost = first i; running = second i }
 

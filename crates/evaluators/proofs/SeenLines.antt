@@ -28,7 +28,8 @@ any_push p (y ∷ xs) x = by (p y) (any_push p xs x)
     by true e = refl
     by false e = e
 
-module _ {X : Type 0} (key : X → ℤ) (of : TableRow → X) (rows : List TableRow) (i : ℕ) (d : TableRow)
+module _ {X : Type 0} (key : X → ℤ) (of : TableRow → X) (rows : List TableRow) (i : ℕ) (d :
+    TableRow)
     (inside : i < length rows) where
   abbrev before : List X
   before = map of (take i rows)
@@ -46,7 +47,8 @@ module _ {X : Type 0} (key : X → ℤ) (of : TableRow → X) (rows : List Table
       → (id : ℤ) → new id ≡ list_any (λ other. int_eq id (key other)) (map of (take (i + 1) rows))
   known_more old new noted is known adds id =
       adds id ∙ ap (λ b. b || int_eq id (key noted)) (known id)
-      ∙ ap (λ (noted : X). list_any (λ other. int_eq id (key other)) before || int_eq id (key noted)) is
+      ∙ ap (λ (noted : X). list_any (λ other. int_eq id (key other)) before || int_eq id (key
+      noted)) is
       ∙ sym (ap (list_any (λ other. int_eq id (key other))) more
       ∙ any_push (λ other. int_eq id (key other)) before row)
 

@@ -46,12 +46,16 @@ use Rattle.evaluators.specs.StatisticStage.{bundle_day, costs_of, day_faults, da
 use Rattle.evaluators.proofs.Bounded.{cost_sum_below, costs_below, lines_few, rows_few, times_below}
 
 shorter : {X : Type 0} (p : X → Bool) (xs : List X) → length (filter p xs) ≤ length xs
-shorter p xs = let both = length-filter_both p (λ x. not (p x)) (λ x. refl) xs in omega (arith, both)
+shorter p xs = let both = length-filter_both p (λ x. not (p x)) (λ x. refl) xs in omega (
+  arith,
+  both,
+)
 
 -- ---- lines
 
 lines_small : (costs text : List ℕ) → line_faults costs text ≡ []
-    → ((lines_in costs text).cost ≤ 200000000000000000000000) × ((lines_in costs text).running ≤ 200)
+    → ((lines_in costs text).cost ≤ 200000000000000000000000) × ((lines_in costs text).running ≤
+    200)
 unfolding line_values
 lines_small costs text none =
     let given = front_none (input_faults cost_input costs) _ none in
@@ -82,7 +86,8 @@ module _ (period : ℕ) (some : 1 ≤ period) (short : period ≤ 720) (times : 
       → minutes_with period times activities k ≤ 20144000000
   with_small count activities k are =
       let of = λ (activity : PeriodicActivity). same_kind activity.kind k in
-      let each : All (λ activity. minutes_of period times activity ≤ 100720) (filter of activities) =
+      let each : All (λ activity. minutes_of period times activity ≤ 100720) (filter of
+      activities) =
       All-filter of (λ activity. minutes_of period times activity ≤ 100720) activities
       (λ i d inside. minutes_short (get_or activities i d)
       (let one = are.each i d inside in let fit = are.fit i d inside in
@@ -101,7 +106,8 @@ firsts_fewer key (row ∷ rows) =
     let few = shorter (λ other. not (int_eq (key row) (key other))) (firsts key rows) in
     omega (arith, rest, few)
 
-minutes_small : (events : List ExpandedEvent) (rows : List ScheduleRow) → AreScheduleRows events rows
+minutes_small : (events : List ExpandedEvent) (rows : List ScheduleRow) → AreScheduleRows events
+    rows
     → empty_minutes rows ≤ 4000000000000
 minutes_small events rows are =
     let each : All (λ row. minutes_of_row row ≤ 1000000000) (filter is_empty_row rows) =
@@ -131,7 +137,8 @@ late_below (event ∷ events) (next ∷ times) all time h =
     let head = All-head (λ time. time ≤ 1000000000000000000) next times all in
     late_below events times (All-tail (λ time. time ≤ 1000000000000000000) next times all)
     (later time (next - event.time))
-    (elim (ltb time (next - event.time)) as (λ b. cond b (next - event.time) time ≤ 1000000000000000000)
+    (elim (ltb time (next - event.time)) as (λ b. cond b (next - event.time) time ≤
+    1000000000000000000)
     [ true ↦ omega (arith, head) | false ↦ h ])
 
 -- the sum of how late events are, from a sum on, and a number that so many events can reach
@@ -212,7 +219,8 @@ module _ (events_text activities_text schedule_text disposed_text : List ℕ)
   are_times : AreDisposedTimes (length events)
       (records_of (disposed_time_input (expanded_event_ids events)) disposed_text)
   are_times =
-      subst (λ ids. AreDisposedTimes (length events) (records_of (disposed_time_input ids) disposed_text))
+      subst (λ ids. AreDisposedTimes (length events) (records_of (disposed_time_input ids)
+      disposed_text))
       (sym are_events.numbered)
       (disposed_times_sound (length events) disposed_text
       (subst (λ ids. input_faults (disposed_time_input ids) disposed_text ≡ []) are_events.numbered
@@ -223,7 +231,8 @@ module _ (events_text activities_text schedule_text disposed_text : List ℕ)
   day_small =
       let activities = records_of (expanded_activity_input events) activities_text in
       let schedule = records_of (schedule_input events) schedule_text in
-      let times = times_of (records_of (disposed_time_input (expanded_event_ids events)) disposed_text) in
+      let times = times_of (records_of (disposed_time_input (expanded_event_ids events))
+      disposed_text) in
       let soon = times_below (length events) _ are_times in
       let planned : All IsPlanned events = λ k d inside.
       let fit = are_events.fit k d inside in omega (arith, ints, fit.1.1.1.0.1) in
@@ -239,7 +248,14 @@ module _ (events_text activities_text schedule_text disposed_text : List ℕ)
         high = omega (arith, ints, late.0, are_events.few);
         low = omega (arith, ints, late.1, are_events.few);
         greatest = late_below events times soon 0 (omega arith);
-        missed = omega (arith, missed, length-map some (delayed []), shorter (is_of true) activities, are_activities.few);
+        missed = omega (
+          arith,
+          missed,
+          length-map some (delayed []),
+          shorter (is_of true)
+              activities,
+          are_activities.few,
+        );
       }
 
 -- ---- all of it
@@ -296,25 +312,40 @@ module _ (bundle : BundleParts) (own : bundle.stage ≡ stage.Statistic) (fits :
       let lines = lines_small (input_text bundle 0) (input_text bundle 1) lines_none in
       let events = periodic_events_of (input_text bundle 2) in
       let count = length events in
-      let first = front_none (input_faults periodic_event_input (input_text bundle 2)) _ periodic_none in
+      let first = front_none (input_faults periodic_event_input (input_text bundle 2)) _
+      periodic_none in
       let are = periodic_events_sound (input_text bundle 2) first in
-      let both : faults_between (period_in bundle) events (input_text bundle 3) (input_text bundle 4) ≡ [] =
+      let both : faults_between (period_in bundle) events (input_text bundle 3) (input_text bundle
+      4) ≡ [] =
       back_none (input_faults periodic_event_input (input_text bundle 2)) _ periodic_none in
-      let second : input_faults (periodic_activity_input (periodic_event_ids events)) (input_text bundle 3) ≡ [] =
+      let second : input_faults (periodic_activity_input (periodic_event_ids events)) (input_text
+      bundle 3) ≡ [] =
       front_none _ _ both in
-      let activities : ArePeriodicActivities count (records_of (periodic_activity_input (periodic_event_ids events)) (input_text bundle 3)) =
-      subst (λ ids. ArePeriodicActivities count (records_of (periodic_activity_input ids) (input_text bundle 3)))
+      let activities : ArePeriodicActivities count (records_of (periodic_activity_input
+      (periodic_event_ids events)) (input_text bundle 3)) =
+      subst (λ ids. ArePeriodicActivities count (records_of (periodic_activity_input ids)
+      (input_text bundle 3)))
       (sym are.numbered) (periodic_activities_sound count (input_text bundle 3)
-      (subst (λ ids. input_faults (periodic_activity_input ids) (input_text bundle 3) ≡ []) are.numbered second)) in
-      let times = records_of (periodic_time_input file.TimesP (period_in bundle) (periodic_event_ids events)) (input_text bundle 4) in
-      let of = records_of (periodic_activity_input (periodic_event_ids events)) (input_text bundle 3) in
+      (subst (λ ids. input_faults (periodic_activity_input ids) (input_text bundle 3) ≡ [])
+      are.numbered second)) in
+      let times = records_of (periodic_time_input file.TimesP (period_in bundle)
+      (periodic_event_ids events)) (input_text bundle 4) in
+      let of = records_of (periodic_activity_input (periodic_event_ids events)) (input_text bundle
+      3) in
       let within = period_within in
-      let drive = with_small (period_in bundle) within.0 within.1 times count of kind.Drive activities in
-      let wait = with_small (period_in bundle) within.0 within.1 times count of kind.Wait activities in
-      let change = with_small (period_in bundle) within.0 within.1 times count of kind.Change activities in
-      let cost = costs_small (amount bundle.settings key.VsVehicleCosts) (amount bundle.settings key.VsEmptyCosts) (bundle_day bundle) vehicle_costs empty_costs (day_small (input_text bundle 6) (input_text bundle 7) (input_text bundle 8) (input_text bundle 9) day_none) in
-      let trips = few_rows (trip_input None) (input_text bundle 5) (row_limit counted.Trips 2000) [] refl trips_none in
-      let day = day_small (input_text bundle 6) (input_text bundle 7) (input_text bundle 8) (input_text bundle 9) day_none in
+      let drive = with_small (period_in bundle) within.0 within.1 times count of kind.Drive
+      activities in
+      let wait = with_small (period_in bundle) within.0 within.1 times count of kind.Wait
+      activities in
+      let change = with_small (period_in bundle) within.0 within.1 times count of kind.Change
+      activities in
+      let cost = costs_small (amount bundle.settings key.VsVehicleCosts) (amount bundle.settings
+      key.VsEmptyCosts) (bundle_day bundle) vehicle_costs empty_costs (day_small (input_text
+      bundle 6) (input_text bundle 7) (input_text bundle 8) (input_text bundle 9) day_none) in
+      let trips = few_rows (trip_input None) (input_text bundle 5) (row_limit counted.Trips 2000)
+      [] refl trips_none in
+      let day = day_small (input_text bundle 6) (input_text bundle 7) (input_text bundle 8)
+      (input_text bundle 9) day_none in
       record {
         lines = omega (arith, lines.0);
         running = omega (arith, lines.1);

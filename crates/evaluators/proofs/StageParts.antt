@@ -28,7 +28,8 @@ module _ (bundle : BundleParts) where
         → Refuses (statistic_faults bundle) fault
     unfolding statistic_faults
     periodic_refuses fault h =
-        refused_next (line_part bundle) _ fault lines (refused_append (periodic_part bundle) _ fault h)
+        refused_next (line_part bundle) _ fault lines (refused_append (periodic_part bundle) _
+        fault h)
 
     module _ (periodic : periodic_part bundle ≡ []) where
       pub trips_refuse : (fault : StageFault) → Refuses (trip_part bundle) fault
@@ -63,7 +64,14 @@ module _ (bundle : BundleParts) where
       → day ≡ bundle_day bundle → by_vehicle ≡ amount bundle.settings key.VsVehicleCosts
       → by_minute ≡ amount bundle.settings key.VsEmptyCosts
       → cost ≡ schedule_cost by_vehicle by_minute day
-      → record { lines = lines; periodic = periodic; trips = trips; day = day; schedule_cost = cost }
+      → record {
+        lines = lines;
+        periodic = periodic;
+        trips = trips;
+        day = day;
+        schedule_cost =
+            cost;
+      }
       ≡ statistic_in bundle
   unfolding statistic_in
   statistic_is lines periodic trips day by_vehicle by_minute cost l p t d v m c =
@@ -80,7 +88,8 @@ module _ (bundle : BundleParts) where
       → StageGives (statistic_stage bundle) (Err fault)
   unfolding statistic_stage
   stage_refused fault refused =
-      calls.stage_refused (statistic_faults bundle) (statistic_made (statistic_in bundle)) fault refused
+      calls.stage_refused (statistic_faults bundle) (statistic_made (statistic_in bundle)) fault
+      refused
 
   pub stage_made : (all : Statistic) (made : Made) → statistic_faults bundle ≡ []
       → all ≡ statistic_in bundle → made ≡ statistic_made all

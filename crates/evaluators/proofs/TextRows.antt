@@ -84,19 +84,103 @@ number_units n h = (omega (arith, ints), omega (arith, ints, h))
 
 pub value_printable : (all : Statistic) → IsSmall all → (m : Measure) → IsPrintable (value_of all m)
 value_printable all small measure.LineCost = (omega (arith, ints), omega (arith, ints, small.lines))
-value_printable all small measure.RunningLines = (omega (arith, ints), omega (arith, ints, small.running))
-value_printable all small measure.PeriodicEvents = (omega (arith, ints), omega (arith, ints, small.events))
-value_printable all small measure.PeriodicActivities = (omega (arith, ints), omega (arith, ints, small.activities))
-value_printable all small measure.DriveMinutes = (omega (arith, ints), omega (arith, ints, small.drive))
-value_printable all small measure.WaitMinutes = (omega (arith, ints), omega (arith, ints, small.wait))
-value_printable all small measure.ChangeMinutes = (omega (arith, ints), omega (arith, ints, small.change))
+value_printable all small measure.RunningLines = (
+  omega (arith, ints),
+  omega (
+    arith,
+    ints,
+    small.running,
+  ),
+)
+value_printable all small measure.PeriodicEvents = (
+  omega (arith, ints),
+  omega (
+    arith,
+    ints,
+    small.events,
+  ),
+)
+value_printable all small measure.PeriodicActivities = (
+  omega (arith, ints),
+  omega (
+    arith,
+    ints,
+    small.activities,
+  ),
+)
+value_printable all small measure.DriveMinutes = (
+  omega (arith, ints),
+  omega (
+    arith,
+    ints,
+    small.drive,
+  ),
+)
+value_printable all small measure.WaitMinutes = (
+  omega (arith, ints),
+  omega (
+    arith,
+    ints,
+    small.wait,
+  ),
+)
+value_printable all small measure.ChangeMinutes = (
+  omega (arith, ints),
+  omega (
+    arith,
+    ints,
+    small.change,
+  ),
+)
 value_printable all small measure.Trips = (omega (arith, ints), omega (arith, ints, small.trips))
-value_printable all small measure.Vehicles = (omega (arith, ints), omega (arith, ints, small.vehicles))
-value_printable all small measure.EmptyMinutes = (omega (arith, ints), omega (arith, ints, small.empty))
-value_printable all small measure.ScheduleCost = (omega (arith, ints), omega (arith, ints, small.schedule))
-value_printable all small measure.TotalDelay = (omega (arith, ints, small.early), omega (arith, ints, small.late))
-value_printable all small measure.GreatestDelay = (omega (arith, ints), omega (arith, ints, small.greatest))
-value_printable all small measure.MissedChanges = (omega (arith, ints), omega (arith, ints, small.missed))
+value_printable all small measure.Vehicles = (
+  omega (arith, ints),
+  omega (
+    arith,
+    ints,
+    small.vehicles,
+  ),
+)
+value_printable all small measure.EmptyMinutes = (
+  omega (arith, ints),
+  omega (
+    arith,
+    ints,
+    small.empty,
+  ),
+)
+value_printable all small measure.ScheduleCost = (
+  omega (arith, ints),
+  omega (
+    arith,
+    ints,
+    small.schedule,
+  ),
+)
+value_printable all small measure.TotalDelay = (
+  omega (arith, ints, small.early),
+  omega (
+    arith,
+    ints,
+    small.late,
+  ),
+)
+value_printable all small measure.GreatestDelay = (
+  omega (arith, ints),
+  omega (
+    arith,
+    ints,
+    small.greatest,
+  ),
+)
+value_printable all small measure.MissedChanges = (
+  omega (arith, ints),
+  omega (
+    arith,
+    ints,
+    small.missed,
+  ),
+)
 
 -- ---- lines
 
@@ -122,12 +206,16 @@ module _ (all : Statistic) (small : IsSmall all) where
       let value = fixed_text (value_of all m) in
       let others : List (List ℕ) = value ∷ [] in
       let name = name_cell m in
-      let behind : AreCells others = (number_cell (value_of all m) (value_printable all small m), tt) in
+      let behind : AreCells others = (
+        number_cell (value_of all m) (value_printable all small m),
+        tt,
+      ) in
       let text = joined (measure_name m ∷ others) in
       let rest = flat_map (value_line all) some in
       let quiet = cells_quiet (measure_name m) others name behind in
       let full = line_some (measure_name m) others name in
-      let cut = ap parts_of (line_is (measure_name m) value rest) ∙ line_cut text rest (quiet_line text quiet) in
+      let cut = ap parts_of (line_is (measure_name m) value rest) ∙ line_cut text rest (quiet_line
+      text quiet) in
       let filled = ne_eqb (length text) 0 (λ e. omega (arith, full)) in
       ap (λ (rows : List Row). map (λ row. row.fields) rows)
       (numbered_step number text text _ _ cut (sym (quiet_stripped text quiet full)) filled

@@ -11,9 +11,9 @@ use Rattle.evaluators.specs.declared.measure.Measure.{Measure}
 use Rattle.evaluators.specs.Statistic.{measure_name, measures, value_of}
 use Rattle.evaluators.specs.StatisticStage.{statistic_faults, statistic_in}
 
--- The file that is made is right: the inputs have no fault, and there is one file. Read again, its rows
--- are the names and the numbers of the fourteen measures, in their order, and each number spells the
--- value of its measure.
+-- The file that is made is right: the inputs have no fault, and there is one file. Read again, its
+-- rows are the names and the numbers of the fourteen measures, in their order, and each number
+-- spells the value of its measure.
 pub record StatisticFilesAreRight (bundle : BundleParts) (files : List MadeFile) : Type 0 where
   pub inputs : statistic_faults bundle ≡ []
   pub text : List ℕ

@@ -102,8 +102,8 @@ greatest_delay events times = latest 0 (map minutes_late (zip events times))
 abbrev pub times_of : List DisposedTime → List ℕ
 times_of rows = map (λ row. row.time) rows
 
--- what the day is about: vehicles and their empty rides, and how late it is; a change is missed by its
--- least minutes, whatever delays it has
+-- what the day is about: vehicles and their empty rides, and how late it is; a change is missed by
+-- its least minutes, whatever delays it has
 unfoldable pub day_values : List ExpandedEvent → List ExpandedActivity → List ScheduleRow
     → List DisposedTime → DayValues
 day_values events activities schedule disposed = record {

@@ -45,7 +45,8 @@ pub(crate) fn vehicle_count(rows: &[ScheduleRow]) -> u64
 
 // Whether one of some rows has the vehicle of a row.
 fn has_vehicle(rows: &[ScheduleRow], row: &ScheduleRow) -> bool
-    ensures { result ≡ list_any (λ other. int_eq (pos row.now.vehicle) (pos other.vehicle)) rows.now }
+    ensures { result
+        ≡ list_any (λ other. int_eq (pos row.now.vehicle) (pos other.vehicle)) rows.now }
 {
     rows.iter()
         .any(|other| i64::from(row.vehicle) == i64::from(other.vehicle))

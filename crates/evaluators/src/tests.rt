@@ -11,7 +11,7 @@ const COSTS: &[u8] = b"# line-id; length; cost\n1; 5; 15\n2; 2; 12.5\n3; 1; 1\n"
 const CONCEPT: &[u8] = b"1; 1; 1; 1\n2; 1; 1; 2\n1; 2; 2; 1\n2; 2; 2; 2\n3; 1; 1; 0\n";
 
 const EVENTS_P: &[u8] =
-        b"1; departure; 1; 1; >; 1\n2; arrival; 2; 1; >; 1\n3; departure; 2; 2; >; 1\n\
+    b"1; departure; 1; 1; >; 1\n2; arrival; 2; 1; >; 1\n3; departure; 2; 2; >; 1\n\
         4; arrival; 3; 2; >; 1\n";
 
 const ACTIVITIES_P: &[u8] =
@@ -27,8 +27,7 @@ const EVENTS_X: &[u8] =
 const ACTIVITIES_X: &[u8] =
     b"1; 1; drive; 1; 2; 8; 10\n2; 2; drive; 3; 4; 7; 9\n3; 3; change; 2; 3; 2; 62\n";
 
-const SCHEDULE: &[u8] =
-        b"1; 7; 1; TRIP; 1; 1; 1; 0; 2; 2; 2; 10; 1\n\
+const SCHEDULE: &[u8] = b"1; 7; 1; TRIP; 1; 1; 1; 0; 2; 2; 2; 10; 1\n\
         1; 7; 2; EMPTY; 2; 2; 2; 10; 3; 3; 2; 12; 0\n\
         1; 7; 3; TRIP; 3; 3; 2; 13; 4; 4; 3; 20; 2\n";
 
@@ -48,8 +47,7 @@ const PLANS: [&[u8]; 10] = [
 ];
 
 // What stands in front of the values of the day, which the disposed times change.
-const FRONT: &[u8] =
-        b"# key; value\nlc_cost; 40\nlc_lines; 2\nean_events; 4\nean_activities; 4\n\
+const FRONT: &[u8] = b"# key; value\nlc_cost; 40\nlc_lines; 2\nean_events; 4\nean_activities; 4\n\
         tim_drive_time; 17\ntim_wait_time; 0\ntim_change_time; 3\nro_trips; 2\n\
         vs_vehicles; 1\nvs_empty_minutes; 2\nvs_cost; 101\n";
 
@@ -95,8 +93,9 @@ fn text_of(alloc: Global, inputs: [&[u8]; 10]) -> Result<Text, Fail> {
     match run(alloc, inputs)? {
         Err(_) => Err(Fail::from("nothing is made")),
         Ok(made) => {
-            if made.files.len() != 1 || made.report.as_bytes() !=
-        b"statistic: 14 values".as_slice() {
+            if made.files.len() != 1
+                || made.report.as_bytes() != b"statistic: 14 values".as_slice()
+            {
                 return Err(Fail::from("one file is made, and the report counts its values"));
             }
             Ok(Text::copy(alloc, made.files.get(0).text.as_bytes())?)
@@ -139,8 +138,7 @@ fn values_of_dispositions(rt: HostRuntime) -> Result<(), Fail> {
 #[test]
 fn values_of_nothing(rt: HostRuntime) -> Result<(), Fail> {
     let text = text_of(rt.alloc(), [b""; 10])?;
-    let told =
-        b"# key; value\nlc_cost; 0\nlc_lines; 0\nean_events; 0\nean_activities; 0\n\
+    let told = b"# key; value\nlc_cost; 0\nlc_lines; 0\nean_events; 0\nean_activities; 0\n\
         tim_drive_time; 0\ntim_wait_time; 0\ntim_change_time; 0\nro_trips; 0\n\
         vs_vehicles; 0\nvs_empty_minutes; 0\nvs_cost; 0\ndm_total_delay; 0\ndm_max_delay; 0\n\
         dm_missed_changes; 0\n";
@@ -150,13 +148,11 @@ fn values_of_nothing(rt: HostRuntime) -> Result<(), Fail> {
 
 #[test]
 fn vehicles_count_by_their_numbers(rt: HostRuntime) -> Result<(), Fail> {
-    let rides =
-        b"7; 9; 1; EMPTY; 2; 2; 2; 10; 3; 3; 2; 11; 0\n\
+    let rides = b"7; 9; 1; EMPTY; 2; 2; 2; 10; 3; 3; 2; 11; 0\n\
         7; 3; 1; EMPTY; 2; 2; 2; 10; 3; 3; 2; 13; 0\n\
         8; 9; 2; TRIP; 1; 1; 1; 0; 4; 4; 3; 20; 1\n";
     let text = text_of(rt.alloc(), with(8, rides))?;
-    let front =
-        b"# key; value\nlc_cost; 40\nlc_lines; 2\nean_events; 4\nean_activities; 4\n\
+    let front = b"# key; value\nlc_cost; 40\nlc_lines; 2\nean_events; 4\nean_activities; 4\n\
         tim_drive_time; 17\ntim_wait_time; 0\ntim_change_time; 3\nro_trips; 2\n\
         vs_vehicles; 2\nvs_empty_minutes; 4\nvs_cost; 202\n";
     let told = b"dm_total_delay; 0\ndm_max_delay; 0\ndm_missed_changes; 0\n";

@@ -33,7 +33,8 @@ returns-then-not-branch c =
     (row_refused cost_input table i why.RepeatedId inside
     (repeated (records cost_input (take i table)) (of (get_or table i no_row))
     (there true c.if-not-branch.true)) c.loop-i.invariant.sound
-    ∙ ap (λ number. Some (refusal.BadRow file.PoolCost number why.RepeatedId)) (sym c.number.ensures))
+    ∙ ap (λ number. Some (refusal.BadRow file.PoolCost number why.RepeatedId)) (sym
+    c.number.ensures))
 
 pub loop-i-preserved : goal.loop-i-preserved
 loop-i-preserved c =
@@ -64,7 +65,11 @@ loop-i-preserved c =
 pub returns : goal.returns
 returns c =
     let table = c.args.table.now in
-    let past : length table ≤ c.loop-i.i = omega (arith, c.loop-i-test.false, c.len-i-end.ensures.len) in (
+    let past : length table ≤ c.loop-i.i = omega (
+      arith,
+      c.loop-i-test.false,
+      c.len-i-end.ensures.len,
+    ) in (
       no_faults cost_input table refl (rows_met cost_input table c.loop-i.i past
           c.loop-i.invariant.sound) refl,
       c.loop-i.invariant.rows ∙ records_all cost_input table c.loop-i.i past,

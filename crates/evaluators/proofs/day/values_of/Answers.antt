@@ -14,7 +14,8 @@ empty_minutes-requires c = rows_few c.args.events.now c.args.schedule.now c.requ
 
 pub delay_at-requires-clause-small : goal.delay_at-requires-clause-small
 delay_at-requires-clause-small c =
-    subst (All (λ time. time ≤ 1000000000000000000)) (sym (c.deref.ensures.value ∙ c.in_ok-times.ensures))
+    subst (All (λ time. time ≤ 1000000000000000000)) (sym (c.deref.ensures.value ∙
+    c.in_ok-times.ensures))
     (times_below _ c.args.disposed.now c.requires.disposed)
 
 pub missed_at-requires-clause-ends : goal.missed_at-requires-clause-ends
@@ -29,7 +30,8 @@ missed_at-requires-clause-ends c =
 
 pub missed_at-requires-clause-small : goal.missed_at-requires-clause-small
 missed_at-requires-clause-small c =
-    subst (All (λ time. time ≤ 1000000000000000000)) (sym (c.deref-4.ensures.value ∙ c.in_ok-times.ensures))
+    subst (All (λ time. time ≤ 1000000000000000000)) (sym (c.deref-4.ensures.value ∙
+    c.in_ok-times.ensures))
     (times_below _ c.args.disposed.now c.requires.disposed)
 
 pub returns : goal.returns

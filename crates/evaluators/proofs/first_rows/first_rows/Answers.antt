@@ -38,12 +38,14 @@ loop-i-preserved c =
             seen = seen;
             rows = first_more key of table i no_row inside old c.in_ok-note.field-0 row
                 c.read-row.ensures c.loop-i.invariant.seen new c.loop-i.firsts.items _
-                c.loop-i.invariant.rows w.if-branch.true (ap (λ (v : Vec LineRow Global). v.items) w.firsts-is ∙ w.in_ok-push.ensures.items);
+                c.loop-i.invariant.rows w.if-branch.true (ap (λ (v : Vec LineRow Global). v.items)
+                w.firsts-is ∙ w.in_ok-push.ensures.items);
           }
       | else-branch w ↦
           record {
             seen = seen;
-            rows = ap (λ (v : Vec LineRow Global). v.items) w.firsts-is ∙ first_passed key of table i no_row inside old
+            rows = ap (λ (v : Vec LineRow Global). v.items) w.firsts-is ∙ first_passed key of
+                table i no_row inside old
                 c.in_ok-note.field-0 row c.read-row.ensures c.loop-i.invariant.seen new
                 c.loop-i.firsts.items c.loop-i.invariant.rows w.if-branch.false;
           }

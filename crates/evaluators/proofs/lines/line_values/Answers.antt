@@ -52,6 +52,7 @@ returns c =
       lines_are c.deref.result.now (records_of (concept_input c.deref.result.now) text)
           c.in_ok-lines.lines.items _ _ read.1 (c.cost_of_lines.ensures
           ∙ ap (λ lines. sum_by runs_cost lines) c.deref-2.ensures.value)
-          (c.running_lines.ensures ∙ ap (λ lines. length (filter (λ (line : CostedLine). ltb 0 line.frequency) lines)) c.deref-3.ensures.value)
+          (c.running_lines.ensures ∙ ap (λ lines. length (filter (λ (line : CostedLine). ltb 0
+          line.frequency) lines)) c.deref-3.ensures.value)
           ∙ ap (λ costs. line_values costs (records_of (concept_input costs) text)) same,
     )

@@ -21,7 +21,8 @@ returns-in_err-periodic c =
     let f = c.in_err-periodic.field-0.0 in
     let b = c.args.bundle.now in
     let none_lines : line_part b ≡ [] =
-    (λ i. line_faults (sym c.input.ensures i) (sym c.input-2.ensures i)) ∙ c.in_ok-lines.ensures.0 in
+    (λ i. line_faults (sym c.input.ensures i) (sym c.input-2.ensures i)) ∙ c.in_ok-lines.ensures.0
+    in
     rw (p.1, p.2) (periodic_refuses b none_lines f (subst (λ all. Refuses all f)
     (λ i. periodic_faults (c.period_of.ensures.value i) (c.input-3.ensures i) (c.input-4.ensures i)
     (c.input-5.ensures i)) c.in_err-periodic.ensures))
@@ -33,7 +34,8 @@ returns-in_err-trips c =
     let f = c.in_err-trips.field-0.0 in
     let b = c.args.bundle.now in
     let none_lines : line_part b ≡ [] =
-    (λ i. line_faults (sym c.input.ensures i) (sym c.input-2.ensures i)) ∙ c.in_ok-lines.ensures.0 in
+    (λ i. line_faults (sym c.input.ensures i) (sym c.input-2.ensures i)) ∙ c.in_ok-lines.ensures.0
+    in
     let none_periodic : periodic_part b ≡ [] =
     (λ i. periodic_faults (sym c.period_of.ensures.value i) (sym c.input-3.ensures i)
     (sym c.input-4.ensures i) (sym c.input-5.ensures i)) ∙ c.in_ok-periodic.ensures.0 in
@@ -47,12 +49,14 @@ returns-in_err-day c =
     let f = c.in_err-day.field-0.0 in
     let b = c.args.bundle.now in
     let none_lines : line_part b ≡ [] =
-    (λ i. line_faults (sym c.input.ensures i) (sym c.input-2.ensures i)) ∙ c.in_ok-lines.ensures.0 in
+    (λ i. line_faults (sym c.input.ensures i) (sym c.input-2.ensures i)) ∙ c.in_ok-lines.ensures.0
+    in
     let none_periodic : periodic_part b ≡ [] =
     (λ i. periodic_faults (sym c.period_of.ensures.value i) (sym c.input-3.ensures i)
     (sym c.input-4.ensures i) (sym c.input-5.ensures i)) ∙ c.in_ok-periodic.ensures.0 in
     let none_trips : trip_part b ≡ [] =
-    (λ i. input_faults (trip_input None) (sym c.input-6.ensures i)) ∙ c.in_ok-trips.ensures.read.0 in
+    (λ i. input_faults (trip_input None) (sym c.input-6.ensures i)) ∙ c.in_ok-trips.ensures.read.0
+    in
     rw (p.1, p.2) (day_refuses b none_lines none_periodic none_trips f (subst (λ all. Refuses all f)
     (λ i. day_faults (c.input-7.ensures i) (c.input-8.ensures i) (c.input-9.ensures i)
     (c.input-10.ensures i)) c.in_err-day.ensures))
@@ -61,12 +65,14 @@ pub returns : goal.returns
 returns c =
     let b = c.args.bundle.now in
     let none_lines : line_part b ≡ [] =
-    (λ i. line_faults (sym c.input.ensures i) (sym c.input-2.ensures i)) ∙ c.in_ok-lines.ensures.0 in
+    (λ i. line_faults (sym c.input.ensures i) (sym c.input-2.ensures i)) ∙ c.in_ok-lines.ensures.0
+    in
     let none_periodic : periodic_part b ≡ [] =
     (λ i. periodic_faults (sym c.period_of.ensures.value i) (sym c.input-3.ensures i)
     (sym c.input-4.ensures i) (sym c.input-5.ensures i)) ∙ c.in_ok-periodic.ensures.0 in
     let none_trips : trip_part b ≡ [] =
-    (λ i. input_faults (trip_input None) (sym c.input-6.ensures i)) ∙ c.in_ok-trips.ensures.read.0 in
+    (λ i. input_faults (trip_input None) (sym c.input-6.ensures i)) ∙ c.in_ok-trips.ensures.read.0
+    in
     let none_day : day_part b ≡ [] =
     (λ i. day_faults (sym c.input-7.ensures i) (sym c.input-8.ensures i) (sym c.input-9.ensures i)
     (sym c.input-10.ensures i)) ∙ c.in_ok-day.ensures.0 in (
