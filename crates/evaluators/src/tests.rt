@@ -280,11 +280,13 @@ fn too_many_lines_come_before_their_rules(rt: HostRuntime) -> Result<(), Fail> {
         why: RowWhy::UnknownLine,
     });
     assert!(rt; run(rt.alloc(), with(1, &bytes))?.err() == Some(unknown));
-    for line in 1..201 {
-        for digit in [line / 100 % 10, line / 10 % 10, line % 10] {
-            bytes.push(b'0' + digit as u8)?;
+    for tens in b"0123456789" {
+        for units in b"0123456789" {
+            for hundreds in b"12" {
+                bytes.extend_from_slice(&[*hundreds, *tens, *units])?;
+                bytes.extend_from_slice(b"; 1; 1; 1\n")?;
+            }
         }
-        bytes.extend_from_slice(b"; 1; 1; 1\n")?;
     }
     let many = StageFault::Refused(Refusal::TooMany {
         what: Counted::Lines,
