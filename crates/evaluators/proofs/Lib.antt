@@ -8,3 +8,4 @@ mod StageParts
 pub mod StatisticMakes
 pub mod StatisticReads
 mod TextRows
+mod Tried
