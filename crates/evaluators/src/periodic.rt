@@ -4,7 +4,7 @@ ghost use Rattle.giv_files.specs.Inputs.{UnlessFault};
 ghost use Rattle.event_tables.specs.PeriodicFiles.{ArePeriodicActivities, ArePeriodicEvents, ArePeriodicTimes};
 ghost use Rattle.event_tables.specs.Places.{IsOneOf};
 ghost use Rattle.event_tables.specs.RunRules.{same_kind};
-ghost use Rattle.evaluators.specs.Statistic.{minutes_of, minutes_with, periodic_values, time_at};
+ghost use Rattle.evaluators.specs.Statistic.{minutes_of, minutes_with, periodic_values};
 ghost use Rattle.evaluators.specs.StatisticStage.{faults_between, periodic_faults, periodic_in, values_between};
 
 use crate::periodic_values::PeriodicValues;
@@ -113,18 +113,7 @@ fn minutes_of(period: u32, times: &[PeriodicTime], activity: &PeriodicActivity) 
     ensures value { result ≡ minutes_of period times.now activity.now }
     ensures short { result ≤ 100720 }
 {
-    let from = time_at(period, times, activity.from);
-    let to = time_at(period, times, activity.to);
+    let from = times[activity.from as usize - 1].time;
+    let to = times[activity.to as usize - 1].time;
     tension(i64::from(activity.lower), from, to, period).unsigned_abs()
-}
-
-// The time of the event of an id.
-fn time_at(period: u32, times: &[PeriodicTime], id: u32) -> u32
-    requires there { IsOneOf (length times.now) id }
-    requires times { All (λ row. row.time < period) times.now }
-    ensures value { result ≡ time_at times.now id }
-    ensures within { result < period }
-{
-    let _ = period;
-    times[id as usize - 1].time
 }
