@@ -8,7 +8,7 @@ use crate::step::Activity;
 use event_tables::{EventKind, ExpandedEvent};
 
 /// How late all arrivals are together, in minutes.
-pub(crate) fn delay_at(events: &[ExpandedEvent], times: &[u64]) -> i128
+pub fn delay_at(events: &[ExpandedEvent], times: &[u64]) -> i128
     requires few { length events.now ≤ 100000 }
     requires each { length times.now ≡ length events.now }
     requires small { All (λ time. time ≤ 1000000000000000000) times.now }
@@ -41,7 +41,7 @@ fn lateness(event: &ExpandedEvent, time: u64) -> i128
 }
 
 /// How many changes are missed.
-pub(crate) fn missed_at(changes: &[Activity], times: &[u64]) -> usize
+pub fn missed_at(changes: &[Activity], times: &[u64]) -> usize
     requires ends { All (λ change. Joins (length times.now) change.step) changes.now }
     requires small { All (λ time. time ≤ 1000000000000000000) times.now }
     ensures { result ≡ missed_at changes.now times.now }

@@ -25,6 +25,7 @@ mod wrong;
 
 pub use check::check_reasons;
 pub use fault::ReasonFault;
+pub use lateness::{delay_at, missed_at};
 pub use propagation::Propagation;
 pub use reason::Reason;
 pub use stage::make_disposition;

@@ -1,0 +1,140 @@
+-- Numbers of inputs without a fault that are not too great.
+use Rattle.std.proofs.Common.{◌≡◌, ◌≤◌, ◌≤ℤ◌, ℕ, ℤ, pos, negsuc, ◌*◌, true, false, cond, List, [], ◌∷◌, length, get_or, refl, ◌∙◌, arith, All, Some, option_map, unwrap_or, unsigned_abs}
+use Rattle.std.specs.List.{sum_by}
+use Rattle.std.specs.Ordering.{int_eq}
+use Rattle.std.proofs.lemmas.Int.{ints}
+use Rattle.std.proofs.lemmas.List.{length-map}
+use Rattle.std.proofs.lemmas.List.Elements.{All-cons, All-head, All-tail, All-map, All-filter}
+use Rattle.std.proofs.lemmas.List.Filters.{length-filter_both}
+use Rattle.std.proofs.lemmas.List.Sums.{sum_by-le}
+use Rattle.giv_files.specs.Columns.{pool_cost_columns, concept_columns}
+use Rattle.giv_files.specs.Inputs.{input_faults, records_of}
+use Rattle.giv_files.specs.Tables.{TableRow}
+use Rattle.giv_files.specs.Writing.{InColumns}
+use Rattle.giv_files.proofs.Inputs.{few_rows, sound_rows}
+use Rattle.event_tables.specs.declared.disposed_time.DisposedTime.{DisposedTime}
+use Rattle.event_tables.specs.declared.expanded_activity.ExpandedActivity.{ExpandedActivity}
+use Rattle.event_tables.specs.declared.expanded_event.ExpandedEvent.{ExpandedEvent}
+use Rattle.event_tables.specs.declared.schedule_row.ScheduleRow.{ScheduleRow}
+use Rattle.event_tables.specs.DisposedTimes.{AreDisposedTimes}
+use Rattle.event_tables.specs.ExpandedFiles.{AreExpandedActivities}
+use Rattle.event_tables.specs.Schedules.{AreScheduleRows, is_empty_row, is_trip_row}
+use Rattle.delay_management.specs.declared.step.Activity.{Activity}
+use Rattle.delay_management.specs.Problems.{Joins, activities_of, delayed, is_of}
+use Rattle.evaluators.specs.declared.rows.CostRow.{CostRow}
+use Rattle.evaluators.specs.declared.rows.LineRow.{LineRow}
+use Rattle.evaluators.specs.FirstRows.{firsts}
+use Rattle.evaluators.specs.Statistic.{cost_of, cost_of_runs, times_of}
+use Rattle.evaluators.specs.StatisticInputs.{concept_input, cost_input, cost_row, cost_with, line_limit, line_row, lines_of}
+
+-- ---- costs and frequencies
+
+number_below : (cell : ℤ) (most : ℕ) → pos 0 ≤ℤ cell → cell ≤ℤ pos most → unsigned_abs cell ≤ most
+number_below (pos n) most low high = omega (arith, ints)
+number_below (negsuc n) most low high = absurd (omega (arith, ints))
+
+cost_below : (cells : List ℤ) → InColumns pool_cost_columns cells
+    → (cost_row cells).cost ≤ 1000000000000000000
+cost_below [] h = absurd h
+cost_below (a ∷ []) h = absurd h.1
+cost_below (a ∷ b ∷ []) h = absurd h.1.1
+cost_below (a ∷ b ∷ c ∷ cells) h = number_below c 1000000000000000000 h.1.1.0.0 h.1.1.0.1
+
+frequency_below : (cells : List ℤ) → InColumns concept_columns cells
+    → (line_row cells).frequency ≤ 1000
+frequency_below [] h = absurd h
+frequency_below (a ∷ []) h = absurd h.1
+frequency_below (a ∷ b ∷ []) h = absurd h.1.1
+frequency_below (a ∷ b ∷ c ∷ []) h = absurd h.1.1.1
+frequency_below (a ∷ b ∷ c ∷ d ∷ cells) h = number_below d 1000 h.1.1.1.0.0 h.1.1.1.0.1
+
+pub costs_below : (text : List ℕ) → input_faults cost_input text ≡ []
+    → All (λ row. row.cost ≤ 1000000000000000000) (records_of cost_input text)
+costs_below text none =
+    let rows = sound_rows cost_input text none in
+    All-map (λ (row : CostRow). row.cost ≤ 1000000000000000000) (λ (row : TableRow). cost_row
+    row.cells) _
+    (λ k d inside. cost_below _ (rows k d inside).2)
+
+pub frequencies_below : (costs : List CostRow) (text : List ℕ)
+    → input_faults (concept_input costs) text ≡ []
+    → All (λ row. row.frequency ≤ 1000) (records_of (concept_input costs) text)
+frequencies_below costs text none =
+    let rows = sound_rows (concept_input costs) text none in
+    All-map (λ (row : LineRow). row.frequency ≤ 1000) (λ (row : TableRow). line_row row.cells) _
+    (λ k d inside. frequency_below _ (rows k d inside).2)
+
+found_below : (costs : List CostRow) (line : ℤ) → All (λ row. row.cost ≤ 1000000000000000000) costs
+    → cost_of costs line ≤ 1000000000000000000
+found_below [] line h = omega arith
+found_below (row ∷ costs) line h =
+    let rest = found_below costs line (All-tail (λ (row : CostRow). row.cost ≤
+    1000000000000000000) row costs h) in
+    elim (int_eq line row.line) as (λ b. unwrap_or (option_map (λ (row : CostRow). row.cost)
+    (cond b (Some row) (cost_with costs line))) 0 ≤ 1000000000000000000) [
+      | true ↦ All-head (λ (row : CostRow). row.cost ≤ 1000000000000000000) row costs h
+      | false ↦ rest
+    ]
+
+product : (a b c d : ℕ) → a ≤ c → b ≤ d → a * b ≤ c * d
+product a b c d h k = grind arith
+
+-- what holds of all rows holds of the first ones
+pub all_firsts : {X : Type 0} (key : X → ℤ) (P : X → Type 0) (rows : List X) → All P rows
+    → All P (firsts key rows)
+unfolding firsts
+all_firsts key P [] h = h
+all_firsts key P (row ∷ rows) h =
+    All-cons P row _ (All-head P row rows h)
+    (All-filter _ P (firsts key rows) (all_firsts key P rows (All-tail P row rows h)))
+
+module _ (costs : List CostRow) (text : List ℕ)
+    (small : All (λ row. row.cost ≤ 1000000000000000000) costs)
+    (none : input_faults (concept_input costs) text ≡ []) where
+  abbrev lines : List LineRow
+  lines = lines_of (records_of (concept_input costs) text)
+
+  pub lines_few : length lines ≤ 200
+  lines_few = few_rows (concept_input costs) text line_limit [] refl none
+
+  pub runs_below : All (λ row. cost_of_runs costs row ≤ 1000000000000000000000) lines
+  runs_below =
+      all_firsts (λ (row : LineRow). row.line) (λ row. cost_of_runs costs row ≤
+      1000000000000000000000)
+      (records_of (concept_input costs) text)
+      (λ k d inside.
+      let row = get_or (records_of (concept_input costs) text) k d in
+      product (cost_of costs row.line) row.frequency 1000000000000000000 1000
+      (found_below costs row.line small) (frequencies_below costs text none k d inside))
+
+  pub cost_sum_below : sum_by (cost_of_runs costs) lines ≤ 200000000000000000000000
+  cost_sum_below =
+      let sum = sum_by-le (cost_of_runs costs) 1000000000000000000000 lines runs_below in
+      omega (arith, sum, lines_few)
+
+-- ---- the day
+
+pub times_below : (count : ℕ) (rows : List DisposedTime) → AreDisposedTimes count rows
+    → All (λ time. time ≤ 1000000000000000000) (times_of rows)
+times_below count rows are =
+    All-map (λ (time : ℕ). time ≤ 1000000000000000000) (λ (row : DisposedTime). row.time) rows
+    (λ k d inside. let fit = are.fit k d inside in omega (arith, ints, fit.1.0.1))
+
+pub times_each : (count : ℕ) (rows : List DisposedTime) → AreDisposedTimes count rows
+    → length (times_of rows) ≡ count
+times_each count rows are = length-map rows (λ row. row.time) ∙ are.each_event
+
+pub changes_join : (events : List ExpandedEvent) (activities : List ExpandedActivity)
+    → AreExpandedActivities events activities
+    → All (λ change. Joins (length events) change.step) (activities_of true [] activities)
+changes_join events activities are =
+    All-map (λ (change : Activity). Joins (length events) change.step) (delayed []) _
+    (All-filter (is_of true) (λ row. Joins (length events) (delayed [] row).step) activities
+    (λ k d inside. let one = are.each k d inside in
+    (omega (arith, one.from.0, one.from.1), omega (arith, one.to.0, one.to.1))))
+
+pub rows_few : (events : List ExpandedEvent) (rows : List ScheduleRow) → AreScheduleRows events rows
+    → length rows ≤ 4000
+rows_few events rows are =
+    let both = length-filter_both is_empty_row is_trip_row (λ row. refl) rows in
+    omega (arith, both, are.few_trips, are.few_empty)

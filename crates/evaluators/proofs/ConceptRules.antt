@@ -1,0 +1,197 @@
+-- The rules of the files of costs and of the line concept, row by row.
+use Rattle.std.proofs.Common.{◌≡◌, ℕ, ℤ, ◌+◌, ◌<◌, not, Bool, true, false, cond, eqb, List, [], ◌∷◌, ◌++◌, length, map, take, drop, get_or, slice_get, refl, ap, sym, ◌∙◌, Option, Some, None, option_map, is_some, arith}
+use Rattle.std.specs.List.{find, list_any}
+use Rattle.std.specs.Option.{option_or}
+use Rattle.std.specs.Ordering.{int_eq}
+use Rattle.std.proofs.lemmas.Bool.{eq-eqb}
+use Rattle.std.proofs.lemmas.Bool.Decides.{Decides-int_eq}
+use Rattle.std.proofs.lemmas.Cmp.{int_eq_equiv}
+use Rattle.std.proofs.lemmas.List.{drop_more, get_or-map, length-map, take-append-drop, take-map}
+use Rattle.std.proofs.lemmas.List.Folds.{find-append}
+use Rattle.giv_files.specs.declared.row_why.RowWhy.TheVariants as why
+use Rattle.giv_files.specs.Inputs.{broken_whys, records}
+use Rattle.giv_files.specs.Tables.{TableRow, no_row}
+use Rattle.evaluators.specs.declared.costed_line.CostedLine.{CostedLine}
+use Rattle.evaluators.specs.declared.rows.CostRow.{CostRow}
+use Rattle.evaluators.specs.declared.rows.LineRow.{LineRow}
+use Rattle.evaluators.specs.CostedLines.{broken_by, costed}
+use Rattle.evaluators.specs.StatisticInputs.{concept_input, cost_input, cost_with, differs, first_row, line_row, lines_of}
+use Rattle.evaluators.proofs.FirstRowFacts.{find_firsts}
+
+-- where there is no first one there is none
+pub none_first : {X : Type 0} (xs : List X) → None ≡ slice_get xs 0 → xs ≡ []
+none_first [] e = refl
+none_first (x ∷ xs) e = cc
+
+-- ---- the concept
+
+-- the first row of the line of a row among rows that have it is before it, or it is that row
+first_of_all : (rows : List LineRow) (i : ℕ) (d : LineRow) → i < length rows
+    → first_row rows (get_or rows i d).line
+    ≡ option_or (first_row (take i rows) (get_or rows i d).line) (Some (get_or rows i d))
+first_of_all rows i d inside =
+    let row = get_or rows i d in
+    let p : LineRow → Bool = λ other. int_eq row.line other.line in
+    let behind : find p (drop i rows) ≡ Some row =
+    ap (find p) (drop_more rows i d inside)
+    ∙ ap (λ b. cond b (Some row) (find p (drop (i + 1) rows))) (int_eq_equiv.refl row.line) in
+    ap (find p) (sym (take-append-drop i rows)) ∙ find-append p (take i rows) (drop i rows)
+    ∙ ap (option_or (find p (take i rows))) behind
+
+-- a line with its cost is found where its first row is
+find_costed : (costs : List CostRow) (line : ℤ) (rows : List LineRow)
+    → find (λ costed. int_eq line costed.line) (map (costed costs) rows)
+    ≡ option_map (costed costs) (first_row rows line)
+find_costed costs line [] = refl
+find_costed costs line (row ∷ rows) = elim (int_eq line row.line) as
+    (λ b. cond b (Some (costed costs row)) (find (λ costed. int_eq line costed.line)
+    (map (costed costs) rows)) ≡ option_map (costed costs) (cond b (Some row)
+    (first_row rows line))) [
+      | true ↦ refl
+      | false ↦ find_costed costs line rows
+    ]
+
+-- a row that is found is of the line
+found_line : (line : ℤ) (rows : List LineRow) (row : LineRow) → first_row rows line ≡ Some row
+    → line ≡ row.line
+found_line line [] row e = cc
+found_line line (first ∷ rows) row e = by (int_eq line first.line) refl e (found_line line rows row)
+  where
+    by : (b : Bool) → int_eq line first.line ≡ b
+        → cond b (Some first) (first_row rows line) ≡ Some row
+        → (first_row rows line ≡ Some row → line ≡ row.line) → line ≡ row.line
+    by true is e rest = let same : first ≡ row = cc in
+        (Decides-int_eq line first.line).0 is ∙ ap (λ (row : LineRow). row.line) same
+    by false is e rest = rest e
+
+some_mapped : (o : Option CostRow) → is_some (option_map (λ (row : CostRow). row.cost) o) ≡
+    is_some o
+some_mapped None = refl
+some_mapped (Some row) = refl
+
+-- the frequencies of a row and of the first row of its line differ where a rule is broken
+differs_from : (before : Option LineRow) (row found : LineRow)
+    → Some found ≡ option_or before (Some row)
+    → differs row before ≡ not (eqb row.frequency found.frequency)
+differs_from None row found e =
+    let same : found ≡ row = cc in
+    sym (ap not (ap (eqb row.frequency) (ap (λ (row : LineRow). row.frequency) same)
+    ∙ eq-eqb row.frequency row.frequency refl))
+differs_from (Some first) row found e =
+    let same : found ≡ first = cc in
+    ap (λ (first : LineRow). not (eqb row.frequency first.frequency)) (sym same)
+
+told_by : (known differs : Bool)
+    → slice_get (cond (not known) (why.UnknownLine ∷ []) [] ++ (cond differs (why.FrequencyDiffers
+    ∷ []) [] ++ [])) 0
+    ≡ cond (not known) (Some why.UnknownLine) (cond differs (Some why.FrequencyDiffers) None)
+told_by true true = refl
+told_by true false = refl
+told_by false true = refl
+told_by false false = refl
+
+module _ (costs : List CostRow) (rows : List LineRow) (i : ℕ) (d : LineRow)
+    (inside : i < length rows) (lines : List CostedLine)
+    (are : lines ≡ map (costed costs) (lines_of rows)) where
+  abbrev row : LineRow
+  row = get_or rows i d
+
+  -- what is found among the lines of all rows
+  line_found : find (λ costed. int_eq row.line costed.line) lines
+      ≡ option_map (costed costs) (option_or (first_row (take i rows) row.line) (Some row))
+  line_found =
+      ap (find (λ costed. int_eq row.line costed.line)) are
+      ∙ find_costed costs row.line (lines_of rows)
+      ∙ ap (option_map (costed costs)) (find_firsts (λ (row : LineRow). row.line) row.line rows
+      ∙ first_of_all rows i d inside)
+
+  -- the line of a row is there
+  pub line_there : find (λ costed. int_eq row.line costed.line) lines ≡ None → ⊥
+  line_there none = by (first_row (take i rows) row.line) (sym none ∙ line_found)
+    where
+      by : (o : Option LineRow) → None ≡ option_map (costed costs) (option_or o (Some row)) → ⊥
+      by None e = cc
+      by (Some first) e = cc
+
+  -- the first rule that a row breaks, by the line that is found
+  pub line_tells : (line : CostedLine)
+      → find (λ costed. int_eq row.line costed.line) lines ≡ Some line
+      → broken_by line row.frequency
+      ≡ slice_get (broken_whys (concept_input costs).row_rules (take i rows) row) 0
+  line_tells line is = by (first_row (take i rows) row.line) refl
+    where
+      tells : (found : LineRow) → row.line ≡ found.line → Some line ≡ Some (costed costs found)
+          → Some found ≡ option_or (first_row (take i rows) row.line) (Some row)
+          → broken_by line row.frequency
+          ≡ slice_get (broken_whys (concept_input costs).row_rules (take i rows) row) 0
+      tells found own same first =
+          let line_is : line ≡ costed costs found = cc in
+          let known : is_some (costed costs found).cost ≡ is_some (cost_with costs row.line) =
+          some_mapped (cost_with costs found.line)
+          ∙ ap (λ id. is_some (cost_with costs id)) (sym own) in
+          ap (λ line. broken_by line row.frequency) line_is
+          ∙ ap (λ k. cond (not k) (Some why.UnknownLine) (cond (not (eqb row.frequency
+          found.frequency)) (Some why.FrequencyDiffers) None)) known
+          ∙ ap (λ b. cond (not (is_some (cost_with costs row.line))) (Some why.UnknownLine)
+          (cond b (Some why.FrequencyDiffers) None))
+          (sym (differs_from (first_row (take i rows) row.line) row found first))
+          ∙ sym (told_by (is_some (cost_with costs row.line))
+          (differs row (first_row (take i rows) row.line)))
+
+      by : (o : Option LineRow) → first_row (take i rows) row.line ≡ o
+          → broken_by line row.frequency
+          ≡ slice_get (broken_whys (concept_input costs).row_rules (take i rows) row) 0
+      by None e =
+          tells row refl (sym is ∙ line_found ∙ ap (λ o. option_map (costed costs)
+          (option_or o (Some row))) e) (sym (ap (λ o. option_or o (Some row)) e))
+      by (Some found) e =
+          tells found (found_line row.line (take i rows) found e)
+          (sym is ∙ line_found ∙ ap (λ o. option_map (costed costs) (option_or o (Some row))) e)
+          (sym (ap (λ o. option_or o (Some row)) e))
+
+-- ---- the same of the rows of a table
+
+module _ (costs : List CostRow) (table : List TableRow) (i : ℕ) (inside : i < length table)
+    (lines : List CostedLine)
+    (are : lines ≡ map (costed costs) (lines_of (records (concept_input costs) table)))
+    (row : LineRow) (is : row ≡ line_row (get_or table i no_row).cells) where
+  abbrev of : TableRow → LineRow
+  of row = line_row row.cells
+
+  within : i < length (map of table)
+  within = omega (arith, inside, length-map table of)
+
+  here : get_or (map of table) i (of no_row) ≡ row
+  here = get_or-map of table i no_row (of no_row) inside ∙ sym is
+
+  pub row_there : find (λ costed. int_eq row.line costed.line) lines ≡ None → ⊥
+  row_there none =
+      line_there costs (map of table) i (of no_row) within lines are
+      (ap (λ (row : LineRow). find (λ costed. int_eq row.line costed.line) lines) here ∙ none)
+
+  pub row_tells : (line : CostedLine)
+      → find (λ costed. int_eq row.line costed.line) lines ≡ Some line
+      → broken_by line row.frequency
+      ≡ slice_get (broken_whys (concept_input costs).row_rules
+      (records (concept_input costs) (take i table)) (line_row (get_or table i no_row).cells)) 0
+  row_tells line found =
+      ap (λ (row : LineRow). broken_by line row.frequency) (sym here)
+      ∙ line_tells costs (map of table) i (of no_row) within lines are line
+      (ap (λ (row : LineRow). find (λ costed. int_eq row.line costed.line) lines) here ∙ found)
+      ∙ ap (λ (rows : List LineRow). slice_get (broken_whys (concept_input costs).row_rules rows
+      (get_or (map of table) i (of no_row))) 0) (take-map of i table)
+      ∙ ap (λ (row : LineRow). slice_get (broken_whys (concept_input costs).row_rules
+      (map of (take i table)) row) 0) (here ∙ is)
+
+-- ---- costs
+
+-- a line that was there is repeated, and one that was not breaks no rule
+pub repeated : (before : List CostRow) (one : CostRow)
+    → list_any (λ other. int_eq one.line other.line) before ≡ true
+    → slice_get (broken_whys cost_input.row_rules before one) 0 ≡ Some why.RepeatedId
+repeated before one is = ap (λ b. slice_get (cond b (why.RepeatedId ∷ []) [] ++ []) 0) is
+
+pub not_repeated : (before : List CostRow) (one : CostRow)
+    → list_any (λ other. int_eq one.line other.line) before ≡ false
+    → broken_whys cost_input.row_rules before one ≡ []
+not_repeated before one is = ap (λ b. cond b (why.RepeatedId ∷ []) [] ++ []) is

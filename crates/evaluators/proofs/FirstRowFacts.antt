@@ -1,0 +1,112 @@
+-- The first rows of keys, one row after the other.
+use Rattle.std.proofs.Common.{◌≡◌, ℕ, ℤ, ◌+◌, ◌<◌, ◌||◌, Bool, true, false, not, cond, List, [], ◌∷◌, ◌++◌, length, filter, get_or, take, refl, ap, sym, ◌∙◌, append-nil, Some}
+use Rattle.std.specs.List.{find, list_any}
+use Rattle.std.specs.Ordering.{int_eq}
+use Rattle.std.proofs.lemmas.Bool.{false≢true}
+use Rattle.std.proofs.lemmas.Bool.Decides.{Decides-int_eq}
+use Rattle.std.proofs.lemmas.Cmp.{int_eq_equiv}
+use Rattle.std.proofs.lemmas.List.{length_push, take_more}
+use Rattle.std.proofs.lemmas.List.Elements.{filter-append}
+use Rattle.evaluators.specs.FirstRows.{firsts}
+
+-- a row is added behind the others, or it is not
+step : {X : Type 0} (first row : X) (some : List X) (test : X → Bool) (old same : Bool)
+    → test row ≡ not same
+    → first ∷ filter test (cond old some (some ++ row ∷ []))
+    ≡ cond (same || old) (first ∷ filter test some) (first ∷ filter test some ++ row ∷ [])
+step first row some test true true is = refl
+step first row some test true false is = refl
+step {X} first row some test false true is =
+    ap (λ (rest : List X). first ∷ rest) (filter-append test some (row ∷ [])
+    ∙ ap (λ t. filter test some ++ cond t (row ∷ []) []) is ∙ append-nil (filter test some))
+step {X} first row some test false false is =
+    ap (λ (rest : List X). first ∷ rest) (filter-append test some (row ∷ [])
+    ∙ ap (λ t. filter test some ++ cond t (row ∷ []) []) is)
+
+-- what is found of all is found of those that pass a test, where what is looked for passes it
+find_passing : {X : Type 0} (p test : X → Bool) → ((x : X) → p x ≡ true → test x ≡ true)
+    → (xs : List X) → find p (filter test xs) ≡ find p xs
+find_passing p test passes [] = refl
+find_passing {X} p test passes (x ∷ xs) = by (p x) (test x) refl refl (find_passing p test passes
+    xs)
+  where
+    by : (a b : Bool) → p x ≡ a → test x ≡ b → find p (filter test xs) ≡ find p xs
+        → find p (cond b (x ∷ filter test xs) (filter test xs)) ≡ cond a (Some x) (find p xs)
+    by true true e f rest = ap (λ c. cond c (Some x) (find p (filter test xs))) e
+    by true false e f rest = absurd (false≢true (sym f ∙ passes x e))
+    by false true e f rest = ap (λ c. cond c (Some x) (find p (filter test xs))) e ∙ rest
+    by false false e f rest = rest
+
+module _ {X : Type 0} (key : X → ℤ) where
+  -- no rows have no first ones
+  pub no_firsts : firsts key [] ≡ []
+  unfolding firsts
+  no_firsts = refl
+
+  -- one of some rows has the key of a row
+  abbrev pub is_old : List X → X → Bool
+  is_old rows row = list_any (λ other. int_eq (key row) (key other)) rows
+
+  -- one row more
+  pub firsts_push : (rows : List X) (row : X) → firsts key (rows ++ row ∷ [])
+      ≡ cond (is_old rows row) (firsts key rows) (firsts key rows ++ row ∷ [])
+  unfolding firsts
+  firsts_push [] row = refl
+  firsts_push (first ∷ rows) row =
+      let test : X → Bool = λ other. not (int_eq (key first) (key other)) in
+      ap (λ (some : List X). first ∷ filter test some) (firsts_push rows row)
+      ∙ step first row (firsts key rows) test (is_old rows row) (int_eq (key row) (key first))
+      (ap not (int_eq_equiv.symm (key first) (key row)))
+
+  module _ (rows : List X) (i : ℕ) (d : X) (inside : i < length rows) where
+    pub firsts_more : firsts key (take (i + 1) rows)
+        ≡ cond (is_old (take i rows) (get_or rows i d)) (firsts key (take i rows))
+        (firsts key (take i rows) ++ get_or rows i d ∷ [])
+    firsts_more = ap (firsts key) (take_more rows i d inside)
+        ∙ firsts_push (take i rows) (get_or rows i d)
+
+  -- the first row of a key is that among all rows
+  pub find_firsts : (line : ℤ) (rows : List X)
+      → find (λ row. int_eq line (key row)) (firsts key rows)
+      ≡ find (λ row. int_eq line (key row)) rows
+  unfolding firsts
+  find_firsts line [] = refl
+  find_firsts line (first ∷ rows) = by (int_eq line (key first)) refl (find_firsts line rows)
+    where
+      p : X → Bool
+      p row = int_eq line (key row)
+
+      test : X → Bool
+      test other = not (int_eq (key first) (key other))
+
+      passes : int_eq line (key first) ≡ false → (x : X) → p x ≡ true → test x ≡ true
+      passes other x is =
+          ap (λ k. not (int_eq (key first) k)) (sym ((Decides-int_eq line (key x)).0 is))
+          ∙ ap not (int_eq_equiv.symm (key first) line ∙ other)
+
+      by : (b : Bool) → int_eq line (key first) ≡ b → find p (firsts key rows) ≡ find p rows
+          → cond b (Some first) (find p (filter test (firsts key rows)))
+          ≡ cond b (Some first) (find p rows)
+      by true e rest = refl
+      by false e rest = find_passing p test (passes e) (firsts key rows) ∙ rest
+
+-- ---- counts, and rows that are kept
+
+module _ {X : Type 0} (key : X → ℤ) (rows : List X) (i : ℕ) (d : X) (inside : i < length rows)
+    (count : ℕ)
+    (told : count ≡ length (firsts key (take i rows))) where
+  abbrev so_far : List X
+  so_far = firsts key (take i rows)
+
+  pub new_counts : is_old key (take i rows) (get_or rows i d) ≡ false
+      → count + 1 ≡ length (firsts key (take (i + 1) rows))
+  new_counts is =
+      ap (λ n. n + 1) told ∙ sym (length_push so_far (get_or rows i d))
+      ∙ sym (ap length (firsts_more key rows i d inside
+      ∙ ap (λ b. cond b so_far (so_far ++ get_or rows i d ∷ [])) is))
+
+  pub old_counts : is_old key (take i rows) (get_or rows i d) ≡ true
+      → count ≡ length (firsts key (take (i + 1) rows))
+  old_counts is =
+      told ∙ sym (ap length (firsts_more key rows i d inside
+      ∙ ap (λ b. cond b so_far (so_far ++ get_or rows i d ∷ [])) is))

@@ -1,0 +1,78 @@
+-- The lines that were seen, one row after the other.
+use Rattle.std.proofs.Common.{◌≡◌, ℕ, ℤ, ◌+◌, ◌<◌, ◌||◌, not, Bool, true, false, cond, List, [], ◌∷◌, ◌++◌, length, map, take, get_or, refl, ap, sym, ◌∙◌}
+use Rattle.std.specs.List.{list_any}
+use Rattle.std.specs.Ordering.{int_eq}
+use Rattle.std.proofs.lemmas.List.{map_more}
+use Rattle.giv_files.specs.Tables.{TableRow}
+use Rattle.evaluators.specs.FirstRows.{firsts}
+use Rattle.evaluators.proofs.FirstRowFacts.{firsts_push, is_old}
+
+-- an answer and its negation
+pub turned : (test new answer : Bool) → new ≡ not test → new ≡ not answer → test ≡ answer
+turned true new true is e = refl
+turned true new false is e = cc
+turned false new true is e = cc
+turned false new false is e = refl
+
+any_push : {X : Type 0} (p : X → Bool) (xs : List X) (x : X)
+    → list_any p (xs ++ x ∷ []) ≡ (list_any p xs || p x)
+any_push p [] x = by (p x)
+  where
+    by : (b : Bool) → (b || false) ≡ b
+    by true = refl
+    by false = refl
+any_push p (y ∷ xs) x = by (p y) (any_push p xs x)
+  where
+    by : (b : Bool) → list_any p (xs ++ x ∷ []) ≡ (list_any p xs || p x)
+        → (b || list_any p (xs ++ x ∷ [])) ≡ ((b || list_any p xs) || p x)
+    by true e = refl
+    by false e = e
+
+module _ {X : Type 0} (key : X → ℤ) (of : TableRow → X) (rows : List TableRow) (i : ℕ) (d :
+    TableRow)
+    (inside : i < length rows) where
+  abbrev before : List X
+  before = map of (take i rows)
+
+  abbrev row : X
+  row = of (get_or rows i d)
+
+  more : map of (take (i + 1) rows) ≡ before ++ row ∷ []
+  more = map_more of rows i d inside
+
+  -- what is known of the keys of one row more
+  pub known_more : (old new : ℤ → Bool) (noted : X) → noted ≡ row
+      → ((id : ℤ) → old id ≡ list_any (λ other. int_eq id (key other)) before)
+      → ((id : ℤ) → new id ≡ (old id || int_eq id (key noted)))
+      → (id : ℤ) → new id ≡ list_any (λ other. int_eq id (key other)) (map of (take (i + 1) rows))
+  known_more old new noted is known adds id =
+      adds id ∙ ap (λ b. b || int_eq id (key noted)) (known id)
+      ∙ ap (λ (noted : X). list_any (λ other. int_eq id (key other)) before || int_eq id (key
+      noted)) is
+      ∙ sym (ap (list_any (λ other. int_eq id (key other))) more
+      ∙ any_push (λ other. int_eq id (key other)) before row)
+
+  module _ (old : ℤ → Bool) (fresh : Bool) (noted : X) (is : noted ≡ row)
+      (known : (id : ℤ) → old id ≡ list_any (λ other. int_eq id (key other)) before)
+      (told : fresh ≡ not (old (key noted))) where
+    -- whether the key of the row was there
+    pub was_there : (answer : Bool) → fresh ≡ not answer → is_old key before row ≡ answer
+    was_there answer e =
+        sym (known (key row)) ∙ ap (λ (noted : X). old (key noted)) (sym is)
+        ∙ turned (old (key noted)) fresh answer told e
+
+    -- the first rows of one row more
+    pub first_more : (some all : List X) → some ≡ firsts key before → fresh ≡ true
+        → all ≡ some ++ noted ∷ [] → all ≡ firsts key (map of (take (i + 1) rows))
+    first_more some all so_far new put =
+        put ∙ ap (λ (some : List X). some ++ noted ∷ []) so_far
+        ∙ ap (λ (noted : X). firsts key before ++ noted ∷ []) is
+        ∙ sym (ap (firsts key) more ∙ firsts_push key before row
+        ∙ ap (λ b. cond b (firsts key before) (firsts key before ++ row ∷ []))
+        (was_there false new))
+
+    pub first_passed : (some : List X) → some ≡ firsts key before → fresh ≡ false
+        → some ≡ firsts key (map of (take (i + 1) rows))
+    first_passed some so_far new =
+        so_far ∙ sym (ap (firsts key) more ∙ firsts_push key before row
+        ∙ ap (λ b. cond b (firsts key before) (firsts key before ++ row ∷ [])) (was_there true new))

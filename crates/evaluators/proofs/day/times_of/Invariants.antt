@@ -1,0 +1,6 @@
+-- The times are those of the rows so far.
+use Rattle.std.proofs.Common.{◌≡◌, map, take}
+use Rattle.evaluators.proofs.day.times_of.Given as goal
+
+abbrev pub invariant-loop-row : goal.invariant-loop-row
+invariant-loop-row l = l.times.items ≡ map (λ row. row.time) (take l.row-index l.rows)

@@ -1,0 +1,53 @@
+// The first rows of lines, and of vehicles.
+ghost use Rattle.std.specs.Prelude.{◌≡◌, ◌≤◌, pos, length, map, IfOk};
+ghost use Rattle.std.specs.List.{list_any};
+ghost use Rattle.std.specs.Ordering.{int_eq};
+ghost use Rattle.evaluators.specs.FirstRows.{firsts};
+ghost use Rattle.evaluators.specs.StatisticInputs.{line_row, lines_of};
+
+use crate::rows::LineRow;
+use crate::seen::note;
+use event_tables::ScheduleRow;
+use giv_files::Table;
+use plan_num::NoMemory;
+use std::alloc::Global;
+use std::collections::HashSet;
+
+/// The first row of each line.
+pub(crate) fn first_rows(alloc: Global, table: &Table<4>) -> Result<Vec<LineRow>, NoMemory>
+    ensures { IfOk result (λ rows. rows.items
+        ≡ lines_of (map (λ row. line_row row.cells) table.now)) }
+{
+    let mut seen = HashSet::new(alloc);
+    let mut firsts = Vec::new(alloc);
+    for i in 0..table.len() {
+        let row = LineRow::read(table, i);
+        if note(&mut seen, row.line)? {
+            firsts.push(row)?;
+        }
+    }
+    Ok(firsts)
+}
+
+/// How many different vehicles rows have.
+pub(crate) fn vehicle_count(rows: &[ScheduleRow]) -> u64
+    ensures count { result ≡ length (firsts (λ row. pos row.vehicle) rows.now) }
+    ensures few { result ≤ length rows.now }
+{
+    let mut count = 0;
+    for i in 0..rows.len() {
+        if !has_vehicle(&rows[..i], &rows[i]) {
+            count += 1;
+        }
+    }
+    count
+}
+
+// Whether one of some rows has the vehicle of a row.
+fn has_vehicle(rows: &[ScheduleRow], row: &ScheduleRow) -> bool
+    ensures { result
+        ≡ list_any (λ other. int_eq (pos row.now.vehicle) (pos other.vehicle)) rows.now }
+{
+    rows.iter()
+        .any(|other| i64::from(row.vehicle) == i64::from(other.vehicle))
+}
