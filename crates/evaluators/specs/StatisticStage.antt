@@ -1,7 +1,6 @@
 -- The stage of the statistic.
-use Rattle.std.specs.Prelude.{ℕ, List, [], ◌∷◌, ◌++◌, length, codes, Result}
+use Rattle.std.specs.Prelude.{ℕ, List, [], ◌∷◌, ◌++◌, length, codes, None, Result}
 use Rattle.std.specs.List.{flat_map}
-use Rattle.std.specs.Prelude.{None}
 use Rattle.plan_num.specs.Print.{fixed_text}
 use Rattle.giv_files.specs.declared.file_id.FileId.TheVariants as file
 use Rattle.giv_files.specs.declared.key.Key.TheVariants as key

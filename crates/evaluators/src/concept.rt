@@ -1,5 +1,5 @@
 // Reading the line concept over the costs of lines.
-ghost use Rattle.std.specs.Prelude.{◌≡◌, ◌<◌, ◌≤◌, length, map, take, slice_get, slice_index_or, option_map, Some, All, IfOk};
+ghost use Rattle.std.specs.Prelude.{◌≡◌, ◌<◌, length, map, take, slice_get, slice_index_or, option_map, Some, IfOk};
 ghost use Rattle.std.specs.List.{find};
 ghost use Rattle.std.specs.Ordering.{int_eq};
 ghost use Rattle.giv_files.specs.Inputs.{UnlessFault, broken_whys, input_faults, records, records_of, table_faults, table_row_faults};

@@ -1,5 +1,5 @@
 // The values of the line concept.
-ghost use Rattle.std.specs.Prelude.{◌≡◌, ◌≤◌, nat_lt, length, filter, All, IfOk};
+ghost use Rattle.std.specs.Prelude.{◌≡◌, ◌≤◌, nat_lt, length, filter, All};
 ghost use Rattle.std.specs.List.{sum_by};
 ghost use Rattle.giv_files.specs.Inputs.{UnlessFault};
 ghost use Rattle.evaluators.specs.CostedLines.{runs_cost};

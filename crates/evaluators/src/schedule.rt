@@ -1,7 +1,6 @@
 // Empty rides, and what a vehicle schedule costs.
-ghost use Rattle.std.specs.Prelude.{◌≡◌, ◌≤◌, length, filter};
+ghost use Rattle.std.specs.Prelude.{◌≡◌, ◌≤◌, length};
 ghost use Rattle.event_tables.specs.Kinds.{is_empty};
-ghost use Rattle.event_tables.specs.Schedules.{AreScheduleRows, is_empty_row};
 ghost use Rattle.evaluators.specs.Statistic.{empty_minutes, minutes_of_row, schedule_cost};
 
 use crate::day_values::DayValues;

@@ -1,5 +1,5 @@
 // The statistic of a dataset.
-ghost use Rattle.std.specs.Prelude.{◌≡◌, ◌≤◌, ◌≤ℤ◌, ◌^◌, ◌*ℤ◌, pos, neg_ℤ};
+ghost use Rattle.std.specs.Prelude.{◌≡◌, ◌≤◌, ◌≤ℤ◌, ◌^◌, pos, neg_ℤ};
 ghost use Rattle.evaluators.specs.Bounds.{IsSmall};
 ghost use Rattle.evaluators.specs.Statistic.{units, value_of};
 

@@ -1,5 +1,5 @@
 // The text of a statistic.
-ghost use Rattle.std.specs.Prelude.{◌≡◌, ◌++◌, ◌∷◌, [], codes, IfOk, OnOk};
+ghost use Rattle.std.specs.Prelude.{◌≡◌, ◌++◌, IfOk, OnOk};
 ghost use Rattle.evaluators.specs.Bounds.{IsSmall};
 ghost use Rattle.evaluators.specs.StatisticStage.{statistic_made, statistic_text, value_line};
 
