@@ -1,0 +1,4 @@
+pub mod Claims
+pub mod Places
+pub mod Searches
+pub mod Slacks

@@ -2,9 +2,17 @@
 //! test of a schedule from any hand.
 #![tactic(auto)]
 
+mod assignment;
 mod cheapest;
 mod chosen;
+mod claim;
+mod handing;
+mod near;
+mod slack;
 mod solved;
+mod ties;
+#[cfg(test)]
+mod tests;
 
 pub use cheapest::cheapest_plan;
 pub use solved::Solved;

@@ -1,0 +1,101 @@
+// Places that trips would take.
+ghost use Rattle.std.specs.Prelude.{◌≡◌, ◌<◌, ◌≤◌, ◌+◌, List, [], ◌∷◌, ◌++◌, length, replicate, slice_get, slice_set, None, Some, IfOk, IfNone, IfSome, OnOk};
+ghost use Rattle.vehicle_flow.specs.Claims.{claim_at};
+
+use plan_num::NoMemory;
+use std::alloc::Global;
+use std::marker::Model;
+
+/// A trip would take a place, and leave another one for whoever comes from there.
+#[derive(Clone, Copy, Debug)]
+pub(crate) struct Claim {
+    /// The trip; none where the place would be left without one.
+    pub by: Option<usize>,
+    /// The place that this leaves; none for the trip that looks for one.
+    pub from: Option<usize>,
+    /// How many places were claimed before.
+    pub step: usize,
+}
+
+/// The claim on each place, and the places in the order in which they were claimed.
+#[derive(Drop)]
+pub(crate) struct Claims {
+    claims: Vec<Option<Claim>>,
+    order: Vec<usize>,
+}
+
+impl Model for Claims {
+    ghost use Rattle.vehicle_flow.specs.Claims.{ClaimsParts, AreClaims};
+
+    ghost Value = { ClaimsParts };
+
+    ghost view = { λ claims. record { at = claims.claims.items; order = claims.order.items } };
+
+    ghost invariant = { λ claims. AreClaims (record { at = claims.claims.items; order = claims.order.items }) };
+}
+
+impl Claims {
+    /// So many places without a claim.
+    pub(crate) fn new(alloc: Global, places: usize) -> Result<Claims, NoMemory>
+        ensures { IfOk result (λ made. made ≡ record { at = replicate places None; order = [] }) }
+    {
+        let mut claims = Vec::new(alloc);
+        for _place in 0..places {
+            claims.push(None)?;
+        }
+        Ok(Claims {
+            claims,
+            order: Vec::new(alloc),
+        })
+    }
+
+    /// Takes all claims back.
+    pub(crate) fn clear(&mut self)
+        ensures { self.new ≡ record { at = replicate (length self.old.at) None; order = [] } }
+    {
+        for place in 0..self.claims.len() {
+            self.claims[place] = None;
+        }
+        self.order.clear();
+    }
+
+    /// How many places are claimed.
+    pub(crate) fn count(&self) -> usize
+        ensures { result ≡ length self.now.order }
+    {
+        self.order.len()
+    }
+
+    /// The place that was claimed after so many others.
+    pub(crate) fn nth(&self, step: usize) -> usize
+        requires { step < length self.now.order }
+        ensures value { slice_get self.now.order step ≡ Some result }
+        ensures within { result < length self.now.at }
+    {
+        self.order[step]
+    }
+
+    /// The claim on a place.
+    pub(crate) fn at(&self, place: usize) -> Option<Claim>
+        requires { place < length self.now.at }
+        ensures { result ≡ claim_at self.now place }
+    {
+        self.claims[place]
+    }
+
+    /// Claims a place that is not claimed.
+    pub(crate) fn claim(&mut self, place: usize, by: Option<usize>, from: Option<usize>) -> Result<(), NoMemory>
+        requires place { place < length self.old.at }
+        requires open { claim_at self.old place ≡ None }
+        ensures claimed { OnOk result (self.new ≡ record {
+            at = slice_set self.old.at place (Some (record { by = by; from = from; step = length self.old.order }));
+            order = self.old.order ++ place ∷ [];
+        }) }
+        ensures few { length self.old.order < length self.old.at }
+    {
+        let step = self.order.len();
+        self.order.push(place)?;
+        self.claims[place] = Some(Claim { by, from, step });
+        Ok(())
+    }
+}
