@@ -1,0 +1,4 @@
+pub mod ClaimLists
+pub mod Copies
+mod HandingOn
+pub mod Moves
