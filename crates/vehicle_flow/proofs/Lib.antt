@@ -1,4 +1,5 @@
 pub mod ClaimLists
 pub mod Copies
+pub mod Covering
 mod HandingOn
 pub mod Moves
