@@ -3,3 +3,6 @@ pub mod Copies
 pub mod Covering
 mod HandingOn
 pub mod Moves
+pub mod NearPlaces
+pub mod Shifting
+pub mod Told

@@ -1,4 +1,5 @@
 pub mod Claims
+pub mod Growing
 pub mod Places
 pub mod Searches
 pub mod Slacks
