@@ -5,4 +5,5 @@ mod HandingOn
 pub mod Moves
 pub mod NearPlaces
 pub mod Shifting
+pub mod Shifts
 pub mod Told

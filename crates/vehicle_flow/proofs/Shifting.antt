@@ -377,8 +377,9 @@ module _ (links : Links) (potentials : PotentialParts) (trip : ℕ) (plan : List
           near = λ place within free. subst (IsNear links after (in_tree trip plan claims) place)
               (sym (told place (omega (arith, within, are.each))
               ∙ ap (λ claim. shifted claim slack (get_or nears place None)) free))
-              (near_after place within free (get_or nears place None) (are.near place within free));
-          from = λ place near free e. from_at place near free e;
+              (near_after place within free (get_or nears place None) refl (are.near place within free));
+          from = λ place near free e. from_at place near free (place_there place near e) e
+              (get_or nears place None) refl;
         }
           where
             least_after : (place : ℕ) (near : Near) → place < links.count + 1 → claim_at claims place ≡ None
@@ -404,16 +405,33 @@ module _ (links : Links) (potentials : PotentialParts) (trip : ℕ) (plan : List
                 from_tree (Some from) left = tree_linked trip plan claims near.by from left.0 left.1 ∙ left.2
 
             near_after : (place : ℕ) → place < links.count + 1 → claim_at claims place ≡ None
-                → (it : Option Near) → IsNear links potentials (in_tree trip plan claims) place it
+                → (it : Option Near) → get_or nears place None ≡ it
+                → IsNear links potentials (in_tree trip plan claims) place it
                 → IsNear links after (in_tree trip plan claims) place (option_map (moved_near slack) it)
-            near_after place within free None none = λ i e. slack_after i place e within free
+            near_after place within free None is_it none = λ i e. slack_after i place e within free
                 ∙ ap (option_map (λ known. known - slack)) (none i e)
-            near_after place within free (Some near) nearest = record {
-              slack = slack_after near.by place ? within free
+            near_after place within free (Some near) is_it nearest = record {
+              slack = slack_after near.by place (by_tree place near within free is_it) within free
                   ∙ ap (option_map (λ known. known - slack)) nearest.slack;
               least = least_after place near within free nearest;
             }
 
-            from_at : (place : ℕ) (near : Near) → claim_at claims place ≡ None → get_or now place None ≡ Some near
+            told_it : (place : ℕ) → claim_at claims place ≡ None → place < length nears → (it : Option Near)
+                → get_or nears place None ≡ it → get_or now place None ≡ option_map (moved_near slack) it
+            told_it place free within it is_it = told place within
+                ∙ ap (λ claim. shifted claim slack (get_or nears place None)) free
+                ∙ ap (option_map (moved_near slack)) is_it
+
+            place_there : (place : ℕ) (near : Near) → get_or now place None ≡ Some near → place < length nears
+            place_there place near e = by_bound place (length nears) (λ within. within)
+                (λ past. absurd (none-some near (sym (get_or-eq_default now None (omega (arith, past, each))) ∙ e)))
+
+            from_at : (place : ℕ) (near : Near) → claim_at claims place ≡ None → place < length nears
+                → get_or now place None ≡ Some near → (it : Option Near) → get_or nears place None ≡ it
                 → IsFrom trip plan claims near.by near.from
-            from_at place near free e = ?
+            from_at place near free within e None is_it =
+                absurd (none-some near (sym (told_it place free within None is_it) ∙ e))
+            from_at place near free within e (Some old) is_it =
+                subst (λ x. IsFrom trip plan claims x.by x.from)
+                (same_Some (moved_near slack old) near (sym (told_it place free within (Some old) is_it) ∙ e))
+                (are.from place old free is_it)
