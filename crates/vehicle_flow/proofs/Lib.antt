@@ -1,3 +1,4 @@
+pub mod Claiming
 pub mod ClaimLists
 pub mod Copies
 pub mod Covering
