@@ -345,7 +345,8 @@ module _ (links : Links) (potentials : PotentialParts) (trip : ℕ) (plan : List
         from_left : IsFrom trip plan more left (Some place)
         from_left = (
           (λ same. none-some place (sym is.waits ∙ ap (next plan) (sym same) ∙ has)),
-          (has, ap is_some new_is),
+          has,
+          ap is_some new_is,
         )
 
         from_old : (old : Near) → IsFrom trip plan claims old.by old.from → IsFrom trip plan more old.by old.from
@@ -353,4 +354,4 @@ module _ (links : Links) (potentials : PotentialParts) (trip : ℕ) (plan : List
           where
             by_it : (it : Option ℕ) → IsFrom trip plan claims old.by it → IsFrom trip plan more old.by it
             by_it None own = own
-            by_it (Some before) left_it = (left_it.0, (left_it.1, still_claimed before left_it.2))
+            by_it (Some before) left_it = (left_it.0, left_it.1, still_claimed before left_it.2)

@@ -2,6 +2,7 @@ pub mod Claiming
 pub mod ClaimLists
 pub mod Copies
 pub mod Covering
+pub mod Grown
 mod HandingOn
 pub mod Moves
 pub mod NearPlaces

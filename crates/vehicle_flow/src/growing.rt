@@ -31,6 +31,8 @@ pub(crate) fn grow(
         (λ _. length nears.new.items ≡ length nears.old.items)) }
     ensures more { OnOk result (length claims.new.order ≡ length claims.old.order + 1) }
 {
+    let _ = trips.len();
+    let _ = claims.count();
     match nearest(claims, assignment, nears) {
         Some((place, near)) => {
             shift(trip, assignment, claims, potentials, near.slack);
