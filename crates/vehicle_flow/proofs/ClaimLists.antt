@@ -8,7 +8,7 @@ use Rattle.vehicle_model.proofs.Linking.{by_number}
 use Rattle.vehicle_flow.specs.declared.claim.Claim.{Claim}
 use Rattle.vehicle_flow.specs.Claims.{ClaimsParts, claim_at, one_if_open, AreClaims}
 
-none_at : (n i : ℕ) → claim_at (record { at = replicate n None; order = [] }) i ≡ None
+pub none_at : (n i : ℕ) → claim_at (record { at = replicate n None; order = [] }) i ≡ None
 none_at zero i = refl
 none_at (suc n) zero = refl
 none_at (suc n) (suc i) = none_at n i

@@ -20,7 +20,7 @@ use Rattle.vehicle_flow.proofs.Moves.{successor_within}
 use Rattle.vehicle_flow.proofs.Shifting.{gain_first, pos_worth, slack_inside, slack_past, tree_trip, tree_next, tree_linked, tree_is, claim_there, is_open, tree_first, claimed_inside}
 
 -- what is nearest after one trip more was looked from
-nearest_more : (links : Links) (potentials : PotentialParts) (some more : ℕ → Bool) (place by : ℕ)
+pub nearest_more : (links : Links) (potentials : PotentialParts) (some more : ℕ → Bool) (place by : ℕ)
     (from : Option ℕ) (old : Option Near)
     → ((i : ℕ) → more i ≡ true → (some i ≡ true) ⊎ (i ≡ by)) → IsNear links potentials some place old
     → IsNear links potentials more place (looked None (slack_to links potentials by place) by from old)
@@ -90,7 +90,7 @@ nearest_more links potentials some more place by from old grows near =
     split (Some slack) e = some_more slack e old near
 
 -- where it comes from
-from_more : (trip : ℕ) (plan : List (Option ℕ)) (claims : ClaimsParts) (by : ℕ) (from : Option ℕ) (slack : Option ℕ)
+pub from_more : (trip : ℕ) (plan : List (Option ℕ)) (claims : ClaimsParts) (by : ℕ) (from : Option ℕ) (slack : Option ℕ)
     (old : Option Near) → IsFrom trip plan claims by from
     → ((near : Near) → old ≡ Some near → IsFrom trip plan claims near.by near.from)
     → (near : Near) → looked None slack by from old ≡ Some near → IsFrom trip plan claims near.by near.from

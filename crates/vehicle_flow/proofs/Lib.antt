@@ -8,4 +8,6 @@ pub mod Moves
 pub mod NearPlaces
 pub mod Shifting
 pub mod Shifts
+pub mod TakenIn
+pub mod TightValid
 pub mod Told

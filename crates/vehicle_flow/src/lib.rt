@@ -12,6 +12,7 @@ mod near;
 mod slack;
 mod shift;
 mod solved;
+mod taking;
 mod ties;
 #[cfg(test)]
 mod tests;

@@ -1,0 +1,262 @@
+-- One trip more is taken into a plan: how a tree begins, and what is left where a place was found.
+use Rattle.std.proofs.Common.{◌≡◌, ◌≢◌, ◌⊎◌, inl, inr, ℕ, ℤ, zero, suc, pos, negsuc, ◌<◌, ◌≤◌, ◌≤ℤ◌, ◌+◌, is_some, Bool, true, false, List, [], length, get_or, slice_set, replicate, Option, Some, None, IfSome, refl, ap, sym, ◌∙◌, subst, arith, get_or-set_other}
+use Rattle.std.proofs.Math.ListN.{get_or-eq_default}
+use Rattle.std.proofs.lemmas.Bool.{false≢true}
+use Rattle.std.proofs.lemmas.Int.{ints}
+use Rattle.std.proofs.lemmas.List.{length-set, length-replicate}
+use Rattle.std.proofs.lemmas.Option.{none-some, same_Some}
+use Rattle.vehicle_model.specs.Plans.{next, is_next, IsPlan}
+use Rattle.vehicle_model.specs.Trips.{TripsParts, Links, links_of}
+use Rattle.vehicle_model.proofs.Following.{links_within}
+use Rattle.vehicle_model.proofs.Linking.{by_number, none_next}
+use Rattle.flow_potentials.specs.Potentials.{PotentialParts, at, AreOver, AreValid, IsTight}
+use Rattle.flow_potentials.proofs.Certified.{by_bound}
+
+use Rattle.vehicle_flow.specs.declared.claim.Claim.{Claim}
+use Rattle.vehicle_flow.specs.declared.near.Near.{Near}
+use Rattle.vehicle_flow.specs.Claims.{ClaimsParts, claim_at, AreClaims}
+use Rattle.vehicle_flow.specs.Growing.{first_links, looking, settled, is_claimed, in_tree, looked, IsTaken, IsFrom, IsNear, AreNear, IsGrowing, IsPlaceFound}
+use Rattle.vehicle_flow.specs.Searches.{IsTightBut, IsHandedOn}
+use Rattle.vehicle_flow.specs.Slacks.{worth, slack_to, Covers}
+use Rattle.vehicle_flow.proofs.Claiming.{nearest_more, from_more}
+use Rattle.vehicle_flow.proofs.ClaimLists.{none_at}
+use Rattle.vehicle_flow.proofs.Shifting.{first_gain, gain_first, pos_worth, tree_is}
+use Rattle.vehicle_flow.proofs.TightValid.{tight_valid}
+
+abbrev no_one : Option Claim
+no_one = None
+
+abbrev no_near : Option Near
+no_near = None
+
+abbrev no_next : Option ℕ
+no_next = None
+
+-- ---- the beginning
+
+module _ (links : Links) (potentials : PotentialParts) (plan : List (Option ℕ)) (trip : ℕ)
+    (is : IsTaken links potentials plan trip) (within : trip < links.count) (most : ℕ) (now : PotentialParts)
+    (raised : now ≡ record { u = slice_set potentials.u trip most; v = potentials.v })
+    (covers : Covers links now trip) where
+  u_other : (i : ℕ) → i ≢ trip → at now.u i ≡ at potentials.u i
+  u_other i apart = ap (λ p. at p.u i) raised ∙ get_or-set_other potentials.u trip i most 0 apart
+
+  v_same : (j : ℕ) → at now.v j ≡ at potentials.v j
+  v_same j = ap (λ p. at p.v j) raised
+
+  over_now : AreOver links.count now
+  over_now = record {
+    each_u = ap (λ p. length p.u) raised ∙ length-set potentials.u trip most ∙ is.over.each_u;
+    each_v = ap (λ p. length p.v) raised ∙ is.over.each_v;
+  }
+
+  waits_now : next plan trip ≡ None
+  waits_now = split (next plan trip) refl
+    where
+      split : (it : Option ℕ) → next plan trip ≡ it → it ≡ None
+      split None e = refl
+      split (Some j) e =
+          let early = (first_gain links trip trip j _ (is.tight.linked trip j e)).0 in
+          absurd (omega (arith, early))
+
+  tight_now : IsTightBut (looking links now trip) links.count plan
+  tight_now = record {
+    each = is.tight.each;
+    within = is.tight.within;
+    linked = λ i j e.
+        let gain = first_gain links trip i j _ (is.tight.linked i j e) in
+        gain_first links (trip + 1) i j (omega (arith, gain.0)) ∙ gain.1
+        ∙ ap (λ n. Some (pos n)) (both i j gain.0);
+    once = is.tight.once;
+    last = λ i apart e. u_other i apart ∙ by_bound i links.count
+        (λ inside. is.tight.last i (λ same. omega (arith, inside, same)) e)
+        (λ past. get_or-eq_default potentials.u 0 (omega (arith, past, is.over.each_u)));
+    first = λ j inside apart free. v_same j ∙ is.tight.first j inside apart free;
+  }
+    where
+      both : (i j : ℕ) → i < trip → at potentials.u i + at potentials.v j ≡ at now.u i + at now.v j
+      both i j early = omega (arith, u_other i (λ same. omega (arith, early, same)), v_same j)
+
+  covered_now : (i : ℕ) → i < trip + 1 → Covers links now i
+  covered_now i early = by_number i trip
+      (λ same. subst (Covers links now) (sym same) covers)
+      (λ apart j. subst (λ n. IfSome (worth (links.gain i j)) (λ gain. gain ≤ n))
+          (both apart j) (is.covered i (omega (arith, early, apart)) j))
+    where
+      both : i ≢ trip → (j : ℕ) → at potentials.u i + at potentials.v j ≡ at now.u i + at now.v j
+      both apart j = omega (arith, u_other i apart, v_same j)
+
+  module _ (claims : ClaimsParts) (none : claims ≡ record { at = replicate (links.count + 1) None; order = [] }) where
+    no_claim : (place : ℕ) → claim_at claims place ≡ None
+    no_claim place = ap (λ x. claim_at x place) none ∙ none_at (links.count + 1) place
+
+    pub started : IsGrowing links now trip plan claims
+    started = record {
+      over = over_now;
+      within = within;
+      places = ap (λ x. length x.at) none ∙ length-replicate (links.count + 1) no_one;
+      tight = tight_now;
+      waits = waits_now;
+      covered = covered_now;
+      claims_are = λ place found e. absurd (none-some found (sym (no_claim place) ∙ e));
+      tree = λ place found e. absurd (none-some found (sym (no_claim place) ∙ e));
+    }
+
+    -- the trip is the only one of the tree
+    alone : (i : ℕ) → in_tree trip plan claims i ≡ true → i ≡ trip
+    alone i e = elim (tree_is trip plan claims i e) as (λ _. i ≡ trip) [
+      | inl same ↦ same
+      | inr linked ↦ absurd (false≢true (sym (ap is_some (no_claim linked.0)) ∙ linked.1.1))
+    ]
+
+    pub near_started : (before last : List (Option Near)) → before ≡ replicate (links.count + 1) None
+        → length last ≡ length before
+        → ((place : ℕ) → place < length before → get_or last place None
+        ≡ looked (claim_at claims place) (slack_to links now trip place) trip None (get_or before place None))
+        → AreNear links now trip plan claims last
+    near_started before last empty each told = record {
+      each = each ∙ size;
+      near = λ place there free. subst (λ it. IsNear links now (in_tree trip plan claims) place it) (sym (told_it place there))
+          (nearest_more links now (λ i. false) (in_tree trip plan claims) place trip None None
+          (λ i e. inr (alone i e)) (λ i e. absurd (false≢true e)));
+      from = λ place near free e. from_more trip plan claims trip None (slack_to links now trip place) None refl
+          (λ old f. absurd (none-some old f)) near (sym (told_it place (there_of place near e)) ∙ e);
+    }
+      where
+        size : length before ≡ links.count + 1
+        size = ap length empty ∙ length-replicate (links.count + 1) no_near
+
+        empty_at : (place : ℕ) → get_or before place None ≡ None
+        empty_at place = ap (λ xs. get_or xs place None) empty ∙ none_near (links.count + 1) place
+          where
+            none_near : (n i : ℕ) → get_or (replicate n no_near) i no_near ≡ None
+            none_near zero i = refl
+            none_near (suc n) zero = refl
+            none_near (suc n) (suc i) = none_near n i
+
+        told_it : (place : ℕ) → place < links.count + 1 → get_or last place None
+            ≡ looked None (slack_to links now trip place) trip None None
+        told_it place there = told place (omega (arith, there, size))
+            ∙ ap (λ claim. looked claim (slack_to links now trip place) trip None (get_or before place None)) (no_claim place)
+            ∙ ap (looked None (slack_to links now trip place) trip None) (empty_at place)
+
+        there_of : (place : ℕ) (near : Near) → get_or last place None ≡ Some near → place < links.count + 1
+        there_of place near e = by_bound place (links.count + 1) (λ it. it)
+            (λ past. absurd (none-some near (sym (get_or-eq_default last None (omega (arith, past, each, size))) ∙ e)))
+
+-- ---- the end
+
+-- a trip that was handed a place is taken in
+pub taken_more : (links : Links) (potentials : PotentialParts) (trip : ℕ) (claims : ClaimsParts) (plan after : List (Option ℕ))
+    (place : ℕ) → IsPlaceFound links potentials trip plan claims place
+    → IsHandedOn (looking links potentials trip) claims plan after → IsTaken links potentials after (trip + 1)
+taken_more links potentials trip claims plan after place found is = record {
+  over = found.over;
+  tight = record {
+    each = is.each;
+    within = is.within;
+    linked = is.linked;
+    once = is.once;
+    last = λ i apart e. is.last i e;
+    first = λ j inside apart free. is.first j inside free;
+  };
+  covered = found.covered;
+}
+
+-- no trip is taken in
+pub none_taken : (links : Links) (n : ℕ) → n ≡ links.count
+    → IsTaken links (record { u = replicate n 0; v = replicate n 0 }) (replicate n None) 0
+none_taken links n is = record {
+  over = record { each_u = length-replicate n 0 ∙ is; each_v = length-replicate n 0 ∙ is };
+  tight = record {
+    each = length-replicate n no_next ∙ is;
+    within = λ i j e. absurd (none-some j (sym (none_next n i) ∙ e));
+    linked = λ i j e. absurd (none-some j (sym (none_next n i) ∙ e));
+    once = λ i other j e f. absurd (none-some j (sym (none_next n i) ∙ e));
+    last = λ i apart e. zero_at n i;
+    first = λ j inside apart free. zero_at n j;
+  };
+  covered = λ i early. absurd (omega (arith, early));
+}
+  where
+    zero_at : (n i : ℕ) → at (replicate n 0) i ≡ 0
+    zero_at zero i = refl
+    zero_at (suc n) zero = refl
+    zero_at (suc n) (suc i) = zero_at n i
+
+-- all trips are taken in: the plan is one, and the potentials are valid for it
+module _ (trips : TripsParts) (potentials : PotentialParts) (plan : List (Option ℕ)) (taken : ℕ)
+    (is : IsTaken (links_of trips) potentials plan taken) (all : length trips.trips ≤ taken) where
+  linked_all : (i j : ℕ) → next plan i ≡ Some j
+      → (links_of trips).gain i j ≡ Some (pos (at potentials.u i + at potentials.v j))
+  linked_all i j e = (first_gain (links_of trips) taken i j _ (is.tight.linked i j e)).1
+
+  pub all_plan : IsPlan (links_of trips) plan
+  all_plan = record {
+    each = is.tight.each;
+    follow = λ i j e. ap is_some (linked_all i j e);
+    once = is.tight.once;
+  }
+
+  covered_all : (i j : ℕ) → IfSome ((links_of trips).gain i j)
+      (λ gain. gain ≤ℤ pos (at potentials.u i + at potentials.v j))
+  covered_all i j = split ((links_of trips).gain i j) refl
+    where
+      by_worth : (gain : ℤ) (it : Option ℕ) → worth (Some gain) ≡ it
+          → IfSome it (λ n. n ≤ at potentials.u i + at potentials.v j)
+          → gain ≤ℤ pos (at potentials.u i + at potentials.v j)
+      by_worth (pos n) None e low = absurd (none-some n (sym e))
+      by_worth (pos n) (Some m) e low = omega (arith, ints, low, same_Some n m e)
+      by_worth (negsuc n) it e low = omega (arith, ints)
+
+      split : (it : Option ℤ) → (links_of trips).gain i j ≡ it
+          → IfSome it (λ gain. gain ≤ℤ pos (at potentials.u i + at potentials.v j))
+      split None e = tt
+      split (Some gain) e =
+          let there = links_within trips i j (ap is_some e) in
+          by_worth gain (worth (Some gain)) refl
+          (subst (λ it. IfSome (worth it) (λ n. n ≤ at potentials.u i + at potentials.v j)) e
+          (is.covered i (omega (arith, there.0, all)) j))
+
+  pub all_valid : AreValid (links_of trips) plan potentials
+  all_valid = tight_valid (links_of trips) plan potentials is.over covered_all all_plan (record {
+    linked = linked_all;
+    last = λ i e. by_bound i (length trips.trips)
+        (λ inside. is.tight.last i (λ same. omega (arith, inside, same)) e)
+        (λ past. get_or-eq_default potentials.u 0 (omega (arith, past, is.over.each_u)));
+    first = λ j free. by_bound j (length trips.trips)
+        (λ inside. is.tight.first j inside (λ same. omega (arith, inside, same)) free)
+        (λ past. get_or-eq_default potentials.v 0 (omega (arith, past, is.over.each_v)));
+  })
+
+-- a tree that grows, and what is near to it
+pub record IsTree (links : Links) (potentials : PotentialParts) (trip : ℕ) (plan : List (Option ℕ)) (claims : ClaimsParts) (nears : List (Option Near)) : Type 0 where
+  pub growing : IsGrowing links potentials trip plan claims
+  pub near : AreNear links potentials trip plan claims nears
+
+-- no more places are claimed than there are
+pub few_claimed : (links : Links) (potentials : PotentialParts) (trip : ℕ) (plan : List (Option ℕ)) (claims : ClaimsParts)
+    (nears : List (Option Near)) → IsTree links potentials trip plan claims nears → AreClaims claims
+    → length claims.order ≤ links.count + 1
+few_claimed links potentials trip plan claims nears is are =
+    omega (arith, is.growing.places, are.counted)
+
+-- the first trips are taken in, with room for each place
+pub record AreTakenIn (links : Links) (potentials : PotentialParts) (plan : List (Option ℕ)) (taken : ℕ) (claims : ClaimsParts) (near_places : List (Option Near)) : Type 0 where
+  pub is : IsTaken links potentials plan taken
+  pub places : length claims.at ≡ links.count + 1
+  pub near_each : length near_places ≡ links.count + 1
+
+-- no trip is taken in yet
+pub begun : (links : Links) (n : ℕ) (potentials : PotentialParts) (plan : List (Option ℕ)) (claims : ClaimsParts)
+    (near_places : List (Option Near)) → n ≡ links.count → plan ≡ replicate n None
+    → potentials ≡ record { u = replicate n 0; v = replicate n 0 }
+    → claims ≡ record { at = replicate (n + 1) None; order = [] } → length near_places ≡ links.count + 1
+    → AreTakenIn links potentials plan 0 claims near_places
+begun links n potentials plan claims near_places size plan_is potentials_is claims_is each = record {
+  is = subst (λ p. IsTaken links p plan 0) (sym potentials_is)
+      (subst (λ xs. IsTaken links (record { u = replicate n 0; v = replicate n 0 }) xs 0) (sym plan_is)
+      (none_taken links n size));
+  places = ap (λ x. length x.at) claims_is ∙ length-replicate (n + 1) no_one ∙ ap (λ k. k + 1) size;
+  near_each = each;
+}

@@ -1,0 +1,82 @@
+// Taking trips into a plan, one after another.
+ghost use Rattle.std.specs.Prelude.{◌≡◌, ◌<◌, ◌+◌, length, OnOk};
+ghost use Rattle.vehicle_flow.specs.Growing.{IsTaken, IsGrowing, AreNear};
+ghost use Rattle.vehicle_flow.specs.Searches.{Search, IsFound, IsHandedOn};
+ghost use Rattle.vehicle_model.specs.Trips.{links_of};
+
+use crate::assignment::Assignment;
+use crate::claim::Claims;
+use crate::growing::grow;
+use crate::handing::hand_on;
+use crate::near::{Near, forget, look};
+use crate::slack::cover;
+use flow_potentials::Potentials;
+use plan_num::NoMemory;
+use vehicle_model::Trips;
+
+/// Takes one trip more into a plan that is cheapest among the trips before it.
+#[tactic(auto, using(crate::proofs::TakenIn::taken_more, crate::proofs::TakenIn::few_claimed))]
+pub(crate) fn take_in(
+    trips: &Trips,
+    trip: usize,
+    assignment: &mut Assignment,
+    potentials: &mut Potentials,
+    claims: &mut Claims,
+    nears: &mut Vec<Option<Near>>,
+) -> Result<(), NoMemory>
+    requires taken { IsTaken (links_of trips.now) potentials.old assignment.old trip }
+    requires within { trip < length trips.now.trips }
+    requires places { length claims.old.at ≡ length trips.now.trips + 1 }
+    requires nears { length nears.old.items ≡ length trips.now.trips + 1 }
+    ensures taken { OnOk result (IsTaken (links_of trips.now) potentials.new assignment.new (trip + 1)) }
+    ensures places { OnOk result (length claims.new.at ≡ length trips.now.trips + 1) }
+    ensures nears { OnOk result (length nears.new.items ≡ length trips.now.trips + 1) }
+{
+    start(trips, trip, assignment, potentials, claims, nears);
+    loop {
+        let _ = claims.count();
+        if let Some(place) = grow(trips, trip, assignment, potentials, claims, nears)? {
+            finish(trips, potentials, trip, claims, assignment, place);
+            return Ok(());
+        }
+    }
+}
+
+// Hands the place that was found on to the trip.
+fn finish(
+    _trips: &Trips,
+    _potentials: &Potentials,
+    _trip: usize,
+    claims: &Claims,
+    assignment: &mut Assignment,
+    place: usize,
+)
+    ghost search: { Search }
+    requires { IsFound search assignment.old claims.now place }
+    ensures { IsHandedOn search claims.now assignment.old assignment.new }
+{
+    hand_on(claims, assignment, place);
+}
+
+// Begins a tree with a trip that is not taken in yet.
+fn start(
+    trips: &Trips,
+    trip: usize,
+    assignment: &Assignment,
+    potentials: &mut Potentials,
+    claims: &mut Claims,
+    nears: &mut Vec<Option<Near>>,
+)
+    requires taken { IsTaken (links_of trips.now) potentials.old assignment.now trip }
+    requires within { trip < length trips.now.trips }
+    requires places { length claims.old.at ≡ length trips.now.trips + 1 }
+    requires nears { length nears.old.items ≡ length trips.now.trips + 1 }
+    ensures growing { IsGrowing (links_of trips.now) potentials.new trip assignment.now claims.new }
+    ensures near { AreNear (links_of trips.now) potentials.new trip assignment.now claims.new nears.new.items }
+{
+    let _ = assignment.len();
+    cover(trips, potentials, trip);
+    claims.clear();
+    forget(nears);
+    look(trips, potentials, claims, nears, trip, None);
+}
