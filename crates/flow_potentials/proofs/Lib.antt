@@ -5,7 +5,7 @@ mod Loops
 pub mod Rounds
 pub mod Settled
 mod Shallow
-mod Slack
+pub mod Slack
 mod Steps
 mod Tables
 pub mod TablesBack

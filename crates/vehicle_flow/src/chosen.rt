@@ -1,8 +1,10 @@
 // The chosen plan: among the plans of least cost the one whose list of successors comes first.
-ghost use Rattle.std.specs.Prelude.{IfOk};
+ghost use Rattle.std.specs.Prelude.{ℕ, ◌≡◌, ◌<◌, ◌≤◌, true, false, length, None, IfOk};
 ghost use Rattle.flow_potentials.specs.Potentials.{AreValid};
 ghost use Rattle.vehicle_model.specs.Plans.{IsPlan, IsChosen};
 ghost use Rattle.vehicle_model.specs.Trips.{links_of};
+ghost use Rattle.vehicle_flow.specs.Claims.{claim_at};
+ghost use Rattle.vehicle_flow.specs.Choices.{IsUndecided, is_claimed};
 
 use crate::assignment::Assignment;
 use crate::claim::Claims;
@@ -48,11 +50,21 @@ fn settle(ties: &Ties, trip: usize, claims: &mut Claims, assignment: &mut Assign
     Ok(())
 }
 
-fn is_open(claims: &Claims, assignment: &Assignment, trip: usize, place: usize) -> bool {
+// Whether a place is undecided and not claimed.
+fn is_open(claims: &Claims, assignment: &Assignment, trip: usize, place: usize) -> bool
+    requires { place < length claims.now.at }
+    ensures none { result ≡ true → claim_at claims.now place ≡ None }
+    ensures yes { result ≡ true → IsUndecided assignment.now trip place }
+    ensures no { IsUndecided assignment.now trip place → result ≡ false → is_claimed claims.now place ≡ true }
+{
     claims.at(place).is_none() && is_undecided(assignment, trip, place)
 }
 
-fn is_undecided(assignment: &Assignment, trip: usize, place: usize) -> bool {
+// Whether no trip before one has a place.
+fn is_undecided(assignment: &Assignment, trip: usize, place: usize) -> bool
+    ensures yes { result ≡ true → IsUndecided assignment.now trip place }
+    ensures no { IsUndecided assignment.now trip place → result ≡ true }
+{
     match assignment.trip_at(place) {
         Some(other) => trip <= other,
         None => true,
