@@ -1,7 +1,7 @@
 -- Inner words of the choice among the plans of least cost: the places that trips which are still to be
 -- decided may take, and which of them a search has claimed.
 use Rattle.std.specs.Prelude.{ℕ, ◌≡◌, ◌+◌, ◌<◌, ◌≤◌, Bool, true, false, is_some, List, [], length, slice_get, get_or, Option, Some, None, IfSome}
-use Rattle.vehicle_model.specs.Plans.{next, is_next, IsPlan, ComesNoLater}
+use Rattle.vehicle_model.specs.Plans.{next, is_next, IsPlan, AreSuccessors, ComesNoLater}
 use Rattle.flow_potentials.specs.Potentials.{PotentialParts, at, AreOver, IsTight}
 use Rattle.vehicle_flow.specs.declared.claim.Claim.{Claim}
 use Rattle.vehicle_flow.specs.Claims.{ClaimsParts, claim_at}
@@ -47,33 +47,47 @@ pub record IsExpanded (search : Search) (plan : List (Option ℕ)) (claims : Cla
       → place_of search.links.count (next plan i) ≡ place → AllClaimed search plan claims (Some i)
   pub alone : is_next plan place ≡ false → AllClaimed search plan claims None
 
+-- the trips before one that have no next one claim all that they are tight at
+abbrev pub LastExpanded : Search → List (Option ℕ) → ClaimsParts → ℕ → Type 0
+LastExpanded search plan claims most = (i : ℕ) → search.low ≤ i → i < most → next plan i ≡ None
+    → AllClaimed search plan claims (Some i)
+
 -- the places that were claimed before a step are expanded
 abbrev pub AreExpanded : Search → List (Option ℕ) → ClaimsParts → ℕ → Type 0
 AreExpanded search plan claims step = (before place : ℕ) → before < step
     → slice_get claims.order before ≡ Some place → IsExpanded search plan claims place
 
--- what a search keeps: each claim is one, on an undecided place
+-- what a search keeps: each claim is one, on an undecided place, and the places stand in the order
 pub record AreRight (search : Search) (plan : List (Option ℕ)) (claims : ClaimsParts) : Type 0 where
   pub places : length claims.at ≡ search.links.count + 1
+  pub few : length claims.order ≤ length claims.at
   pub claim : (place : ℕ) (found : Claim) → claim_at claims place ≡ Some found
       → IsClaim search plan claims place found
   pub undecided : (place : ℕ) (found : Claim) → claim_at claims place ≡ Some found
       → IsUndecided plan search.low place
+  pub placed : (place : ℕ) (found : Claim) → claim_at claims place ≡ Some found
+      → slice_get claims.order found.step ≡ Some place
+  pub listed : (step place : ℕ) → slice_get claims.order step ≡ Some place
+      → is_claimed claims place ≡ true
 
--- some more claims, and none of the trip that looks for a place
-pub record AreMore (search : Search) (before after : ClaimsParts) : Type 0 where
+-- some more claims
+pub record AreMore (before after : ClaimsParts) : Type 0 where
   pub kept : (place : ℕ) (found : Claim) → claim_at before place ≡ Some found
       → claim_at after place ≡ Some found
   pub order : (step place : ℕ) → slice_get before.order step ≡ Some place
       → slice_get after.order step ≡ Some place
-  pub own : (place : ℕ) (found : Claim) → claim_at after place ≡ Some found
-      → found.by ≡ Some search.trip → claim_at before place ≡ Some found
+
+-- the claims of the trip that looks for a place are as before
+abbrev pub AreOthers : Search → ClaimsParts → ClaimsParts → Type 0
+AreOthers search before after = (place : ℕ) (found : Claim) → claim_at after place ≡ Some found
+    → found.by ≡ Some search.trip → claim_at before place ≡ Some found
 
 -- the plan is tight, and the trip that looks for a place is the first one that is undecided
 pub record IsSearch (search : Search) (plan : List (Option ℕ)) : Type 0 where
   pub first : search.low ≡ search.trip
   pub within : search.trip < search.links.count
   pub over : AreOver search.links.count search.potentials
+  pub successors : AreSuccessors plan
   pub possible : IsPlan search.links plan
   pub tight : IsTight search.links search.potentials plan
 
