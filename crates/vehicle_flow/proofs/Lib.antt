@@ -1,1 +1,6 @@
+pub mod ClaimLists
+mod Claimed
+pub mod Copies
+mod HandingOn
+pub mod Moves
 pub mod Shifted

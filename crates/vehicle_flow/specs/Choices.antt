@@ -99,6 +99,20 @@ AgreeBefore trip plan other = (i : ℕ) → i < trip → next other i ≡ next p
 abbrev pub AreWithin : Links → List (Option ℕ) → Type 0
 AreWithin links plan = (i j : ℕ) → next plan i ≡ Some j → j < links.count
 
+-- no tight plan that agrees with a plan on what is decided has an earlier place for the trip that looks
+-- for one
+abbrev pub IsFirst : Search → List (Option ℕ) → ℕ → Type 0
+IsFirst search plan place = (other : List (Option ℕ)) → IsPlan search.links other
+    → AreWithin search.links other → IsTight search.links search.potentials other
+    → AgreeBefore search.low plan other → place ≤ place_of search.links.count (next other search.trip)
+
+-- the own place of the trip is claimed, and each that it claims itself is the first one
+pub record IsSought (search : Search) (plan : List (Option ℕ)) (claims : ClaimsParts) (own : ℕ) : Type 0 where
+  pub right : AreRight search plan claims
+  pub claimed : is_claimed claims own ≡ true
+  pub first : (place : ℕ) (found : Claim) → claim_at claims place ≡ Some found
+      → found.by ≡ Some search.trip → IsFirst search plan place
+
 -- of all tight plans that agree with a plan before a trip, none has an earlier successor for it
 abbrev pub IsLeast : Links → PotentialParts → List (Option ℕ) → ℕ → Type 0
 IsLeast links potentials plan trip = (other : List (Option ℕ)) → IsPlan links other

@@ -1,5 +1,5 @@
 -- Places of trips: the number of a trip, and the one behind them all, which stands for no trip.
-use Rattle.std.specs.Prelude.{ℕ, ◌≡◌, ◌↔◌, ◌<◌, nat_lt, if◌then◌else◌, List, length, Option, Some, None, unwrap_or}
+use Rattle.std.specs.Prelude.{ℕ, ◌≡◌, ◌↔◌, ◌<◌, nat_lt, if◌then◌else◌, List, length, slice_set, Option, Some, None, unwrap_or}
 use Rattle.vehicle_model.specs.Plans.{next}
 
 -- what comes at a place, of so many trips
@@ -15,3 +15,8 @@ pub record AreLinked (after before : List (Option ℕ)) : Type 0 where
   pub each : length before ≡ length after
   pub within : (i j : ℕ) → next after i ≡ Some j → j < length after
   pub both : (i j : ℕ) → (next after i ≡ Some j) ↔ (next before j ≡ Some i)
+
+-- what comes before the trips, where it is taken away from one
+abbrev pub forgotten : List (Option ℕ) → Option ℕ → List (Option ℕ)
+forgotten before None = before
+forgotten before (Some own) = slice_set before own None

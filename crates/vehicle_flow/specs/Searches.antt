@@ -1,6 +1,6 @@
 -- Inner words of both searches: a plan that is tight for potentials but for a trip that looks for a
 -- place and for a place that was left, and claims along which places can be handed on.
-use Rattle.std.specs.Prelude.{ℕ, pos, ◌≡◌, ◌+◌, ◌<◌, ◌≤◌, Bool, false, List, length, Option, Some, None, MatchOption, IfSome}
+use Rattle.std.specs.Prelude.{ℕ, pos, ◌≡◌, ◌+◌, ◌<◌, ◌≤◌, Bool, false, List, length, slice_set, Option, Some, None, MatchOption, IfSome}
 use Rattle.vehicle_model.specs.Plans.{next, is_next}
 use Rattle.vehicle_model.specs.Trips.{Links}
 use Rattle.flow_potentials.specs.Potentials.{PotentialParts, at}
@@ -30,11 +30,12 @@ IsTightBy links potentials place (Some i) = IsTightAt links potentials i place
 -- a plan is tight, but the trip that looks for a place may be without one, and a place without its trip
 pub record IsTightBut (search : Search) (place : ℕ) (plan : List (Option ℕ)) : Type 0 where
   pub each : length plan ≡ search.links.count
+  pub within : (i j : ℕ) → next plan i ≡ Some j → j < search.links.count
   pub linked : (i j : ℕ) → next plan i ≡ Some j
       → search.links.gain i j ≡ Some (pos (at search.potentials.u i + at search.potentials.v j))
   pub once : (i other j : ℕ) → next plan i ≡ Some j → next plan other ≡ Some j → i ≡ other
   pub last : (i : ℕ) → (i ≡ search.trip → ⊥) → next plan i ≡ None → at search.potentials.u i ≡ 0
-  pub first : (j : ℕ) → (j ≡ place → ⊥) → is_next plan j ≡ false → at search.potentials.v j ≡ 0
+  pub first : (j : ℕ) → j < search.links.count → (j ≡ place → ⊥) → is_next plan j ≡ false → at search.potentials.v j ≡ 0
 
 -- a place is left by a trip that has it and is not the one that looks, or has no trip
 abbrev pub IsLeft : Search → List (Option ℕ) → ℕ → Option ℕ → Type 0
@@ -78,14 +79,31 @@ pub record IsFound (search : Search) (plan : List (Option ℕ)) (claims : Claims
 -- before the first movable one is moved
 pub record IsHandedOn (search : Search) (claims : ClaimsParts) (before after : List (Option ℕ)) : Type 0 where
   pub each : length after ≡ search.links.count
+  pub within : (i j : ℕ) → next after i ≡ Some j → j < search.links.count
   pub linked : (i j : ℕ) → next after i ≡ Some j
       → search.links.gain i j ≡ Some (pos (at search.potentials.u i + at search.potentials.v j))
   pub once : (i other j : ℕ) → next after i ≡ Some j → next after other ≡ Some j → i ≡ other
   pub last : (i : ℕ) → next after i ≡ None → at search.potentials.u i ≡ 0
-  pub first : (j : ℕ) → is_next after j ≡ false → at search.potentials.v j ≡ 0
+  pub first : (j : ℕ) → j < search.links.count → is_next after j ≡ false → at search.potentials.v j ≡ 0
   pub same : (i : ℕ) → i < search.low → next after i ≡ next before i
   pub place : ℕ
   pub found : Claim
   pub claimed : claim_at claims place ≡ Some found
   pub own : found.by ≡ Some search.trip
   pub next_is : next after search.trip ≡ successor_at search.links.count place
+
+-- the step at which a place was claimed
+abbrev pub step_of : Option Claim → ℕ
+step_of None = 0
+step_of (Some found) = found.step
+
+-- a plan after a place was given to a trip, or to none
+abbrev pub given_to : List (Option ℕ) → Option ℕ → ℕ → List (Option ℕ)
+given_to plan None place = plan
+given_to plan (Some i) place = slice_set plan i (successor_at (length plan) place)
+
+-- a place was given to the trip that claims it, and the one that this leaves can be handed on
+pub record IsPassedOn (search : Search) (claims : ClaimsParts) (before after : List (Option ℕ)) (place from : ℕ) : Type 0 where
+  pub found : IsFound search after claims from
+  pub sooner : step_of (claim_at claims from) < step_of (claim_at claims place)
+  pub same : (i : ℕ) → i < search.low → next after i ≡ next before i

@@ -1,7 +1,7 @@
 // Which trip comes after which, looked up from both.
 ghost use Rattle.std.specs.Prelude.{ℕ, not, ◌≡◌, ◌<◌, ◌≤◌, false, length, slice_set, replicate, None, Some, IfOk, IfSome, MatchOption};
 ghost use Rattle.vehicle_model.specs.Plans.{next, is_next, AreSuccessors};
-ghost use Rattle.vehicle_flow.specs.Places.{successor_at, place_of};
+ghost use Rattle.vehicle_flow.specs.Places.{successor_at, place_of, forgotten};
 
 use plan_num::NoMemory;
 use std::alloc::Global;
@@ -30,6 +30,7 @@ impl Model for Assignment {
 
 impl Assignment {
     /// So many trips, of which none comes after another.
+    #[tactic(auto, using(crate::proofs::Moves::none_before))]
     pub(crate) fn empty(alloc: Global, trips: usize) -> Result<Assignment, NoMemory>
         ensures { IfOk result (λ made. made ≡ replicate trips None) }
     {
@@ -40,19 +41,19 @@ impl Assignment {
     }
 
     /// The same as a plan.
+    #[tactic(auto, using(crate::proofs::Copies::none_copied, crate::proofs::Copies::copied_more, crate::proofs::Copies::copied_fits, crate::proofs::Copies::copied_waits, crate::proofs::Copies::copied_within, crate::proofs::Copies::copied_all))]
     pub(crate) fn of_plan(alloc: Global, plan: &Plan) -> Result<Assignment, NoMemory>
         ensures { IfOk result (λ made. made ≡ plan.now) }
     {
         let mut made = Assignment::empty(alloc, plan.len())?;
         for trip in 0..plan.len() {
-            if let Some(next) = plan.next(trip) {
-                made.give(trip, next);
-            }
+            made.begin(trip, plan.next(trip));
         }
         Ok(made)
     }
 
     /// How many trips there are.
+    #[tactic(auto, using(crate::proofs::Moves::linked_are))]
     pub(crate) fn len(&self) -> usize
         ensures count { result ≡ length self.now }
         ensures successors { AreSuccessors self.now }
@@ -66,17 +67,18 @@ impl Assignment {
         ensures value { result ≡ next self.now trip }
         ensures within { IfSome result (λ place. place < length self.now) }
     {
-        self.next[trip]
+        at(&self.next, trip)
     }
 
     /// The trip that comes before one.
+    #[tactic(auto, using(crate::proofs::Moves::before_is, crate::proofs::Moves::before_inside))]
     pub(crate) fn before(&self, trip: usize) -> Option<usize>
         requires { trip < length self.now }
         ensures value { MatchOption result (is_next self.now trip ≡ false)
             (λ other. next self.now other ≡ Some trip) }
         ensures within { IfSome result (λ other. other < length self.now) }
     {
-        self.before[trip]
+        at(&self.before, trip)
     }
 
     /// The trip at a place.
@@ -85,7 +87,7 @@ impl Assignment {
             (λ other. next self.now other ≡ Some place) }
         ensures within { IfSome result (λ other. other < length self.now) }
     {
-        if place < self.next.len() {
+        if place < self.len() {
             self.before(place)
         } else {
             None
@@ -112,34 +114,98 @@ impl Assignment {
     }
 
     /// Gives a trip a place that no trip has, in the place of its own.
+    #[tactic(auto, using(crate::proofs::Moves::given_past))]
     pub(crate) fn give(&mut self, trip: usize, place: usize)
         requires trip { trip < length self.old }
         requires place { place ≤ length self.old }
         requires free { is_next self.old place ≡ false }
         ensures { self.new ≡ slice_set self.old trip (successor_at (length self.old) place) }
     {
-        if let Some(own) = self.next[trip] {
-            self.before[own] = None;
-        }
-        if place < self.next.len() {
-            self.next[trip] = Some(place);
-            self.before[place] = Some(trip);
-        } else {
-            self.next[trip] = None;
+        let count = self.len();
+        self.take_away(trip);
+        if place < count {
+            self.put(trip, place);
         }
     }
 
+    // Gives a trip without a place one that no trip has, or none.
+    #[tactic(auto, using(crate::proofs::Copies::set_none))]
+    fn begin(&mut self, trip: usize, place: Option<usize>)
+        requires trip { trip < length self.old }
+        requires waits { next self.old trip ≡ None }
+        requires free { IfSome place (λ j. (j < length self.old) × (is_next self.old j ≡ false)) }
+        ensures { self.new ≡ slice_set self.old trip place }
+    {
+        if let Some(place) = place {
+            self.put(trip, place);
+        }
+    }
+
+    // Takes the place of a trip away.
+    #[tactic(auto, using(crate::proofs::Moves::own_inside, crate::proofs::Moves::taken_away))]
+    fn take_away(&mut self, trip: usize)
+        requires { trip < length self.old }
+        ensures { self.new ≡ slice_set self.old trip None }
+    {
+        let own = at(&self.next, trip);
+        forget(&mut self.before, own);
+        self.next[trip] = None;
+    }
+
+    // Gives a trip without a place one that no trip has.
+    #[tactic(auto, using(crate::proofs::Moves::given))]
+    fn put(&mut self, trip: usize, place: usize)
+        requires trip { trip < length self.old }
+        requires place { place < length self.old }
+        requires waits { next self.old trip ≡ None }
+        requires free { is_next self.old place ≡ false }
+        ensures { self.new ≡ slice_set self.old trip (Some place) }
+    {
+        self.next[trip] = Some(place);
+        self.before[place] = Some(trip);
+    }
+
     /// The same as a plan.
+    #[tactic(auto, using(crate::proofs::Copies::none_copied, crate::proofs::Copies::copied_more, crate::proofs::Copies::copied_fits, crate::proofs::Copies::copied_waits, crate::proofs::Copies::copied_within, crate::proofs::Copies::copied_all))]
     pub(crate) fn to_plan(&self, alloc: Global) -> Result<Plan, NoMemory>
         ensures { IfOk result (λ plan. plan ≡ self.now) }
     {
-        let mut plan = Plan::empty(alloc, self.next.len())?;
-        for trip in 0..self.next.len() {
-            if let Some(next) = self.next[trip] {
-                plan.link(trip, next);
-            }
+        let mut plan = Plan::empty(alloc, self.len())?;
+        for trip in 0..self.len() {
+            link(&mut plan, trip, self.next(trip));
         }
         Ok(plan)
+    }
+}
+
+// Gives a trip of a plan a successor, or none.
+#[tactic(auto, using(crate::proofs::Copies::set_none))]
+fn link(plan: &mut Plan, trip: usize, to: Option<usize>)
+    requires trip { trip < length plan.old }
+    requires waits { next plan.old trip ≡ None }
+    requires free { IfSome to (λ j. (j < length plan.old) × (is_next plan.old j ≡ false)) }
+    ensures { plan.new ≡ slice_set plan.old trip to }
+{
+    if let Some(to) = to {
+        plan.link(trip, to);
+    }
+}
+
+// What a list has for a trip.
+fn at(list: &[Option<usize>], trip: usize) -> Option<usize>
+    requires { trip < length list.now }
+    ensures { result ≡ next list.now trip }
+{
+    list[trip]
+}
+
+// Takes away what comes before a trip.
+fn forget(before: &mut Vec<Option<usize>>, trip: Option<usize>)
+    requires { IfSome trip (λ own. own < length before.old.items) }
+    ensures { before.new.items ≡ forgotten before.old.items trip }
+{
+    if let Some(own) = trip {
+        before[own] = None;
     }
 }
 

@@ -1,9 +1,9 @@
 // The chosen plan: among the plans of least cost the one whose list of successors comes first.
-ghost use Rattle.std.specs.Prelude.{ℕ, ◌≡◌, ◌+◌, ◌-◌, ◌<◌, ◌≤◌, true, false, length, slice_set, None, Some, IfOk, IfSome, OnOk};
+ghost use Rattle.std.specs.Prelude.{ℕ, ◌≡◌, ◌+◌, ◌-◌, ◌<◌, ◌≤◌, true, false, MatchBool, [], length, replicate, slice_set, None, Some, IfOk, IfSome, OnOk};
 ghost use Rattle.flow_potentials.specs.Potentials.{AreOver, AreValid, IsTight};
 ghost use Rattle.vehicle_model.specs.Plans.{next, AreSuccessors, IsPlan, IsChosen};
 ghost use Rattle.vehicle_model.specs.Trips.{links_of};
-ghost use Rattle.vehicle_flow.specs.Choices.{AllClaimed, AreExpanded, AreMore, AreOthers, ArePlaces, AreRight, AreTies, IsExpanded, IsSearch, IsSettled, IsUndecided, LastExpanded, is_claimed};
+ghost use Rattle.vehicle_flow.specs.Choices.{AllClaimed, AreExpanded, AreMore, AreOthers, ArePlaces, AreRight, AreTies, IsExpanded, IsFirst, IsSearch, IsSettled, IsSought, IsUndecided, LastExpanded, is_claimed};
 ghost use Rattle.vehicle_flow.specs.Claims.{claim_at};
 ghost use Rattle.vehicle_flow.specs.Places.{place_of};
 ghost use Rattle.vehicle_flow.specs.Searches.{IsHandedOn, IsLeft, IsTightBy, Search};
@@ -13,6 +13,7 @@ use crate::claim::Claims;
 use crate::handing::hand_on;
 use crate::solved::Solved;
 use crate::ties::Ties;
+use flow_potentials::Potentials;
 use plan_num::NoMemory;
 use std::alloc::Global;
 use vehicle_model::{Plan, Trips};
@@ -27,37 +28,59 @@ pub(crate) fn chosen_plan(alloc: Global, trips: &Trips, solved: &Solved) -> Resu
     let mut assignment = Assignment::of_plan(alloc, &solved.plan)?;
     let mut claims = Claims::new(alloc, trips.len() + 1)?;
     for trip in 0..trips.len() {
-        settle(&ties, trip, &mut claims, &mut assignment)?;
+        settle(trips, &solved.potentials, &ties, trip, &mut claims, &mut assignment)?;
     }
     assignment.to_plan(alloc)
 }
 
 // Gives a trip the first place that it has in a plan of least cost that keeps what is decided.
-fn settle(ties: &Ties, trip: usize, claims: &mut Claims, assignment: &mut Assignment) -> Result<(), NoMemory>
+fn settle(
+    _trips: &Trips,
+    _potentials: &Potentials,
+    ties: &Ties,
+    trip: usize,
+    claims: &mut Claims,
+    assignment: &mut Assignment,
+) -> Result<(), NoMemory>
     ghost search: { Search }
-    requires trip { (search.trip ≡ trip) × (search.low ≡ trip) }
-    requires within { trip < search.links.count }
-    requires over { AreOver search.links.count search.potentials }
-    requires possible { IsPlan search.links assignment.old }
-    requires tight { IsTight search.links search.potentials assignment.old }
+    requires search { IsSearch search assignment.old }
+    requires trip { search.trip ≡ trip }
     requires ties { AreTies search.links search.potentials ties.now }
     requires places { length claims.old.at ≡ search.links.count + 1 }
     ensures settled { OnOk result (IsSettled search assignment.old assignment.new) }
     ensures places { OnOk result (length claims.new.at ≡ search.links.count + 1) }
 {
-    claims.clear();
     let own = assignment.place(trip);
+    claims.clear();
+    if seek(ties, trip, own, claims, assignment)? {
+        move_to(trip, own, claims, assignment);
+    }
+    Ok(())
+}
+
+// Claims the places before a trip's own one, and looks from each whether the own one can be given up
+// for it.
+fn seek(ties: &Ties, trip: usize, own: usize, claims: &mut Claims, assignment: &Assignment) -> Result<bool, NoMemory>
+    ghost search: { Search }
+    requires search { IsSearch search assignment.now }
+    requires trip { search.trip ≡ trip }
+    requires own { own ≡ place_of search.links.count (next assignment.now search.trip) }
+    requires ties { AreTies search.links search.potentials ties.now }
+    requires none { claims.old ≡ record { at = replicate (search.links.count + 1) None; order = [] } }
+    ensures sought { IfOk result (λ found. MatchBool found (IsSought search assignment.now claims.new own)
+        (IsFirst search assignment.now own)) }
+    ensures places { OnOk result (length claims.new.at ≡ search.links.count + 1) }
+{
     for place in ties.of(trip) {
         if *place < own && is_open(claims, assignment, trip, *place) {
             claims.claim(*place, Some(trip), None)?;
             grow(ties, trip, own, claims, assignment)?;
             if claims.at(own).is_some() {
-                move_to(trip, own, claims, assignment);
-                return Ok(());
+                return Ok(true);
             }
         }
     }
-    Ok(())
+    Ok(false)
 }
 
 // Takes the place of a trip away, and hands places on until it has another one.
@@ -65,7 +88,7 @@ fn move_to(trip: usize, own: usize, claims: &Claims, assignment: &mut Assignment
     ghost search: { Search }
     requires search { IsSearch search assignment.old }
     requires trip { search.trip ≡ trip }
-    requires own { own ≡ place_of search.links.count (next assignment.old trip) }
+    requires own { own ≡ place_of search.links.count (next assignment.old search.trip) }
     requires right { AreRight search assignment.old claims.now }
     requires claimed { is_claimed claims.now own ≡ true }
     ensures { IsHandedOn search claims.now (slice_set assignment.old trip None) assignment.new }
@@ -80,7 +103,7 @@ fn move_to(trip: usize, own: usize, claims: &Claims, assignment: &mut Assignment
 fn grow(ties: &Ties, trip: usize, own: usize, claims: &mut Claims, assignment: &Assignment) -> Result<(), NoMemory>
     ghost search: { Search }
     requires search { IsSearch search assignment.now }
-    requires trip { trip ≡ search.low }
+    requires trip { search.trip ≡ trip }
     requires own { own ≡ place_of search.links.count (next assignment.now search.trip) }
     requires ties { AreTies search.links search.potentials ties.now }
     requires right { AreRight search assignment.now claims.old }
@@ -104,7 +127,7 @@ fn grow(ties: &Ties, trip: usize, own: usize, claims: &mut Claims, assignment: &
 fn expand(ties: &Ties, trip: usize, place: usize, claims: &mut Claims, assignment: &Assignment) -> Result<(), NoMemory>
     ghost search: { Search }
     requires search { IsSearch search assignment.now }
-    requires trip { trip ≡ search.low }
+    requires trip { search.trip ≡ trip }
     requires ties { AreTies search.links search.potentials ties.now }
     requires right { AreRight search assignment.now claims.old }
     requires place { is_claimed claims.old place ≡ true }
@@ -127,7 +150,7 @@ fn expand(ties: &Ties, trip: usize, place: usize, claims: &mut Claims, assignmen
 fn expand_last(ties: &Ties, trip: usize, place: usize, claims: &mut Claims, assignment: &Assignment) -> Result<(), NoMemory>
     ghost search: { Search }
     requires search { IsSearch search assignment.now }
-    requires trip { trip ≡ search.low }
+    requires trip { search.trip ≡ trip }
     requires ties { AreTies search.links search.potentials ties.now }
     requires right { AreRight search assignment.now claims.old }
     requires place { is_claimed claims.old place ≡ true }
@@ -160,7 +183,7 @@ fn claim_all(
 ) -> Result<(), NoMemory>
     ghost search: { Search }
     requires search { IsSearch search assignment.now }
-    requires trip { trip ≡ search.low }
+    requires trip { search.trip ≡ trip }
     requires places { ArePlaces (λ place. IsTightBy search.links search.potentials place by)
         (search.links.count + 1) places.now }
     requires movable { IfSome by (λ i. (search.low ≤ i) × (i < search.links.count)) }

@@ -36,6 +36,7 @@ impl Model for Claims {
 
 impl Claims {
     /// So many places without a claim.
+    #[tactic(auto, using(crate::proofs::ClaimLists::no_claims))]
     pub(crate) fn new(alloc: Global, places: usize) -> Result<Claims, NoMemory>
         ensures { IfOk result (λ made. made ≡ record { at = replicate places None; order = [] }) }
     {
@@ -50,12 +51,11 @@ impl Claims {
     }
 
     /// Takes all claims back.
+    #[tactic(auto, using(crate::proofs::ClaimLists::no_claims))]
     pub(crate) fn clear(&mut self)
         ensures { self.new ≡ record { at = replicate (length self.old.at) None; order = [] } }
     {
-        for place in 0..self.claims.len() {
-            self.claims[place] = None;
-        }
+        reset(&mut self.claims);
         self.order.clear();
     }
 
@@ -84,6 +84,7 @@ impl Claims {
     }
 
     /// Claims a place that is not claimed.
+    #[tactic(auto, using(crate::proofs::ClaimLists::claimed_more, crate::proofs::ClaimLists::few_claims))]
     pub(crate) fn claim(&mut self, place: usize, by: Option<usize>, from: Option<usize>) -> Result<(), NoMemory>
         requires place { place < length self.old.at }
         requires open { claim_at self.old place ≡ None }
@@ -93,9 +94,19 @@ impl Claims {
         }) }
         ensures few { length self.old.order < length self.old.at }
     {
-        let step = self.order.len();
+        let step = self.count();
         self.order.push(place)?;
         self.claims[place] = Some(Claim { by, from, step });
         Ok(())
+    }
+}
+
+// Takes all claims back.
+#[tactic(auto, using(crate::proofs::ClaimLists::reset_more, crate::proofs::ClaimLists::reset_all))]
+fn reset(claims: &mut Vec<Option<Claim>>)
+    ensures { claims.new.items ≡ replicate (length claims.old.items) None }
+{
+    for place in 0..claims.len() {
+        claims[place] = None;
     }
 }
