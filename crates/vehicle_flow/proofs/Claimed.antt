@@ -53,7 +53,7 @@ claim_kept search plan before after place found more is = record {
 }
 
 -- the claims with one more
-abbrev with_claim : ClaimsParts → ℕ → Claim → ClaimsParts
+abbrev pub with_claim : ClaimsParts → ℕ → Claim → ClaimsParts
 with_claim claims place found = record {
   at = slice_set claims.at place (Some found);
   order = claims.order ++ place ∷ [];
@@ -77,7 +77,7 @@ front_or_last [] x y (suc k) e front last = absurd (none-some y e)
 front_or_last (z ∷ xs) x y zero e front last = front e
 front_or_last (z ∷ xs) x y (suc k) e front last = front_or_last xs x y k e front last
 
-some_is : {X : Type 0} (at : Option X) (x : X) → at ≡ Some x → is_some at ≡ true
+pub some_is : {X : Type 0} (at : Option X) (x : X) → at ≡ Some x → is_some at ≡ true
 some_is at x e = ap is_some e
 
 module _ (search : Search) (plan : List (Option ℕ)) (claims : ClaimsParts) (place : ℕ) (found : Claim)
@@ -85,10 +85,10 @@ module _ (search : Search) (plan : List (Option ℕ)) (claims : ClaimsParts) (pl
     (free : claim_at claims place ≡ None) (few : length claims.order < length claims.at)
     (undecided : IsUndecided plan search.low place) (step : found.step ≡ length claims.order)
     (is : IsClaim search plan claims place found) where
-  abbrev new : ClaimsParts
+  abbrev pub new : ClaimsParts
   new = with_claim claims place found
 
-  at_place : claim_at new place ≡ Some found
+  pub at_place : claim_at new place ≡ Some found
   at_place = get_or-set_same claims.at place (Some found) None inside
 
   at_other : (other : ℕ) → other ≢ place → claim_at new other ≡ claim_at claims other
@@ -101,7 +101,7 @@ module _ (search : Search) (plan : List (Option ℕ)) (claims : ClaimsParts) (pl
   }
 
   -- a claim is an old one, or the new one
-  old_or_new : {P : Type 0} (other : ℕ) (one : Claim) → claim_at new other ≡ Some one
+  pub old_or_new : {P : Type 0} (other : ℕ) (one : Claim) → claim_at new other ≡ Some one
       → (claim_at claims other ≡ Some one → P) → (other ≡ place → found ≡ one → P) → P
   old_or_new other one e old latest = by_number other place
       (λ same. latest same (same_Some found one (sym at_place ∙ ap (claim_at new) (sym same) ∙ e)))

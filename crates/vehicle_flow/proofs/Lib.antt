@@ -1,5 +1,6 @@
 pub mod ClaimLists
-mod Claimed
+pub mod Claimed
+pub mod Claiming
 pub mod Copies
 mod HandingOn
 pub mod Moves
