@@ -1,16 +1,19 @@
 -- A trip or none claims all open places of a list, and a place is expanded.
-use Rattle.std.proofs.Common.{◌≡◌, ◌≢◌, ℕ, zero, suc, ◌+◌, ◌-◌, ◌<◌, ◌≤◌, true, false, is_some, Bool, List, [], ◌∷◌, ◌++◌, length, slice_set, slice_get, Option, Some, None, MatchOption, IfSome, unwrap_or, refl, ap, sym, ◌∙◌, subst, arith}
+use Rattle.std.proofs.Common.{◌≡◌, ◌≢◌, ℕ, zero, suc, ◌+◌, ◌-◌, ◌<◌, ◌≤◌, true, false, is_some, Bool, List, [], ◌∷◌, ◌++◌, length, slice_set, slice_get, Option, Some, None, MatchOption, IfSome, Result, Ok, Err, OnOk, refl, ap, sym, ◌∙◌, subst, arith}
 use Rattle.std.proofs.lemmas.Bool.{false≢true}
+use Rattle.std.proofs.lemmas.List.{get_or_past}
 use Rattle.std.proofs.lemmas.Option.{none-some, same_Some, slice_get_within, slice_get-get_or}
 use Rattle.vehicle_model.specs.Plans.{next, is_next}
 use Rattle.vehicle_model.proofs.Following.{some_of}
 use Rattle.vehicle_model.proofs.Linking.{by_number, not_next, next_found}
 use Rattle.flow_potentials.specs.Potentials.{at}
+use Rattle.flow_potentials.proofs.Certified.{by_bound}
 use Rattle.vehicle_flow.specs.declared.claim.Claim.{Claim}
 use Rattle.vehicle_flow.specs.Claims.{ClaimsParts, claim_at}
 use Rattle.vehicle_flow.specs.Places.{place_of}
 use Rattle.vehicle_flow.specs.Searches.{Search, IsTightBy, IsLeft, IsClaim, ComesFrom}
 use Rattle.vehicle_flow.specs.Choices.{ArePlaces, AreTies, IsUndecided, is_claimed, AllClaimed, IsExpanded, LastExpanded, AreExpanded, AreRight, AreMore, AreOthers, IsSearch}
+use Rattle.vehicle_flow.proofs.Moves.{has_next, successor_within, successor_past}
 use Rattle.vehicle_flow.proofs.Claimed.{AreGoing, with_claim, claims_more, claims_right, at_place, old_or_new, some_is}
 
 -- the places of a list so far are claimed
@@ -121,16 +124,55 @@ module _ (search : Search) (plan : List (Option ℕ)) (start claims : ClaimsPart
 
 -- ---- a place is expanded
 
--- what trips have at a place comes at it
-place_free : (count : ℕ) (plan : List (Option ℕ)) (place i : ℕ) → is_next plan place ≡ false
-    → place_of count (next plan i) ≡ place → (next plan i ≡ None → count ≡ place) × (place < count → ⊥)
-place_free count plan place i free has = by_next (next plan i) refl
-  where
-    by_next : (to : Option ℕ) → next plan i ≡ to → (next plan i ≡ None → count ≡ place) × (place < count → ⊥)
-    by_next None e =
-        let same : count ≡ place = sym (ap (place_of count) e) ∙ has in
-        (λ none. same, λ bound. absurd (omega (arith, same, bound)))
-    by_next (Some j) e = absurd (not_next plan i place free (e ∙ ap Some (sym (ap (place_of count) e) ∙ has)))
+-- a claimed place is one of the places
+pub claimed_within : (search : Search) (plan : List (Option ℕ)) (claims : ClaimsParts) (place : ℕ)
+    → AreRight search plan claims → is_claimed claims place ≡ true → place < search.links.count + 1
+claimed_within search plan claims place right h = by_bound place (length claims.at)
+    (λ inside. omega (arith, inside, right.places))
+    (λ past. absurd (false≢true (sym (ap is_some (get_or_past claims.at place None past)) ∙ h)))
+
+-- the trip that has a claimed place may be moved, and leaves it
+pub has_movable : (search : Search) (plan : List (Option ℕ)) (claims : ClaimsParts) (place by : ℕ)
+    → IsSearch search plan → AreRight search plan claims → is_claimed claims place ≡ true
+    → next plan by ≡ Some place → (search.low ≤ by) × (by < search.links.count)
+has_movable search plan claims place by is right h has =
+    let found = some_of (claim_at claims place) h in
+    (right.undecided place found.0 found.1 by has, omega (arith, has_next plan by place has, is.possible.each))
+
+pub has_left : (search : Search) (plan : List (Option ℕ)) (place by : ℕ) → IsSearch search plan
+    → (place_of search.links.count (next plan search.trip) ≡ place → ⊥)
+    → next plan by ≡ Some place → IsLeft search plan place (Some by)
+has_left search plan place by is apart has = (
+    (λ same. apart (ap (place_of search.links.count) (ap (next plan) (sym same) ∙ has))),
+    has ∙ sym (successor_within search.links.count place (omega (arith, is.successors.within by place has, is.possible.each))),
+  )
+
+-- and so does one without a next trip, behind them all
+pub last_left : (search : Search) (plan : List (Option ℕ)) (claims : ClaimsParts) (place by : ℕ)
+    → IsSearch search plan → AreRight search plan claims → is_claimed claims place ≡ true
+    → length plan ≤ place → (place_of search.links.count (next plan search.trip) ≡ place → ⊥)
+    → next plan by ≡ None → IsLeft search plan place (Some by)
+last_left search plan claims place by is right h past apart waits =
+    let bound : place < search.links.count + 1 = claimed_within search plan claims place right h in
+    let last : search.links.count ≡ place = omega (arith, bound, past, is.possible.each) in
+    (
+      (λ same. apart (ap (place_of search.links.count) (ap (next plan) (sym same) ∙ waits) ∙ last)),
+      waits ∙ sym (successor_past search.links.count place (omega (arith, last))),
+    )
+
+pub no_next : (at : Option ℕ) → is_some at ≡ false → at ≡ None
+no_next None e = refl
+no_next (Some j) e = absurd (false≢true (sym e))
+
+-- what a call leaves where it is not refused
+pub on_ok : {E A : Type 0} {S T : Type 0} (result : Result A E) → (S → T) → OnOk result S → OnOk result T
+on_ok (Ok value) f h = f h
+on_ok (Err why) f h = h
+
+pub on_both : {E A : Type 0} {R S T : Type 0} (result : Result A E) → (R → S → T) → OnOk result R → OnOk result S
+    → OnOk result T
+on_both (Ok value) f h k = f h k
+on_both (Err why) f h k = h
 
 -- by the trip that has it
 pub expanded_by : (search : Search) (plan : List (Option ℕ)) (claims : ClaimsParts) (place by : ℕ)
@@ -160,7 +202,7 @@ pub expanded_alone : (search : Search) (plan : List (Option ℕ)) (claims after 
     → (place ≡ search.links.count → LastExpanded search plan after search.links.count)
     → IsExpanded search plan after place
 expanded_alone search plan claims after place free all more last = record {
-  by = λ i low within at_place. by_next (next plan i) refl i low within at_place;
+  by = λ i low within at_place. by_next (next plan i) i refl low within at_place;
   alone = λ none other bound undecided zero. still_claimed claims after other more (all other bound undecided zero);
 }
   where

@@ -5,3 +5,4 @@ pub mod Copies
 mod HandingOn
 pub mod Moves
 pub mod Shifted
+pub mod Sought

@@ -1,0 +1,258 @@
+-- The places that a trip claims, one after another: those before the first that it may have are refused.
+use Rattle.std.proofs.Common.{◌≡◌, ◌≢◌, ℕ, zero, suc, ◌+◌, ◌-◌, ◌<◌, ◌≤◌, true, false, is_some, Bool, List, [], ◌∷◌, ◌++◌, length, take, replicate, slice_get, Option, Some, None, refl, ap, sym, ◌∙◌, subst, arith, length-append}
+use Rattle.std.proofs.lemmas.Bool.{false≢true}
+use Rattle.std.proofs.lemmas.List.{get_or-take, length-take, get_or_past}
+use Rattle.std.proofs.lemmas.Option.{none-some, same_Some, slice_get_within}
+use Rattle.vehicle_model.specs.Plans.{next, is_next, IsPlan}
+use Rattle.vehicle_model.proofs.Following.{some_of}
+use Rattle.vehicle_model.proofs.Linking.{by_number, followed, next_found, none_next}
+use Rattle.flow_potentials.specs.Potentials.{at, IsTight}
+use Rattle.flow_potentials.proofs.Certified.{by_bound}
+use Rattle.vehicle_flow.specs.declared.claim.Claim.{Claim}
+use Rattle.vehicle_flow.specs.Claims.{ClaimsParts, claim_at}
+use Rattle.vehicle_flow.specs.Places.{place_of}
+use Rattle.vehicle_flow.specs.Searches.{Search, IsTightAt, IsTightBy, IsClaim}
+use Rattle.vehicle_flow.specs.Choices.{ArePlaces, IsUndecided, is_claimed, IsExpanded, AreExpanded, AreRight, AreMore, AreOthers, AgreeBefore, AreWithin, IsSearch, IsFirst, IsSought}
+use Rattle.vehicle_flow.proofs.Moves.{has_next}
+use Rattle.vehicle_flow.proofs.Claimed.{IsSeeking, with_claim, claims_more, claims_right, at_place, old_or_new, some_is}
+use Rattle.vehicle_flow.proofs.Claiming.{still_claimed, still_expanded}
+use Rattle.vehicle_flow.proofs.Shifted.{IsClosed, AreDecided, stays_outside}
+
+-- 1 for a place of a set
+abbrev one : Bool → ℕ
+one true = 1
+one false = 0
+
+one_most : (b : Bool) → one b ≤ 1
+one_most true = omega arith
+one_most false = omega arith
+
+one_along : (a b : Bool) → (a ≡ true → b ≡ true) → one a ≤ one b
+one_along false b h = omega arith
+one_along true b h = omega (arith, ap one (h refl))
+
+-- which places are decided
+decided : (plan : List (Option ℕ)) (low : ℕ) → AreDecided plan low (is_next (take low plan))
+decided plan low = record {
+  has = λ place h.
+      let found = followed (take low plan) place h in
+      let within : found.0 < low = omega (arith, has_next (take low plan) found.0 place found.1, length-take low plan) in
+      (found.0, (within, sym (get_or-take low plan found.0 None within) ∙ found.1));
+  not = λ place h i e. by_bound i low
+      (λ before. absurd (false≢true (sym h ∙ next_found (take low plan) i place (get_or-take low plan i None before ∙ e))))
+      (λ past. past);
+}
+
+module _ (search : Search) (plan : List (Option ℕ)) (is : IsSearch search plan) where
+  inside : AreWithin search.links plan
+  inside i j e = omega (arith, is.successors.within i j e, is.possible.each)
+
+  -- what is claimed is closed, where all of it is expanded
+  module _ (claims : ClaimsParts) (right : AreRight search plan claims)
+      (expanded : AreExpanded search plan claims (length claims.order)) where
+    expanded_at : (place : ℕ) → is_claimed claims place ≡ true → IsExpanded search plan claims place
+    expanded_at place h =
+        let found = some_of (claim_at claims place) h in
+        let stands : slice_get claims.order found.0.step ≡ Some place = right.placed place found.0 found.1 in
+        expanded found.0.step place (slice_get_within claims.order found.0.step place stands) stands
+
+    closed : IsClosed search.links search.potentials plan search.low (λ place. one (is_claimed claims place))
+    closed = record {
+      one = λ place. one_most (is_claimed claims place);
+      by = λ i place low within bound undecided tight.
+          one_along (is_claimed claims (place_of search.links.count (next plan i))) (is_claimed claims place)
+          (λ h. (expanded_at (place_of search.links.count (next plan i)) h).by i low within refl place
+          (omega (arith, bound)) undecided tight);
+      alone = λ from place from_bound free bound undecided zero. one_along (is_claimed claims from) (is_claimed claims place)
+          (λ h. (expanded_at from h).alone free place (omega (arith, bound)) undecided zero);
+    }
+
+    -- so no tight plan that agrees on what is decided gives the trip a claimed place
+    refused : claim_at claims (place_of search.links.count (next plan search.trip)) ≡ None
+        → (other : List (Option ℕ)) → IsPlan search.links other → AreWithin search.links other
+        → IsTight search.links search.potentials other → AgreeBefore search.low plan other
+        → is_claimed claims (place_of search.links.count (next other search.trip)) ≡ true → ⊥
+    refused free other fits in_other tight agrees h =
+        stays_outside search.links search.potentials plan search.low (λ place. one (is_claimed claims place))
+        (is_next (take search.low plan)) (decided plan search.low) is.over is.possible inside is.tight closed
+        other fits in_other tight agrees (omega (arith, is.first, is.within))
+        (ap (λ i. one (is_claimed claims (place_of search.links.count (next plan i)))) is.first ∙ ap one (ap is_some free))
+        (ap (λ i. one (is_claimed claims (place_of search.links.count (next other i)))) is.first ∙ ap one h)
+
+  -- the place that another tight plan gives the trip is one where it is tight, and undecided
+  module _ (other : List (Option ℕ)) (fits : IsPlan search.links other) (in_other : AreWithin search.links other)
+      (tight : IsTight search.links search.potentials other) (agrees : AgreeBefore search.low plan other) where
+    other_tight : (to : Option ℕ) → next other search.trip ≡ to
+        → IsTightAt search.links search.potentials search.trip (place_of search.links.count to)
+    other_tight None e = record {
+      linked = λ h. absurd (omega (arith, h));
+      last = λ past. tight.last search.trip e;
+    }
+    other_tight (Some j) e = record {
+      linked = λ h. tight.linked search.trip j e;
+      last = λ past. let bound : j < search.links.count = in_other search.trip j e in absurd (omega (arith, bound, past));
+    }
+
+    other_undecided : (to : Option ℕ) → next other search.trip ≡ to
+        → IsUndecided plan search.low (place_of search.links.count to)
+    other_undecided None e i h =
+        let bound : search.links.count < search.links.count = inside i search.links.count h in absurd (omega (arith, bound))
+    other_undecided (Some j) e i h = by_bound i search.low
+        (λ before.
+            let same : i ≡ search.trip = fits.once i search.trip j (agrees i before ∙ h) e in
+            absurd (omega (arith, same, before, is.first)))
+        (λ past. past)
+
+  -- ---- one place after another
+
+  module _ (claims : ClaimsParts) (places : List ℕ) (own index : ℕ)
+      (are : ArePlaces (λ place. IsTightBy search.links search.potentials place (Some search.trip)) (search.links.count + 1) places)
+      (own_is : own ≡ place_of search.links.count (next plan search.trip))
+      (seeking : IsSeeking search plan claims places own index) where
+    own_most : (to : Option ℕ) → next plan search.trip ≡ to → place_of search.links.count to ≤ search.links.count
+    own_most None e = omega arith
+    own_most (Some j) e = let bound : j < search.links.count = inside search.trip j e in omega (arith, bound)
+
+    -- before the places that are still to be looked at there is none
+    nothing_before : (bound : ℕ) → bound ≤ own
+        → ((k : ℕ) → k < length places → at places k < bound → k < index) → IsFirst search plan bound
+    nothing_before bound most seen other fits in_other tight agrees =
+        by_bound (place_of search.links.count (next other search.trip)) bound
+        (λ before.
+            let k = are.all (place_of search.links.count (next other search.trip))
+            (omega (arith, before, most, own_is, own_most (next plan search.trip) refl))
+            (other_tight other fits in_other tight agrees (next other search.trip) refl) in
+            let here : at places k.0 < bound = omega (arith, before, k.1.1) in
+            let undecided : IsUndecided plan search.low (at places k.0) = subst (IsUndecided plan search.low) (sym k.1.1)
+            (other_undecided other fits in_other tight agrees (next other search.trip) refl) in
+            absurd (refused claims seeking.right seeking.expanded
+            (subst (λ some. claim_at claims some ≡ None) own_is seeking.free) other fits in_other tight agrees
+            (subst (λ some. is_claimed claims some ≡ true) k.1.1
+            (seeking.before k.0 (seen k.0 k.1.0 here) (omega (arith, here, most)) undecided))))
+        (λ past. past)
+
+    -- at the end, none before the trip's own
+    pub sought_none : length places ≤ index → IsFirst search plan own
+    sought_none past = nothing_before own (omega arith) (λ k within h. omega (arith, within, past))
+
+    -- the present one is passed over
+    pub seeking_past : own ≤ at places index → IsSeeking search plan claims places own (index + 1)
+    seeking_past past = record {
+      right = seeking.right;
+      expanded = seeking.expanded;
+      free = seeking.free;
+      before = λ k bound h undecided. by_number k index
+          (λ same. let here : at places k ≡ at places index = ap (at places) same in absurd (omega (arith, here, h, past)))
+          (λ apart. seeking.before k (omega (arith, bound, apart)) h undecided);
+      mine = λ place found e own_claim.
+          let k = seeking.mine place found e own_claim in (k.0, (omega (arith, k.1.0), k.1.1));
+    }
+
+    pub seeking_kept : (IsUndecided plan search.low (at places index) → is_claimed claims (at places index) ≡ true)
+        → IsSeeking search plan claims places own (index + 1)
+    seeking_kept already = record {
+      right = seeking.right;
+      expanded = seeking.expanded;
+      free = seeking.free;
+      before = λ k bound h undecided. by_number k index
+          (λ same. subst (λ i. IsUndecided plan search.low (at places i) → is_claimed claims (at places i) ≡ true) (sym same)
+          already undecided)
+          (λ apart. seeking.before k (omega (arith, bound, apart)) h undecided);
+      mine = λ place found e own_claim.
+          let k = seeking.mine place found e own_claim in (k.0, (omega (arith, k.1.0), k.1.1));
+    }
+
+    -- or the trip claims it
+    module _ (within : index < length places) (before_own : at places index < own)
+        (free : claim_at claims (at places index) ≡ None) (few : length claims.order < length claims.at)
+        (undecided : IsUndecided plan search.low (at places index)) where
+      abbrev latest : Claim
+      latest = record { by = Some search.trip; from = None; step = length claims.order }
+
+      latest_is : IsClaim search plan claims (at places index) latest
+      latest_is = record {
+        tight = are.right index within;
+        movable = (omega (arith, is.first), is.within);
+        from = refl;
+      }
+
+      in_places : at places index < length claims.at
+      in_places = omega (arith, are.within index within, seeking.right.places)
+
+      abbrev new : ClaimsParts
+      new = with_claim claims (at places index) latest
+
+      new_more : AreMore claims new
+      new_more = claims_more search plan claims (at places index) latest seeking.right in_places free few undecided refl latest_is
+
+      pub new_right : AreRight search plan new
+      new_right = claims_right search plan claims (at places index) latest seeking.right in_places free few undecided refl latest_is
+
+      pub new_size : length new.order ≡ length claims.order + 1
+      new_size = length-append claims.order (at places index ∷ [])
+
+      pub new_expanded : AreExpanded search plan new (length new.order - 1)
+      new_expanded step place bound e =
+          let earlier : step < length claims.order = omega (arith, bound, new_size) in
+          still_expanded search plan claims new place new_more
+          (seeking.expanded step place earlier (sym (before_last claims.order (at places index) step earlier) ∙ e))
+        where
+          before_last : (xs : List ℕ) (x k : ℕ) → k < length xs → slice_get (xs ++ x ∷ []) k ≡ slice_get xs k
+          before_last [] x k h = absurd (omega (arith, h))
+          before_last (y ∷ xs) x zero h = refl
+          before_last (y ∷ xs) x (suc k) h = before_last xs x k (omega (arith, h))
+
+      this_first : IsFirst search plan (at places index)
+      this_first = nothing_before (at places index) (omega (arith, before_own))
+          (λ k bound h. by_bound k index (λ before. before) (λ past. by_number k index
+          (λ same. let here : at places k ≡ at places index = ap (at places) same in absurd (omega (arith, here, h)))
+          (λ apart. let later : at places index < at places k = are.rising index k (omega (arith, past, apart)) bound in
+              absurd (omega (arith, later, h)))))
+
+      -- what it claims itself is a place so far
+      mine_now : (after : ClaimsParts) → AreOthers search new after → (place : ℕ) (found : Claim)
+          → claim_at after place ≡ Some found → found.by ≡ Some search.trip
+          → (k : ℕ) × ((k < index + 1) × (at places k ≡ place))
+      mine_now after others place found e own_claim =
+          old_or_new search plan claims (at places index) latest seeking.right in_places free few undecided refl latest_is
+          place found (others place found e own_claim)
+          (λ old. let k = seeking.mine place found old own_claim in (k.0, (omega (arith, k.1.0), k.1.1)))
+          (λ same is_found. (index, (omega arith, sym same)))
+
+      -- the trip's own place is claimed with it
+      pub sought_one : (after : ClaimsParts) → AreRight search plan after → AreOthers search new after
+          → is_claimed after own ≡ true → IsSought search plan after own
+      sought_one after right others claimed = record {
+        right = right;
+        claimed = claimed;
+        first = λ place found e own_claim other fits in_other tight agrees.
+            let k = mine_now after others place found e own_claim in
+            let least : at places index ≤ place_of search.links.count (next other search.trip) =
+            this_first other fits in_other tight agrees in
+            by_number k.0 index
+            (λ same. let here : at places k.0 ≡ at places index = ap (at places) same in omega (arith, here, k.1.1, least))
+            (λ apart. let earlier : at places k.0 < at places index = are.rising k.0 index (omega (arith, k.1.0, apart)) within in
+                omega (arith, earlier, k.1.1, least));
+      }
+
+      -- or not
+      pub seeking_more : (after : ClaimsParts) → AreRight search plan after → AreMore new after → AreOthers search new after
+          → AreExpanded search plan after (length after.order) → claim_at after own ≡ None
+          → IsSeeking search plan after places own (index + 1)
+      seeking_more after right more others expanded none = record {
+        right = right;
+        expanded = expanded;
+        free = none;
+        before = λ k bound h open_place. still_claimed new after (at places k) more (by_number k index
+            (λ same. some_is (claim_at new (at places k)) latest (ap (λ i. claim_at new (at places i)) same
+            ∙ at_place search plan claims (at places index) latest seeking.right in_places free few undecided refl latest_is))
+            (λ apart. still_claimed claims new (at places k) new_more
+            (seeking.before k (omega (arith, bound, apart)) h open_place)));
+        mine = mine_now after others;
+      }
+
+  -- nothing is claimed at first
+  pub seeking_none : (claims : ClaimsParts) (places : List ℕ) (own : ℕ)
+      → claims ≡ record { at = replicate (search.links.count + 1) None; order = [] }
+      → IsSeeking search plan claims places own 0
+  seeking_none claims places own none_is = ?
