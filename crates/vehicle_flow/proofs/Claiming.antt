@@ -160,9 +160,9 @@ last_left search plan claims place by is right h past apart waits =
       waits ∙ sym (successor_past search.links.count place (omega (arith, last))),
     )
 
-pub no_next : (at : Option ℕ) → is_some at ≡ false → at ≡ None
+pub no_next : {X : Type 0} (at : Option X) → is_some at ≡ false → at ≡ None
 no_next None e = refl
-no_next (Some j) e = absurd (false≢true (sym e))
+no_next (Some x) e = absurd (false≢true (sym e))
 
 -- what a call leaves where it is not refused
 pub on_ok : {E A : Type 0} {S T : Type 0} (result : Result A E) → (S → T) → OnOk result S → OnOk result T

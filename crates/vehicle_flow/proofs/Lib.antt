@@ -5,4 +5,5 @@ pub mod Copies
 mod HandingOn
 pub mod Moves
 pub mod Shifted
+pub mod Settling
 pub mod Sought

@@ -1,7 +1,7 @@
 -- The places that a trip claims, one after another: those before the first that it may have are refused.
-use Rattle.std.proofs.Common.{◌≡◌, ◌≢◌, ℕ, zero, suc, ◌+◌, ◌-◌, ◌<◌, ◌≤◌, true, false, is_some, Bool, List, [], ◌∷◌, ◌++◌, length, take, replicate, slice_get, Option, Some, None, refl, ap, sym, ◌∙◌, subst, arith, length-append}
+use Rattle.std.proofs.Common.{◌≡◌, ◌≢◌, ℕ, zero, suc, ◌+◌, ◌-◌, ◌<◌, ◌≤◌, true, false, is_some, Bool, List, [], ◌∷◌, ◌++◌, length, take, replicate, get_or, slice_get, Option, Some, None, refl, ap, sym, ◌∙◌, subst, arith, length-append}
 use Rattle.std.proofs.lemmas.Bool.{false≢true}
-use Rattle.std.proofs.lemmas.List.{get_or-take, length-take, get_or_past}
+use Rattle.std.proofs.lemmas.List.{get_or-take, length-take, length-replicate}
 use Rattle.std.proofs.lemmas.Option.{none-some, same_Some, slice_get_within}
 use Rattle.vehicle_model.specs.Plans.{next, is_next, IsPlan}
 use Rattle.vehicle_model.proofs.Following.{some_of}
@@ -12,7 +12,7 @@ use Rattle.vehicle_flow.specs.declared.claim.Claim.{Claim}
 use Rattle.vehicle_flow.specs.Claims.{ClaimsParts, claim_at}
 use Rattle.vehicle_flow.specs.Places.{place_of}
 use Rattle.vehicle_flow.specs.Searches.{Search, IsTightAt, IsTightBy, IsClaim}
-use Rattle.vehicle_flow.specs.Choices.{ArePlaces, IsUndecided, is_claimed, IsExpanded, AreExpanded, AreRight, AreMore, AreOthers, AgreeBefore, AreWithin, IsSearch, IsFirst, IsSought}
+use Rattle.vehicle_flow.specs.Choices.{ArePlaces, TiesParts, AreTies, IsUndecided, is_claimed, IsExpanded, AreExpanded, AreRight, AreMore, AreOthers, AgreeBefore, AreWithin, IsSearch, IsFirst, IsSought}
 use Rattle.vehicle_flow.proofs.Moves.{has_next}
 use Rattle.vehicle_flow.proofs.Claimed.{IsSeeking, with_claim, claims_more, claims_right, at_place, old_or_new, some_is}
 use Rattle.vehicle_flow.proofs.Claiming.{still_claimed, still_expanded}
@@ -42,6 +42,13 @@ decided plan low = record {
       (λ before. absurd (false≢true (sym h ∙ next_found (take low plan) i place (get_or-take low plan i None before ∙ e))))
       (λ past. past);
 }
+
+-- the trip's claim
+pub own_claim_is : (search : Search) (claims got : ClaimsParts) (place trip : ℕ) → search.trip ≡ trip
+    → got ≡ with_claim claims place (record { by = Some trip; from = None; step = length claims.order })
+    → got ≡ with_claim claims place (record { by = Some search.trip; from = None; step = length claims.order })
+own_claim_is search claims got place trip same got_is = got_is
+    ∙ ap (λ i. with_claim claims place (record { by = Some i; from = None; step = length claims.order })) (sym same)
 
 module _ (search : Search) (plan : List (Option ℕ)) (is : IsSearch search plan) where
   inside : AreWithin search.links plan
@@ -251,8 +258,62 @@ module _ (search : Search) (plan : List (Option ℕ)) (is : IsSearch search plan
         mine = mine_now after others;
       }
 
+      -- the same of the claims that a call leaves
+      module _ (trip : ℕ) (same : search.trip ≡ trip) (got : ClaimsParts)
+          (got_is : got ≡ with_claim claims (at places index) (record { by = Some trip; from = None; step = length claims.order })) where
+        is_new : got ≡ new
+        is_new = own_claim_is search claims got (at places index) trip same got_is
+
+        pub got_right : AreRight search plan got
+        got_right = subst (AreRight search plan) (sym is_new) new_right
+
+        pub got_some : 0 < length got.order
+        got_some = omega (arith, new_size, ap (λ some. length some.order) is_new)
+
+        pub got_expanded : AreExpanded search plan got (length got.order - 1)
+        got_expanded = subst (λ some. AreExpanded search plan some (length some.order - 1)) (sym is_new) new_expanded
+
+        pub got_sought : (after : ClaimsParts) → AreRight search plan after → AreOthers search got after
+            → is_claimed after own ≡ true → IsSought search plan after own
+        got_sought after right others claimed =
+            sought_one after right (subst (λ some. AreOthers search some after) is_new others) claimed
+
+        pub got_seeking : (after : ClaimsParts) → AreRight search plan after → AreMore got after → AreOthers search got after
+            → AreExpanded search plan after (length after.order) → claim_at after own ≡ None
+            → IsSeeking search plan after places own (index + 1)
+        got_seeking after right more others expanded none =
+            seeking_more after right (subst (λ some. AreMore some after) is_new more)
+            (subst (λ some. AreOthers search some after) is_new others) expanded none
+
   -- nothing is claimed at first
   pub seeking_none : (claims : ClaimsParts) (places : List ℕ) (own : ℕ)
       → claims ≡ record { at = replicate (search.links.count + 1) None; order = [] }
       → IsSeeking search plan claims places own 0
-  seeking_none claims places own none_is = ?
+  seeking_none claims places own none_is =
+      subst (λ some. IsSeeking search plan some places own 0) (sym none_is) (record {
+        right = record {
+          places = length-replicate (search.links.count + 1) None;
+          few = omega arith;
+          claim = λ place found e. absurd (none-some found (sym (none_at (search.links.count + 1) place) ∙ e));
+          undecided = λ place found e. absurd (none-some found (sym (none_at (search.links.count + 1) place) ∙ e));
+          placed = λ place found e. absurd (none-some found (sym (none_at (search.links.count + 1) place) ∙ e));
+          listed = λ step place e. absurd (none-some place e);
+        };
+        expanded = λ step place bound e. absurd (none-some place e);
+        free = none_at (search.links.count + 1) own;
+        before = λ k bound. absurd (omega (arith, bound));
+        mine = λ place found e. absurd (none-some found (sym (none_at (search.links.count + 1) place) ∙ e));
+      })
+    where
+      none_at : (n place : ℕ) → claim_at (record { at = replicate n None; order = [] }) place ≡ None
+      none_at zero place = refl
+      none_at (suc n) zero = refl
+      none_at (suc n) (suc place) = none_at n place
+
+  -- the places at which the trip is tight
+  pub ties_of : (ties : TiesParts) (trip : ℕ) (places : List ℕ) → AreTies search.links search.potentials ties
+      → search.trip ≡ trip → places ≡ get_or ties.by trip []
+      → ArePlaces (λ place. IsTightBy search.links search.potentials place (Some search.trip)) (search.links.count + 1) places
+  ties_of ties trip places are same places_are =
+      subst (ArePlaces (λ place. IsTightBy search.links search.potentials place (Some search.trip)) (search.links.count + 1))
+      (sym (places_are ∙ ap (λ i. get_or ties.by i []) (sym same))) (are.of_trip search.trip is.within)
