@@ -7,3 +7,4 @@ pub mod Moves
 pub mod Shifted
 pub mod Settling
 pub mod Sought
+pub mod TieLists
