@@ -1,5 +1,5 @@
 -- A trip has its place for good: its own one, or another that it was handed.
-use Rattle.std.proofs.Common.{◌≡◌, ◌≢◌, ℕ, ◌+◌, ◌<◌, ◌≤◌, true, false, is_some, Bool, List, [], length, take, slice_set, Option, Some, None, MatchOption, refl, ap, sym, ◌∙◌, subst, arith}
+use Rattle.std.proofs.Common.{◌≡◌, ◌≢◌, ℕ, ◌+◌, ◌<◌, ◌≤◌, true, false, is_some, Bool, List, [], length, take, slice_set, Option, Some, None, MatchOption, Result, Ok, Err, IfOk, refl, ap, sym, ◌∙◌, subst, arith}
 use Rattle.std.proofs.lemmas.Bool.{false≢true}
 use Rattle.std.proofs.lemmas.List.{length-set, get_or-take, get_or_past}
 use Rattle.std.proofs.lemmas.Option.{none-some, same_Some}
@@ -231,3 +231,8 @@ chosen_all trips potentials certified plan trip valid fits all is = record {
       ((tight_cheapest trips certified potentials valid fits other cheapest.possible).0 cheapest)
       (λ k early. sym (get_or-take i other k None early) ∙ ap (λ some. next some k) (sym agree) ∙ get_or-take i plan k None early);
 }
+
+pub chosen_told : {E : Type 0} (trips : TripsParts) (plan : List (Option ℕ)) → IsChosen trips plan
+    → (result : Result (List (Option ℕ)) E) → IfOk result (λ made. made ≡ plan) → IfOk result (IsChosen trips)
+chosen_told trips plan is (Ok made) same = subst (IsChosen trips) (sym same) is
+chosen_told trips plan is (Err why) same = tt

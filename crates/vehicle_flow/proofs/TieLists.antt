@@ -84,3 +84,28 @@ pub valid_covers : (links : Links) (plan : List (Option ℕ)) (potentials : Pote
     → (i : ℕ) → Covers links potentials i
 valid_covers links plan potentials valid i j =
     covered_by (links.gain i j) (at potentials.u i + at potentials.v j) (valid.covered i j)
+
+-- one trip's list more
+pub lists_more : {X : Type 0} (items : X → List ℕ) (Q : ℕ → List ℕ → Type 0) (lists : List X) (list : X) (new : List X)
+    (n : ℕ) → new ≡ lists ++ list ∷ [] → length (map items lists) ≡ n
+    → ((i : ℕ) → i < n → Q i (get_or (map items lists) i [])) → Q n (items list)
+    → (length (map items new) ≡ n + 1) × ((i : ℕ) → i < n + 1 → Q i (get_or (map items new) i []))
+lists_more {X} items Q lists list new n new_is size each one = (
+    ap length whole ∙ length-append (map items lists) (items list ∷ []) ∙ ap (λ k. k + 1) size,
+    (λ i bound. subst (λ all. Q i (get_or all i [])) (sym whole) (at_number i bound)),
+  )
+  where
+    map_more : (xs : List X) → map items (xs ++ list ∷ []) ≡ map items xs ++ items list ∷ []
+    map_more [] = refl
+    map_more (x ∷ xs) = ap (λ rest. items x ∷ rest) (map_more xs)
+
+    whole : map items new ≡ map items lists ++ items list ∷ []
+    whole = ap (map items) new_is ∙ map_more lists
+
+    at_number : (i : ℕ) → i < n + 1 → Q i (get_or (map items lists ++ items list ∷ []) i [])
+    at_number i bound = by_number i n
+        (λ same. subst (λ k. Q k (get_or (map items lists ++ items list ∷ []) k [])) (sym same)
+        (subst (Q n) (sym (ap (λ k. get_or (map items lists ++ items list ∷ []) k []) (sym size)
+        ∙ get_or-append_seam (map items lists) (items list) [] [])) one))
+        (λ apart. subst (Q i) (sym (get_or_append_left (map items lists) (items list ∷ []) [] i (omega (arith, bound, apart, size))))
+        (each i (omega (arith, bound, apart))))
