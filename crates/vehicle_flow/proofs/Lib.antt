@@ -2,9 +2,14 @@ pub mod ClaimLists
 pub mod Claimed
 pub mod Claiming
 pub mod Copies
+pub mod Covering
 mod HandingOn
 pub mod Moves
-pub mod Shifted
+pub mod NearPlaces
 pub mod Settling
+pub mod Shifted
+pub mod Shifting
+pub mod Shifts
 pub mod Sought
 pub mod TieLists
+pub mod Told

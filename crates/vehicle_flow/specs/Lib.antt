@@ -1,5 +1,6 @@
 pub mod Choices
 pub mod Claims
+pub mod Growing
 pub mod Places
 pub mod Searches
 pub mod Slacks

@@ -9,6 +9,7 @@ mod claim;
 mod handing;
 mod near;
 mod slack;
+mod shift;
 mod solved;
 mod ties;
 #[cfg(test)]

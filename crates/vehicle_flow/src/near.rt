@@ -1,4 +1,10 @@
 // How near places are to the trips of a tree.
+ghost use Rattle.std.specs.Prelude.{ℕ, ◌≡◌, ◌+◌, ◌<◌, ◌≤◌, true, length, get_or, replicate, None, MatchOption};
+ghost use Rattle.flow_potentials.specs.Potentials.{AreOver};
+ghost use Rattle.vehicle_flow.specs.Claims.{claim_at};
+ghost use Rattle.vehicle_flow.specs.Growing.{looked, nearer, shifted, open_near, IsNearestPlace, IsNearerOf, IsBetter};
+ghost use Rattle.vehicle_flow.specs.Slacks.{slack_to, Covers};
+ghost use Rattle.vehicle_model.specs.Trips.{links_of};
 
 use crate::assignment::Assignment;
 use crate::claim::Claims;
@@ -18,7 +24,18 @@ pub(crate) struct Near {
     pub from: Option<usize>,
 }
 
+/// Nothing is near any place.
+#[tactic(auto, using(crate::proofs::Told::told_start, crate::proofs::Told::told_more, crate::proofs::NearPlaces::forgotten_all))]
+pub(crate) fn forget(nears: &mut Vec<Option<Near>>)
+    ensures { nears.new.items ≡ replicate (length nears.old.items) None }
+{
+    for place in 0..nears.len() {
+        nears[place] = None;
+    }
+}
+
 /// Looks from a trip that comes to the tree, at each place without a claim.
+#[tactic(auto, using(crate::proofs::Told::told_start, crate::proofs::Told::told_more))]
 pub(crate) fn look(
     trips: &Trips,
     potentials: &Potentials,
@@ -26,50 +43,153 @@ pub(crate) fn look(
     nears: &mut Vec<Option<Near>>,
     by: usize,
     from: Option<usize>,
-) {
+)
+    requires each { AreOver (length trips.now.trips) potentials.now }
+    requires trip { by < length trips.now.trips }
+    requires covered { Covers (links_of trips.now) potentials.now by }
+    requires places { length claims.now.at ≡ length trips.now.trips + 1 }
+    requires nears { length nears.old.items ≡ length trips.now.trips + 1 }
+    ensures each { length nears.new.items ≡ length nears.old.items }
+    ensures looked { (place : ℕ) → place < length nears.old.items → get_or nears.new.items place None
+        ≡ looked (claim_at claims.now place) (slack_to (links_of trips.now) potentials.now by place) by from
+        (get_or nears.old.items place None) }
+{
     for place in 0..nears.len() {
-        if claims.at(place).is_none() {
-            if let Some(slack) = slack(trips, potentials, by, place) {
-                let near = Near { slack, by, from };
-                nears[place] = Some(nearer(nears[place], near));
-            }
-        }
+        nears[place] = look_at(trips, potentials, claims, place, by, from, near_at(nears, place));
     }
 }
 
-// The nearer one of two.
-fn nearer(old: Option<Near>, new: Near) -> Near {
+// What is nearest to a place.
+fn near_at(nears: &[Option<Near>], place: usize) -> Option<Near>
+    requires { place < length nears.now }
+    ensures { result ≡ get_or nears.now place None }
+{
+    nears[place]
+}
+
+// The same at one place.
+fn look_at(
+    trips: &Trips,
+    potentials: &Potentials,
+    claims: &Claims,
+    place: usize,
+    by: usize,
+    from: Option<usize>,
+    old: Option<Near>,
+) -> Option<Near>
+    requires each { AreOver (length trips.now.trips) potentials.now }
+    requires trip { by < length trips.now.trips }
+    requires covered { Covers (links_of trips.now) potentials.now by }
+    requires places { length claims.now.at ≡ length trips.now.trips + 1 }
+    requires place { place < length claims.now.at }
+    ensures { result ≡ looked (claim_at claims.now place)
+        (slack_to (links_of trips.now) potentials.now by place) by from old }
+{
+    if claims.at(place).is_some() {
+        return old;
+    }
+    match slack(trips, potentials, by, place) {
+        Some(slack) => Some(nearer(slack, by, from, old)),
+        None => old,
+    }
+}
+
+// The nearer one of a trip and what was the nearest one so far.
+fn nearer(slack: u64, by: usize, from: Option<usize>, old: Option<Near>) -> Near
+    ensures { result ≡ nearer slack by from old }
+{
     match old {
-        Some(old) => if new.slack < old.slack { new } else { old },
-        None => new,
+        Some(old) => if slack < old.slack { Near { slack, by, from } } else { old },
+        None => Near { slack, by, from },
+    }
+}
+
+/// Every place without a claim is nearer by a slack.
+#[tactic(auto, using(crate::proofs::Told::told_start, crate::proofs::Told::told_more))]
+pub(crate) fn shift_nears(claims: &Claims, nears: &mut Vec<Option<Near>>, slack: u64)
+    requires { length claims.now.at ≡ length nears.old.items }
+    ensures each { length nears.new.items ≡ length nears.old.items }
+    ensures shifted { (place : ℕ) → place < length nears.old.items → get_or nears.new.items place None
+        ≡ shifted (claim_at claims.now place) slack (get_or nears.old.items place None) }
+{
+    for place in 0..nears.len() {
+        nears[place] = shifted(claims, place, slack, near_at(nears, place));
+    }
+}
+
+// The same at one place.
+fn shifted(claims: &Claims, place: usize, slack: u64, old: Option<Near>) -> Option<Near>
+    requires { place < length claims.now.at }
+    ensures { result ≡ shifted (claim_at claims.now place) slack old }
+{
+    if claims.at(place).is_some() {
+        return old;
+    }
+    match old {
+        Some(near) => Some(Near {
+            slack: near.slack.saturating_sub(slack),
+            by: near.by,
+            from: near.from,
+        }),
+        None => None,
     }
 }
 
 /// The nearest place without a claim, and of two that are as near one without a trip.
-pub(crate) fn nearest(claims: &Claims, assignment: &Assignment, nears: &[Option<Near>]) -> Option<(usize, Near)> {
+#[tactic(auto, using(crate::proofs::NearPlaces::best_more, crate::proofs::NearPlaces::best_all))]
+pub(crate) fn nearest(
+    claims: &Claims,
+    assignment: &Assignment,
+    nears: &[Option<Near>],
+) -> Option<(usize, Near)>
+    requires { length claims.now.at ≡ length nears.now }
+    ensures { MatchOption result
+        ((place : ℕ) → place < length nears.now → claim_at claims.now place ≡ None → get_or nears.now place None ≡ None)
+        (λ best. IsNearestPlace claims.now nears.now best.0 best.1) }
+{
     let mut best: Option<(usize, Near)> = None;
     for place in 0..nears.len() {
-        if claims.at(place).is_none() {
-            if let Some(near) = nears[place] {
-                best = Some(better(assignment, best, (place, near)));
-            }
-        }
+        best = better(assignment, best, place, open_near(claims, nears, place));
     }
     best
 }
 
-// The better one of two places.
-fn better(assignment: &Assignment, best: Option<(usize, Near)>, other: (usize, Near)) -> (usize, Near) {
-    match best {
-        Some(best) => if is_better(assignment, &other, &best) { other } else { best },
-        None => other,
+// What is nearest to a place without a claim.
+fn open_near(claims: &Claims, nears: &[Option<Near>], place: usize) -> Option<Near>
+    requires claims { place < length claims.now.at }
+    requires nears { place < length nears.now }
+    ensures { result ≡ open_near (claim_at claims.now place) (get_or nears.now place None) }
+{
+    if claims.at(place).is_some() { None } else { near_at(nears, place) }
+}
+
+// The nearer one of the nearest place so far and another one.
+fn better(
+    assignment: &Assignment,
+    best: Option<(usize, Near)>,
+    place: usize,
+    near: Option<Near>,
+) -> Option<(usize, Near)>
+    ensures { IsBetter best place near result }
+{
+    match near {
+        Some(near) => Some(match best {
+            Some(best) => better_of(assignment, best, (place, near)),
+            None => (place, near),
+        }),
+        None => best,
     }
 }
 
-fn is_better(assignment: &Assignment, other: &(usize, Near), best: &(usize, Near)) -> bool {
-    if other.1.slack == best.1.slack {
-        assignment.is_free(other.0) && !assignment.is_free(best.0)
-    } else {
-        other.1.slack < best.1.slack
+// The nearer one of two places, and of two that are as near one without a trip.
+fn better_of(assignment: &Assignment, best: (usize, Near), other: (usize, Near)) -> (usize, Near)
+    ensures { IsNearerOf best other result }
+{
+    if other.1.slack < best.1.slack {
+        return other;
     }
+    if other.1.slack == best.1.slack && assignment.is_free(other.0) && !assignment.is_free(best.0) {
+        return other;
+    }
+    best
 }

@@ -1,5 +1,5 @@
 // How much the potentials of a trip and of a place are more than the gain of its link.
-ghost use Rattle.std.specs.Prelude.{ℕ, ◌≡◌, ◌<◌, ◌≤◌, length, slice_set, unsigned_abs, Some, IfSome};
+ghost use Rattle.std.specs.Prelude.{ℕ, pos, ◌≡◌, ◌<◌, ◌≤◌, length, slice_set, unsigned_abs, Some, IfSome};
 ghost use Rattle.flow_potentials.specs.Potentials.{AreOver};
 ghost use Rattle.vehicle_model.specs.Trips.{links_of};
 ghost use Rattle.vehicle_flow.specs.Slacks.{slack_to, worth, Covers};
@@ -35,11 +35,14 @@ pub(crate) fn worth(trips: &Trips, i: usize, j: usize) -> Option<u64>
     ensures value { result ≡ worth ((links_of trips.now).gain i j) }
     ensures small { IfSome result (λ gain. gain ≤ 1000000000000) }
 {
-    if !trips.may_follow(i, j) {
-        return None;
+    let _ = trips.len();
+    match trips.link_gain(i, j) {
+        Some(gain) => {
+            let natural = gain + 0;
+            if natural < 0 { None } else { Some(natural as u64) }
+        }
+        None => None,
     }
-    let gain = trips.gain(i, j);
-    if gain < 0 { None } else { Some(gain as u64) }
 }
 
 /// Raises the potential of a trip that has none so that it covers its links, by no more than it has to.
@@ -57,5 +60,13 @@ pub(crate) fn cover(trips: &Trips, potentials: &mut Potentials, trip: usize)
             most = most.max(rest);
         }
     }
-    potentials.set_u(trip, most as i64);
+    potentials.set_u(trip, as_i64(most));
+}
+
+/// A small number as a signed one.
+pub(crate) fn as_i64(number: u64) -> i64
+    requires { number ≤ 2000000000000000000 }
+    ensures { result ≡ pos number }
+{
+    number as i64
 }

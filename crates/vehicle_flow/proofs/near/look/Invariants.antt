@@ -1,0 +1,12 @@
+-- What is told of the first places so far.
+use Rattle.std.proofs.Common.{get_or, None}
+use Rattle.vehicle_flow.specs.Claims.{claim_at}
+use Rattle.vehicle_flow.specs.Growing.{looked}
+use Rattle.vehicle_model.specs.Trips.{links_of}
+use Rattle.vehicle_flow.specs.Slacks.{slack_to}
+use Rattle.vehicle_flow.proofs.Told.{IsTold}
+use Rattle.vehicle_flow.proofs.near.look.Given as goal
+
+abbrev pub invariant-loop-place : goal.invariant-loop-place
+invariant-loop-place l = IsTold None (λ i. looked (claim_at l.claims i)
+    (slack_to (links_of l.trips) l.potentials l.by i) l.by l.from (get_or l.fn.nears.items i None)) l.fn.nears.items l.nears.items l.place

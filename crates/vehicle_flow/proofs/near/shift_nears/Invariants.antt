@@ -1,0 +1,10 @@
+-- What is told of the first places so far.
+use Rattle.std.proofs.Common.{get_or, None}
+use Rattle.vehicle_flow.specs.Claims.{claim_at}
+use Rattle.vehicle_flow.specs.Growing.{shifted}
+use Rattle.vehicle_flow.proofs.Told.{IsTold}
+use Rattle.vehicle_flow.proofs.near.shift_nears.Given as goal
+
+abbrev pub invariant-loop-place : goal.invariant-loop-place
+invariant-loop-place l = IsTold None (λ i. shifted (claim_at l.claims i) l.slack
+    (get_or l.fn.nears.items i None)) l.fn.nears.items l.nears.items l.place

@@ -1,0 +1,9 @@
+-- The potentials of the first trips are lowered so far.
+use Rattle.std.proofs.Common.{◌≡◌, ◌-◌, cond, length}
+use Rattle.flow_potentials.specs.Potentials.{at, AreOver}
+use Rattle.vehicle_flow.specs.Growing.{in_tree}
+use Rattle.vehicle_flow.proofs.Shifts.{AreLowered}
+use Rattle.vehicle_flow.proofs.shift.lower.Given as goal
+
+abbrev pub invariant-loop-i : goal.invariant-loop-i
+invariant-loop-i l = AreLowered l.trip l.assignment l.claims l.slack l.fn.potentials l.potentials l.i
