@@ -122,8 +122,8 @@ module _ (search : Search) (plan : List (Option ℕ)) (claims : ClaimsParts) (pl
     placed = λ other one e. old_or_new other one e
         (λ old. front_at claims.order place other one.step (right.placed other one old))
         (λ same is_found.
-            ap (slice_get (claims.order ++ place ∷ [])) (ap (λ claim. claim.step) (sym is_found) ∙ step)
-            ∙ last_at claims.order place ∙ ap Some (sym same));
+        ap (slice_get (claims.order ++ place ∷ [])) (ap (λ claim. claim.step) (sym is_found) ∙ step)
+        ∙ last_at claims.order place ∙ ap Some (sym same));
     listed = λ k other e. front_or_last claims.order place other k e
         (λ old. still_claimed other (right.listed k other old))
         (λ same. some_is (claim_at new other) found (ap (claim_at new) (sym same) ∙ at_place));

@@ -143,9 +143,9 @@ pub has_left : (search : Search) (plan : List (Option ℕ)) (place by : ℕ) →
     → (place_of search.links.count (next plan search.trip) ≡ place → ⊥)
     → next plan by ≡ Some place → IsLeft search plan place (Some by)
 has_left search plan place by is apart has = (
-    (λ same. apart (ap (place_of search.links.count) (ap (next plan) (sym same) ∙ has))),
-    has ∙ sym (successor_within search.links.count place (omega (arith, is.successors.within by place has, is.possible.each))),
-  )
+  (λ same. apart (ap (place_of search.links.count) (ap (next plan) (sym same) ∙ has))),
+  has ∙ sym (successor_within search.links.count place (omega (arith, is.successors.within by place has, is.possible.each))),
+)
 
 -- and so does one without a next trip, behind them all
 pub last_left : (search : Search) (plan : List (Option ℕ)) (claims : ClaimsParts) (place by : ℕ)
@@ -154,8 +154,7 @@ pub last_left : (search : Search) (plan : List (Option ℕ)) (claims : ClaimsPar
     → next plan by ≡ None → IsLeft search plan place (Some by)
 last_left search plan claims place by is right h past apart waits =
     let bound : place < search.links.count + 1 = claimed_within search plan claims place right h in
-    let last : search.links.count ≡ place = omega (arith, bound, past, is.possible.each) in
-    (
+    let last : search.links.count ≡ place = omega (arith, bound, past, is.possible.each) in (
       (λ same. apart (ap (place_of search.links.count) (ap (next plan) (sym same) ∙ waits) ∙ last)),
       waits ∙ sym (successor_past search.links.count place (omega (arith, last))),
     )

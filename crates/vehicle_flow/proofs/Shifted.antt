@@ -114,10 +114,13 @@ module _ (links : Links) (potentials : PotentialParts) (plan : List (Option ℕ)
   -- the shift takes no potential below 0
   here_bound : (i : ℕ) → low ≤ i → i < links.count → w (own i) ≤ at potentials.u i + w links.count
   here_bound i h within = by_number (at potentials.u i) 0
-      (λ zero. omega (arith, closed.by i links.count h within (omega arith) last_undecided (record {
-        linked = λ before. absurd (omega (arith, before));
-        last = λ past. zero;
-      })))
+      (λ zero. omega (
+        arith,
+        closed.by i links.count h within (omega arith) last_undecided (record {
+          linked = λ before. absurd (omega (arith, before));
+          last = λ past. zero;
+        }),
+      ))
       (λ apart. omega (arith, closed.one (own i), apart))
 
   last_free : is_next plan links.count ≡ false
@@ -129,8 +132,11 @@ module _ (links : Links) (potentials : PotentialParts) (plan : List (Option ℕ)
   last_bound : (place : ℕ) → place < links.count → decided place ≡ false
       → w links.count ≤ at potentials.v place + w place
   last_bound place within h = by_number (at potentials.v place) 0
-      (λ zero. omega (arith, closed.alone links.count place (omega arith) last_free (omega (arith, within))
-      (are.not place h) zero))
+      (λ zero. omega (
+        arith,
+        closed.alone links.count place (omega arith) last_free (omega (arith, within))
+            (are.not place h) zero,
+      ))
       (λ apart. omega (arith, closed.one links.count, apart))
 
   pair_moved : (i j : ℕ) → low ≤ i → i < links.count → j < links.count → decided j ≡ false
@@ -185,12 +191,12 @@ module _ (links : Links) (potentials : PotentialParts) (plan : List (Option ℕ)
           v_kept j (was_decided i j e before (decided j) refl) (in_other i j e),
         ))
         (λ after.
-            let free : decided j ≡ false = was_open i j e after (decided j) refl in
-            omega (
-              arith,
-              pair_moved i j after (within_of i j e) (in_other i j e) free,
-              closed.by i j after (within_of i j e) (omega (arith, in_other i j e)) (are.not j free) (tight_at i j e),
-            ))
+        let free : decided j ≡ false = was_open i j e after (decided j) refl in
+        omega (
+          arith,
+          pair_moved i j after (within_of i j e) (in_other i j e) free,
+          closed.by i j after (within_of i j e) (omega (arith, in_other i j e)) (are.not j free) (tight_at i j e),
+        ))
 
     gain_at : ℕ → ℕ → ℤ
     gain_at i j = unwrap_or (links.gain i j) (pos 0)

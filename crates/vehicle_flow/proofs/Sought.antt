@@ -106,8 +106,8 @@ module _ (search : Search) (plan : List (Option ℕ)) (is : IsSearch search plan
         let bound : search.links.count < search.links.count = inside i search.links.count h in absurd (omega (arith, bound))
     other_undecided (Some j) e i h = by_bound i search.low
         (λ before.
-            let same : i ≡ search.trip = fits.once i search.trip j (agrees i before ∙ h) e in
-            absurd (omega (arith, same, before, is.first)))
+        let same : i ≡ search.trip = fits.once i search.trip j (agrees i before ∙ h) e in
+        absurd (omega (arith, same, before, is.first)))
         (λ past. past)
 
   -- ---- one place after another
@@ -126,16 +126,16 @@ module _ (search : Search) (plan : List (Option ℕ)) (is : IsSearch search plan
     nothing_before bound most seen other fits in_other tight agrees =
         by_bound (place_of search.links.count (next other search.trip)) bound
         (λ before.
-            let k = are.all (place_of search.links.count (next other search.trip))
-            (omega (arith, before, most, own_is, own_most (next plan search.trip) refl))
-            (other_tight other fits in_other tight agrees (next other search.trip) refl) in
-            let here : at places k.0 < bound = omega (arith, before, k.1.1) in
-            let undecided : IsUndecided plan search.low (at places k.0) = subst (IsUndecided plan search.low) (sym k.1.1)
-            (other_undecided other fits in_other tight agrees (next other search.trip) refl) in
-            absurd (refused claims seeking.right seeking.expanded
-            (subst (λ some. claim_at claims some ≡ None) own_is seeking.free) other fits in_other tight agrees
-            (subst (λ some. is_claimed claims some ≡ true) k.1.1
-            (seeking.before k.0 (seen k.0 k.1.0 here) (omega (arith, here, most)) undecided))))
+        let k = are.all (place_of search.links.count (next other search.trip))
+        (omega (arith, before, most, own_is, own_most (next plan search.trip) refl))
+        (other_tight other fits in_other tight agrees (next other search.trip) refl) in
+        let here : at places k.0 < bound = omega (arith, before, k.1.1) in
+        let undecided : IsUndecided plan search.low (at places k.0) = subst (IsUndecided plan search.low) (sym k.1.1)
+        (other_undecided other fits in_other tight agrees (next other search.trip) refl) in
+        absurd (refused claims seeking.right seeking.expanded
+        (subst (λ some. claim_at claims some ≡ None) own_is seeking.free) other fits in_other tight agrees
+        (subst (λ some. is_claimed claims some ≡ true) k.1.1
+        (seeking.before k.0 (seen k.0 k.1.0 here) (omega (arith, here, most)) undecided))))
         (λ past. past)
 
     -- at the end, none before the trip's own
@@ -214,7 +214,7 @@ module _ (search : Search) (plan : List (Option ℕ)) (is : IsSearch search plan
           (λ k bound h. by_bound k index (λ before. before) (λ past. by_number k index
           (λ same. let here : at places k ≡ at places index = ap (at places) same in absurd (omega (arith, here, h)))
           (λ apart. let later : at places index < at places k = are.rising index k (omega (arith, past, apart)) bound in
-              absurd (omega (arith, later, h)))))
+          absurd (omega (arith, later, h)))))
 
       -- what it claims itself is a place so far
       mine_now : (after : ClaimsParts) → AreOthers search new after → (place : ℕ) (found : Claim)
@@ -239,7 +239,7 @@ module _ (search : Search) (plan : List (Option ℕ)) (is : IsSearch search plan
             by_number k.0 index
             (λ same. let here : at places k.0 ≡ at places index = ap (at places) same in omega (arith, here, k.1.1, least))
             (λ apart. let earlier : at places k.0 < at places index = are.rising k.0 index (omega (arith, k.1.0, apart)) within in
-                omega (arith, earlier, k.1.1, least));
+            omega (arith, earlier, k.1.1, least));
       }
 
       -- or not

@@ -47,30 +47,30 @@ module _ (P : ℕ → Type 0) (below : ℕ) (places : List ℕ) (are : ArePlaces
   places_more here = record {
     rising = λ k m before bound. by_number m (length places)
         (λ same.
-            let first : at more k ≡ at places k = front k (omega (arith, before, same)) in
-            let low : at places k < below = are.within k (omega (arith, before, same)) in
-            omega (arith, first, low, latest m same))
+        let first : at more k ≡ at places k = front k (omega (arith, before, same)) in
+        let low : at places k < below = are.within k (omega (arith, before, same)) in
+        omega (arith, first, low, latest m same))
         (λ apart.
-            let inside : m < length places = omega (arith, bound, size, apart) in
-            let first : at more k ≡ at places k = front k (omega (arith, before, inside)) in
-            let second : at more m ≡ at places m = front m inside in
-            let rising : at places k < at places m = are.rising k m before inside in
-            omega (arith, first, second, rising));
+        let inside : m < length places = omega (arith, bound, size, apart) in
+        let first : at more k ≡ at places k = front k (omega (arith, before, inside)) in
+        let second : at more m ≡ at places m = front m inside in
+        let rising : at places k < at places m = are.rising k m before inside in
+        omega (arith, first, second, rising));
     right = λ k bound. by_number k (length places)
         (λ same. subst P (sym (latest k same)) here)
         (λ apart. subst P (sym (front k (omega (arith, bound, size, apart)))) (are.right k (omega (arith, bound, size, apart))));
     within = λ k bound. by_number k (length places)
         (λ same. omega (arith, latest k same))
         (λ apart.
-            let inside : k < length places = omega (arith, bound, size, apart) in
-            let first : at more k ≡ at places k = front k inside in
-            let low : at places k < below = are.within k inside in
-            omega (arith, first, low));
+        let inside : k < length places = omega (arith, bound, size, apart) in
+        let first : at more k ≡ at places k = front k inside in
+        let low : at places k < below = are.within k inside in
+        omega (arith, first, low));
     all = λ place bound h. by_number place below
         (λ same. (length places, (omega (arith, size), latest (length places) refl ∙ sym same)))
         (λ apart.
-            let k = are.all place (omega (arith, bound, apart)) h in
-            (k.0, (omega (arith, k.1.0, size), front k.0 k.1.0 ∙ k.1.1)));
+        let k = are.all place (omega (arith, bound, apart)) h in
+        (k.0, (omega (arith, k.1.0, size), front k.0 k.1.0 ∙ k.1.1)));
   }
 
 -- valid potentials cover what links are worth
@@ -91,9 +91,9 @@ pub lists_more : {X : Type 0} (items : X → List ℕ) (Q : ℕ → List ℕ →
     → ((i : ℕ) → i < n → Q i (get_or (map items lists) i [])) → Q n (items list)
     → (length (map items new) ≡ n + 1) × ((i : ℕ) → i < n + 1 → Q i (get_or (map items new) i []))
 lists_more {X} items Q lists list new n new_is size each one = (
-    ap length whole ∙ length-append (map items lists) (items list ∷ []) ∙ ap (λ k. k + 1) size,
-    (λ i bound. subst (λ all. Q i (get_or all i [])) (sym whole) (at_number i bound)),
-  )
+  ap length whole ∙ length-append (map items lists) (items list ∷ []) ∙ ap (λ k. k + 1) size,
+  (λ i bound. subst (λ all. Q i (get_or all i [])) (sym whole) (at_number i bound)),
+)
   where
     map_more : (xs : List X) → map items (xs ++ list ∷ []) ≡ map items xs ++ items list ∷ []
     map_more [] = refl

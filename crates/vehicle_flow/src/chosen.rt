@@ -28,7 +28,14 @@ pub(crate) fn chosen_plan(alloc: Global, trips: &Trips, solved: &Solved) -> Resu
     let mut assignment = Assignment::of_plan(alloc, &solved.plan)?;
     let mut claims = Claims::new(alloc, trips.len() + 1)?;
     for trip in 0..trips.len() {
-        settle(trips, &solved.potentials, &ties, trip, &mut claims, &mut assignment)?;
+        settle(
+            trips,
+            &solved.potentials,
+            &ties,
+            trip,
+            &mut claims,
+            &mut assignment,
+        )?;
     }
     assignment.to_plan(alloc)
 }
@@ -60,7 +67,13 @@ fn settle(
 
 // Claims the places before a trip's own one, and looks from each whether the own one can be given up
 // for it.
-fn seek(ties: &Ties, trip: usize, own: usize, claims: &mut Claims, assignment: &Assignment) -> Result<bool, NoMemory>
+fn seek(
+    ties: &Ties,
+    trip: usize,
+    own: usize,
+    claims: &mut Claims,
+    assignment: &Assignment,
+) -> Result<bool, NoMemory>
     ghost search: { Search }
     requires search { IsSearch search assignment.now }
     requires trip { search.trip ≡ trip }
@@ -100,7 +113,13 @@ fn move_to(trip: usize, own: usize, claims: &Claims, assignment: &mut Assignment
 
 // Goes on from the place that was claimed last, until all claimed places are expanded or a trip's own
 // one is claimed.
-fn grow(ties: &Ties, trip: usize, own: usize, claims: &mut Claims, assignment: &Assignment) -> Result<(), NoMemory>
+fn grow(
+    ties: &Ties,
+    trip: usize,
+    own: usize,
+    claims: &mut Claims,
+    assignment: &Assignment,
+) -> Result<(), NoMemory>
     ghost search: { Search }
     requires search { IsSearch search assignment.now }
     requires trip { search.trip ≡ trip }
@@ -124,7 +143,13 @@ fn grow(ties: &Ties, trip: usize, own: usize, claims: &mut Claims, assignment: &
 }
 
 // Claims all places at which those are tight who have a place.
-fn expand(ties: &Ties, trip: usize, place: usize, claims: &mut Claims, assignment: &Assignment) -> Result<(), NoMemory>
+fn expand(
+    ties: &Ties,
+    trip: usize,
+    place: usize,
+    claims: &mut Claims,
+    assignment: &Assignment,
+) -> Result<(), NoMemory>
     ghost search: { Search }
     requires search { IsSearch search assignment.now }
     requires trip { search.trip ≡ trip }
@@ -147,7 +172,13 @@ fn expand(ties: &Ties, trip: usize, place: usize, claims: &mut Claims, assignmen
 }
 
 // Where a place is the last one, claims the places at which trips without a next one are tight.
-fn expand_last(ties: &Ties, trip: usize, place: usize, claims: &mut Claims, assignment: &Assignment) -> Result<(), NoMemory>
+fn expand_last(
+    ties: &Ties,
+    trip: usize,
+    place: usize,
+    claims: &mut Claims,
+    assignment: &Assignment,
+) -> Result<(), NoMemory>
     ghost search: { Search }
     requires search { IsSearch search assignment.now }
     requires trip { search.trip ≡ trip }

@@ -27,14 +27,18 @@ impl Model for Ties {
     ghost Value = { TiesParts };
 
     ghost view = { λ ties. record {
-        by = map (λ places. places.items) ties.by.items;
-        alone = ties.alone.items;
+      by = map (λ places. places.items) ties.by.items;
+      alone = ties.alone.items;
     } };
 }
 
 impl Ties {
     /// The ties of trips under potentials that cover their links.
-    pub(crate) fn new(alloc: Global, trips: &Trips, potentials: &Potentials) -> Result<Ties, NoMemory>
+    pub(crate) fn new(
+        alloc: Global,
+        trips: &Trips,
+        potentials: &Potentials,
+    ) -> Result<Ties, NoMemory>
         requires each { AreOver (length trips.now.trips) potentials.now }
         requires covered { (i : ℕ) → Covers (links_of trips.now) potentials.now i }
         ensures { IfOk result (AreTies (links_of trips.now) potentials.now) }
@@ -64,7 +68,12 @@ impl Ties {
 }
 
 // The places at which a trip is tight.
-fn places_of(alloc: Global, trips: &Trips, potentials: &Potentials, trip: usize) -> Result<Vec<usize>, NoMemory>
+fn places_of(
+    alloc: Global,
+    trips: &Trips,
+    potentials: &Potentials,
+    trip: usize,
+) -> Result<Vec<usize>, NoMemory>
     requires each { AreOver (length trips.now.trips) potentials.now }
     requires trip { trip < length trips.now.trips }
     requires covered { Covers (links_of trips.now) potentials.now trip }
@@ -97,7 +106,11 @@ fn is_tight(trips: &Trips, potentials: &Potentials, trip: usize, place: usize) -
 }
 
 // The places that need no trip.
-fn places_alone(alloc: Global, trips: &Trips, potentials: &Potentials) -> Result<Vec<usize>, NoMemory>
+fn places_alone(
+    alloc: Global,
+    trips: &Trips,
+    potentials: &Potentials,
+) -> Result<Vec<usize>, NoMemory>
     requires each { AreOver (length trips.now.trips) potentials.now }
     ensures { IfOk result (λ made. ArePlaces
         (λ place. IsTightBy (links_of trips.now) potentials.now place None)

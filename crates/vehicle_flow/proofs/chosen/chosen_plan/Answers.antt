@@ -14,10 +14,10 @@ loop-trip-init c = record {
 
 pub settle-requires : goal.settle-requires
 settle-requires c = (
-    search_is c.args.trips.now c.args.solved.now.potentials c.args.solved.now.plan c.loop-trip.assignment c.loop-trip.trip
-    c.requires.valid (omega (arith, c.loop-trip-test.true, c.len-trip-end.ensures.count)) c.loop-trip.invariant.deciding,
-    (refl, (c.in_ok-ties.ensures, c.loop-trip.invariant.places)),
-  )
+  search_is c.args.trips.now c.args.solved.now.potentials c.args.solved.now.plan c.loop-trip.assignment c.loop-trip.trip
+      c.requires.valid (omega (arith, c.loop-trip-test.true, c.len-trip-end.ensures.count)) c.loop-trip.invariant.deciding,
+  (refl, (c.in_ok-ties.ensures, c.loop-trip.invariant.places)),
+)
 
 pub loop-trip-preserved : goal.loop-trip-preserved
 loop-trip-preserved c = record {

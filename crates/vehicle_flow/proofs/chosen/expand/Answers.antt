@@ -7,19 +7,18 @@ use Rattle.vehicle_flow.proofs.chosen.expand.Goals as goal
 pub claim_all-requires : goal.claim_all-requires
 claim_all-requires g c =
     let movable = has_movable g.search c.args.assignment.now c.args.claims.now c.args.place c.in-Some.by
-    c.requires.0 c.requires.1.1.1.0 c.requires.1.1.1.1.0 c.in-Some.ensures.value in
-    (
+    c.requires.0 c.requires.1.1.1.0 c.requires.1.1.1.1.0 c.in-Some.ensures.value in (
       c.requires.0,
       (
         c.requires.1.0,
         (
           subst (ArePlaces (λ place. IsTightBy g.search.links g.search.potentials place (Some c.in-Some.by)) (g.search.links.count + 1))
-          (sym c.of.ensures) (c.requires.1.1.0.of_trip c.in-Some.by movable.1),
+              (sym c.of.ensures) (c.requires.1.1.0.of_trip c.in-Some.by movable.1),
           (
             movable,
             (
               has_left g.search c.args.assignment.now c.args.place c.in-Some.by c.requires.0 c.requires.1.1.1.1.1
-              c.in-Some.ensures.value,
+                  c.in-Some.ensures.value,
               (c.requires.1.1.1.0, c.requires.1.1.1.1.0),
             ),
           ),

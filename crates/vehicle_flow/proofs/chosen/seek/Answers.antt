@@ -28,25 +28,37 @@ loop-place-init g c = seeking_none g.search c.args.assignment.now c.requires.0 c
     c.args.own c.requires.1.1.1.1
 
 pub grow-requires : goal.grow-requires
-grow-requires g c = (c.requires.0, (c.requires.1.0, (c.requires.1.1.0, (c.requires.1.1.1.0, (
-    got_right g.search c.args.assignment.now c.requires.0 c.loop-place.claims c.of-place-items.result.now
-    c.args.own c.loop-place.place-index (ties g c.args.ties.now c.args.assignment.now c.args.trip c.of-place-items.result.now c.requires.0 c.requires.1.1.1.0 c.requires.1.0 c.of-place-items.ensures)
-    c.requires.1.1.0 c.loop-place.invariant c.loop-place-test.true c.if-place-own.true (c.if-is_open.ensures.none refl) c.claim.ensures.few
-    (low g c.args.trip c.args.assignment.now (at c.of-place-items.result.now c.loop-place.place-index) c.requires.0 c.requires.1.0 (c.if-is_open.ensures.yes refl))
-    c.args.trip c.requires.1.0 c.claim.new.self c.in_ok-claim.ensures.claimed,
+grow-requires g c = (
+  c.requires.0,
+  (
+    c.requires.1.0,
     (
-      got_some g.search c.args.assignment.now c.requires.0 c.loop-place.claims c.of-place-items.result.now
-    c.args.own c.loop-place.place-index (ties g c.args.ties.now c.args.assignment.now c.args.trip c.of-place-items.result.now c.requires.0 c.requires.1.1.1.0 c.requires.1.0 c.of-place-items.ensures)
-    c.requires.1.1.0 c.loop-place.invariant c.loop-place-test.true c.if-place-own.true (c.if-is_open.ensures.none refl) c.claim.ensures.few
-    (low g c.args.trip c.args.assignment.now (at c.of-place-items.result.now c.loop-place.place-index) c.requires.0 c.requires.1.0 (c.if-is_open.ensures.yes refl))
-    c.args.trip c.requires.1.0 c.claim.new.self c.in_ok-claim.ensures.claimed,
-      got_expanded g.search c.args.assignment.now c.requires.0 c.loop-place.claims c.of-place-items.result.now
-    c.args.own c.loop-place.place-index (ties g c.args.ties.now c.args.assignment.now c.args.trip c.of-place-items.result.now c.requires.0 c.requires.1.1.1.0 c.requires.1.0 c.of-place-items.ensures)
-    c.requires.1.1.0 c.loop-place.invariant c.loop-place-test.true c.if-place-own.true (c.if-is_open.ensures.none refl) c.claim.ensures.few
-    (low g c.args.trip c.args.assignment.now (at c.of-place-items.result.now c.loop-place.place-index) c.requires.0 c.requires.1.0 (c.if-is_open.ensures.yes refl))
-    c.args.trip c.requires.1.0 c.claim.new.self c.in_ok-claim.ensures.claimed,
+      c.requires.1.1.0,
+      (
+        c.requires.1.1.1.0,
+        (
+          got_right g.search c.args.assignment.now c.requires.0 c.loop-place.claims c.of-place-items.result.now
+              c.args.own c.loop-place.place-index (ties g c.args.ties.now c.args.assignment.now c.args.trip c.of-place-items.result.now c.requires.0 c.requires.1.1.1.0 c.requires.1.0 c.of-place-items.ensures)
+              c.requires.1.1.0 c.loop-place.invariant c.loop-place-test.true c.if-place-own.true (c.if-is_open.ensures.none refl) c.claim.ensures.few
+              (low g c.args.trip c.args.assignment.now (at c.of-place-items.result.now c.loop-place.place-index) c.requires.0 c.requires.1.0 (c.if-is_open.ensures.yes refl))
+              c.args.trip c.requires.1.0 c.claim.new.self c.in_ok-claim.ensures.claimed,
+          (
+            got_some g.search c.args.assignment.now c.requires.0 c.loop-place.claims c.of-place-items.result.now
+                c.args.own c.loop-place.place-index (ties g c.args.ties.now c.args.assignment.now c.args.trip c.of-place-items.result.now c.requires.0 c.requires.1.1.1.0 c.requires.1.0 c.of-place-items.ensures)
+                c.requires.1.1.0 c.loop-place.invariant c.loop-place-test.true c.if-place-own.true (c.if-is_open.ensures.none refl) c.claim.ensures.few
+                (low g c.args.trip c.args.assignment.now (at c.of-place-items.result.now c.loop-place.place-index) c.requires.0 c.requires.1.0 (c.if-is_open.ensures.yes refl))
+                c.args.trip c.requires.1.0 c.claim.new.self c.in_ok-claim.ensures.claimed,
+            got_expanded g.search c.args.assignment.now c.requires.0 c.loop-place.claims c.of-place-items.result.now
+                c.args.own c.loop-place.place-index (ties g c.args.ties.now c.args.assignment.now c.args.trip c.of-place-items.result.now c.requires.0 c.requires.1.1.1.0 c.requires.1.0 c.of-place-items.ensures)
+                c.requires.1.1.0 c.loop-place.invariant c.loop-place-test.true c.if-place-own.true (c.if-is_open.ensures.none refl) c.claim.ensures.few
+                (low g c.args.trip c.args.assignment.now (at c.of-place-items.result.now c.loop-place.place-index) c.requires.0 c.requires.1.0 (c.if-is_open.ensures.yes refl))
+                c.args.trip c.requires.1.0 c.claim.new.self c.in_ok-claim.ensures.claimed,
+          ),
+        ),
+      ),
     ),
-  )))))
+  ),
+)
 
 pub returns-then-is_some-clause-sought : goal.returns-then-is_some-clause-sought
 returns-then-is_some-clause-sought g c = got_sought g.search c.args.assignment.now c.requires.0 c.loop-place.claims c.of-place-items.result.now
@@ -60,23 +72,23 @@ returns-then-is_some-clause-sought g c = got_sought g.search c.args.assignment.n
 pub loop-place-preserved : goal.loop-place-preserved
 loop-place-preserved g c = elim c.if-place-own.branch [
   | then-place-own+then-is_open+in_ok-claim+in_ok-grow+else-is_some w ↦ rw w.claims-is (got_seeking g.search c.args.assignment.now c.requires.0 c.loop-place.claims c.of-place-items.result.now
-    c.args.own c.loop-place.place-index (ties g c.args.ties.now c.args.assignment.now c.args.trip c.of-place-items.result.now c.requires.0 c.requires.1.1.1.0 c.requires.1.0 c.of-place-items.ensures)
-    c.requires.1.1.0 c.loop-place.invariant c.loop-place-test.true w.if-place-own.true (w.if-is_open.ensures.none refl) w.claim.ensures.few
-    (low g c.args.trip c.args.assignment.now (at c.of-place-items.result.now c.loop-place.place-index) c.requires.0 c.requires.1.0 (w.if-is_open.ensures.yes refl))
-    c.args.trip c.requires.1.0 w.claim.new.self w.in_ok-claim.ensures.claimed
-    w.grow.new.claims w.in_ok-grow.ensures.right w.in_ok-grow.ensures.more w.in_ok-grow.ensures.others
-    (w.in_ok-grow.ensures.done (sym w.at.ensures ∙ no_next w.at.result (sym w.if-is_some.ensures)))
-    (sym w.at.ensures ∙ no_next w.at.result (sym w.if-is_some.ensures)))
+      c.args.own c.loop-place.place-index (ties g c.args.ties.now c.args.assignment.now c.args.trip c.of-place-items.result.now c.requires.0 c.requires.1.1.1.0 c.requires.1.0 c.of-place-items.ensures)
+      c.requires.1.1.0 c.loop-place.invariant c.loop-place-test.true w.if-place-own.true (w.if-is_open.ensures.none refl) w.claim.ensures.few
+      (low g c.args.trip c.args.assignment.now (at c.of-place-items.result.now c.loop-place.place-index) c.requires.0 c.requires.1.0 (w.if-is_open.ensures.yes refl))
+      c.args.trip c.requires.1.0 w.claim.new.self w.in_ok-claim.ensures.claimed
+      w.grow.new.claims w.in_ok-grow.ensures.right w.in_ok-grow.ensures.more w.in_ok-grow.ensures.others
+      (w.in_ok-grow.ensures.done (sym w.at.ensures ∙ no_next w.at.result (sym w.if-is_some.ensures)))
+      (sym w.at.ensures ∙ no_next w.at.result (sym w.if-is_some.ensures)))
   | else-place-own w ↦ rw w.claims-is (elim w.else-place-own.branch [
-      | else-place-own-via-then-place-own+else-is_open v ↦ seeking_kept g.search c.args.assignment.now c.requires.0 c.loop-place.claims c.of-place-items.result.now
-    c.args.own c.loop-place.place-index (ties g c.args.ties.now c.args.assignment.now c.args.trip c.of-place-items.result.now c.requires.0 c.requires.1.1.1.0 c.requires.1.0 c.of-place-items.ensures)
-    c.requires.1.1.0 c.loop-place.invariant
+    | else-place-own-via-then-place-own+else-is_open v ↦ seeking_kept g.search c.args.assignment.now c.requires.0 c.loop-place.claims c.of-place-items.result.now
+        c.args.own c.loop-place.place-index (ties g c.args.ties.now c.args.assignment.now c.args.trip c.of-place-items.result.now c.requires.0 c.requires.1.1.1.0 c.requires.1.0 c.of-place-items.ensures)
+        c.requires.1.1.0 c.loop-place.invariant
         (λ undecided. v.if-is_open.ensures.no (high g c.args.trip c.args.assignment.now
-            (at c.of-place-items.result.now c.loop-place.place-index) c.requires.0 c.requires.1.0 undecided) refl)
-      | else-place-own-via-else-place-own v ↦ seeking_past g.search c.args.assignment.now c.requires.0 c.loop-place.claims c.of-place-items.result.now
-    c.args.own c.loop-place.place-index (ties g c.args.ties.now c.args.assignment.now c.args.trip c.of-place-items.result.now c.requires.0 c.requires.1.1.1.0 c.requires.1.0 c.of-place-items.ensures)
-    c.requires.1.1.0 c.loop-place.invariant v.if-place-own.false
-    ])
+        (at c.of-place-items.result.now c.loop-place.place-index) c.requires.0 c.requires.1.0 undecided) refl)
+    | else-place-own-via-else-place-own v ↦ seeking_past g.search c.args.assignment.now c.requires.0 c.loop-place.claims c.of-place-items.result.now
+        c.args.own c.loop-place.place-index (ties g c.args.ties.now c.args.assignment.now c.args.trip c.of-place-items.result.now c.requires.0 c.requires.1.1.1.0 c.requires.1.0 c.of-place-items.ensures)
+        c.requires.1.1.0 c.loop-place.invariant v.if-place-own.false
+  ])
 ]
 
 pub returns-clause-sought : goal.returns-clause-sought
