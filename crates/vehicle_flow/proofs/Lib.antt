@@ -6,6 +6,7 @@ pub mod Covering
 mod HandingOn
 pub mod Moves
 pub mod NearPlaces
+pub mod Refused
 pub mod Settling
 pub mod Shifted
 pub mod Shifting
@@ -13,3 +14,4 @@ pub mod Shifts
 pub mod Sought
 pub mod TieLists
 pub mod Told
+pub mod Values

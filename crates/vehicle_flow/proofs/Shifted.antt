@@ -3,10 +3,8 @@
 use Rattle.std.proofs.Common.{◌≡◌, ℕ, ℤ, zero, suc, pos, ◌+◌, ◌-◌, ◌<◌, ◌≤◌, ◌≤ℤ◌, nat_lt, Bool, true, false, cond, List, length, map, sum, Option, Some, None, unwrap_or, refl, ap, sym, ◌∙◌, subst, arith}
 use Rattle.std.proofs.lemmas.Bool.{false≢true, lt-ltb, le-ltb}
 use Rattle.std.proofs.lemmas.Int.{ints}
-use Rattle.std.proofs.lemmas.List.FromFn.{get_or-map-range_with_len, length-map-range_with_len}
 use Rattle.std.proofs.lemmas.List.{get_or_past}
 use Rattle.std.proofs.lemmas.Option.{none-some}
-use Rattle.std.specs.List.{range_with_len}
 use Rattle.vehicle_model.specs.Trips.{Links}
 use Rattle.vehicle_model.specs.Plans.{next, is_next, IsPlan, plan_gain}
 use Rattle.vehicle_model.proofs.Linking.{by_number, not_next, never_next, next_found}
@@ -16,27 +14,9 @@ use Rattle.flow_potentials.proofs.Certified.{by_bound}
 use Rattle.flow_potentials.proofs.Slack.{AreCovering, AreTight, tight_gains, then_tight}
 use Rattle.vehicle_flow.specs.Searches.{IsTightAt, IsTightBy}
 use Rattle.vehicle_flow.specs.Places.{place_of}
+use Rattle.vehicle_flow.proofs.Moves.{has_next}
+use Rattle.vehicle_flow.proofs.Values.{values, values_at, values_size, values_past}
 use Rattle.vehicle_flow.specs.Choices.{IsUndecided, AgreeBefore, AreWithin}
-
--- numbers of so many trips
-values : ℕ → (ℕ → ℕ) → List ℕ
-values count f = map f (range_with_len 0 count)
-
-values_at : (count : ℕ) (f : ℕ → ℕ) (i : ℕ) → i < count → at (values count f) i ≡ f i
-unfolding values
-values_at count f i within = get_or-map-range_with_len f 0 count i i 0 within (omega arith)
-
-values_size : (count : ℕ) (f : ℕ → ℕ) → length (values count f) ≡ count
-unfolding values
-values_size count f = length-map-range_with_len f 0 count
-
-values_past : (count : ℕ) (f : ℕ → ℕ) (i : ℕ) → count ≤ i → at (values count f) i ≡ 0
-values_past count f i past = get_or_past (values count f) i 0 (omega (arith, values_size count f))
-
--- a plan has no more trips than it has
-plan_within : (plan : List (Option ℕ)) (i j : ℕ) → next plan i ≡ Some j → i < length plan
-plan_within plan i j e = by_bound i (length plan) (λ within. within)
-    (λ past. absurd (none-some j (sym (get_or_past plan i None past) ∙ e)))
 
 -- a set of places, as 1 for each of them: with the place of an undecided trip it has all undecided ones
 -- at which the trip is tight, and with one that has no trip all undecided ones that need none
@@ -154,7 +134,7 @@ module _ (links : Links) (potentials : PotentialParts) (plan : List (Option ℕ)
   module _ (other : List (Option ℕ)) (fits : IsPlan links other) (in_other : AreWithin links other)
       (other_tight : IsTight links potentials other) (agrees : AgreeBefore low plan other) where
     within_of : (i j : ℕ) → next other i ≡ Some j → i < links.count
-    within_of i j e = omega (arith, plan_within other i j e, fits.each)
+    within_of i j e = omega (arith, has_next other i j e, fits.each)
 
     was_decided : (i j : ℕ) → next other i ≡ Some j → i < low → (b : Bool) → decided j ≡ b → decided j ≡ true
     was_decided i j e before true d = d
