@@ -1,16 +1,13 @@
 -- What one more claim leaves, and what is claimed where places are expanded.
-use Rattle.std.proofs.Common.{◌≡◌, ◌≢◌, ℕ, zero, suc, ◌+◌, ◌-◌, ◌<◌, ◌≤◌, true, false, is_some, Bool, List, [], ◌∷◌, ◌++◌, length, slice_set, slice_get, Option, Some, None, MatchOption, IfSome, refl, ap, sym, ◌∙◌, subst, arith, length-append}
-use Rattle.std.proofs.lemmas.Bool.{false≢true}
-use Rattle.std.proofs.lemmas.List.{length-set, get_or-set_same, get_or-set_other, get_or_past}
-use Rattle.std.proofs.lemmas.Option.{none-some, same_Some, slice_get_within, slice_get-get_or, get_or_from_slice_get}
-use Rattle.vehicle_model.specs.Plans.{next, is_next}
-use Rattle.vehicle_model.proofs.Linking.{by_number, not_next, next_found}
+use Rattle.std.proofs.Common.{◌≡◌, ◌≢◌, ℕ, zero, suc, ◌<◌, true, is_some, List, [], ◌∷◌, ◌++◌, length, slice_set, slice_get, Option, Some, None, MatchOption, refl, ap, sym, ◌∙◌, subst, arith, length-append}
+use Rattle.std.proofs.lemmas.List.{length-set, get_or-set_same, get_or-set_other}
+use Rattle.std.proofs.lemmas.Option.{none-some, same_Some}
+use Rattle.vehicle_model.proofs.Linking.{by_number}
 use Rattle.flow_potentials.specs.Potentials.{at}
 use Rattle.vehicle_flow.specs.declared.claim.Claim.{Claim}
 use Rattle.vehicle_flow.specs.Claims.{ClaimsParts, claim_at}
-use Rattle.vehicle_flow.specs.Places.{place_of}
-use Rattle.vehicle_flow.specs.Searches.{Search, IsTightBy, IsLeft, IsClaim, ComesFrom}
-use Rattle.vehicle_flow.specs.Choices.{ArePlaces, IsUndecided, is_claimed, AllClaimed, IsExpanded, AreExpanded, AreRight, AreMore, AreOthers, IsSearch}
+use Rattle.vehicle_flow.specs.Searches.{Search, IsClaim, ComesFrom}
+use Rattle.vehicle_flow.specs.Choices.{IsUndecided, is_claimed, AreExpanded, AreRight, AreMore, AreOthers}
 
 -- a search goes on: what it keeps, against the claims at its start
 pub record AreGoing (search : Search) (plan : List (Option ℕ)) (start claims : ClaimsParts) : Type 0 where

@@ -1,22 +1,19 @@
 -- The places that a search has claimed and expanded are a closed set, so no tight plan that agrees on
 -- what is decided gives them to the trip that looks for a place.
-use Rattle.std.proofs.Common.{◌≡◌, ◌≢◌, ℕ, zero, suc, ◌+◌, ◌-◌, ◌<◌, ◌≤◌, true, false, is_some, Bool, List, [], ◌∷◌, ◌++◌, length, take, replicate, get_or, slice_get, Option, Some, None, refl, ap, sym, ◌∙◌, subst, arith, length-append}
+use Rattle.std.proofs.Common.{◌≡◌, ℕ, ◌<◌, ◌≤◌, true, false, is_some, Bool, List, length, take, slice_get, Option, Some, None, refl, ap, sym, ◌∙◌, arith}
 use Rattle.std.proofs.lemmas.Bool.{false≢true}
-use Rattle.std.proofs.lemmas.List.{get_or-take, length-take, length-replicate}
-use Rattle.std.proofs.lemmas.Option.{none-some, same_Some, slice_get_within}
+use Rattle.std.proofs.lemmas.List.{get_or-take, length-take}
+use Rattle.std.proofs.lemmas.Option.{slice_get_within}
 use Rattle.vehicle_model.specs.Plans.{next, is_next, IsPlan}
 use Rattle.vehicle_model.proofs.Following.{some_of}
-use Rattle.vehicle_model.proofs.Linking.{by_number, followed, next_found, none_next}
-use Rattle.flow_potentials.specs.Potentials.{at, IsTight}
+use Rattle.vehicle_model.proofs.Linking.{followed, next_found}
+use Rattle.flow_potentials.specs.Potentials.{IsTight}
 use Rattle.flow_potentials.proofs.Certified.{by_bound}
-use Rattle.vehicle_flow.specs.declared.claim.Claim.{Claim}
 use Rattle.vehicle_flow.specs.Claims.{ClaimsParts, claim_at}
 use Rattle.vehicle_flow.specs.Places.{place_of}
-use Rattle.vehicle_flow.specs.Searches.{Search, IsTightAt, IsTightBy, IsClaim}
-use Rattle.vehicle_flow.specs.Choices.{ArePlaces, TiesParts, AreTies, IsUndecided, is_claimed, IsExpanded, AreExpanded, AreRight, AreMore, AreOthers, AgreeBefore, AreWithin, IsSearch, IsFirst, IsSought}
+use Rattle.vehicle_flow.specs.Searches.{Search, IsTightAt}
+use Rattle.vehicle_flow.specs.Choices.{IsUndecided, is_claimed, IsExpanded, AreExpanded, AreRight, AgreeBefore, AreWithin, IsSearch}
 use Rattle.vehicle_flow.proofs.Moves.{has_next}
-use Rattle.vehicle_flow.proofs.Claimed.{IsSeeking, with_claim, claims_more, claims_right, at_place, old_or_new, some_is}
-use Rattle.vehicle_flow.proofs.Claiming.{still_claimed, still_expanded}
 use Rattle.vehicle_flow.proofs.Shifted.{IsClosed, AreDecided, stays_outside}
 
 -- 1 for a place of a set

@@ -1,20 +1,19 @@
 -- A trip has its place for good: its own one, or another that it was handed.
-use Rattle.std.proofs.Common.{◌≡◌, ◌≢◌, ℕ, ◌+◌, ◌<◌, ◌≤◌, true, false, is_some, Bool, List, [], length, take, slice_set, Option, Some, None, MatchOption, Result, Ok, Err, IfOk, refl, ap, sym, ◌∙◌, subst, arith}
-use Rattle.std.proofs.lemmas.Bool.{false≢true}
+use Rattle.std.proofs.Common.{◌≡◌, ◌≢◌, ℕ, ◌+◌, ◌<◌, ◌≤◌, true, false, is_some, List, length, slice_set, Option, Some, None, MatchOption, Result, Ok, Err, IfOk, refl, ap, sym, ◌∙◌, subst, arith}
 use Rattle.std.proofs.lemmas.List.{length-set, get_or-take, get_or_past}
-use Rattle.std.proofs.lemmas.Option.{none-some, same_Some}
-use Rattle.vehicle_model.specs.Plans.{next, is_next, IsPlan, IsCheapest, IsChosen, AreSuccessors, ComesNoLater}
+use Rattle.std.proofs.lemmas.Option.{none-some}
+use Rattle.vehicle_model.specs.Plans.{next, is_next, IsPlan, IsChosen, ComesNoLater}
 use Rattle.vehicle_model.specs.Trips.{Links, TripsParts, links_of}
 use Rattle.vehicle_model.proofs.Following.{some_of, links_within}
 use Rattle.vehicle_model.proofs.Linking.{by_number, never_next, not_next}
-use Rattle.flow_potentials.specs.Potentials.{PotentialParts, at, AreValid, IsTight}
+use Rattle.flow_potentials.specs.Potentials.{PotentialParts, AreValid, IsTight}
 use Rattle.flow_potentials.proofs.Certified.{by_bound, gains_all, tight_cheapest}
 use Rattle.vehicle_flow.specs.declared.claim.Claim.{Claim}
 use Rattle.vehicle_flow.specs.Claims.{ClaimsParts, claim_at}
 use Rattle.vehicle_flow.specs.Places.{place_of, successor_at}
 use Rattle.vehicle_flow.specs.Searches.{Search, IsLeft, IsClaim, IsTightBut, ComesFrom, IsFound, IsHandedOn}
 use Rattle.vehicle_flow.specs.Choices.{is_claimed, AreRight, AgreeBefore, AreWithin, IsSearch, IsFirst, IsSought, IsLeast, IsSettled}
-use Rattle.vehicle_flow.proofs.Moves.{has_next, moved_is, moved_other, successor_within, successor_past}
+use Rattle.vehicle_flow.proofs.Moves.{moved_is, moved_other, successor_within, successor_past}
 
 -- a place that comes no later
 no_later : (count : ℕ) (mine other : Option ℕ) → ((j : ℕ) → other ≡ Some j → j < count)

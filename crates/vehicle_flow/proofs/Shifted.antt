@@ -1,18 +1,17 @@
 -- Potentials that are shifted along a closed set of places: where a trip's own place is outside and
 -- another one inside, no tight plan that agrees with this one on what is decided gives it the other.
-use Rattle.std.proofs.Common.{◌≡◌, ℕ, ℤ, zero, suc, pos, ◌+◌, ◌-◌, ◌<◌, ◌≤◌, ◌≤ℤ◌, nat_lt, Bool, true, false, cond, List, length, map, sum, Option, Some, None, unwrap_or, refl, ap, sym, ◌∙◌, subst, arith}
-use Rattle.std.proofs.lemmas.Bool.{false≢true, lt-ltb, le-ltb}
+use Rattle.std.proofs.Common.{◌≡◌, ℕ, ℤ, pos, ◌+◌, ◌-◌, ◌<◌, ◌≤◌, nat_lt, Bool, true, false, List, sum, Option, Some, None, unwrap_or, refl, ap, sym, ◌∙◌, arith}
+use Rattle.std.proofs.lemmas.Bool.{lt-ltb, le-ltb}
 use Rattle.std.proofs.lemmas.Int.{ints}
 use Rattle.std.proofs.lemmas.List.{get_or_past}
-use Rattle.std.proofs.lemmas.Option.{none-some}
 use Rattle.vehicle_model.specs.Trips.{Links}
-use Rattle.vehicle_model.specs.Plans.{next, is_next, IsPlan, plan_gain}
-use Rattle.vehicle_model.proofs.Linking.{by_number, not_next, never_next, next_found}
+use Rattle.vehicle_model.specs.Plans.{next, is_next, IsPlan}
+use Rattle.vehicle_model.proofs.Linking.{by_number, not_next, never_next}
 use Rattle.vehicle_model.proofs.Totals.{gains_from}
 use Rattle.flow_potentials.specs.Potentials.{PotentialParts, at, AreOver, IsTight}
 use Rattle.flow_potentials.proofs.Certified.{by_bound}
 use Rattle.flow_potentials.proofs.Slack.{AreCovering, AreTight, tight_gains, then_tight}
-use Rattle.vehicle_flow.specs.Searches.{IsTightAt, IsTightBy}
+use Rattle.vehicle_flow.specs.Searches.{IsTightAt}
 use Rattle.vehicle_flow.specs.Places.{place_of}
 use Rattle.vehicle_flow.proofs.Moves.{has_next}
 use Rattle.vehicle_flow.proofs.Values.{values, values_at, values_size, values_past}

@@ -1,19 +1,16 @@
 -- The places that a trip claims, one after another: those before the first that it may have are refused.
-use Rattle.std.proofs.Common.{◌≡◌, ◌≢◌, ℕ, zero, suc, ◌+◌, ◌-◌, ◌<◌, ◌≤◌, true, false, is_some, Bool, List, [], ◌∷◌, ◌++◌, length, take, replicate, get_or, slice_get, Option, Some, None, refl, ap, sym, ◌∙◌, subst, arith, length-append}
-use Rattle.std.proofs.lemmas.Bool.{false≢true}
-use Rattle.std.proofs.lemmas.List.{get_or-take, length-take, length-replicate}
-use Rattle.std.proofs.lemmas.Option.{none-some, same_Some, slice_get_within}
-use Rattle.vehicle_model.specs.Plans.{next, is_next, IsPlan}
-use Rattle.vehicle_model.proofs.Following.{some_of}
-use Rattle.vehicle_model.proofs.Linking.{by_number, followed, next_found, none_next}
-use Rattle.flow_potentials.specs.Potentials.{at, IsTight}
+use Rattle.std.proofs.Common.{◌≡◌, ℕ, zero, suc, ◌+◌, ◌-◌, ◌<◌, ◌≤◌, true, List, [], ◌∷◌, ◌++◌, length, replicate, get_or, slice_get, Option, Some, None, refl, ap, sym, ◌∙◌, subst, arith, length-append}
+use Rattle.std.proofs.lemmas.List.{length-replicate}
+use Rattle.std.proofs.lemmas.Option.{none-some}
+use Rattle.vehicle_model.specs.Plans.{next}
+use Rattle.vehicle_model.proofs.Linking.{by_number}
+use Rattle.flow_potentials.specs.Potentials.{at}
 use Rattle.flow_potentials.proofs.Certified.{by_bound}
 use Rattle.vehicle_flow.specs.declared.claim.Claim.{Claim}
 use Rattle.vehicle_flow.specs.Claims.{ClaimsParts, claim_at}
 use Rattle.vehicle_flow.specs.Places.{place_of}
-use Rattle.vehicle_flow.specs.Searches.{Search, IsTightAt, IsTightBy, IsClaim}
-use Rattle.vehicle_flow.specs.Choices.{ArePlaces, TiesParts, AreTies, IsUndecided, is_claimed, IsExpanded, AreExpanded, AreRight, AreMore, AreOthers, AgreeBefore, AreWithin, IsSearch, IsFirst, IsSought}
-use Rattle.vehicle_flow.proofs.Moves.{has_next}
+use Rattle.vehicle_flow.specs.Searches.{Search, IsTightBy, IsClaim}
+use Rattle.vehicle_flow.specs.Choices.{ArePlaces, TiesParts, AreTies, IsUndecided, is_claimed, AreExpanded, AreRight, AreMore, AreOthers, IsSearch, IsFirst, IsSought}
 use Rattle.vehicle_flow.proofs.Claimed.{IsSeeking, with_claim, claims_more, claims_right, at_place, old_or_new, some_is}
 use Rattle.vehicle_flow.proofs.Claiming.{still_claimed, still_expanded}
 use Rattle.vehicle_flow.proofs.Refused.{inside, refused, other_tight, other_undecided}

@@ -1,12 +1,12 @@
 -- Inner words of the choice among the plans of least cost: the places that trips which are still to be
 -- decided may take, and which of them a search has claimed.
-use Rattle.std.specs.Prelude.{ℕ, ◌≡◌, ◌+◌, ◌<◌, ◌≤◌, Bool, true, false, is_some, List, [], length, slice_get, get_or, Option, Some, None, IfSome}
+use Rattle.std.specs.Prelude.{ℕ, ◌≡◌, ◌+◌, ◌<◌, ◌≤◌, Bool, true, false, is_some, List, [], length, slice_get, get_or, Option, Some, None}
 use Rattle.vehicle_model.specs.Plans.{next, is_next, IsPlan, AreSuccessors, ComesNoLater}
 use Rattle.flow_potentials.specs.Potentials.{PotentialParts, at, AreOver, IsTight}
 use Rattle.vehicle_flow.specs.declared.claim.Claim.{Claim}
 use Rattle.vehicle_flow.specs.Claims.{ClaimsParts, claim_at}
 use Rattle.vehicle_flow.specs.Places.{place_of}
-use Rattle.vehicle_flow.specs.Searches.{Search, IsTightAt, IsTightBy, IsClaim, IsLeft}
+use Rattle.vehicle_flow.specs.Searches.{Search, IsTightBy, IsClaim}
 use Rattle.vehicle_model.specs.Trips.{Links}
 
 -- the places below a number for which something holds, in rising order

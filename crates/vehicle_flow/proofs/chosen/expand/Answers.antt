@@ -1,4 +1,4 @@
-use Rattle.std.proofs.Common.{Some, ◌+◌, ◌≡◌, ◌≤◌, ◌<◌, ◌∙◌, sym, subst, arith, length}
+use Rattle.std.proofs.Common.{Some, ◌+◌, sym, subst}
 use Rattle.vehicle_flow.specs.Choices.{ArePlaces}
 use Rattle.vehicle_flow.specs.Searches.{IsTightBy}
 use Rattle.vehicle_flow.proofs.Claiming.{has_left, has_movable, expanded_by, expanded_alone, on_ok, on_both}

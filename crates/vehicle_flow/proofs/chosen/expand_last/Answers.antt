@@ -1,4 +1,4 @@
-use Rattle.std.proofs.Common.{Some, ◌+◌, ◌≡◌, ◌≤◌, ◌<◌, ◌∙◌, sym, subst, arith, length}
+use Rattle.std.proofs.Common.{Some, ◌+◌, ◌≡◌, ◌<◌, ◌∙◌, sym, subst, arith}
 use Rattle.vehicle_flow.specs.Choices.{ArePlaces}
 use Rattle.vehicle_flow.specs.Searches.{IsTightBy}
 use Rattle.vehicle_flow.proofs.Claiming.{last_left, no_next, still_claimed}

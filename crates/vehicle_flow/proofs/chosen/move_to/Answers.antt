@@ -1,5 +1,4 @@
-use Rattle.std.proofs.Common.{◌≡◌, None, ap, sym, ◌∙◌, slice_set, length, arith}
-use Rattle.vehicle_flow.specs.Places.{successor_at}
+use Rattle.std.proofs.Common.{None, ap, sym, ◌∙◌, slice_set, length, arith}
 use Rattle.vehicle_flow.proofs.Moves.{past_free, successor_past}
 use Rattle.vehicle_flow.proofs.Settling.{found_of}
 use Rattle.vehicle_flow.proofs.chosen.move_to.Goals as goal

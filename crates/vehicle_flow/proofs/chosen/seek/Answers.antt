@@ -1,4 +1,4 @@
-use Rattle.std.proofs.Common.{ℕ, ◌≡◌, ◌+◌, List, [], Option, Some, None, get_or, is_some, true, refl, ap, sym, ◌∙◌, subst}
+use Rattle.std.proofs.Common.{ℕ, ◌≡◌, ◌+◌, List, [], Option, Some, get_or, is_some, refl, ap, sym, ◌∙◌, subst}
 use Rattle.flow_potentials.specs.Potentials.{at}
 use Rattle.vehicle_flow.specs.Choices.{ArePlaces, AreTies, TiesParts, IsSearch, IsUndecided}
 use Rattle.vehicle_flow.specs.Searches.{IsTightBy}

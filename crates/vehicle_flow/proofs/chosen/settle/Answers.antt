@@ -1,4 +1,4 @@
-use Rattle.std.proofs.Common.{Bool, MatchBool, None, ap, sym, slice_set, subst}
+use Rattle.std.proofs.Common.{MatchBool, None, ap, sym, slice_set, subst}
 use Rattle.vehicle_flow.specs.Choices.{IsSought, IsFirst}
 use Rattle.vehicle_flow.proofs.Settling.{settled_one}
 use Rattle.vehicle_flow.proofs.chosen.settle.Goals as goal

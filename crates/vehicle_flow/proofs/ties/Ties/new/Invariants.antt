@@ -3,7 +3,6 @@ use Rattle.std.proofs.Common.{ℕ, ◌≡◌, ◌+◌, ◌<◌, [], Some, length
 use Rattle.vehicle_model.specs.Trips.{links_of}
 use Rattle.vehicle_flow.specs.Choices.{ArePlaces}
 use Rattle.vehicle_flow.specs.Searches.{IsTightBy}
-use Rattle.vehicle_flow.proofs.TieLists.{places_none}
 use Rattle.vehicle_flow.proofs.ties.Ties.new.Given as goal
 
 abbrev pub invariant-loop-trip : goal.invariant-loop-trip
