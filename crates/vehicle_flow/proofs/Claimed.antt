@@ -10,14 +10,16 @@ use Rattle.vehicle_flow.specs.Searches.{Search, IsClaim, ComesFrom}
 use Rattle.vehicle_flow.specs.Choices.{IsUndecided, is_claimed, AreExpanded, AreRight, AreMore, AreOthers}
 
 -- a search goes on: what it keeps, against the claims at its start
-pub record AreGoing (search : Search) (plan : List (Option ℕ)) (start claims : ClaimsParts) : Type 0 where
+pub record AreGoing (search : Search) (plan : List (Option ℕ)) (start claims : ClaimsParts) : Type 0
+    where
   pub right : AreRight search plan claims
   pub more : AreMore start claims
   pub others : AreOthers search start claims
 
 -- the loop over the places that a trip would take: all that is claimed is expanded, the places before
 -- one are claimed where they come before the trip's own, and the trip's own claims are among them
-pub record IsSeeking (search : Search) (plan : List (Option ℕ)) (claims : ClaimsParts) (places : List ℕ) (own index : ℕ) : Type 0 where
+pub record IsSeeking (search : Search) (plan : List (Option ℕ)) (claims : ClaimsParts)
+    (places : List ℕ) (own index : ℕ) : Type 0 where
   pub right : AreRight search plan claims
   pub expanded : AreExpanded search plan claims (length claims.order)
   pub free : claim_at claims own ≡ None
@@ -29,7 +31,8 @@ pub record IsSeeking (search : Search) (plan : List (Option ℕ)) (claims : Clai
 -- ---- one claim more
 
 -- what a claim comes from stays so
-from_kept : (search : Search) (plan : List (Option ℕ)) (before after : ClaimsParts) (found : Claim) (A : Type 0)
+from_kept : (search : Search) (plan : List (Option ℕ)) (before after : ClaimsParts) (found : Claim)
+    (A : Type 0)
     → AreMore before after → (from : Option ℕ)
     → MatchOption from A (λ at. ComesFrom search plan before found at)
     → MatchOption from A (λ at. ComesFrom search plan after found at)
@@ -41,12 +44,15 @@ from_kept search plan before after found A more (Some from) h = record {
   left = h.left;
 }
 
-claim_kept : (search : Search) (plan : List (Option ℕ)) (before after : ClaimsParts) (place : ℕ) (found : Claim)
-    → AreMore before after → IsClaim search plan before place found → IsClaim search plan after place found
+claim_kept : (search : Search) (plan : List (Option ℕ)) (before after : ClaimsParts) (place : ℕ)
+    (found : Claim)
+    → AreMore before after → IsClaim search plan before place found → IsClaim search plan after
+        place found
 claim_kept search plan before after place found more is = record {
   tight = is.tight;
   movable = is.movable;
-  from = from_kept search plan before after found (found.by ≡ Some search.trip) more found.from is.from;
+  from = from_kept search plan before after found (found.by ≡ Some search.trip) more found.from
+      is.from;
 }
 
 -- the claims with one more
@@ -61,13 +67,15 @@ last_at : {X : Type 0} (xs : List X) (x : X) → slice_get (xs ++ x ∷ []) (len
 last_at [] x = refl
 last_at (y ∷ xs) x = last_at xs x
 
-front_at : {X : Type 0} (xs : List X) (x y : X) (k : ℕ) → slice_get xs k ≡ Some y → slice_get (xs ++ x ∷ []) k ≡ Some y
+front_at : {X : Type 0} (xs : List X) (x y : X) (k : ℕ) → slice_get xs k ≡ Some y
+    → slice_get (xs ++ x ∷ []) k ≡ Some y
 front_at [] x y k e = absurd (none-some y e)
 front_at (z ∷ xs) x y zero e = e
 front_at (z ∷ xs) x y (suc k) e = front_at xs x y k e
 
 -- an item of a list with one more is of the list, or the last
-front_or_last : {X : Type 0} {P : Type 0} (xs : List X) (x y : X) (k : ℕ) → slice_get (xs ++ x ∷ []) k ≡ Some y
+front_or_last : {X : Type 0} {P : Type 0} (xs : List X) (x y : X) (k : ℕ) → slice_get (xs ++ x ∷ [])
+    k ≡ Some y
     → (slice_get xs k ≡ Some y → P) → (x ≡ y → P) → P
 front_or_last [] x y zero e front last = last (same_Some x y e)
 front_or_last [] x y (suc k) e front last = absurd (none-some y e)
@@ -77,7 +85,8 @@ front_or_last (z ∷ xs) x y (suc k) e front last = front_or_last xs x y k e fro
 pub some_is : {X : Type 0} (at : Option X) (x : X) → at ≡ Some x → is_some at ≡ true
 some_is at x e = ap is_some e
 
-module _ (search : Search) (plan : List (Option ℕ)) (claims : ClaimsParts) (place : ℕ) (found : Claim)
+module _ (search : Search) (plan : List (Option ℕ)) (claims : ClaimsParts) (place : ℕ)
+    (found : Claim)
     (right : AreRight search plan claims) (inside : place < length claims.at)
     (free : claim_at claims place ≡ None) (few : length claims.order < length claims.at)
     (undecided : IsUndecided plan search.low place) (step : found.step ≡ length claims.order)
@@ -93,7 +102,8 @@ module _ (search : Search) (plan : List (Option ℕ)) (claims : ClaimsParts) (pl
 
   pub claims_more : AreMore claims new
   claims_more = record {
-    kept = λ other one e. at_other other (λ same. none-some one (sym free ∙ ap (claim_at claims) (sym same) ∙ e)) ∙ e;
+    kept = λ other one e. at_other other (λ same. none-some one (sym free ∙ ap (claim_at claims)
+        (sym same) ∙ e)) ∙ e;
     order = λ k other e. front_at claims.order place other k e;
   }
 
@@ -107,7 +117,8 @@ module _ (search : Search) (plan : List (Option ℕ)) (claims : ClaimsParts) (pl
   pub claims_right : AreRight search plan new
   claims_right = record {
     places = length-set claims.at place (Some found) ∙ right.places;
-    few = omega (arith, length-set claims.at place (Some found), few, length-append claims.order (place ∷ []));
+    few = omega (arith, length-set claims.at place (Some found), few, length-append claims.order
+        (place ∷ []));
     claim = λ other one e. old_or_new other one e
         (λ old. claim_kept search plan claims new other one claims_more (right.claim other one old))
         (λ same is_found. subst (λ at. IsClaim search plan new at one) (sym same)

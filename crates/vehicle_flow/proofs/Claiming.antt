@@ -17,24 +17,28 @@ use Rattle.vehicle_flow.proofs.Moves.{has_next, successor_within, successor_past
 use Rattle.vehicle_flow.proofs.Claimed.{AreGoing, with_claim, claims_more, claims_right, at_place, old_or_new, some_is}
 
 -- the places of a list so far are claimed
-pub record IsClaiming (search : Search) (plan : List (Option ℕ)) (start claims : ClaimsParts) (places : List ℕ) (index : ℕ) : Type 0 where
+pub record IsClaiming (search : Search) (plan : List (Option ℕ)) (start claims : ClaimsParts)
+    (places : List ℕ) (index : ℕ) : Type 0 where
   pub going : AreGoing search plan start claims
   pub done : (k : ℕ) → k < index → IsUndecided plan search.low (at places k)
       → is_claimed claims (at places k) ≡ true
 
-pub still_claimed : (before after : ClaimsParts) (place : ℕ) → AreMore before after → is_claimed before place ≡ true
+pub still_claimed : (before after : ClaimsParts) (place : ℕ) → AreMore before after
+    → is_claimed before place ≡ true
     → is_claimed after place ≡ true
 still_claimed before after place more h =
     let found = some_of (claim_at before place) h in
     some_is (claim_at after place) found.0 (more.kept place found.0 found.1)
 
 -- those who leave a place are not the trip that looks for one
-left_apart : (search : Search) (plan : List (Option ℕ)) (from : ℕ) (by : Option ℕ) → IsLeft search plan from by
+left_apart : (search : Search) (plan : List (Option ℕ)) (from : ℕ) (by : Option ℕ)
+    → IsLeft search plan from by
     → by ≢ Some search.trip
 left_apart search plan from None left e = none-some search.trip e
 left_apart search plan from (Some i) left e = left.0 (same_Some i search.trip e)
 
-pub begun : (search : Search) (plan : List (Option ℕ)) (claims : ClaimsParts) → AreRight search plan claims
+pub begun : (search : Search) (plan : List (Option ℕ)) (claims : ClaimsParts)
+    → AreRight search plan claims
     → AreGoing search plan claims claims
 begun search plan claims right = record {
   right = right;
@@ -43,7 +47,8 @@ begun search plan claims right = record {
 }
 
 -- one search follows another
-pub gone_on : (search : Search) (plan : List (Option ℕ)) (start claims after : ClaimsParts) → AreGoing search plan start claims
+pub gone_on : (search : Search) (plan : List (Option ℕ)) (start claims after : ClaimsParts)
+    → AreGoing search plan start claims
     → AreRight search plan after → AreMore claims after → AreOthers search claims after
     → AreGoing search plan start after
 gone_on search plan start claims after going right more others = record {
@@ -55,9 +60,11 @@ gone_on search plan start claims after going right more others = record {
   others = λ place found e own. going.others place found (others place found e own) own;
 }
 
-module _ (search : Search) (plan : List (Option ℕ)) (start claims : ClaimsParts) (by : Option ℕ) (from : ℕ)
+module _ (search : Search) (plan : List (Option ℕ)) (start claims : ClaimsParts) (by : Option ℕ)
+    (from : ℕ)
     (places : List ℕ) (index : ℕ)
-    (are : ArePlaces (λ place. IsTightBy search.links search.potentials place by) (search.links.count + 1) places)
+    (are : ArePlaces (λ place. IsTightBy search.links search.potentials place by)
+        (search.links.count + 1) places)
     (movable : IfSome by (λ i. (search.low ≤ i) × (i < search.links.count)))
     (left : IsLeft search plan from by) (from_claimed : is_claimed start from ≡ true)
     (is : IsClaiming search plan start claims places index) where
@@ -66,14 +73,16 @@ module _ (search : Search) (plan : List (Option ℕ)) (start claims : ClaimsPart
 
   latest_is : index < length places → IsClaim search plan claims (at places index) latest
   latest_is h =
-      let before = some_of (claim_at claims from) (still_claimed start claims from is.going.more from_claimed) in
+      let before = some_of (claim_at claims from) (still_claimed start claims from is.going.more
+          from_claimed) in
       record {
         tight = are.right index h;
         movable = movable;
         from = record {
           before = before.0;
           is = before.1;
-          sooner = slice_get_within claims.order before.0.step from (is.going.right.placed from before.0 before.1);
+          sooner = slice_get_within claims.order before.0.step from
+              (is.going.right.placed from before.0 before.1);
           left = left;
         };
       }
@@ -85,17 +94,24 @@ module _ (search : Search) (plan : List (Option ℕ)) (start claims : ClaimsPart
       → IsClaiming search plan start new places (index + 1)
   claiming_more h free few undecided new new_is =
       subst (λ some. IsClaiming search plan start some places (index + 1)) (sym new_is) (record {
-        going = gone_on search plan start claims (with_claim claims (at places index) latest) is.going
-            (claims_right search plan claims (at places index) latest is.going.right inside free few undecided refl (latest_is h))
-            more (λ place found e own. old_or_new search plan claims (at places index) latest is.going.right inside free few
+        going = gone_on search plan start claims (with_claim claims (at places index) latest)
+            is.going
+            (claims_right search plan claims (at places index) latest is.going.right inside free few
+                undecided refl (latest_is h))
+            more (λ place found e own. old_or_new search plan claims (at places index) latest
+                is.going.right inside free few
             undecided refl (latest_is h) place found e
             (λ old. old)
-            (λ same is_found. absurd (left_apart search plan from by left (ap (λ claim. claim.by) is_found ∙ own))));
+            (λ same is_found. absurd (left_apart search plan from by left
+                (ap (λ claim. claim.by) is_found ∙ own))));
         done = λ k bound open_place. by_number k index
-            (λ same. some_is (claim_at (with_claim claims (at places index) latest) (at places k)) latest
+            (λ same. some_is (claim_at (with_claim claims (at places index) latest) (at places k))
+                latest
             (ap (λ i. claim_at (with_claim claims (at places index) latest) (at places i)) same
-            ∙ at_place search plan claims (at places index) latest is.going.right inside free few undecided refl (latest_is h)))
-            (λ apart. still_claimed claims (with_claim claims (at places index) latest) (at places k) more
+            ∙ at_place search plan claims (at places index) latest is.going.right inside free few
+                undecided refl (latest_is h)))
+            (λ apart. still_claimed claims (with_claim claims (at places index) latest)
+                (at places k) more
             (is.done k (omega (arith, bound, apart)) open_place));
       })
     where
@@ -103,15 +119,18 @@ module _ (search : Search) (plan : List (Option ℕ)) (start claims : ClaimsPart
       inside = omega (arith, are.within index h, is.going.right.places)
 
       more : AreMore claims (with_claim claims (at places index) latest)
-      more = claims_more search plan claims (at places index) latest is.going.right inside free few undecided refl (latest_is h)
+      more = claims_more search plan claims (at places index) latest is.going.right inside free few
+          undecided refl (latest_is h)
 
   -- or is claimed already, or decided
-  pub claiming_kept : (IsUndecided plan search.low (at places index) → is_claimed claims (at places index) ≡ true)
+  pub claiming_kept : (IsUndecided plan search.low (at places index) → is_claimed claims
+      (at places index) ≡ true)
       → IsClaiming search plan start claims places (index + 1)
   claiming_kept already = record {
     going = is.going;
     done = λ k bound open_place. by_number k index
-        (λ same. subst (λ i. IsUndecided plan search.low (at places i) → is_claimed claims (at places i) ≡ true) (sym same)
+        (λ same. subst (λ i. IsUndecided plan search.low (at places i) → is_claimed claims
+            (at places i) ≡ true) (sym same)
         already open_place)
         (λ apart. is.done k (omega (arith, bound, apart)) open_place);
   }
@@ -120,7 +139,8 @@ module _ (search : Search) (plan : List (Option ℕ)) (start claims : ClaimsPart
   claiming_all past place within undecided tight =
       let k = are.all place within tight in
       subst (λ some. is_claimed claims some ≡ true) k.1.1
-      (is.done k.0 (omega (arith, k.1.0, past)) (subst (IsUndecided plan search.low) (sym k.1.1) undecided))
+      (is.done k.0 (omega (arith, k.1.0, past)) (subst (IsUndecided plan search.low)
+          (sym k.1.1) undecided))
 
 -- ---- a place is expanded
 
@@ -137,14 +157,16 @@ pub has_movable : (search : Search) (plan : List (Option ℕ)) (claims : ClaimsP
     → next plan by ≡ Some place → (search.low ≤ by) × (by < search.links.count)
 has_movable search plan claims place by is right h has =
     let found = some_of (claim_at claims place) h in
-    (right.undecided place found.0 found.1 by has, omega (arith, has_next plan by place has, is.possible.each))
+    (right.undecided place found.0 found.1 by has, omega
+        (arith, has_next plan by place has, is.possible.each))
 
 pub has_left : (search : Search) (plan : List (Option ℕ)) (place by : ℕ) → IsSearch search plan
     → (place_of search.links.count (next plan search.trip) ≡ place → ⊥)
     → next plan by ≡ Some place → IsLeft search plan place (Some by)
 has_left search plan place by is apart has = (
   (λ same. apart (ap (place_of search.links.count) (ap (next plan) (sym same) ∙ has))),
-  has ∙ sym (successor_within search.links.count place (omega (arith, is.successors.within by place has, is.possible.each))),
+  has ∙ sym (successor_within search.links.count place
+      (omega (arith, is.successors.within by place has, is.possible.each))),
 )
 
 -- and so does one without a next trip, behind them all
@@ -164,11 +186,13 @@ no_next None e = refl
 no_next (Some x) e = absurd (false≢true (sym e))
 
 -- what a call leaves where it is not refused
-pub on_ok : {E A : Type 0} {S T : Type 0} (result : Result A E) → (S → T) → OnOk result S → OnOk result T
+pub on_ok : {E A : Type 0} {S T : Type 0} (result : Result A E) → (S → T) → OnOk result S
+    → OnOk result T
 on_ok (Ok value) f h = f h
 on_ok (Err why) f h = h
 
-pub on_both : {E A : Type 0} {R S T : Type 0} (result : Result A E) → (R → S → T) → OnOk result R → OnOk result S
+pub on_both : {E A : Type 0} {R S T : Type 0} (result : Result A E) → (R → S → T) → OnOk result R
+    → OnOk result S
     → OnOk result T
 on_both (Ok value) f h k = f h k
 on_both (Err why) f h k = h
@@ -178,31 +202,36 @@ pub expanded_by : (search : Search) (plan : List (Option ℕ)) (claims : ClaimsP
     → IsSearch search plan → next plan by ≡ Some place → AllClaimed search plan claims (Some by)
     → IsExpanded search plan claims place
 expanded_by search plan claims place by is has all = record {
-  by = λ i low within at_place. subst (λ some. AllClaimed search plan claims (Some some)) (sym (same i low within at_place)) all;
+  by = λ i low within at_place. subst (λ some. AllClaimed search plan claims (Some some))
+      (sym (same i low within at_place)) all;
   alone = λ free. absurd (not_next plan by place free has);
 }
   where
     inside : place < search.links.count
     inside = omega (arith, is.successors.within by place has, is.possible.each)
 
-    same : (i : ℕ) → search.low ≤ i → i < search.links.count → place_of search.links.count (next plan i) ≡ place → i ≡ by
+    same : (i : ℕ) → search.low ≤ i → i < search.links.count → place_of search.links.count
+        (next plan i) ≡ place → i ≡ by
     same i low within at_place = by_next (next plan i) refl
       where
         by_next : (to : Option ℕ) → next plan i ≡ to → i ≡ by
         by_next None e =
-            let past : search.links.count ≡ place = sym (ap (place_of search.links.count) e) ∙ at_place in
+            let past : search.links.count ≡ place = sym (ap (place_of search.links.count) e)
+                ∙ at_place in
             absurd (omega (arith, past, inside))
         by_next (Some j) e = is.successors.once i by place
             (e ∙ ap Some (sym (ap (place_of search.links.count) e) ∙ at_place)) has
 
 -- where it has none
-pub expanded_alone : (search : Search) (plan : List (Option ℕ)) (claims after : ClaimsParts) (place : ℕ)
+pub expanded_alone : (search : Search) (plan : List (Option ℕ)) (claims after : ClaimsParts)
+    (place : ℕ)
     → is_next plan place ≡ false → AllClaimed search plan claims None → AreMore claims after
     → (place ≡ search.links.count → LastExpanded search plan after search.links.count)
     → IsExpanded search plan after place
 expanded_alone search plan claims after place free all more last = record {
   by = λ i low within at_place. by_next (next plan i) i refl low within at_place;
-  alone = λ none other bound undecided zero. still_claimed claims after other more (all other bound undecided zero);
+  alone = λ none other bound undecided zero. still_claimed claims after other more
+      (all other bound undecided zero);
 }
   where
     by_next : (to : Option ℕ) (i : ℕ) → next plan i ≡ to → search.low ≤ i → i < search.links.count
@@ -210,32 +239,41 @@ expanded_alone search plan claims after place free all more last = record {
     by_next None i e low within at_place =
         last (sym at_place ∙ ap (place_of search.links.count) e) i low within e
     by_next (Some j) i e low within at_place =
-        absurd (not_next plan i place free (e ∙ ap Some (sym (ap (place_of search.links.count) e) ∙ at_place)))
+        absurd (not_next plan i place free (e ∙ ap Some (sym (ap (place_of search.links.count) e)
+            ∙ at_place)))
 
 -- an expanded place stays one
-pub still_expanded : (search : Search) (plan : List (Option ℕ)) (before after : ClaimsParts) (place : ℕ)
-    → AreMore before after → IsExpanded search plan before place → IsExpanded search plan after place
+pub still_expanded : (search : Search) (plan : List (Option ℕ)) (before after : ClaimsParts)
+    (place : ℕ)
+    → AreMore before after → IsExpanded search plan before place → IsExpanded search plan after
+        place
 still_expanded search plan before after place more is = record {
   by = λ i low within at_place other bound undecided tight.
-      still_claimed before after other more (is.by i low within at_place other bound undecided tight);
-  alone = λ free other bound undecided zero. still_claimed before after other more (is.alone free other bound undecided zero);
+      still_claimed before after other more (is.by i low within at_place other bound undecided
+          tight);
+  alone = λ free other bound undecided zero. still_claimed before after other more
+      (is.alone free other bound undecided zero);
 }
 
 -- the trips without a next one, so far
-pub record AreLast (search : Search) (plan : List (Option ℕ)) (start claims : ClaimsParts) (index : ℕ) : Type 0 where
+pub record AreLast (search : Search) (plan : List (Option ℕ)) (start claims : ClaimsParts)
+    (index : ℕ) : Type 0 where
   pub going : AreGoing search plan start claims
   pub done : LastExpanded search plan claims index
 
 -- one more has claimed all
-pub last_more : (search : Search) (plan : List (Option ℕ)) (start claims after : ClaimsParts) (index : ℕ)
+pub last_more : (search : Search) (plan : List (Option ℕ)) (start claims after : ClaimsParts)
+    (index : ℕ)
     → AreLast search plan start claims index
     → AreRight search plan after → AreMore claims after → AreOthers search claims after
     → AllClaimed search plan after (Some index) → AreLast search plan start after (index + 1)
 last_more search plan start claims after index is right more others all = record {
   going = gone_on search plan start claims after is.going right more others;
   done = λ i low bound none other within undecided tight. by_number i index
-      (λ same. all other within undecided (subst (λ some. IsTightBy search.links search.potentials other (Some some)) same tight))
-      (λ apart. still_claimed claims after other more (is.done i low (omega (arith, bound, apart)) none other within undecided tight));
+      (λ same. all other within undecided
+          (subst (λ some. IsTightBy search.links search.potentials other (Some some)) same tight))
+      (λ apart. still_claimed claims after other more (is.done i low (omega (arith, bound, apart))
+          none other within undecided tight));
 }
 
 -- or has a next one
@@ -251,26 +289,31 @@ last_kept search plan start claims index is there = record {
 
 -- ---- from one place to the next
 
-pub record IsGrowing (search : Search) (plan : List (Option ℕ)) (start claims : ClaimsParts) (step : ℕ) : Type 0 where
+pub record IsGrowing (search : Search) (plan : List (Option ℕ)) (start claims : ClaimsParts)
+    (step : ℕ) : Type 0 where
   pub going : AreGoing search plan start claims
   pub done : AreExpanded search plan claims step
   pub few : step ≤ length claims.order
 
-pub growing_more : (search : Search) (plan : List (Option ℕ)) (start claims after : ClaimsParts) (step place : ℕ)
+pub growing_more : (search : Search) (plan : List (Option ℕ)) (start claims after : ClaimsParts)
+    (step place : ℕ)
     → IsGrowing search plan start claims step → slice_get claims.order step ≡ Some place
     → AreRight search plan after → AreMore claims after → AreOthers search claims after
     → IsExpanded search plan after place → IsGrowing search plan start after (step + 1)
-growing_more search plan start claims after step place is at_step right more others expanded = record {
+growing_more search plan start claims after step place is at_step right more others
+    expanded = record {
   going = gone_on search plan start claims after is.going right more others;
   done = λ before other bound e. by_number before step
       (λ same. subst (IsExpanded search plan after) (same_Some place other
       (sym (more.order step place at_step) ∙ ap (slice_get after.order) (sym same) ∙ e)) expanded)
       (λ apart. earlier before other (omega (arith, bound, apart)) e);
-  few = let here : step < length after.order = slice_get_within after.order step place (more.order step place at_step) in
+  few = let here : step < length after.order = slice_get_within after.order step place
+      (more.order step place at_step) in
       omega (arith, here);
 }
   where
-    earlier : (before other : ℕ) → before < step → slice_get after.order before ≡ Some other → IsExpanded search plan after other
+    earlier : (before other : ℕ) → before < step → slice_get after.order before ≡ Some other
+        → IsExpanded search plan after other
     earlier before other bound e =
         let at_before : slice_get claims.order before ≡ Some (at claims.order before) =
         slice_get-get_or claims.order before 0 (omega (arith, bound, is.few)) in

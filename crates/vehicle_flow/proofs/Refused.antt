@@ -34,10 +34,12 @@ decided : (plan : List (Option ℕ)) (low : ℕ) → AreDecided plan low (is_nex
 decided plan low = record {
   has = λ place h.
       let found = followed (take low plan) place h in
-      let within : found.0 < low = omega (arith, has_next (take low plan) found.0 place found.1, length-take low plan) in
+      let within : found.0 < low = omega (arith, has_next (take low plan) found.0 place found.1,
+          length-take low plan) in
       (found.0, (within, sym (get_or-take low plan found.0 None within) ∙ found.1));
   not = λ place h i e. by_bound i low
-      (λ before. absurd (false≢true (sym h ∙ next_found (take low plan) i place (get_or-take low plan i None before ∙ e))))
+      (λ before. absurd (false≢true (sym h ∙ next_found (take low plan) i place
+          (get_or-take low plan i None before ∙ e))))
       (λ past. past);
 }
 
@@ -51,17 +53,22 @@ module _ (search : Search) (plan : List (Option ℕ)) (is : IsSearch search plan
     expanded_at : (place : ℕ) → is_claimed claims place ≡ true → IsExpanded search plan claims place
     expanded_at place h =
         let found = some_of (claim_at claims place) h in
-        let stands : slice_get claims.order found.0.step ≡ Some place = right.placed place found.0 found.1 in
+        let stands : slice_get claims.order found.0.step ≡ Some place = right.placed place found.0
+            found.1 in
         expanded found.0.step place (slice_get_within claims.order found.0.step place stands) stands
 
-    closed : IsClosed search.links search.potentials plan search.low (λ place. one (is_claimed claims place))
+    closed : IsClosed search.links search.potentials plan search.low
+        (λ place. one (is_claimed claims place))
     closed = record {
       one = λ place. one_most (is_claimed claims place);
       by = λ i place low within bound undecided tight.
-          one_along (is_claimed claims (place_of search.links.count (next plan i))) (is_claimed claims place)
-          (λ h. (expanded_at (place_of search.links.count (next plan i)) h).by i low within refl place
+          one_along (is_claimed claims (place_of search.links.count (next plan i)))
+              (is_claimed claims place)
+          (λ h. (expanded_at (place_of search.links.count (next plan i)) h).by i low within refl
+              place
           (omega (arith, bound)) undecided tight);
-      alone = λ from place from_bound free bound undecided zero. one_along (is_claimed claims from) (is_claimed claims place)
+      alone = λ from place from_bound free bound undecided zero. one_along (is_claimed claims from)
+          (is_claimed claims place)
           (λ h. (expanded_at from h).alone free place (omega (arith, bound)) undecided zero);
     }
 
@@ -71,15 +78,21 @@ module _ (search : Search) (plan : List (Option ℕ)) (is : IsSearch search plan
         → IsTight search.links search.potentials other → AgreeBefore search.low plan other
         → is_claimed claims (place_of search.links.count (next other search.trip)) ≡ true → ⊥
     refused free other fits in_other tight agrees h =
-        stays_outside search.links search.potentials plan search.low (λ place. one (is_claimed claims place))
-        (is_next (take search.low plan)) (decided plan search.low) is.over is.possible inside is.tight closed
+        stays_outside search.links search.potentials plan search.low
+            (λ place. one (is_claimed claims place))
+        (is_next (take search.low plan)) (decided plan search.low) is.over is.possible inside
+            is.tight closed
         other fits in_other tight agrees (omega (arith, is.first, is.within))
-        (ap (λ i. one (is_claimed claims (place_of search.links.count (next plan i)))) is.first ∙ ap one (ap is_some free))
-        (ap (λ i. one (is_claimed claims (place_of search.links.count (next other i)))) is.first ∙ ap one h)
+        (ap (λ i. one (is_claimed claims (place_of search.links.count (next plan i)))) is.first
+            ∙ ap one (ap is_some free))
+        (ap (λ i. one (is_claimed claims (place_of search.links.count (next other i)))) is.first
+            ∙ ap one h)
 
   -- the place that another tight plan gives the trip is one where it is tight, and undecided
-  module _ (other : List (Option ℕ)) (fits : IsPlan search.links other) (in_other : AreWithin search.links other)
-      (tight : IsTight search.links search.potentials other) (agrees : AgreeBefore search.low plan other) where
+  module _ (other : List (Option ℕ)) (fits : IsPlan search.links other)
+      (in_other : AreWithin search.links other)
+      (tight : IsTight search.links search.potentials other) (agrees : AgreeBefore search.low plan
+          other) where
     pub other_tight : (to : Option ℕ) → next other search.trip ≡ to
         → IsTightAt search.links search.potentials search.trip (place_of search.links.count to)
     other_tight None e = record {
@@ -88,13 +101,15 @@ module _ (search : Search) (plan : List (Option ℕ)) (is : IsSearch search plan
     }
     other_tight (Some j) e = record {
       linked = λ h. tight.linked search.trip j e;
-      last = λ past. let bound : j < search.links.count = in_other search.trip j e in absurd (omega (arith, bound, past));
+      last = λ past. let bound : j < search.links.count = in_other search.trip j e in absurd
+          (omega (arith, bound, past));
     }
 
     pub other_undecided : (to : Option ℕ) → next other search.trip ≡ to
         → IsUndecided plan search.low (place_of search.links.count to)
     other_undecided None e i h =
-        let bound : search.links.count < search.links.count = inside i search.links.count h in absurd (omega (arith, bound))
+        let bound : search.links.count < search.links.count = inside i search.links.count h in
+            absurd (omega (arith, bound))
     other_undecided (Some j) e i h = by_bound i search.low
         (λ before.
         let same : i ≡ search.trip = fits.once i search.trip j (agrees i before ∙ h) e in

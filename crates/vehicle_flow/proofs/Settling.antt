@@ -20,7 +20,8 @@ no_later : (count : ℕ) (mine other : Option ℕ) → ((j : ℕ) → other ≡ 
     → place_of count mine ≤ place_of count other → ComesNoLater mine other
 no_later count (Some i) (Some j) inside h = h
 no_later count (Some i) None inside h = tt
-no_later count None (Some j) inside h = let bound : j < count = inside j refl in absurd (omega (arith, bound, h))
+no_later count None (Some j) inside h = let bound : j < count = inside j refl in absurd
+    (omega (arith, bound, h))
 no_later count None None inside h = tt
 
 -- what comes at a place has no later place
@@ -43,7 +44,8 @@ module _ (search : Search) (plan : List (Option ℕ)) (is : IsSearch search plan
     waits = ap (λ some. next some search.trip) moved_as ∙ moved_is plan search.trip None in_plan
 
     others : (i : ℕ) → i ≢ search.trip → next moved i ≡ next plan i
-    others i apart = ap (λ some. next some i) moved_as ∙ moved_other plan search.trip None in_plan i apart
+    others i apart = ap (λ some. next some i) moved_as ∙ moved_other plan search.trip None in_plan i
+        apart
 
     not_trip : (i j : ℕ) → next moved i ≡ Some j → i ≢ search.trip
     not_trip i j e same = none-some j (sym waits ∙ ap (next moved) (sym same) ∙ e)
@@ -55,14 +57,16 @@ module _ (search : Search) (plan : List (Option ℕ)) (is : IsSearch search plan
     still_free j free = never_next moved j (λ i e. not_next plan i j free (was i j e))
 
     module _ (own : ℕ) (own_is : own ≡ place_of search.links.count (next plan search.trip)) where
-      own_next : (to : Option ℕ) → next plan search.trip ≡ to → (i : ℕ) → next moved i ≡ Some own → ⊥
+      own_next : (to : Option ℕ) → next plan search.trip ≡ to → (i : ℕ) → next moved i ≡ Some own
+          → ⊥
       own_next None e i h =
           let bound : own < search.links.count = inside i own (was i own h) in
           let last : own ≡ search.links.count = own_is ∙ ap (place_of search.links.count) e in
           absurd (omega (arith, bound, last))
       own_next (Some j) e i h =
           let same : own ≡ j = own_is ∙ ap (place_of search.links.count) e in
-          not_trip i own h (is.possible.once i search.trip own (was i own h) (e ∙ ap Some (sym same)))
+          not_trip i own h (is.possible.once i search.trip own (was i own h)
+              (e ∙ ap Some (sym same)))
 
       own_free : is_next moved own ≡ false
       own_free = never_next moved own (own_next (next plan search.trip) refl)
@@ -74,16 +78,20 @@ module _ (search : Search) (plan : List (Option ℕ)) (is : IsSearch search plan
         linked = λ i j e. is.tight.linked i j (was i j e);
         once = λ i other j e f. is.possible.once i other j (was i j e) (was other j f);
         last = λ i apart e. is.tight.last i (sym (others i apart) ∙ e);
-        first = λ j within apart free. is.tight.first j (never_next plan j (λ i e. by_number i search.trip
-            (λ same. apart (sym (own_is ∙ ap (place_of search.links.count) (ap (next plan) (sym same) ∙ e))))
+        first = λ j within apart free. is.tight.first j
+            (never_next plan j (λ i e. by_number i search.trip
+            (λ same. apart (sym (own_is ∙ ap (place_of search.links.count)
+                (ap (next plan) (sym same) ∙ e))))
             (λ other. not_next moved i j free (others i other ∙ e))));
       }
 
-      left_still : (from : ℕ) (by : Option ℕ) → IsLeft search plan from by → IsLeft search moved from by
+      left_still : (from : ℕ) (by : Option ℕ) → IsLeft search plan from by
+          → IsLeft search moved from by
       left_still from None left = still_free from left
       left_still from (Some i) left = (left.0, others i left.0 ∙ left.1)
 
-      claim_still : (claims : ClaimsParts) (place : ℕ) (found : Claim) → IsClaim search plan claims place found
+      claim_still : (claims : ClaimsParts) (place : ℕ) (found : Claim) → IsClaim search plan claims
+          place found
           → IsClaim search moved claims place found
       claim_still claims place found claim = record {
         tight = claim.tight;
@@ -92,8 +100,10 @@ module _ (search : Search) (plan : List (Option ℕ)) (is : IsSearch search plan
       }
         where
           from_still : (from : Option ℕ)
-              → MatchOption from (found.by ≡ Some search.trip) (λ at. ComesFrom search plan claims found at)
-              → MatchOption from (found.by ≡ Some search.trip) (λ at. ComesFrom search moved claims found at)
+              → MatchOption from (found.by ≡ Some search.trip)
+                  (λ at. ComesFrom search plan claims found at)
+              → MatchOption from (found.by ≡ Some search.trip) (λ at. ComesFrom search moved claims
+                  found at)
           from_still None h = h
           from_still (Some from) h = record {
             before = h.before;
@@ -103,7 +113,8 @@ module _ (search : Search) (plan : List (Option ℕ)) (is : IsSearch search plan
           }
 
       -- so its place can be handed on, where it is claimed
-      pub found_of : (claims : ClaimsParts) → AreRight search plan claims → is_claimed claims own ≡ true
+      pub found_of : (claims : ClaimsParts) → AreRight search plan claims
+          → is_claimed claims own ≡ true
           → IsFound search moved claims own
       found_of claims right claimed =
           let found = some_of (claim_at claims own) claimed in
@@ -120,7 +131,8 @@ module _ (search : Search) (plan : List (Option ℕ)) (is : IsSearch search plan
           }
 
     -- the place that it is handed is its place for good
-    pub settled_one : (claims : ClaimsParts) (own : ℕ) (after : List (Option ℕ)) → IsSought search plan claims own
+    pub settled_one : (claims : ClaimsParts) (own : ℕ) (after : List (Option ℕ))
+        → IsSought search plan claims own
         → IsHandedOn search claims moved after → IsSettled search plan after
     settled_one claims own after sought handed = record {
       possible = record {
@@ -139,9 +151,12 @@ module _ (search : Search) (plan : List (Option ℕ)) (is : IsSearch search plan
       least = λ other fits in_other tight agrees.
           let first : handed.place ≤ place_of search.links.count (next other search.trip) =
           sought.first handed.place handed.found handed.claimed handed.own other fits in_other tight
-          (λ i early. agrees i (omega (arith, early, is.first)) ∙ same i (omega (arith, early, is.first))) in
-          no_later search.links.count (next after search.trip) (next other search.trip) (in_other search.trip)
-          (omega (arith, first, place_back search.links.count handed.place, ap (place_of search.links.count) handed.next_is));
+          (λ i early. agrees i (omega (arith, early, is.first))
+              ∙ same i (omega (arith, early, is.first))) in
+          no_later search.links.count (next after search.trip) (next other search.trip)
+              (in_other search.trip)
+          (omega (arith, first, place_back search.links.count handed.place, ap
+              (place_of search.links.count) handed.next_is));
     }
       where
         same : AgreeBefore search.trip plan after
@@ -161,14 +176,16 @@ module _ (search : Search) (plan : List (Option ℕ)) (is : IsSearch search plan
     least = λ other fits in_other tight agrees.
         let least : own ≤ place_of search.links.count (next other search.trip) =
         first other fits in_other tight (λ i early. agrees i (omega (arith, early, is.first))) in
-        no_later search.links.count (next plan search.trip) (next other search.trip) (in_other search.trip)
+        no_later search.links.count (next plan search.trip) (next other search.trip)
+            (in_other search.trip)
         (omega (arith, least, own_is));
   }
 
 -- ---- one trip after another
 
 -- a plan whose trips so far have their places for good
-pub record IsDeciding (links : Links) (potentials : PotentialParts) (plan : List (Option ℕ)) (trip : ℕ) : Type 0 where
+pub record IsDeciding (links : Links) (potentials : PotentialParts) (plan : List (Option ℕ))
+    (trip : ℕ) : Type 0 where
   pub possible : IsPlan links plan
   pub tight : IsTight links potentials plan
   pub first : (i : ℕ) → i < trip → IsLeast links potentials plan i
@@ -186,12 +203,14 @@ deciding_more search plan after trip same is settled = record {
   where
     earlier : (i : ℕ) → i < trip → IsLeast search.links search.potentials after i
     earlier i bound other fits in_other tight agrees =
-        subst (λ some. ComesNoLater some (next other i)) (sym (settled.same i (omega (arith, bound, same))))
+        subst (λ some. ComesNoLater some (next other i))
+            (sym (settled.same i (omega (arith, bound, same))))
         (is.first i bound other fits in_other tight
         (λ k early. agrees k early ∙ settled.same k (omega (arith, early, bound, same))))
 
 -- at first, a tight plan
-pub deciding_none : (trips : TripsParts) (potentials : PotentialParts) (plan : List (Option ℕ)) → IsPlan (links_of trips) plan
+pub deciding_none : (trips : TripsParts) (potentials : PotentialParts) (plan : List (Option ℕ))
+    → IsPlan (links_of trips) plan
     → AreValid (links_of trips) plan potentials → IsDeciding (links_of trips) potentials plan 0
 deciding_none trips potentials plan possible valid = record {
   possible = possible;
@@ -200,13 +219,16 @@ deciding_none trips potentials plan possible valid = record {
 }
 
 -- the trips of links are trips
-pub plan_inside : (trips : TripsParts) (plan : List (Option ℕ)) → IsPlan (links_of trips) plan → AreWithin (links_of trips) plan
+pub plan_inside : (trips : TripsParts) (plan : List (Option ℕ)) → IsPlan (links_of trips) plan
+    → AreWithin (links_of trips) plan
 plan_inside trips plan possible i j e = (links_within trips i j (possible.follow i j e)).1
 
-pub search_is : (trips : TripsParts) (potentials : PotentialParts) (certified plan : List (Option ℕ)) (trip : ℕ)
+pub search_is : (trips : TripsParts) (potentials : PotentialParts)
+    (certified plan : List (Option ℕ)) (trip : ℕ)
     → AreValid (links_of trips) certified potentials → trip < length trips.trips
     → IsDeciding (links_of trips) potentials plan trip
-    → IsSearch (record { links = links_of trips; potentials = potentials; trip = trip; low = trip }) plan
+    → IsSearch (record { links = links_of trips; potentials = potentials; trip = trip; low = trip })
+        plan
 search_is trips potentials certified plan trip valid within is = record {
   first = refl;
   within = within;
@@ -220,18 +242,23 @@ search_is trips potentials certified plan trip valid within is = record {
 }
 
 -- in the end it is the chosen one
-pub chosen_all : (trips : TripsParts) (potentials : PotentialParts) (certified plan : List (Option ℕ)) (trip : ℕ)
-    → AreValid (links_of trips) certified potentials → IsPlan (links_of trips) certified → length trips.trips ≤ trip
+pub chosen_all : (trips : TripsParts) (potentials : PotentialParts)
+    (certified plan : List (Option ℕ)) (trip : ℕ)
+    → AreValid (links_of trips) certified potentials → IsPlan (links_of trips) certified
+        → length trips.trips ≤ trip
     → IsDeciding (links_of trips) potentials plan trip → IsChosen trips plan
 chosen_all trips potentials certified plan trip valid fits all is = record {
   cheapest = (tight_cheapest trips certified potentials valid fits plan is.possible).1 is.tight;
-  first = λ other cheapest i within agree. is.first i (omega (arith, within, all, is.possible.each)) other cheapest.possible
+  first = λ other cheapest i within agree. is.first i (omega (arith, within, all, is.possible.each))
+      other cheapest.possible
       (plan_inside trips other cheapest.possible)
       ((tight_cheapest trips certified potentials valid fits other cheapest.possible).0 cheapest)
-      (λ k early. sym (get_or-take i other k None early) ∙ ap (λ some. next some k) (sym agree) ∙ get_or-take i plan k None early);
+      (λ k early. sym (get_or-take i other k None early) ∙ ap (λ some. next some k) (sym agree)
+          ∙ get_or-take i plan k None early);
 }
 
 pub chosen_told : {E : Type 0} (trips : TripsParts) (plan : List (Option ℕ)) → IsChosen trips plan
-    → (result : Result (List (Option ℕ)) E) → IfOk result (λ made. made ≡ plan) → IfOk result (IsChosen trips)
+    → (result : Result (List (Option ℕ)) E) → IfOk result (λ made. made ≡ plan) → IfOk result
+        (IsChosen trips)
 chosen_told trips plan is (Ok made) same = subst (IsChosen trips) (sym same) is
 chosen_told trips plan is (Err why) same = tt

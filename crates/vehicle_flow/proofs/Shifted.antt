@@ -19,11 +19,14 @@ use Rattle.vehicle_flow.specs.Choices.{IsUndecided, AgreeBefore, AreWithin}
 
 -- a set of places, as 1 for each of them: with the place of an undecided trip it has all undecided ones
 -- at which the trip is tight, and with one that has no trip all undecided ones that need none
-pub record IsClosed (links : Links) (potentials : PotentialParts) (plan : List (Option ℕ)) (low : ℕ) (w : ℕ → ℕ) : Type 0 where
+pub record IsClosed (links : Links) (potentials : PotentialParts) (plan : List (Option ℕ)) (low : ℕ)
+    (w : ℕ → ℕ) : Type 0 where
   pub one : (place : ℕ) → w place ≤ 1
-  pub by : (i place : ℕ) → low ≤ i → i < links.count → place ≤ links.count → IsUndecided plan low place
+  pub by : (i place : ℕ) → low ≤ i → i < links.count → place ≤ links.count
+      → IsUndecided plan low place
       → IsTightAt links potentials i place → w (place_of links.count (next plan i)) ≤ w place
-  pub alone : (from place : ℕ) → from ≤ links.count → is_next plan from ≡ false → place ≤ links.count
+  pub alone : (from place : ℕ) → from ≤ links.count → is_next plan from ≡ false
+      → place ≤ links.count
       → IsUndecided plan low place → at potentials.v place ≡ 0 → w from ≤ w place
 
 -- which places are decided
@@ -31,9 +34,11 @@ pub record AreDecided (plan : List (Option ℕ)) (low : ℕ) (decided : ℕ → 
   pub has : (place : ℕ) → decided place ≡ true → (i : ℕ) × ((i < low) × (next plan i ≡ Some place))
   pub not : (place : ℕ) → decided place ≡ false → IsUndecided plan low place
 
-module _ (links : Links) (potentials : PotentialParts) (plan : List (Option ℕ)) (low : ℕ) (w : ℕ → ℕ)
+module _ (links : Links) (potentials : PotentialParts) (plan : List (Option ℕ)) (low : ℕ)
+    (w : ℕ → ℕ)
     (decided : ℕ → Bool) (are : AreDecided plan low decided) (over : AreOver links.count potentials)
-    (possible : IsPlan links plan) (inside : AreWithin links plan) (tight : IsTight links potentials plan)
+    (possible : IsPlan links plan) (inside : AreWithin links plan)
+        (tight : IsTight links potentials plan)
     (closed : IsClosed links potentials plan low w) where
   abbrev own : ℕ → ℕ
   own i = place_of links.count (next plan i)
@@ -74,12 +79,14 @@ module _ (links : Links) (potentials : PotentialParts) (plan : List (Option ℕ)
   u_kept i h within = values_at links.count new_u i within
       ∙ ap (λ b. shift_u b (at potentials.u i) (w links.count) (w (own i))) (lt-ltb i low h)
 
-  u_moved : (i : ℕ) → low ≤ i → i < links.count → at u i ≡ (at potentials.u i + w links.count) - w (own i)
+  u_moved : (i : ℕ) → low ≤ i → i < links.count → at u i ≡ (at potentials.u i + w links.count) - w
+      (own i)
   unfolding u new_u
   u_moved i h within = values_at links.count new_u i within
       ∙ ap (λ b. shift_u b (at potentials.u i) (w links.count) (w (own i))) (le-ltb i low h)
 
-  v_kept : (place : ℕ) → decided place ≡ true → place < links.count → at v place ≡ at potentials.v place
+  v_kept : (place : ℕ) → decided place ≡ true → place < links.count → at v place ≡ at potentials.v
+      place
   unfolding v new_v
   v_kept place h within = values_at links.count new_v place within
       ∙ ap (λ b. shift_v b (at potentials.v place) (w links.count) (w place)) h
@@ -135,7 +142,8 @@ module _ (links : Links) (potentials : PotentialParts) (plan : List (Option ℕ)
     within_of : (i j : ℕ) → next other i ≡ Some j → i < links.count
     within_of i j e = omega (arith, has_next other i j e, fits.each)
 
-    was_decided : (i j : ℕ) → next other i ≡ Some j → i < low → (b : Bool) → decided j ≡ b → decided j ≡ true
+    was_decided : (i j : ℕ) → next other i ≡ Some j → i < low → (b : Bool) → decided j ≡ b
+        → decided j ≡ true
     was_decided i j e before true d = d
     was_decided i j e before false d =
         absurd (late (are.not j d i (sym (agrees i before) ∙ e)))
@@ -143,7 +151,8 @@ module _ (links : Links) (potentials : PotentialParts) (plan : List (Option ℕ)
         late : low ≤ i → ⊥
         late h = omega (arith, h, before)
 
-    was_open : (i j : ℕ) → next other i ≡ Some j → low ≤ i → (b : Bool) → decided j ≡ b → decided j ≡ false
+    was_open : (i j : ℕ) → next other i ≡ Some j → low ≤ i → (b : Bool) → decided j ≡ b
+        → decided j ≡ false
     was_open i j e after false d = d
     was_open i j e after true d =
         let had = are.has j d in
@@ -174,7 +183,8 @@ module _ (links : Links) (potentials : PotentialParts) (plan : List (Option ℕ)
         omega (
           arith,
           pair_moved i j after (within_of i j e) (in_other i j e) free,
-          closed.by i j after (within_of i j e) (omega (arith, in_other i j e)) (are.not j free) (tight_at i j e),
+          closed.by i j after (within_of i j e) (omega (arith, in_other i j e)) (are.not j free)
+              (tight_at i j e),
         ))
 
     gain_at : ℕ → ℕ → ℤ
@@ -194,7 +204,8 @@ module _ (links : Links) (potentials : PotentialParts) (plan : List (Option ℕ)
       size = values_size links.count new_u ∙ sym fits.each;
       once = fits.once;
       covered = λ i j e.
-          let gain : unwrap_or (links.gain (0 + i) j) (pos 0) ≡ pos (at potentials.u i + at potentials.v j) = gain_is i j e in
+          let gain : unwrap_or (links.gain (0 + i) j) (pos 0) ≡ pos
+              (at potentials.u i + at potentials.v j) = gain_is i j e in
           let most : at potentials.u i + at potentials.v j ≤ at u i + at v j = link_covered i j e in
           omega (arith, ints, gain, most);
     }
@@ -225,7 +236,8 @@ module _ (links : Links) (potentials : PotentialParts) (plan : List (Option ℕ)
       (λ before. omega (
         arith,
         u_kept i before (within_of plan possible inside tight itself i j e),
-        v_kept j (was_decided plan possible inside tight itself i j e before (decided j) refl) (inside i j e),
+        v_kept j (was_decided plan possible inside tight itself i j e before (decided j) refl)
+            (inside i j e),
       ))
       (λ after. omega (
         arith,
@@ -255,13 +267,16 @@ module _ (links : Links) (potentials : PotentialParts) (plan : List (Option ℕ)
         arith,
         v_moved j (open_place j free (decided j) refl) before,
         tight.first j free,
-        closed.alone j links.count (omega (arith, before)) free (omega arith) last_undecided last_zero,
+        closed.alone j links.count (omega (arith, before)) free (omega arith) last_undecided
+            last_zero,
       ))
       (λ past. values_past links.count new_v j past)
 
   new_gain : gains_from links.gain 0 plan ≡ pos (sum u + sum v)
-  new_gain = tight_gains links.gain 0 plan u v (new_covering plan possible inside tight itself) (record {
-    linked = λ i j e. gain_is plan possible inside tight itself i j e ∙ ap pos (sym (plan_linked i j e));
+  new_gain = tight_gains links.gain 0 plan u v (new_covering plan possible inside tight itself)
+      (record {
+    linked = λ i j e. gain_is plan possible inside tight itself i j e
+        ∙ ap pos (sym (plan_linked i j e));
     last = λ i h e. plan_last i (omega (arith, h, possible.each)) e;
     first = plan_first;
   })
@@ -270,12 +285,14 @@ module _ (links : Links) (potentials : PotentialParts) (plan : List (Option ℕ)
   module _ (other : List (Option ℕ)) (fits : IsPlan links other) (in_other : AreWithin links other)
       (other_tight : IsTight links potentials other) (agrees : AgreeBefore low plan other) where
     other_new : AreTight links.gain 0 other u v
-    other_new = then_tight links.gain 0 other u v (new_covering other fits in_other other_tight agrees)
+    other_new = then_tight links.gain 0 other u v (new_covering other fits in_other other_tight
+        agrees)
         (old_gain other fits in_other other_tight agrees
         ∙ sym (old_gain plan possible inside tight itself) ∙ new_gain)
 
     -- and the first undecided trip does not pass from outside the set to a place inside
-    pub stays_outside : low < links.count → w (own low) ≡ 0 → w (place_of links.count (next other low)) ≡ 1 → ⊥
+    pub stays_outside : low < links.count → w (own low) ≡ 0
+        → w (place_of links.count (next other low)) ≡ 1 → ⊥
     stays_outside within outside in_set = at_next (next other low) refl
       where
         at_next : (to : Option ℕ) → next other low ≡ to → ⊥
@@ -285,10 +302,13 @@ module _ (links : Links) (potentials : PotentialParts) (plan : List (Option ℕ)
             absurd (omega (arith, none, one, outside, u_moved low (omega arith) within))
         at_next (Some j) e =
             let one : w j ≡ 1 = sym (ap (λ at. w (place_of links.count at)) e) ∙ in_set in
-            let new : unwrap_or (links.gain (0 + low) j) (pos 0) ≡ pos (at u low + at v j) = other_new.linked low j e in
-            let old : unwrap_or (links.gain (0 + low) j) (pos 0) ≡ pos (at potentials.u low + at potentials.v j) =
+            let new : unwrap_or (links.gain (0 + low) j) (pos 0) ≡ pos
+                (at u low + at v j) = other_new.linked low j e in
+            let old : unwrap_or (links.gain (0 + low) j) (pos 0) ≡ pos
+                (at potentials.u low + at potentials.v j) =
             gain_is other fits in_other other_tight agrees low j e in
-            let both : pos (at u low + at v j) ≡ pos (at potentials.u low + at potentials.v j) = sym new ∙ old in
+            let both : pos (at u low + at v j) ≡ pos (at potentials.u low + at potentials.v j) = sym
+                new ∙ old in
             absurd (omega (
               arith,
               ints,
@@ -296,5 +316,6 @@ module _ (links : Links) (potentials : PotentialParts) (plan : List (Option ℕ)
               outside,
               both,
               pair_moved low j (omega arith) within (in_other low j e)
-                  (was_open other fits in_other other_tight agrees low j e (omega arith) (decided j) refl),
+                  (was_open other fits in_other other_tight agrees low j e (omega arith)
+                      (decided j) refl),
             ))

@@ -16,37 +16,49 @@ use Rattle.vehicle_flow.proofs.Claiming.{still_claimed, still_expanded}
 use Rattle.vehicle_flow.proofs.Refused.{inside, refused, other_tight, other_undecided}
 
 -- the trip's claim
-pub own_claim_is : (search : Search) (claims got : ClaimsParts) (place trip : ℕ) → search.trip ≡ trip
-    → got ≡ with_claim claims place (record { by = Some trip; from = None; step = length claims.order })
-    → got ≡ with_claim claims place (record { by = Some search.trip; from = None; step = length claims.order })
+pub own_claim_is : (search : Search) (claims got : ClaimsParts) (place trip : ℕ)
+    → search.trip ≡ trip
+    → got ≡ with_claim claims place
+        (record { by = Some trip; from = None; step = length claims.order })
+    → got ≡ with_claim claims place
+        (record { by = Some search.trip; from = None; step = length claims.order })
 own_claim_is search claims got place trip same got_is = got_is
-    ∙ ap (λ i. with_claim claims place (record { by = Some i; from = None; step = length claims.order })) (sym same)
+    ∙ ap (λ i. with_claim claims place
+        (record { by = Some i; from = None; step = length claims.order })) (sym same)
 
 module _ (search : Search) (plan : List (Option ℕ)) (is : IsSearch search plan) where
   -- ---- one place after another
 
   module _ (claims : ClaimsParts) (places : List ℕ) (own index : ℕ)
-      (are : ArePlaces (λ place. IsTightBy search.links search.potentials place (Some search.trip)) (search.links.count + 1) places)
+      (are : ArePlaces (λ place. IsTightBy search.links search.potentials place (Some search.trip))
+          (search.links.count + 1) places)
       (own_is : own ≡ place_of search.links.count (next plan search.trip))
       (seeking : IsSeeking search plan claims places own index) where
-    own_most : (to : Option ℕ) → next plan search.trip ≡ to → place_of search.links.count to ≤ search.links.count
+    own_most : (to : Option ℕ) → next plan search.trip ≡ to → place_of search.links.count
+        to ≤ search.links.count
     own_most None e = omega arith
-    own_most (Some j) e = let bound : j < search.links.count = inside search plan is search.trip j e in omega (arith, bound)
+    own_most (Some j) e = let bound : j < search.links.count = inside search plan is search.trip j e
+        in omega (arith, bound)
 
     -- before the places that are still to be looked at there is none
     nothing_before : (bound : ℕ) → bound ≤ own
-        → ((k : ℕ) → k < length places → at places k < bound → k < index) → IsFirst search plan bound
+        → ((k : ℕ) → k < length places → at places k < bound → k < index)
+            → IsFirst search plan bound
     nothing_before bound most seen other fits in_other tight agrees =
         by_bound (place_of search.links.count (next other search.trip)) bound
         (λ before.
         let k = are.all (place_of search.links.count (next other search.trip))
         (omega (arith, before, most, own_is, own_most (next plan search.trip) refl))
-        (other_tight search plan is other fits in_other tight agrees (next other search.trip) refl) in
+        (other_tight search plan is other fits in_other tight agrees (next other search.trip) refl)
+            in
         let here : at places k.0 < bound = omega (arith, before, k.1.1) in
-        let undecided : IsUndecided plan search.low (at places k.0) = subst (IsUndecided plan search.low) (sym k.1.1)
-        (other_undecided search plan is other fits in_other tight agrees (next other search.trip) refl) in
+        let undecided : IsUndecided plan search.low (at places k.0) = subst
+            (IsUndecided plan search.low) (sym k.1.1)
+        (other_undecided search plan is other fits in_other tight agrees (next other search.trip)
+            refl) in
         absurd (refused search plan is claims seeking.right seeking.expanded
-        (subst (λ some. claim_at claims some ≡ None) own_is seeking.free) other fits in_other tight agrees
+        (subst (λ some. claim_at claims some ≡ None) own_is seeking.free) other fits in_other tight
+            agrees
         (subst (λ some. is_claimed claims some ≡ true) k.1.1
         (seeking.before k.0 (seen k.0 k.1.0 here) (omega (arith, here, most)) undecided))))
         (λ past. past)
@@ -62,20 +74,23 @@ module _ (search : Search) (plan : List (Option ℕ)) (is : IsSearch search plan
       expanded = seeking.expanded;
       free = seeking.free;
       before = λ k bound h undecided. by_number k index
-          (λ same. let here : at places k ≡ at places index = ap (at places) same in absurd (omega (arith, here, h, past)))
+          (λ same. let here : at places k ≡ at places index = ap (at places) same in absurd
+              (omega (arith, here, h, past)))
           (λ apart. seeking.before k (omega (arith, bound, apart)) h undecided);
       mine = λ place found e own_claim.
           let k = seeking.mine place found e own_claim in (k.0, (omega (arith, k.1.0), k.1.1));
     }
 
-    pub seeking_kept : (IsUndecided plan search.low (at places index) → is_claimed claims (at places index) ≡ true)
+    pub seeking_kept : (IsUndecided plan search.low (at places index) → is_claimed claims
+        (at places index) ≡ true)
         → IsSeeking search plan claims places own (index + 1)
     seeking_kept already = record {
       right = seeking.right;
       expanded = seeking.expanded;
       free = seeking.free;
       before = λ k bound h undecided. by_number k index
-          (λ same. subst (λ i. IsUndecided plan search.low (at places i) → is_claimed claims (at places i) ≡ true) (sym same)
+          (λ same. subst (λ i. IsUndecided plan search.low (at places i) → is_claimed claims
+              (at places i) ≡ true) (sym same)
           already undecided)
           (λ apart. seeking.before k (omega (arith, bound, apart)) h undecided);
       mine = λ place found e own_claim.
@@ -84,7 +99,8 @@ module _ (search : Search) (plan : List (Option ℕ)) (is : IsSearch search plan
 
     -- or the trip claims it
     module _ (within : index < length places) (before_own : at places index < own)
-        (free : claim_at claims (at places index) ≡ None) (few : length claims.order < length claims.at)
+        (free : claim_at claims (at places index) ≡ None)
+            (few : length claims.order < length claims.at)
         (undecided : IsUndecided plan search.low (at places index)) where
       abbrev latest : Claim
       latest = record { by = Some search.trip; from = None; step = length claims.order }
@@ -103,10 +119,12 @@ module _ (search : Search) (plan : List (Option ℕ)) (is : IsSearch search plan
       new = with_claim claims (at places index) latest
 
       new_more : AreMore claims new
-      new_more = claims_more search plan claims (at places index) latest seeking.right in_places free few undecided refl latest_is
+      new_more = claims_more search plan claims (at places index) latest seeking.right in_places
+          free few undecided refl latest_is
 
       pub new_right : AreRight search plan new
-      new_right = claims_right search plan claims (at places index) latest seeking.right in_places free few undecided refl latest_is
+      new_right = claims_right search plan claims (at places index) latest seeking.right in_places
+          free few undecided refl latest_is
 
       pub new_size : length new.order ≡ length claims.order + 1
       new_size = length-append claims.order (at places index ∷ [])
@@ -115,9 +133,11 @@ module _ (search : Search) (plan : List (Option ℕ)) (is : IsSearch search plan
       new_expanded step place bound e =
           let earlier : step < length claims.order = omega (arith, bound, new_size) in
           still_expanded search plan claims new place new_more
-          (seeking.expanded step place earlier (sym (before_last claims.order (at places index) step earlier) ∙ e))
+          (seeking.expanded step place earlier
+              (sym (before_last claims.order (at places index) step earlier) ∙ e))
         where
-          before_last : (xs : List ℕ) (x k : ℕ) → k < length xs → slice_get (xs ++ x ∷ []) k ≡ slice_get xs k
+          before_last : (xs : List ℕ) (x k : ℕ) → k < length xs → slice_get (xs ++ x ∷ [])
+              k ≡ slice_get xs k
           before_last [] x k h = absurd (omega (arith, h))
           before_last (y ∷ xs) x zero h = refl
           before_last (y ∷ xs) x (suc k) h = before_last xs x k (omega (arith, h))
@@ -125,8 +145,10 @@ module _ (search : Search) (plan : List (Option ℕ)) (is : IsSearch search plan
       this_first : IsFirst search plan (at places index)
       this_first = nothing_before (at places index) (omega (arith, before_own))
           (λ k bound h. by_bound k index (λ before. before) (λ past. by_number k index
-          (λ same. let here : at places k ≡ at places index = ap (at places) same in absurd (omega (arith, here, h)))
-          (λ apart. let later : at places index < at places k = are.rising index k (omega (arith, past, apart)) bound in
+          (λ same. let here : at places k ≡ at places index = ap (at places) same in absurd
+              (omega (arith, here, h)))
+          (λ apart. let later : at places index < at places k = are.rising index k
+              (omega (arith, past, apart)) bound in
           absurd (omega (arith, later, h)))))
 
       -- what it claims itself is a place so far
@@ -134,13 +156,16 @@ module _ (search : Search) (plan : List (Option ℕ)) (is : IsSearch search plan
           → claim_at after place ≡ Some found → found.by ≡ Some search.trip
           → (k : ℕ) × ((k < index + 1) × (at places k ≡ place))
       mine_now after others place found e own_claim =
-          old_or_new search plan claims (at places index) latest seeking.right in_places free few undecided refl latest_is
+          old_or_new search plan claims (at places index) latest seeking.right in_places free few
+              undecided refl latest_is
           place found (others place found e own_claim)
-          (λ old. let k = seeking.mine place found old own_claim in (k.0, (omega (arith, k.1.0), k.1.1)))
+          (λ old. let k = seeking.mine place found old own_claim in
+              (k.0, (omega (arith, k.1.0), k.1.1)))
           (λ same is_found. (index, (omega arith, sym same)))
 
       -- the trip's own place is claimed with it
-      pub sought_one : (after : ClaimsParts) → AreRight search plan after → AreOthers search new after
+      pub sought_one : (after : ClaimsParts) → AreRight search plan after
+          → AreOthers search new after
           → is_claimed after own ≡ true → IsSought search plan after own
       sought_one after right others claimed = record {
         right = right;
@@ -150,22 +175,28 @@ module _ (search : Search) (plan : List (Option ℕ)) (is : IsSearch search plan
             let least : at places index ≤ place_of search.links.count (next other search.trip) =
             this_first other fits in_other tight agrees in
             by_number k.0 index
-            (λ same. let here : at places k.0 ≡ at places index = ap (at places) same in omega (arith, here, k.1.1, least))
-            (λ apart. let earlier : at places k.0 < at places index = are.rising k.0 index (omega (arith, k.1.0, apart)) within in
+            (λ same. let here : at places k.0 ≡ at places index = ap (at places) same in omega
+                (arith, here, k.1.1, least))
+            (λ apart. let earlier : at places k.0 < at places index = are.rising k.0 index
+                (omega (arith, k.1.0, apart)) within in
             omega (arith, earlier, k.1.1, least));
       }
 
       -- or not
-      pub seeking_more : (after : ClaimsParts) → AreRight search plan after → AreMore new after → AreOthers search new after
+      pub seeking_more : (after : ClaimsParts) → AreRight search plan after → AreMore new after
+          → AreOthers search new after
           → AreExpanded search plan after (length after.order) → claim_at after own ≡ None
           → IsSeeking search plan after places own (index + 1)
       seeking_more after right more others expanded none = record {
         right = right;
         expanded = expanded;
         free = none;
-        before = λ k bound h open_place. still_claimed new after (at places k) more (by_number k index
-            (λ same. some_is (claim_at new (at places k)) latest (ap (λ i. claim_at new (at places i)) same
-            ∙ at_place search plan claims (at places index) latest seeking.right in_places free few undecided refl latest_is))
+        before = λ k bound h open_place. still_claimed new after (at places k) more
+            (by_number k index
+            (λ same. some_is (claim_at new (at places k)) latest
+                (ap (λ i. claim_at new (at places i)) same
+            ∙ at_place search plan claims (at places index) latest seeking.right in_places free few
+                undecided refl latest_is))
             (λ apart. still_claimed claims new (at places k) new_more
             (seeking.before k (omega (arith, bound, apart)) h open_place)));
         mine = mine_now after others;
@@ -173,7 +204,8 @@ module _ (search : Search) (plan : List (Option ℕ)) (is : IsSearch search plan
 
       -- the same of the claims that a call leaves
       module _ (trip : ℕ) (same : search.trip ≡ trip) (got : ClaimsParts)
-          (got_is : got ≡ with_claim claims (at places index) (record { by = Some trip; from = None; step = length claims.order })) where
+          (got_is : got ≡ with_claim claims (at places index)
+              (record { by = Some trip; from = None; step = length claims.order })) where
         is_new : got ≡ new
         is_new = own_claim_is search claims got (at places index) trip same got_is
 
@@ -184,14 +216,18 @@ module _ (search : Search) (plan : List (Option ℕ)) (is : IsSearch search plan
         got_some = omega (arith, new_size, ap (λ some. length some.order) is_new)
 
         pub got_expanded : AreExpanded search plan got (length got.order - 1)
-        got_expanded = subst (λ some. AreExpanded search plan some (length some.order - 1)) (sym is_new) new_expanded
+        got_expanded = subst (λ some. AreExpanded search plan some (length some.order - 1))
+            (sym is_new) new_expanded
 
-        pub got_sought : (after : ClaimsParts) → AreRight search plan after → AreOthers search got after
+        pub got_sought : (after : ClaimsParts) → AreRight search plan after
+            → AreOthers search got after
             → is_claimed after own ≡ true → IsSought search plan after own
         got_sought after right others claimed =
-            sought_one after right (subst (λ some. AreOthers search some after) is_new others) claimed
+            sought_one after right (subst (λ some. AreOthers search some after) is_new others)
+                claimed
 
-        pub got_seeking : (after : ClaimsParts) → AreRight search plan after → AreMore got after → AreOthers search got after
+        pub got_seeking : (after : ClaimsParts) → AreRight search plan after → AreMore got after
+            → AreOthers search got after
             → AreExpanded search plan after (length after.order) → claim_at after own ≡ None
             → IsSeeking search plan after places own (index + 1)
         got_seeking after right more others expanded none =
@@ -207,15 +243,19 @@ module _ (search : Search) (plan : List (Option ℕ)) (is : IsSearch search plan
         right = record {
           places = length-replicate (search.links.count + 1) None;
           few = omega arith;
-          claim = λ place found e. absurd (none-some found (sym (none_at (search.links.count + 1) place) ∙ e));
-          undecided = λ place found e. absurd (none-some found (sym (none_at (search.links.count + 1) place) ∙ e));
-          placed = λ place found e. absurd (none-some found (sym (none_at (search.links.count + 1) place) ∙ e));
+          claim = λ place found e. absurd
+              (none-some found (sym (none_at (search.links.count + 1) place) ∙ e));
+          undecided = λ place found e. absurd
+              (none-some found (sym (none_at (search.links.count + 1) place) ∙ e));
+          placed = λ place found e. absurd
+              (none-some found (sym (none_at (search.links.count + 1) place) ∙ e));
           listed = λ step place e. absurd (none-some place e);
         };
         expanded = λ step place bound e. absurd (none-some place e);
         free = none_at (search.links.count + 1) own;
         before = λ k bound. absurd (omega (arith, bound));
-        mine = λ place found e. absurd (none-some found (sym (none_at (search.links.count + 1) place) ∙ e));
+        mine = λ place found e. absurd
+            (none-some found (sym (none_at (search.links.count + 1) place) ∙ e));
       })
     where
       none_at : (n place : ℕ) → claim_at (record { at = replicate n None; order = [] }) place ≡ None
@@ -224,9 +264,13 @@ module _ (search : Search) (plan : List (Option ℕ)) (is : IsSearch search plan
       none_at (suc n) (suc place) = none_at n place
 
   -- the places at which the trip is tight
-  pub ties_of : (ties : TiesParts) (trip : ℕ) (places : List ℕ) → AreTies search.links search.potentials ties
+  pub ties_of : (ties : TiesParts) (trip : ℕ) (places : List ℕ)
+      → AreTies search.links search.potentials ties
       → search.trip ≡ trip → places ≡ get_or ties.by trip []
-      → ArePlaces (λ place. IsTightBy search.links search.potentials place (Some search.trip)) (search.links.count + 1) places
+      → ArePlaces (λ place. IsTightBy search.links search.potentials place (Some search.trip))
+          (search.links.count + 1) places
   ties_of ties trip places are same places_are =
-      subst (ArePlaces (λ place. IsTightBy search.links search.potentials place (Some search.trip)) (search.links.count + 1))
-      (sym (places_are ∙ ap (λ i. get_or ties.by i []) (sym same))) (are.of_trip search.trip is.within)
+      subst (ArePlaces (λ place. IsTightBy search.links search.potentials place (Some search.trip))
+          (search.links.count + 1))
+      (sym (places_are ∙ ap (λ i. get_or ties.by i []) (sym same)))
+          (are.of_trip search.trip is.within)

@@ -57,7 +57,8 @@ module _ (P : ℕ → Type 0) (below : ℕ) (places : List ℕ) (are : ArePlaces
         omega (arith, first, second, rising));
     right = λ k bound. by_number k (length places)
         (λ same. subst P (sym (latest k same)) here)
-        (λ apart. subst P (sym (front k (omega (arith, bound, size, apart)))) (are.right k (omega (arith, bound, size, apart))));
+        (λ apart. subst P (sym (front k (omega (arith, bound, size, apart))))
+            (are.right k (omega (arith, bound, size, apart))));
     within = λ k bound. by_number k (length places)
         (λ same. omega (arith, latest k same))
         (λ apart.
@@ -79,13 +80,15 @@ covered_by None both h = tt
 covered_by (Some (pos gain)) both h = omega (arith, ints, h)
 covered_by (Some (negsuc less)) both h = tt
 
-pub valid_covers : (links : Links) (plan : List (Option ℕ)) (potentials : PotentialParts) → AreValid links plan potentials
+pub valid_covers : (links : Links) (plan : List (Option ℕ)) (potentials : PotentialParts)
+    → AreValid links plan potentials
     → (i : ℕ) → Covers links potentials i
 valid_covers links plan potentials valid i j =
     covered_by (links.gain i j) (at potentials.u i + at potentials.v j) (valid.covered i j)
 
 -- one trip's list more
-pub lists_more : {X : Type 0} (items : X → List ℕ) (Q : ℕ → List ℕ → Type 0) (lists : List X) (list : X) (new : List X)
+pub lists_more : {X : Type 0} (items : X → List ℕ) (Q : ℕ → List ℕ → Type 0) (lists : List X)
+    (list : X) (new : List X)
     (n : ℕ) → new ≡ lists ++ list ∷ [] → length (map items lists) ≡ n
     → ((i : ℕ) → i < n → Q i (get_or (map items lists) i [])) → Q n (items list)
     → (length (map items new) ≡ n + 1) × ((i : ℕ) → i < n + 1 → Q i (get_or (map items new) i []))
@@ -106,5 +109,6 @@ lists_more {X} items Q lists list new n new_is size each one = (
         (λ same. subst (λ k. Q k (get_or (map items lists ++ items list ∷ []) k [])) (sym same)
         (subst (Q n) (sym (ap (λ k. get_or (map items lists ++ items list ∷ []) k []) (sym size)
         ∙ get_or-append_seam (map items lists) (items list) [] [])) one))
-        (λ apart. subst (Q i) (sym (get_or_append_left (map items lists) (items list ∷ []) [] i (omega (arith, bound, apart, size))))
+        (λ apart. subst (Q i) (sym (get_or_append_left (map items lists) (items list ∷ []) [] i
+            (omega (arith, bound, apart, size))))
         (each i (omega (arith, bound, apart))))

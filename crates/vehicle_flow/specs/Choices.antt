@@ -14,7 +14,8 @@ pub record ArePlaces (P : ℕ → Type 0) (below : ℕ) (places : List ℕ) : Ty
   pub rising : (k m : ℕ) → k < m → m < length places → at places k < at places m
   pub right : (k : ℕ) → k < length places → P (at places k)
   pub within : (k : ℕ) → k < length places → at places k < below
-  pub all : (place : ℕ) → place < below → P place → (k : ℕ) × ((k < length places) × (at places k ≡ place))
+  pub all : (place : ℕ) → place < below → P place
+      → (k : ℕ) × ((k < length places) × (at places k ≡ place))
 
 -- for each trip the places at which it is tight, and those that need no trip
 pub record TiesParts : Type 0 where
@@ -24,8 +25,10 @@ pub record TiesParts : Type 0 where
 pub record AreTies (links : Links) (potentials : PotentialParts) (ties : TiesParts) : Type 0 where
   pub each : length ties.by ≡ links.count
   pub of_trip : (i : ℕ) → i < links.count
-      → ArePlaces (λ place. IsTightBy links potentials place (Some i)) (links.count + 1) (get_or ties.by i [])
-  pub of_none : ArePlaces (λ place. IsTightBy links potentials place None) (links.count + 1) ties.alone
+      → ArePlaces (λ place. IsTightBy links potentials place (Some i)) (links.count + 1)
+          (get_or ties.by i [])
+  pub of_none : ArePlaces (λ place. IsTightBy links potentials place None) (links.count + 1)
+      ties.alone
 
 -- a place is undecided: no trip before the first movable one has it
 abbrev pub IsUndecided : List (Option ℕ) → ℕ → ℕ → Type 0
@@ -42,7 +45,8 @@ AllClaimed search plan claims by = (place : ℕ) → place < search.links.count 
     → is_claimed claims place ≡ true
 
 -- a place is expanded: those who have it, or none, claim all that they are tight at
-pub record IsExpanded (search : Search) (plan : List (Option ℕ)) (claims : ClaimsParts) (place : ℕ) : Type 0 where
+pub record IsExpanded (search : Search) (plan : List (Option ℕ)) (claims : ClaimsParts)
+    (place : ℕ) : Type 0 where
   pub by : (i : ℕ) → search.low ≤ i → i < search.links.count
       → place_of search.links.count (next plan i) ≡ place → AllClaimed search plan claims (Some i)
   pub alone : is_next plan place ≡ false → AllClaimed search plan claims None
@@ -104,10 +108,12 @@ AreWithin links plan = (i j : ℕ) → next plan i ≡ Some j → j < links.coun
 abbrev pub IsFirst : Search → List (Option ℕ) → ℕ → Type 0
 IsFirst search plan place = (other : List (Option ℕ)) → IsPlan search.links other
     → AreWithin search.links other → IsTight search.links search.potentials other
-    → AgreeBefore search.low plan other → place ≤ place_of search.links.count (next other search.trip)
+    → AgreeBefore search.low plan other → place ≤ place_of search.links.count
+        (next other search.trip)
 
 -- the own place of the trip is claimed, and each that it claims itself is the first one
-pub record IsSought (search : Search) (plan : List (Option ℕ)) (claims : ClaimsParts) (own : ℕ) : Type 0 where
+pub record IsSought (search : Search) (plan : List (Option ℕ)) (claims : ClaimsParts)
+    (own : ℕ) : Type 0 where
   pub right : AreRight search plan claims
   pub claimed : is_claimed claims own ≡ true
   pub first : (place : ℕ) (found : Claim) → claim_at claims place ≡ Some found

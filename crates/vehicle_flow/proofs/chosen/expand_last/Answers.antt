@@ -13,18 +13,21 @@ claim_all-requires g c =
       (
         c.requires.1.0,
         (
-          subst (ArePlaces (λ place. IsTightBy g.search.links g.search.potentials place (Some c.loop-by.by)) (g.search.links.count + 1))
+          subst (ArePlaces (λ place. IsTightBy g.search.links g.search.potentials place
+              (Some c.loop-by.by)) (g.search.links.count + 1))
               (sym c.of.ensures) (c.requires.1.1.0.of_trip c.loop-by.by within),
           (
             (omega (arith, low), within),
             (
-              last_left g.search c.args.assignment.now c.args.claims.now c.args.place c.loop-by.by c.requires.0
+              last_left g.search c.args.assignment.now c.args.claims.now c.args.place c.loop-by.by
+                  c.requires.0
                   c.requires.1.1.1.0 c.requires.1.1.1.1.0
                   (omega (arith, c.if-place-len.false, c.len.ensures.count)) c.requires.1.1.1.1.1
                   (sym c.next.ensures.value ∙ no_next c.next.result (c.if-is_none.ensures)),
               (
                 c.loop-by.invariant.going.right,
-                still_claimed c.args.claims.now c.loop-by.claims c.args.place c.loop-by.invariant.going.more c.requires.1.1.1.1.0,
+                still_claimed c.args.claims.now c.loop-by.claims c.args.place
+                    c.loop-by.invariant.going.more c.requires.1.1.1.1.0,
               ),
             ),
           ),
