@@ -11,13 +11,14 @@ use Rattle.vehicle_flow.specs.Choices.{IsUndecided, is_claimed, AreExpanded, Are
 
 -- a search goes on: what it keeps, against the claims at its start
 pub record AreGoing (search : Search) (plan : List (Option ℕ)) (start claims : ClaimsParts) : Type 0
-    where
-  pub right : AreRight search plan claims
-  pub more : AreMore start claims
-  pub others : AreOthers search start claims
+  where
+    pub right : AreRight search plan claims
+    pub more : AreMore start claims
+    pub others : AreOthers search start claims
 
--- the loop over the places that a trip would take: all that is claimed is expanded, the places before
--- one are claimed where they come before the trip's own, and the trip's own claims are among them
+-- the loop over the places that a trip would take: all that is claimed is expanded, the places
+-- before one are claimed where they come before the trip's own, and what the trip claims itself is
+-- among them
 pub record IsSeeking (search : Search) (plan : List (Option ℕ)) (claims : ClaimsParts)
     (places : List ℕ) (own index : ℕ) : Type 0 where
   pub right : AreRight search plan claims
@@ -44,10 +45,11 @@ from_kept search plan before after found A more (Some from) h = record {
   left = h.left;
 }
 
+-- and so does a claim
 claim_kept : (search : Search) (plan : List (Option ℕ)) (before after : ClaimsParts) (place : ℕ)
     (found : Claim)
     → AreMore before after → IsClaim search plan before place found → IsClaim search plan after
-        place found
+    place found
 claim_kept search plan before after place found more is = record {
   tight = is.tight;
   movable = is.movable;
@@ -67,6 +69,7 @@ last_at : {X : Type 0} (xs : List X) (x : X) → slice_get (xs ++ x ∷ []) (len
 last_at [] x = refl
 last_at (y ∷ xs) x = last_at xs x
 
+-- an item before the last
 front_at : {X : Type 0} (xs : List X) (x y : X) (k : ℕ) → slice_get xs k ≡ Some y
     → slice_get (xs ++ x ∷ []) k ≡ Some y
 front_at [] x y k e = absurd (none-some y e)
@@ -82,6 +85,7 @@ front_or_last [] x y (suc k) e front last = absurd (none-some y e)
 front_or_last (z ∷ xs) x y zero e front last = front e
 front_or_last (z ∷ xs) x y (suc k) e front last = front_or_last xs x y k e front last
 
+-- what is there is there
 pub some_is : {X : Type 0} (at : Option X) (x : X) → at ≡ Some x → is_some at ≡ true
 some_is at x e = ap is_some e
 
@@ -94,12 +98,14 @@ module _ (search : Search) (plan : List (Option ℕ)) (claims : ClaimsParts) (pl
   abbrev pub new : ClaimsParts
   new = with_claim claims place found
 
+  -- the claim on the place, and on the others
   pub at_place : claim_at new place ≡ Some found
   at_place = get_or-set_same claims.at place (Some found) None inside
 
   at_other : (other : ℕ) → other ≢ place → claim_at new other ≡ claim_at claims other
   at_other other apart = get_or-set_other claims.at place other (Some found) None apart
 
+  -- all claims are kept
   pub claims_more : AreMore claims new
   claims_more = record {
     kept = λ other one e. at_other other (λ same. none-some one (sym free ∙ ap (claim_at claims)
@@ -114,11 +120,17 @@ module _ (search : Search) (plan : List (Option ℕ)) (claims : ClaimsParts) (pl
       (λ same. latest same (same_Some found one (sym at_place ∙ ap (claim_at new) (sym same) ∙ e)))
       (λ apart. old (sym (at_other other apart) ∙ e))
 
+  -- and each is one
   pub claims_right : AreRight search plan new
   claims_right = record {
     places = length-set claims.at place (Some found) ∙ right.places;
-    few = omega (arith, length-set claims.at place (Some found), few, length-append claims.order
-        (place ∷ []));
+    few = omega (
+      arith,
+      length-set claims.at place (Some found),
+      few,
+      length-append claims.order
+          (place ∷ []),
+    );
     claim = λ other one e. old_or_new other one e
         (λ old. claim_kept search plan claims new other one claims_more (right.claim other one old))
         (λ same is_found. subst (λ at. IsClaim search plan new at one) (sym same)

@@ -3,6 +3,7 @@ pub mod Claimed
 pub mod Claiming
 pub mod Copies
 pub mod Covering
+pub mod Expanding
 mod HandingOn
 pub mod Moves
 pub mod NearPlaces

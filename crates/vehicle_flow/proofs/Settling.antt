@@ -37,6 +37,7 @@ module _ (search : Search) (plan : List (Option ℕ)) (is : IsSearch search plan
   -- ---- the trip without its place
 
   module _ (moved : List (Option ℕ)) (moved_as : moved ≡ slice_set plan search.trip None) where
+    -- it waits for one, and the others keep theirs
     in_plan : search.trip < length plan
     in_plan = omega (arith, is.within, is.possible.each)
 
@@ -53,10 +54,12 @@ module _ (search : Search) (plan : List (Option ℕ)) (is : IsSearch search plan
     was : (i j : ℕ) → next moved i ≡ Some j → next plan i ≡ Some j
     was i j e = sym (others i (not_trip i j e)) ∙ e
 
+    -- a place without a trip still has none
     still_free : (j : ℕ) → is_next plan j ≡ false → is_next moved j ≡ false
     still_free j free = never_next moved j (λ i e. not_next plan i j free (was i j e))
 
     module _ (own : ℕ) (own_is : own ≡ place_of search.links.count (next plan search.trip)) where
+      -- and its own one has none
       own_next : (to : Option ℕ) → next plan search.trip ≡ to → (i : ℕ) → next moved i ≡ Some own
           → ⊥
       own_next None e i h =
@@ -66,11 +69,12 @@ module _ (search : Search) (plan : List (Option ℕ)) (is : IsSearch search plan
       own_next (Some j) e i h =
           let same : own ≡ j = own_is ∙ ap (place_of search.links.count) e in
           not_trip i own h (is.possible.once i search.trip own (was i own h)
-              (e ∙ ap Some (sym same)))
+          (e ∙ ap Some (sym same)))
 
       own_free : is_next moved own ≡ false
       own_free = never_next moved own (own_next (next plan search.trip) refl)
 
+      -- but for both the plan is tight
       tight_but : IsTightBut search own moved
       tight_but = record {
         each = ap length moved_as ∙ length-set plan search.trip None ∙ is.possible.each;
@@ -81,10 +85,11 @@ module _ (search : Search) (plan : List (Option ℕ)) (is : IsSearch search plan
         first = λ j within apart free. is.tight.first j
             (never_next plan j (λ i e. by_number i search.trip
             (λ same. apart (sym (own_is ∙ ap (place_of search.links.count)
-                (ap (next plan) (sym same) ∙ e))))
+            (ap (next plan) (sym same) ∙ e))))
             (λ other. not_next moved i j free (others i other ∙ e))));
       }
 
+      -- claims are claims still
       left_still : (from : ℕ) (by : Option ℕ) → IsLeft search plan from by
           → IsLeft search moved from by
       left_still from None left = still_free from left
@@ -101,9 +106,9 @@ module _ (search : Search) (plan : List (Option ℕ)) (is : IsSearch search plan
         where
           from_still : (from : Option ℕ)
               → MatchOption from (found.by ≡ Some search.trip)
-                  (λ at. ComesFrom search plan claims found at)
+              (λ at. ComesFrom search plan claims found at)
               → MatchOption from (found.by ≡ Some search.trip) (λ at. ComesFrom search moved claims
-                  found at)
+              found at)
           from_still None h = h
           from_still (Some from) h = record {
             before = h.before;
@@ -152,11 +157,16 @@ module _ (search : Search) (plan : List (Option ℕ)) (is : IsSearch search plan
           let first : handed.place ≤ place_of search.links.count (next other search.trip) =
           sought.first handed.place handed.found handed.claimed handed.own other fits in_other tight
           (λ i early. agrees i (omega (arith, early, is.first))
-              ∙ same i (omega (arith, early, is.first))) in
+          ∙ same i (omega (arith, early, is.first))) in
           no_later search.links.count (next after search.trip) (next other search.trip)
-              (in_other search.trip)
-          (omega (arith, first, place_back search.links.count handed.place, ap
-              (place_of search.links.count) handed.next_is));
+          (in_other search.trip)
+          (omega (
+            arith,
+            first,
+            place_back search.links.count handed.place,
+            ap
+                (place_of search.links.count) handed.next_is,
+          ));
     }
       where
         same : AgreeBefore search.trip plan after
@@ -177,7 +187,7 @@ module _ (search : Search) (plan : List (Option ℕ)) (is : IsSearch search plan
         let least : own ≤ place_of search.links.count (next other search.trip) =
         first other fits in_other tight (λ i early. agrees i (omega (arith, early, is.first))) in
         no_later search.links.count (next plan search.trip) (next other search.trip)
-            (in_other search.trip)
+        (in_other search.trip)
         (omega (arith, least, own_is));
   }
 
@@ -190,6 +200,7 @@ pub record IsDeciding (links : Links) (potentials : PotentialParts) (plan : List
   pub tight : IsTight links potentials plan
   pub first : (i : ℕ) → i < trip → IsLeast links potentials plan i
 
+-- one trip more has its place for good
 pub deciding_more : (search : Search) (plan after : List (Option ℕ)) (trip : ℕ) → search.trip ≡ trip
     → IsDeciding search.links search.potentials plan trip → IsSettled search plan after
     → IsDeciding search.links search.potentials after (trip + 1)
@@ -204,7 +215,7 @@ deciding_more search plan after trip same is settled = record {
     earlier : (i : ℕ) → i < trip → IsLeast search.links search.potentials after i
     earlier i bound other fits in_other tight agrees =
         subst (λ some. ComesNoLater some (next other i))
-            (sym (settled.same i (omega (arith, bound, same))))
+        (sym (settled.same i (omega (arith, bound, same))))
         (is.first i bound other fits in_other tight
         (λ k early. agrees k early ∙ settled.same k (omega (arith, early, bound, same))))
 
@@ -223,12 +234,13 @@ pub plan_inside : (trips : TripsParts) (plan : List (Option ℕ)) → IsPlan (li
     → AreWithin (links_of trips) plan
 plan_inside trips plan possible i j e = (links_within trips i j (possible.follow i j e)).1
 
+-- the search for the next trip's place can begin
 pub search_is : (trips : TripsParts) (potentials : PotentialParts)
     (certified plan : List (Option ℕ)) (trip : ℕ)
     → AreValid (links_of trips) certified potentials → trip < length trips.trips
     → IsDeciding (links_of trips) potentials plan trip
     → IsSearch (record { links = links_of trips; potentials = potentials; trip = trip; low = trip })
-        plan
+    plan
 search_is trips potentials certified plan trip valid within is = record {
   first = refl;
   within = within;
@@ -245,7 +257,7 @@ search_is trips potentials certified plan trip valid within is = record {
 pub chosen_all : (trips : TripsParts) (potentials : PotentialParts)
     (certified plan : List (Option ℕ)) (trip : ℕ)
     → AreValid (links_of trips) certified potentials → IsPlan (links_of trips) certified
-        → length trips.trips ≤ trip
+    → length trips.trips ≤ trip
     → IsDeciding (links_of trips) potentials plan trip → IsChosen trips plan
 chosen_all trips potentials certified plan trip valid fits all is = record {
   cheapest = (tight_cheapest trips certified potentials valid fits plan is.possible).1 is.tight;
@@ -254,11 +266,12 @@ chosen_all trips potentials certified plan trip valid fits all is = record {
       (plan_inside trips other cheapest.possible)
       ((tight_cheapest trips certified potentials valid fits other cheapest.possible).0 cheapest)
       (λ k early. sym (get_or-take i other k None early) ∙ ap (λ some. next some k) (sym agree)
-          ∙ get_or-take i plan k None early);
+      ∙ get_or-take i plan k None early);
 }
 
+-- and so is what is made of it
 pub chosen_told : {E : Type 0} (trips : TripsParts) (plan : List (Option ℕ)) → IsChosen trips plan
     → (result : Result (List (Option ℕ)) E) → IfOk result (λ made. made ≡ plan) → IfOk result
-        (IsChosen trips)
+    (IsChosen trips)
 chosen_told trips plan is (Ok made) same = subst (IsChosen trips) (sym same) is
 chosen_told trips plan is (Err why) same = tt

@@ -1,5 +1,6 @@
 -- Potentials that are shifted along a closed set of places: where a trip's own place is outside and
--- another one inside, no tight plan that agrees with this one on what is decided gives it the other.
+-- another one inside, no tight plan that agrees with this one on what is decided gives it the other
+-- one.
 use Rattle.std.proofs.Common.{◌≡◌, ℕ, ℤ, pos, ◌+◌, ◌-◌, ◌<◌, ◌≤◌, nat_lt, Bool, true, false, List, sum, Option, Some, None, unwrap_or, refl, ap, sym, ◌∙◌, arith}
 use Rattle.std.proofs.lemmas.Bool.{lt-ltb, le-ltb}
 use Rattle.std.proofs.lemmas.Int.{ints}
@@ -17,8 +18,8 @@ use Rattle.vehicle_flow.proofs.Moves.{has_next}
 use Rattle.vehicle_flow.proofs.Values.{values, values_at, values_size, values_past}
 use Rattle.vehicle_flow.specs.Choices.{IsUndecided, AgreeBefore, AreWithin}
 
--- a set of places, as 1 for each of them: with the place of an undecided trip it has all undecided ones
--- at which the trip is tight, and with one that has no trip all undecided ones that need none
+-- a set of places, as 1 for each of them: with the place of an undecided trip it has all undecided
+-- ones at which the trip is tight, and with one that has no trip all undecided ones that need none
 pub record IsClosed (links : Links) (potentials : PotentialParts) (plan : List (Option ℕ)) (low : ℕ)
     (w : ℕ → ℕ) : Type 0 where
   pub one : (place : ℕ) → w place ≤ 1
@@ -38,11 +39,13 @@ module _ (links : Links) (potentials : PotentialParts) (plan : List (Option ℕ)
     (w : ℕ → ℕ)
     (decided : ℕ → Bool) (are : AreDecided plan low decided) (over : AreOver links.count potentials)
     (possible : IsPlan links plan) (inside : AreWithin links plan)
-        (tight : IsTight links potentials plan)
+    (tight : IsTight links potentials plan)
     (closed : IsClosed links potentials plan low w) where
+  -- the place of a trip
   abbrev own : ℕ → ℕ
   own i = place_of links.count (next plan i)
 
+  -- the shifted potentials: what is decided keeps its own
   abbrev shift_u : Bool → ℕ → ℕ → ℕ → ℕ
   shift_u true old last here = old
   shift_u false old last here = (old + last) - here
@@ -70,6 +73,7 @@ module _ (links : Links) (potentials : PotentialParts) (plan : List (Option ℕ)
       past : links.count < links.count → ⊥
       past h = omega (arith, h)
 
+  -- and needs no trip
   last_zero : at potentials.v links.count ≡ 0
   last_zero = get_or_past potentials.v links.count 0 (omega (arith, over.each_v))
 
@@ -79,6 +83,7 @@ module _ (links : Links) (potentials : PotentialParts) (plan : List (Option ℕ)
   u_kept i h within = values_at links.count new_u i within
       ∙ ap (λ b. shift_u b (at potentials.u i) (w links.count) (w (own i))) (lt-ltb i low h)
 
+  -- and what the others get
   u_moved : (i : ℕ) → low ≤ i → i < links.count → at u i ≡ (at potentials.u i + w links.count) - w
       (own i)
   unfolding u new_u
@@ -109,12 +114,14 @@ module _ (links : Links) (potentials : PotentialParts) (plan : List (Option ℕ)
       ))
       (λ apart. omega (arith, closed.one (own i), apart))
 
+  -- behind all trips there is none
   last_free : is_next plan links.count ≡ false
   last_free = never_next plan links.count (λ i e. past (inside i links.count e))
     where
       past : links.count < links.count → ⊥
       past h = omega (arith, h)
 
+  -- nor that of a place
   last_bound : (place : ℕ) → place < links.count → decided place ≡ false
       → w links.count ≤ at potentials.v place + w place
   last_bound place within h = by_number (at potentials.v place) 0
@@ -125,6 +132,7 @@ module _ (links : Links) (potentials : PotentialParts) (plan : List (Option ℕ)
       ))
       (λ apart. omega (arith, closed.one links.count, apart))
 
+  -- a trip and a place together rise where the place comes into the set
   pair_moved : (i j : ℕ) → low ≤ i → i < links.count → j < links.count → decided j ≡ false
       → at u i + at v j + w (own i) ≡ at potentials.u i + at potentials.v j + w j
   pair_moved i j h within before free = omega (
@@ -139,6 +147,7 @@ module _ (links : Links) (potentials : PotentialParts) (plan : List (Option ℕ)
 
   module _ (other : List (Option ℕ)) (fits : IsPlan links other) (in_other : AreWithin links other)
       (other_tight : IsTight links potentials other) (agrees : AgreeBefore low plan other) where
+    -- its links join trips, and keep to what is decided and what is not
     within_of : (i j : ℕ) → next other i ≡ Some j → i < links.count
     within_of i j e = omega (arith, has_next other i j e, fits.each)
 
@@ -160,6 +169,7 @@ module _ (links : Links) (potentials : PotentialParts) (plan : List (Option ℕ)
         let early : had.0 < low = had.1.0 in
         absurd (omega (arith, same, early, after))
 
+    -- each trip is tight at its place
     tight_at : (i j : ℕ) → next other i ≡ Some j → IsTightAt links potentials i j
     tight_at i j e = record {
       linked = λ h. other_tight.linked i j e;
@@ -193,6 +203,7 @@ module _ (links : Links) (potentials : PotentialParts) (plan : List (Option ℕ)
     none_before : (k : ℕ) → k ≡ 0 + k
     none_before k = omega arith
 
+    -- what its links gain
     gain_is : (i j : ℕ) → next other i ≡ Some j
         → unwrap_or (links.gain (0 + i) j) (pos 0) ≡ pos (at potentials.u i + at potentials.v j)
     gain_is i j e = ap (λ k. unwrap_or (links.gain k j) (pos 0)) (sym (none_before i))
@@ -205,7 +216,7 @@ module _ (links : Links) (potentials : PotentialParts) (plan : List (Option ℕ)
       once = fits.once;
       covered = λ i j e.
           let gain : unwrap_or (links.gain (0 + i) j) (pos 0) ≡ pos
-              (at potentials.u i + at potentials.v j) = gain_is i j e in
+          (at potentials.u i + at potentials.v j) = gain_is i j e in
           let most : at potentials.u i + at potentials.v j ≤ at u i + at v j = link_covered i j e in
           omega (arith, ints, gain, most);
     }
@@ -230,6 +241,7 @@ module _ (links : Links) (potentials : PotentialParts) (plan : List (Option ℕ)
   itself : AgreeBefore low plan plan
   itself i h = refl
 
+  -- each link has kept its two potentials together
   plan_linked : (i j : ℕ) → next plan i ≡ Some j
       → at u i + at v j ≡ at potentials.u i + at potentials.v j
   plan_linked i j e = by_bound i low
@@ -246,6 +258,7 @@ module _ (links : Links) (potentials : PotentialParts) (plan : List (Option ℕ)
         ap (λ at. w (place_of links.count at)) e,
       ))
 
+  -- a side without a link still has 0
   plan_last : (i : ℕ) → i < links.count → next plan i ≡ None → at u i ≡ 0
   plan_last i within e = by_bound i low
       (λ before. u_kept i before within ∙ tight.last i e)
@@ -272,14 +285,15 @@ module _ (links : Links) (potentials : PotentialParts) (plan : List (Option ℕ)
       ))
       (λ past. values_past links.count new_v j past)
 
+  -- so the shifted potentials together are as much as before
   new_gain : gains_from links.gain 0 plan ≡ pos (sum u + sum v)
   new_gain = tight_gains links.gain 0 plan u v (new_covering plan possible inside tight itself)
       (record {
-    linked = λ i j e. gain_is plan possible inside tight itself i j e
-        ∙ ap pos (sym (plan_linked i j e));
-    last = λ i h e. plan_last i (omega (arith, h, possible.each)) e;
-    first = plan_first;
-  })
+        linked = λ i j e. gain_is plan possible inside tight itself i j e
+            ∙ ap pos (sym (plan_linked i j e));
+        last = λ i h e. plan_last i (omega (arith, h, possible.each)) e;
+        first = plan_first;
+      })
 
   -- so the other plan is tight for them
   module _ (other : List (Option ℕ)) (fits : IsPlan links other) (in_other : AreWithin links other)
@@ -303,12 +317,12 @@ module _ (links : Links) (potentials : PotentialParts) (plan : List (Option ℕ)
         at_next (Some j) e =
             let one : w j ≡ 1 = sym (ap (λ at. w (place_of links.count at)) e) ∙ in_set in
             let new : unwrap_or (links.gain (0 + low) j) (pos 0) ≡ pos
-                (at u low + at v j) = other_new.linked low j e in
+            (at u low + at v j) = other_new.linked low j e in
             let old : unwrap_or (links.gain (0 + low) j) (pos 0) ≡ pos
-                (at potentials.u low + at potentials.v j) =
+            (at potentials.u low + at potentials.v j) =
             gain_is other fits in_other other_tight agrees low j e in
             let both : pos (at u low + at v j) ≡ pos (at potentials.u low + at potentials.v j) = sym
-                new ∙ old in
+            new ∙ old in
             absurd (omega (
               arith,
               ints,
@@ -317,5 +331,5 @@ module _ (links : Links) (potentials : PotentialParts) (plan : List (Option ℕ)
               both,
               pair_moved low j (omega arith) within (in_other low j e)
                   (was_open other fits in_other other_tight agrees low j e (omega arith)
-                      (decided j) refl),
+                  (decided j) refl),
             ))

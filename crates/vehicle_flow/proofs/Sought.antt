@@ -1,4 +1,5 @@
--- The places that a trip claims, one after another: those before the first that it may have are refused.
+-- The places that a trip claims, one after another: those before the first that it may have are
+-- refused.
 use Rattle.std.proofs.Common.{◌≡◌, ℕ, zero, suc, ◌+◌, ◌-◌, ◌<◌, ◌≤◌, true, List, [], ◌∷◌, ◌++◌, length, replicate, get_or, slice_get, Option, Some, None, refl, ap, sym, ◌∙◌, subst, arith, length-append}
 use Rattle.std.proofs.lemmas.List.{length-replicate}
 use Rattle.std.proofs.lemmas.Option.{none-some}
@@ -12,28 +13,30 @@ use Rattle.vehicle_flow.specs.Places.{place_of}
 use Rattle.vehicle_flow.specs.Searches.{Search, IsTightBy, IsClaim}
 use Rattle.vehicle_flow.specs.Choices.{ArePlaces, TiesParts, AreTies, IsUndecided, is_claimed, AreExpanded, AreRight, AreMore, AreOthers, IsSearch, IsFirst, IsSought}
 use Rattle.vehicle_flow.proofs.Claimed.{IsSeeking, with_claim, claims_more, claims_right, at_place, old_or_new, some_is}
-use Rattle.vehicle_flow.proofs.Claiming.{still_claimed, still_expanded}
+use Rattle.vehicle_flow.proofs.Claiming.{still_claimed}
+use Rattle.vehicle_flow.proofs.Expanding.{still_expanded}
 use Rattle.vehicle_flow.proofs.Refused.{inside, refused, other_tight, other_undecided}
 
 -- the trip's claim
 pub own_claim_is : (search : Search) (claims got : ClaimsParts) (place trip : ℕ)
     → search.trip ≡ trip
     → got ≡ with_claim claims place
-        (record { by = Some trip; from = None; step = length claims.order })
+    (record { by = Some trip; from = None; step = length claims.order })
     → got ≡ with_claim claims place
-        (record { by = Some search.trip; from = None; step = length claims.order })
+    (record { by = Some search.trip; from = None; step = length claims.order })
 own_claim_is search claims got place trip same got_is = got_is
     ∙ ap (λ i. with_claim claims place
-        (record { by = Some i; from = None; step = length claims.order })) (sym same)
+    (record { by = Some i; from = None; step = length claims.order })) (sym same)
 
 module _ (search : Search) (plan : List (Option ℕ)) (is : IsSearch search plan) where
   -- ---- one place after another
 
   module _ (claims : ClaimsParts) (places : List ℕ) (own index : ℕ)
       (are : ArePlaces (λ place. IsTightBy search.links search.potentials place (Some search.trip))
-          (search.links.count + 1) places)
+      (search.links.count + 1) places)
       (own_is : own ≡ place_of search.links.count (next plan search.trip))
       (seeking : IsSeeking search plan claims places own index) where
+    -- its own place is one of the places
     own_most : (to : Option ℕ) → next plan search.trip ≡ to → place_of search.links.count
         to ≤ search.links.count
     own_most None e = omega arith
@@ -43,22 +46,22 @@ module _ (search : Search) (plan : List (Option ℕ)) (is : IsSearch search plan
     -- before the places that are still to be looked at there is none
     nothing_before : (bound : ℕ) → bound ≤ own
         → ((k : ℕ) → k < length places → at places k < bound → k < index)
-            → IsFirst search plan bound
+        → IsFirst search plan bound
     nothing_before bound most seen other fits in_other tight agrees =
         by_bound (place_of search.links.count (next other search.trip)) bound
         (λ before.
         let k = are.all (place_of search.links.count (next other search.trip))
         (omega (arith, before, most, own_is, own_most (next plan search.trip) refl))
         (other_tight search plan is other fits in_other tight agrees (next other search.trip) refl)
-            in
+        in
         let here : at places k.0 < bound = omega (arith, before, k.1.1) in
         let undecided : IsUndecided plan search.low (at places k.0) = subst
-            (IsUndecided plan search.low) (sym k.1.1)
+        (IsUndecided plan search.low) (sym k.1.1)
         (other_undecided search plan is other fits in_other tight agrees (next other search.trip)
-            refl) in
+        refl) in
         absurd (refused search plan is claims seeking.right seeking.expanded
         (subst (λ some. claim_at claims some ≡ None) own_is seeking.free) other fits in_other tight
-            agrees
+        agrees
         (subst (λ some. is_claimed claims some ≡ true) k.1.1
         (seeking.before k.0 (seen k.0 k.1.0 here) (omega (arith, here, most)) undecided))))
         (λ past. past)
@@ -75,12 +78,13 @@ module _ (search : Search) (plan : List (Option ℕ)) (is : IsSearch search plan
       free = seeking.free;
       before = λ k bound h undecided. by_number k index
           (λ same. let here : at places k ≡ at places index = ap (at places) same in absurd
-              (omega (arith, here, h, past)))
+          (omega (arith, here, h, past)))
           (λ apart. seeking.before k (omega (arith, bound, apart)) h undecided);
       mine = λ place found e own_claim.
           let k = seeking.mine place found e own_claim in (k.0, (omega (arith, k.1.0), k.1.1));
     }
 
+    -- or it is claimed already, or decided
     pub seeking_kept : (IsUndecided plan search.low (at places index) → is_claimed claims
         (at places index) ≡ true)
         → IsSeeking search plan claims places own (index + 1)
@@ -90,7 +94,7 @@ module _ (search : Search) (plan : List (Option ℕ)) (is : IsSearch search plan
       free = seeking.free;
       before = λ k bound h undecided. by_number k index
           (λ same. subst (λ i. IsUndecided plan search.low (at places i) → is_claimed claims
-              (at places i) ≡ true) (sym same)
+          (at places i) ≡ true) (sym same)
           already undecided)
           (λ apart. seeking.before k (omega (arith, bound, apart)) h undecided);
       mine = λ place found e own_claim.
@@ -100,8 +104,9 @@ module _ (search : Search) (plan : List (Option ℕ)) (is : IsSearch search plan
     -- or the trip claims it
     module _ (within : index < length places) (before_own : at places index < own)
         (free : claim_at claims (at places index) ≡ None)
-            (few : length claims.order < length claims.at)
+        (few : length claims.order < length claims.at)
         (undecided : IsUndecided plan search.low (at places index)) where
+      -- the claim
       abbrev latest : Claim
       latest = record { by = Some search.trip; from = None; step = length claims.order }
 
@@ -118,6 +123,7 @@ module _ (search : Search) (plan : List (Option ℕ)) (is : IsSearch search plan
       abbrev new : ClaimsParts
       new = with_claim claims (at places index) latest
 
+      -- what it leaves
       new_more : AreMore claims new
       new_more = claims_more search plan claims (at places index) latest seeking.right in_places
           free few undecided refl latest_is
@@ -134,7 +140,7 @@ module _ (search : Search) (plan : List (Option ℕ)) (is : IsSearch search plan
           let earlier : step < length claims.order = omega (arith, bound, new_size) in
           still_expanded search plan claims new place new_more
           (seeking.expanded step place earlier
-              (sym (before_last claims.order (at places index) step earlier) ∙ e))
+          (sym (before_last claims.order (at places index) step earlier) ∙ e))
         where
           before_last : (xs : List ℕ) (x k : ℕ) → k < length xs → slice_get (xs ++ x ∷ [])
               k ≡ slice_get xs k
@@ -142,13 +148,14 @@ module _ (search : Search) (plan : List (Option ℕ)) (is : IsSearch search plan
           before_last (y ∷ xs) x zero h = refl
           before_last (y ∷ xs) x (suc k) h = before_last xs x k (omega (arith, h))
 
+      -- no tight plan has an earlier place for the trip
       this_first : IsFirst search plan (at places index)
       this_first = nothing_before (at places index) (omega (arith, before_own))
           (λ k bound h. by_bound k index (λ before. before) (λ past. by_number k index
           (λ same. let here : at places k ≡ at places index = ap (at places) same in absurd
-              (omega (arith, here, h)))
+          (omega (arith, here, h)))
           (λ apart. let later : at places index < at places k = are.rising index k
-              (omega (arith, past, apart)) bound in
+          (omega (arith, past, apart)) bound in
           absurd (omega (arith, later, h)))))
 
       -- what it claims itself is a place so far
@@ -157,10 +164,10 @@ module _ (search : Search) (plan : List (Option ℕ)) (is : IsSearch search plan
           → (k : ℕ) × ((k < index + 1) × (at places k ≡ place))
       mine_now after others place found e own_claim =
           old_or_new search plan claims (at places index) latest seeking.right in_places free few
-              undecided refl latest_is
+          undecided refl latest_is
           place found (others place found e own_claim)
           (λ old. let k = seeking.mine place found old own_claim in
-              (k.0, (omega (arith, k.1.0), k.1.1)))
+          (k.0, (omega (arith, k.1.0), k.1.1)))
           (λ same is_found. (index, (omega arith, sym same)))
 
       -- the trip's own place is claimed with it
@@ -176,9 +183,9 @@ module _ (search : Search) (plan : List (Option ℕ)) (is : IsSearch search plan
             this_first other fits in_other tight agrees in
             by_number k.0 index
             (λ same. let here : at places k.0 ≡ at places index = ap (at places) same in omega
-                (arith, here, k.1.1, least))
+            (arith, here, k.1.1, least))
             (λ apart. let earlier : at places k.0 < at places index = are.rising k.0 index
-                (omega (arith, k.1.0, apart)) within in
+            (omega (arith, k.1.0, apart)) within in
             omega (arith, earlier, k.1.1, least));
       }
 
@@ -194,9 +201,9 @@ module _ (search : Search) (plan : List (Option ℕ)) (is : IsSearch search plan
         before = λ k bound h open_place. still_claimed new after (at places k) more
             (by_number k index
             (λ same. some_is (claim_at new (at places k)) latest
-                (ap (λ i. claim_at new (at places i)) same
+            (ap (λ i. claim_at new (at places i)) same
             ∙ at_place search plan claims (at places index) latest seeking.right in_places free few
-                undecided refl latest_is))
+            undecided refl latest_is))
             (λ apart. still_claimed claims new (at places k) new_more
             (seeking.before k (omega (arith, bound, apart)) h open_place)));
         mine = mine_now after others;
@@ -205,7 +212,7 @@ module _ (search : Search) (plan : List (Option ℕ)) (is : IsSearch search plan
       -- the same of the claims that a call leaves
       module _ (trip : ℕ) (same : search.trip ≡ trip) (got : ClaimsParts)
           (got_is : got ≡ with_claim claims (at places index)
-              (record { by = Some trip; from = None; step = length claims.order })) where
+          (record { by = Some trip; from = None; step = length claims.order })) where
         is_new : got ≡ new
         is_new = own_claim_is search claims got (at places index) trip same got_is
 
@@ -224,7 +231,7 @@ module _ (search : Search) (plan : List (Option ℕ)) (is : IsSearch search plan
             → is_claimed after own ≡ true → IsSought search plan after own
         got_sought after right others claimed =
             sought_one after right (subst (λ some. AreOthers search some after) is_new others)
-                claimed
+            claimed
 
         pub got_seeking : (after : ClaimsParts) → AreRight search plan after → AreMore got after
             → AreOthers search got after
@@ -268,9 +275,9 @@ module _ (search : Search) (plan : List (Option ℕ)) (is : IsSearch search plan
       → AreTies search.links search.potentials ties
       → search.trip ≡ trip → places ≡ get_or ties.by trip []
       → ArePlaces (λ place. IsTightBy search.links search.potentials place (Some search.trip))
-          (search.links.count + 1) places
+      (search.links.count + 1) places
   ties_of ties trip places are same places_are =
       subst (ArePlaces (λ place. IsTightBy search.links search.potentials place (Some search.trip))
-          (search.links.count + 1))
+      (search.links.count + 1))
       (sym (places_are ∙ ap (λ i. get_or ties.by i []) (sym same)))
-          (are.of_trip search.trip is.within)
+      (are.of_trip search.trip is.within)

@@ -9,6 +9,7 @@ use Rattle.flow_potentials.specs.Potentials.{PotentialParts, at, AreValid}
 use Rattle.vehicle_flow.specs.Choices.{ArePlaces}
 use Rattle.vehicle_flow.specs.Slacks.{worth, Covers}
 
+-- no places below 0
 pub places_none : (P : ℕ → Type 0) → ArePlaces P 0 []
 places_none P = record {
   rising = λ k m before bound. absurd (omega (arith, bound));
@@ -32,6 +33,7 @@ module _ (P : ℕ → Type 0) (below : ℕ) (places : List ℕ) (are : ArePlaces
   abbrev more : List ℕ
   more = places ++ below ∷ []
 
+  -- the items of the longer list
   size : length more ≡ length places + 1
   size = length-append places (below ∷ [])
 
@@ -58,7 +60,7 @@ module _ (P : ℕ → Type 0) (below : ℕ) (places : List ℕ) (are : ArePlaces
     right = λ k bound. by_number k (length places)
         (λ same. subst P (sym (latest k same)) here)
         (λ apart. subst P (sym (front k (omega (arith, bound, size, apart))))
-            (are.right k (omega (arith, bound, size, apart))));
+        (are.right k (omega (arith, bound, size, apart))));
     within = λ k bound. by_number k (length places)
         (λ same. omega (arith, latest k same))
         (λ apart.
@@ -80,6 +82,7 @@ covered_by None both h = tt
 covered_by (Some (pos gain)) both h = omega (arith, ints, h)
 covered_by (Some (negsuc less)) both h = tt
 
+-- and so for each trip
 pub valid_covers : (links : Links) (plan : List (Option ℕ)) (potentials : PotentialParts)
     → AreValid links plan potentials
     → (i : ℕ) → Covers links potentials i
@@ -110,5 +113,5 @@ lists_more {X} items Q lists list new n new_is size each one = (
         (subst (Q n) (sym (ap (λ k. get_or (map items lists ++ items list ∷ []) k []) (sym size)
         ∙ get_or-append_seam (map items lists) (items list) [] [])) one))
         (λ apart. subst (Q i) (sym (get_or_append_left (map items lists) (items list ∷ []) [] i
-            (omega (arith, bound, apart, size))))
+        (omega (arith, bound, apart, size))))
         (each i (omega (arith, bound, apart))))

@@ -1,5 +1,5 @@
--- Inner words of the choice among the plans of least cost: the places that trips which are still to be
--- decided may take, and which of them a search has claimed.
+-- Inner words of the choice among the plans of least cost: the places that undecided trips may take,
+-- and which of them a search has claimed.
 use Rattle.std.specs.Prelude.{ℕ, ◌≡◌, ◌+◌, ◌<◌, ◌≤◌, Bool, true, false, is_some, List, [], length, slice_get, get_or, Option, Some, None}
 use Rattle.vehicle_model.specs.Plans.{next, is_next, IsPlan, AreSuccessors, ComesNoLater}
 use Rattle.flow_potentials.specs.Potentials.{PotentialParts, at, AreOver, IsTight}
@@ -22,11 +22,12 @@ pub record TiesParts : Type 0 where
   pub by : List (List ℕ)
   pub alone : List ℕ
 
+-- the ties are those of links and potentials
 pub record AreTies (links : Links) (potentials : PotentialParts) (ties : TiesParts) : Type 0 where
   pub each : length ties.by ≡ links.count
   pub of_trip : (i : ℕ) → i < links.count
       → ArePlaces (λ place. IsTightBy links potentials place (Some i)) (links.count + 1)
-          (get_or ties.by i [])
+      (get_or ties.by i [])
   pub of_none : ArePlaces (λ place. IsTightBy links potentials place None) (links.count + 1)
       ties.alone
 
@@ -103,13 +104,13 @@ AgreeBefore trip plan other = (i : ℕ) → i < trip → next other i ≡ next p
 abbrev pub AreWithin : Links → List (Option ℕ) → Type 0
 AreWithin links plan = (i j : ℕ) → next plan i ≡ Some j → j < links.count
 
--- no tight plan that agrees with a plan on what is decided has an earlier place for the trip that looks
--- for one
+-- no tight plan that agrees with a plan on what is decided has an earlier place for the trip that
+-- looks for one
 abbrev pub IsFirst : Search → List (Option ℕ) → ℕ → Type 0
 IsFirst search plan place = (other : List (Option ℕ)) → IsPlan search.links other
     → AreWithin search.links other → IsTight search.links search.potentials other
     → AgreeBefore search.low plan other → place ≤ place_of search.links.count
-        (next other search.trip)
+    (next other search.trip)
 
 -- the own place of the trip is claimed, and each that it claims itself is the first one
 pub record IsSought (search : Search) (plan : List (Option ℕ)) (claims : ClaimsParts)

@@ -40,7 +40,8 @@ pub(crate) fn chosen_plan(alloc: Global, trips: &Trips, solved: &Solved) -> Resu
     assignment.to_plan(alloc)
 }
 
-// Gives a trip the first place that it has in a plan of least cost that keeps what is decided.
+// Gives a trip the first place that it has in a plan of least cost that keeps what is decided. The
+// trips and the potentials are those that the contract speaks of.
 fn settle(
     _trips: &Trips,
     _potentials: &Potentials,
@@ -65,8 +66,8 @@ fn settle(
     Ok(())
 }
 
-// Claims the places before a trip's own one, and looks from each whether the own one can be given up
-// for it.
+// Claims the places before a trip's own one, and looks from each whether the trip can give up its own
+// one for it.
 fn seek(
     ties: &Ties,
     trip: usize,
@@ -79,8 +80,12 @@ fn seek(
     requires trip { search.trip ≡ trip }
     requires own { own ≡ place_of search.links.count (next assignment.now search.trip) }
     requires ties { AreTies search.links search.potentials ties.now }
-    requires none { claims.old ≡ record { at = replicate (search.links.count + 1) None; order = [] } }
-    ensures sought { IfOk result (λ found. MatchBool found (IsSought search assignment.now claims.new own)
+    requires none { claims.old ≡ record {
+      at = replicate (search.links.count + 1) None;
+      order = [];
+    } }
+    ensures sought { IfOk result (λ found. MatchBool found
+        (IsSought search assignment.now claims.new own)
         (IsFirst search assignment.now own)) }
     ensures places { OnOk result (length claims.new.at ≡ search.links.count + 1) }
 {
@@ -111,8 +116,8 @@ fn move_to(trip: usize, own: usize, claims: &Claims, assignment: &mut Assignment
     hand_on(claims, assignment, own);
 }
 
-// Goes on from the place that was claimed last, until all claimed places are expanded or a trip's own
-// one is claimed.
+// Goes on from the place that was claimed last, until all claimed places are expanded or the own one
+// of a trip is claimed.
 fn grow(
     ties: &Ties,
     trip: usize,
@@ -240,7 +245,8 @@ fn is_open(claims: &Claims, assignment: &Assignment, trip: usize, place: usize) 
     requires place { place < length claims.now.at }
     ensures none { result ≡ true → claim_at claims.now place ≡ None }
     ensures yes { result ≡ true → IsUndecided assignment.now trip place }
-    ensures no { IsUndecided assignment.now trip place → result ≡ false → is_claimed claims.now place ≡ true }
+    ensures no { IsUndecided assignment.now trip place → result ≡ false
+        → is_claimed claims.now place ≡ true }
 {
     claims.at(place).is_none() && is_undecided(assignment, trip, place)
 }

@@ -9,7 +9,7 @@ loop-trip-init c = record {
   deciding = subst (λ plan. IsDeciding (links_of c.args.trips.now) c.args.solved.now.potentials plan
       0) (sym c.in_ok-assignment.ensures)
       (deciding_none c.args.trips.now c.args.solved.now.potentials c.args.solved.now.plan
-          c.requires.plan c.requires.valid);
+      c.requires.plan c.requires.valid);
   places = ap (λ claims. length claims.at) c.in_ok-claims.ensures ∙ length-replicate
       (c.len.result + 1) None
       ∙ ap (λ n. n + 1) c.len.ensures.count;
@@ -20,7 +20,7 @@ settle-requires c = (
   search_is c.args.trips.now c.args.solved.now.potentials c.args.solved.now.plan
       c.loop-trip.assignment c.loop-trip.trip
       c.requires.valid (omega (arith, c.loop-trip-test.true, c.len-trip-end.ensures.count))
-          c.loop-trip.invariant.deciding,
+      c.loop-trip.invariant.deciding,
   (refl, (c.in_ok-ties.ensures, c.loop-trip.invariant.places)),
 )
 
@@ -40,8 +40,8 @@ loop-trip-preserved c = record {
 pub returns : goal.returns
 returns c = chosen_told c.args.trips.now c.loop-trip.assignment
     (chosen_all c.args.trips.now c.args.solved.now.potentials c.args.solved.now.plan
-        c.loop-trip.assignment c.loop-trip.trip
+    c.loop-trip.assignment c.loop-trip.trip
     c.requires.valid c.requires.plan
-        (omega (arith, c.loop-trip-test.false, c.len-trip-end.ensures.count))
+    (omega (arith, c.loop-trip-test.false, c.len-trip-end.ensures.count))
     c.loop-trip.invariant.deciding)
     c.to_plan.result c.to_plan.ensures

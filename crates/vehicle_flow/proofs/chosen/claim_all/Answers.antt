@@ -13,20 +13,20 @@ loop-place-preserved g c =
           c.args.claims.now
           c.loop-place.claims c.args.by c.args.from c.args.places.now c.loop-place.place-index
           c.requires.1.1.0 c.requires.1.1.1.0 c.requires.1.1.1.1.0 c.requires.1.1.1.1.1.1
-              c.loop-place.invariant
+          c.loop-place.invariant
           c.loop-place-test.true (w.if-is_open.ensures.none refl) w.claim.ensures.few
           (subst (λ first. IsUndecided c.args.assignment.now first
-              (at c.args.places.now c.loop-place.place-index)) (sym low)
+          (at c.args.places.now c.loop-place.place-index)) (sym low)
           (w.if-is_open.ensures.yes refl))
           w.claim.new.self w.in_ok-claim.ensures.claimed)
       | else-is_open w ↦ rw w.claims-is (claiming_kept g.search c.args.assignment.now
           c.args.claims.now
           c.loop-place.claims c.args.by c.args.from c.args.places.now c.loop-place.place-index
           c.requires.1.1.0 c.requires.1.1.1.0 c.requires.1.1.1.1.0 c.requires.1.1.1.1.1.1
-              c.loop-place.invariant
+          c.loop-place.invariant
           (λ undecided. w.if-is_open.ensures.no
           (subst (λ first. IsUndecided c.args.assignment.now first
-              (at c.args.places.now c.loop-place.place-index)) low undecided)
+          (at c.args.places.now c.loop-place.place-index)) low undecided)
           refl))
     ]
 
@@ -34,5 +34,5 @@ pub returns-clause-all : goal.returns-clause-all
 returns-clause-all g c = claiming_all g.search c.args.assignment.now c.args.claims.now
     c.loop-place.claims c.args.by c.args.from
     c.args.places.now c.loop-place.place-index c.requires.1.1.0 c.requires.1.1.1.0
-        c.requires.1.1.1.1.0 c.requires.1.1.1.1.1.1
+    c.requires.1.1.1.1.0 c.requires.1.1.1.1.1.1
     c.loop-place.invariant c.loop-place-test.false

@@ -1,7 +1,8 @@
 use Rattle.std.proofs.Common.{Some, ◌+◌, ◌≡◌, ◌<◌, ◌∙◌, sym, subst, arith}
 use Rattle.vehicle_flow.specs.Choices.{ArePlaces}
 use Rattle.vehicle_flow.specs.Searches.{IsTightBy}
-use Rattle.vehicle_flow.proofs.Claiming.{last_left, no_next, still_claimed}
+use Rattle.vehicle_flow.proofs.Claiming.{still_claimed}
+use Rattle.vehicle_flow.proofs.Expanding.{last_left, no_next}
 use Rattle.vehicle_flow.proofs.chosen.expand_last.Goals as goal
 
 pub claim_all-requires : goal.claim_all-requires

@@ -1,5 +1,5 @@
 -- The trips so far have claimed all.
-use Rattle.vehicle_flow.proofs.Claiming.{AreLast}
+use Rattle.vehicle_flow.proofs.Expanding.{AreLast}
 use Rattle.vehicle_flow.proofs.chosen.expand_last.Given as goal
 
 abbrev pub invariant-loop-by : goal.invariant-loop-by

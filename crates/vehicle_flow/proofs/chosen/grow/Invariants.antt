@@ -1,6 +1,6 @@
 -- The places that were claimed before the step are expanded.
 use Rattle.std.proofs.Common.{◌+◌, ◌-◌, length}
-use Rattle.vehicle_flow.proofs.Claiming.{IsGrowing}
+use Rattle.vehicle_flow.proofs.Expanding.{IsGrowing}
 use Rattle.vehicle_flow.proofs.chosen.grow.Given as goal
 
 abbrev pub invariant-loop-step : goal.invariant-loop-step

@@ -13,6 +13,6 @@ hand_on-requires g c = found_of g.search c.args.assignment.now c.requires.0 c.gi
     (c.give.ensures
     ∙ ap (slice_set c.args.assignment.now c.args.trip)
     (successor_past (length c.args.assignment.now) c.len-last.result
-        (omega (arith, c.len-last.ensures.count)))
+    (omega (arith, c.len-last.ensures.count)))
     ∙ ap (λ i. slice_set c.args.assignment.now i None) (sym c.requires.1.0))
     c.args.own c.requires.1.1.0 c.args.claims.now c.requires.1.1.1.0 c.requires.1.1.1.1

@@ -9,7 +9,7 @@ returns-then-branch-clause-settled g c = settled_one g.search c.args.assignment.
     (ap (λ i. slice_set c.args.assignment.now i None) (sym c.requires.1.0))
     c.seek.new.claims c.place-own.result c.move_to.new.assignment
     (subst (λ b. MatchBool b (IsSought g.search c.args.assignment.now c.seek.new.claims
-        c.place-own.result)
+    c.place-own.result)
     (IsFirst g.search c.args.assignment.now c.place-own.result)) c.if-branch.true
-        c.in_ok-seek.ensures.sought)
+    c.in_ok-seek.ensures.sought)
     c.move_to.ensures

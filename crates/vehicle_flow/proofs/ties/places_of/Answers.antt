@@ -10,12 +10,12 @@ use Rattle.vehicle_flow.proofs.ties.places_of.Goals.{then-is_tight+in_ok-push, e
 pub loop-place-preserved : goal.loop-place-preserved
 loop-place-preserved c =
     let P : ℕ → Type 0 = λ place. IsTightBy (links_of c.args.trips.now) c.args.potentials.now place
-        (Some c.args.trip) in
+    (Some c.args.trip) in
     elim c.if-is_tight.branch [
       | then-is_tight+in_ok-push w ↦ rw w.places-is (subst (ArePlaces P (c.loop-place.place + 1))
           (sym w.in_ok-push.ensures.items)
           (places_more P c.loop-place.place c.loop-place.places.items c.loop-place.invariant
-              (w.if-is_tight.ensures.yes refl)))
+          (w.if-is_tight.ensures.yes refl)))
       | else-is_tight w ↦ rw w.places-is (places_kept P c.loop-place.place c.loop-place.places.items
           c.loop-place.invariant
           (λ h. false≢true (w.if-is_tight.ensures.no h)))

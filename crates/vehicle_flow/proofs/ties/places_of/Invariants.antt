@@ -8,4 +8,4 @@ use Rattle.vehicle_flow.proofs.ties.places_of.Given as goal
 abbrev pub invariant-loop-place : goal.invariant-loop-place
 invariant-loop-place l =
     ArePlaces (λ place. IsTightBy (links_of l.trips) l.potentials place (Some l.trip)) l.place
-        l.places.items
+    l.places.items

@@ -10,6 +10,6 @@ invariant-loop-trip l = record {
   each : length (map (λ places. places.items) l.by.items) ≡ l.trip;
   of_trip : (i : ℕ) → i < l.trip
       → ArePlaces (λ place. IsTightBy (links_of l.trips) l.potentials place (Some i))
-          (length l.trips.trips + 1)
+      (length l.trips.trips + 1)
       (get_or (map (λ places. places.items) l.by.items) i []);
 }
