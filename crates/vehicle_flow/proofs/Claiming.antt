@@ -1,19 +1,13 @@
 -- A trip or none claims all open places of a list.
-use Rattle.std.proofs.Common.{◌≡◌, ◌≢◌, ℕ, ◌+◌, ◌<◌, ◌≤◌, true, false, is_some, List, length, slice_get, Option, Some, None, IfSome, Result, Ok, Err, OnOk, refl, ap, sym, ◌∙◌, subst, arith}
-use Rattle.std.proofs.lemmas.Bool.{false≢true}
-use Rattle.std.proofs.lemmas.List.{get_or_past}
-use Rattle.std.proofs.lemmas.Option.{none-some, same_Some, slice_get_within, slice_get-get_or}
-use Rattle.vehicle_model.specs.Plans.{next, is_next}
+use Rattle.std.proofs.Common.{◌≡◌, ◌≢◌, ℕ, ◌+◌, ◌<◌, ◌≤◌, true, List, length, Option, Some, None, IfSome, refl, ap, sym, ◌∙◌, subst, arith}
+use Rattle.std.proofs.lemmas.Option.{none-some, same_Some, slice_get_within}
 use Rattle.vehicle_model.proofs.Following.{some_of}
-use Rattle.vehicle_model.proofs.Linking.{by_number, not_next}
+use Rattle.vehicle_model.proofs.Linking.{by_number}
 use Rattle.flow_potentials.specs.Potentials.{at}
-use Rattle.flow_potentials.proofs.Certified.{by_bound}
 use Rattle.vehicle_flow.specs.declared.claim.Claim.{Claim}
 use Rattle.vehicle_flow.specs.Claims.{ClaimsParts, claim_at}
-use Rattle.vehicle_flow.specs.Places.{place_of}
 use Rattle.vehicle_flow.specs.Searches.{Search, IsTightBy, IsLeft, IsClaim}
-use Rattle.vehicle_flow.specs.Choices.{ArePlaces, IsUndecided, is_claimed, AllClaimed, IsExpanded, LastExpanded, AreExpanded, AreRight, AreMore, AreOthers, IsSearch}
-use Rattle.vehicle_flow.proofs.Moves.{has_next, successor_within, successor_past}
+use Rattle.vehicle_flow.specs.Choices.{ArePlaces, IsUndecided, is_claimed, AllClaimed, AreRight, AreMore, AreOthers}
 use Rattle.vehicle_flow.proofs.Claimed.{AreGoing, with_claim, claims_more, claims_right, at_place, old_or_new, some_is}
 
 -- the places of a list so far are claimed
