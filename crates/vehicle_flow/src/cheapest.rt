@@ -30,14 +30,7 @@ pub fn cheapest_plan(alloc: Global, trips: &Trips) -> Result<Solved, NoMemory>
         nears.push(None)?;
     }
     for trip in 0..trips.len() {
-        take_in(
-            trips,
-            trip,
-            &mut assignment,
-            &mut potentials,
-            &mut claims,
-            &mut nears,
-        )?;
+        take_in(trips, trip, &mut assignment, &mut potentials, &mut claims, &mut nears)?;
     }
     let plan = assignment.to_plan(alloc)?;
     Ok(Solved { plan, potentials })
@@ -92,11 +85,7 @@ fn shift(
     for place in 0..nears.len() {
         if claims.at(place).is_none() {
             if let Some(near) = nears[place] {
-                nears[place] = Some(Near {
-                    slack: near.slack - slack,
-                    by: near.by,
-                    from: near.from,
-                });
+                nears[place] = Some(Near { slack: near.slack - slack, by: near.by, from: near.from });
             }
         }
     }

@@ -8,12 +8,12 @@ mod chosen;
 mod claim;
 mod handing;
 mod near;
-mod shift;
 mod slack;
+mod shift;
 mod solved;
+mod ties;
 #[cfg(test)]
 mod tests;
-mod ties;
 
 pub use cheapest::cheapest_plan;
 pub use solved::Solved;
