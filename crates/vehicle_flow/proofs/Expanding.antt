@@ -13,7 +13,7 @@ use Rattle.vehicle_flow.specs.Places.{place_of}
 use Rattle.vehicle_flow.specs.Searches.{Search, IsTightBy, IsLeft}
 use Rattle.vehicle_flow.specs.Choices.{is_claimed, AllClaimed, IsExpanded, LastExpanded, AreExpanded, AreRight, AreMore, AreOthers, IsSearch}
 use Rattle.vehicle_flow.proofs.Moves.{has_next, successor_within, successor_past}
-use Rattle.vehicle_flow.proofs.Claiming.{still_claimed, gone_on}
+use Rattle.vehicle_flow.proofs.ClaimingAll.{still_claimed, gone_on}
 use Rattle.vehicle_flow.proofs.Claimed.{AreGoing, at_place}
 
 -- a claimed place is one of the places

@@ -1,6 +1,6 @@
 pub mod ClaimLists
 pub mod Claimed
-pub mod Claiming
+pub mod ClaimingAll
 pub mod Copies
 pub mod Covering
 pub mod Expanding

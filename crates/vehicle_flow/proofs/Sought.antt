@@ -13,7 +13,7 @@ use Rattle.vehicle_flow.specs.Places.{place_of}
 use Rattle.vehicle_flow.specs.Searches.{Search, IsTightBy, IsClaim}
 use Rattle.vehicle_flow.specs.Choices.{ArePlaces, TiesParts, AreTies, IsUndecided, is_claimed, AreExpanded, AreRight, AreMore, AreOthers, IsSearch, IsFirst, IsSought}
 use Rattle.vehicle_flow.proofs.Claimed.{IsSeeking, with_claim, claims_more, claims_right, at_place, old_or_new, some_is}
-use Rattle.vehicle_flow.proofs.Claiming.{still_claimed}
+use Rattle.vehicle_flow.proofs.ClaimingAll.{still_claimed}
 use Rattle.vehicle_flow.proofs.Expanding.{still_expanded}
 use Rattle.vehicle_flow.proofs.Refused.{inside, refused, other_tight, other_undecided}
 

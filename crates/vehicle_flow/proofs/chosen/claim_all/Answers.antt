@@ -1,7 +1,7 @@
 use Rattle.std.proofs.Common.{◌≡◌, refl, sym, ◌∙◌, subst}
 use Rattle.flow_potentials.specs.Potentials.{at}
 use Rattle.vehicle_flow.specs.Choices.{IsUndecided}
-use Rattle.vehicle_flow.proofs.Claiming.{claiming_more, claiming_kept, claiming_all}
+use Rattle.vehicle_flow.proofs.ClaimingAll.{claiming_more, claiming_kept, claiming_all}
 use Rattle.vehicle_flow.proofs.chosen.claim_all.Goals as goal
 use Rattle.vehicle_flow.proofs.chosen.claim_all.Goals.{then-is_open+in_ok-claim, else-is_open}
 

@@ -1,5 +1,5 @@
 -- What was claimed stays so, and each undecided place so far is claimed.
-use Rattle.vehicle_flow.proofs.Claiming.{IsClaiming}
+use Rattle.vehicle_flow.proofs.ClaimingAll.{IsClaiming}
 use Rattle.vehicle_flow.proofs.chosen.claim_all.Given as goal
 
 abbrev pub invariant-loop-place : goal.invariant-loop-place

@@ -1,7 +1,7 @@
 use Rattle.std.proofs.Common.{Some, ◌+◌, ◌≡◌, ◌<◌, ◌∙◌, sym, subst, arith}
 use Rattle.vehicle_flow.specs.Choices.{ArePlaces}
 use Rattle.vehicle_flow.specs.Searches.{IsTightBy}
-use Rattle.vehicle_flow.proofs.Claiming.{still_claimed}
+use Rattle.vehicle_flow.proofs.ClaimingAll.{still_claimed}
 use Rattle.vehicle_flow.proofs.Expanding.{last_left, no_next}
 use Rattle.vehicle_flow.proofs.chosen.expand_last.Goals as goal
 
