@@ -1,9 +1,11 @@
+pub mod Claiming
 pub mod ClaimLists
 pub mod Claimed
 pub mod ClaimingAll
 pub mod Copies
 pub mod Covering
 pub mod Expanding
+pub mod Grown
 mod HandingOn
 pub mod Moves
 pub mod NearPlaces

@@ -77,7 +77,7 @@ shifted None slack old = option_map (moved_near slack) old
 abbrev pub IsFrom : ℕ → List (Option ℕ) → ClaimsParts → ℕ → Option ℕ → Type 0
 IsFrom trip plan claims by None = by ≡ trip
 IsFrom trip plan claims by (Some from) =
-    (by ≡ trip → ⊥) × ((next plan by ≡ Some from) × (is_claimed claims from ≡ true))
+    (by ≡ trip → ⊥) × (next plan by ≡ Some from) × (is_claimed claims from ≡ true)
 
 -- a trip is nearest to a place among some
 pub record IsNearest (links : Links) (potentials : PotentialParts) (some : ℕ → Bool) (place : ℕ) (near : Near) : Type 0 where

@@ -1,6 +1,6 @@
 // Places that trips would take.
 ghost use Rattle.std.specs.Prelude.{◌≡◌, ◌<◌, ◌≤◌, ◌+◌, List, [], ◌∷◌, ◌++◌, length, replicate, slice_get, slice_set, None, Some, IfOk, IfNone, IfSome, OnOk};
-ghost use Rattle.vehicle_flow.specs.Claims.{claim_at};
+ghost use Rattle.vehicle_flow.specs.Claims.{claim_at, AreClaims};
 
 use plan_num::NoMemory;
 use std::alloc::Global;
@@ -61,7 +61,8 @@ impl Claims {
 
     /// How many places are claimed.
     pub(crate) fn count(&self) -> usize
-        ensures { result ≡ length self.now.order }
+        ensures count { result ≡ length self.now.order }
+        ensures claims { AreClaims self.now }
     {
         self.order.len()
     }

@@ -6,6 +6,7 @@ mod assignment;
 mod cheapest;
 mod chosen;
 mod claim;
+mod growing;
 mod handing;
 mod near;
 mod slack;

@@ -13,7 +13,7 @@ invariant_of-self-2 c = claimed_more
     c.args.place (record { by = c.args.by; from = c.args.from; step = c.count-step.result })
     (subst (λ claims. c.args.place < length claims.at) (sym c.self.view_is) c.requires.place)
     (subst (λ claims. claim_at claims c.args.place ≡ None) (sym c.self.view_is) c.requires.open)
-    (c.count-step.ensures ∙ ap (λ claims. length claims.order) (sym c.self.view_is)) c.push.new.self.items c.in_ok-push.ensures.items
+    (c.count-step.ensures.count ∙ ap (λ claims. length claims.order) (sym c.self.view_is)) c.push.new.self.items c.in_ok-push.ensures.items
 
 pub returns-clause-few : goal.returns-clause-few
 returns-clause-few c = few_open c.args.self.now (subst AreClaims c.self.view_is c.self.invariant) c.args.place

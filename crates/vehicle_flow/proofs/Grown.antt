@@ -1,0 +1,106 @@
+-- What one turn of growing a tree leaves.
+use Rattle.std.proofs.Common.{◌≡◌, ◌≢◌, ℕ, ℤ, pos, ◌<◌, ◌≤◌, ◌≤ℤ◌, ◌+◌, ◌-◌, is_some, true, false, List, [], ◌∷◌, ◌++◌, length, get_or, slice_set, Option, Some, None, IfSome, option_map, refl, ap, sym, ◌∙◌, subst, arith}
+use Rattle.std.proofs.lemmas.Int.{ints}
+use Rattle.std.proofs.lemmas.Option.{none-some}
+use Rattle.vehicle_model.specs.Plans.{next, is_next}
+use Rattle.vehicle_model.specs.Trips.{TripsParts, AreTrips, Links, links_of}
+use Rattle.vehicle_model.proofs.Following.{links_within, links_most}
+use Rattle.flow_potentials.specs.Potentials.{PotentialParts, at}
+use Rattle.vehicle_flow.specs.declared.claim.Claim.{Claim}
+use Rattle.vehicle_flow.specs.declared.near.Near.{Near}
+use Rattle.vehicle_flow.specs.Claims.{ClaimsParts, claim_at, AreClaims}
+use Rattle.vehicle_flow.specs.Growing.{is_claimed, in_tree, moved_near, shifted, looked, IsNear, AreNear, IsTreeClaim, IsGrowing, IsNearestPlace, AreShifted, IsPlaceFound}
+use Rattle.vehicle_flow.specs.Slacks.{slack_to, Covers}
+use Rattle.vehicle_flow.proofs.Claiming.{place_found, grown, left_first, nears_grown}
+use Rattle.vehicle_flow.proofs.Shifting.{first_gain, slack_past, tree_trip, tree_linked, claim_there, last_open, tree_least, growing_after, nears_after}
+
+module _ (trips : TripsParts) (potentials : PotentialParts) (trip : ℕ) (plan : List (Option ℕ)) (claims : ClaimsParts)
+    (is : IsGrowing (links_of trips) potentials trip plan claims)
+    (nears : List (Option Near)) (are : AreNear (links_of trips) potentials trip plan claims nears) where
+  abbrev count : ℕ
+  count = length trips.trips
+
+  -- the place behind all trips is always near
+  pub never_none : {P : Type 0} → ((place : ℕ) → place < length nears → claim_at claims place ≡ None
+      → get_or nears place None ≡ None) → P
+  never_none none =
+      let free = last_open (links_of trips) potentials trip plan claims is in
+      let near = subst (IsNear (links_of trips) potentials (in_tree trip plan claims) count)
+          (none count (omega (arith, are.each)) free) (are.near count (omega arith) free) in
+      absurd (none-some (at potentials.u trip) (sym (near trip (tree_trip trip plan claims))
+          ∙ slack_past (links_of trips) potentials trip count (omega arith)))
+
+  module _ (place : ℕ) (near : Near) (best : IsNearestPlace claims nears place near) where
+    -- potentials of claimed places stay in their range
+    pub small_after : AreTrips trips → (j : ℕ) → j < count → is_claimed claims j ≡ true
+        → at potentials.v j + near.slack ≤ 1000000000000000000
+    small_after sound j within e =
+        let found = claim_there claims j e in
+        let tree = is.tree j found.0 found.1 in
+        let gain = (first_gain (links_of trips) (trip + 1) tree.owner j _
+            (is.tight.linked tree.owner j tree.owns)).1 in
+        let most : pos (at potentials.u tree.owner + at potentials.v j) ≤ℤ pos trips.vehicle =
+            subst (λ it. IfSome it (λ value. value ≤ℤ pos trips.vehicle)) gain (links_most trips tree.owner j) in
+        let least : near.slack ≤ at potentials.u tree.owner =
+            tree_least (links_of trips) potentials trip plan claims is nears are near.slack best.least tree.owner
+            (tree_linked trip plan claims tree.owner j (λ same. none-some j
+            (sym is.waits ∙ ap (next plan) (sym same) ∙ tree.owns)) tree.owns ∙ e) in
+        omega (arith, ints, most, least, sound.cheap_vehicle)
+
+    module _ (after : PotentialParts) (shift : AreShifted trip plan claims near.slack count potentials after)
+        (moved : List (Option Near)) (each : length moved ≡ length nears)
+        (told : (other : ℕ) → other < length nears
+        → get_or moved other None ≡ shifted (claim_at claims other) near.slack (get_or nears other None))
+        (ordered : AreClaims claims) (now : ClaimsParts)
+        (claimed : now ≡ record {
+          at = slice_set claims.at place
+              (Some (record { by = Some near.by; from = near.from; step = length claims.order }));
+          order = claims.order ++ place ∷ [];
+        }) where
+      growing : IsGrowing (links_of trips) after trip plan claims
+      growing = growing_after (links_of trips) potentials trip plan claims is nears are near.slack best.least
+          after shift (links_within trips)
+
+      nears_moved : AreNear (links_of trips) after trip plan claims moved
+      nears_moved = nears_after (links_of trips) potentials trip plan claims is nears are near.slack best.least
+          after shift (links_within trips) moved each told
+
+      near_moved : get_or moved place None ≡ Some (moved_near near.slack near)
+      near_moved = told place best.within
+          ∙ ap (λ claim. shifted claim near.slack (get_or nears place None)) best.open_place
+          ∙ ap (option_map (moved_near near.slack)) best.is
+
+      within : place < count + 1
+      within = omega (arith, best.within, are.each)
+
+      exact : near.slack - near.slack ≡ 0
+      exact = omega arith
+
+      -- a place without a trip was found
+      pub found_now : is_next plan place ≡ false
+          → IsPlaceFound (links_of trips) after trip plan now place
+      found_now alone = subst (λ x. IsPlaceFound (links_of trips) after trip plan x place) (sym claimed)
+          (place_found (links_of trips) after trip plan claims growing ordered moved nears_moved place within
+          best.open_place (moved_near near.slack near) near_moved exact alone)
+
+      -- or the tree has grown by the trip that has it
+      module _ (left : ℕ) (has : next plan left ≡ Some place) where
+        pub grown_now : IsGrowing (links_of trips) after trip plan now
+        grown_now = subst (IsGrowing (links_of trips) after trip plan) (sym claimed)
+            (grown (links_of trips) after trip plan claims growing ordered moved nears_moved place within
+            best.open_place (moved_near near.slack near) near_moved exact left has)
+
+        pub left_covered : Covers (links_of trips) after left
+        left_covered = growing.covered left
+            (left_first (links_of trips) after trip plan claims growing ordered moved nears_moved place within
+            best.open_place (moved_near near.slack near) near_moved exact left has)
+
+        pub nears_now : (last : List (Option Near)) → length last ≡ length moved
+            → ((other : ℕ) → other < length moved → get_or last other None ≡ looked (claim_at now other)
+            (slack_to (links_of trips) after left other) left (Some place) (get_or moved other None))
+            → AreNear (links_of trips) after trip plan now last
+        nears_now last size looks = subst (λ x. AreNear (links_of trips) after trip plan x last) (sym claimed)
+            (nears_grown (links_of trips) after trip plan claims growing ordered moved nears_moved place within
+            best.open_place (moved_near near.slack near) near_moved exact left has last size
+            (λ other there. looks other there ∙ ap (λ x. looked (claim_at x other)
+            (slack_to (links_of trips) after left other) left (Some place) (get_or moved other None)) claimed))
