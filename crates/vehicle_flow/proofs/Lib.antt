@@ -1,13 +1,22 @@
+pub mod Claimed
 pub mod Claiming
+pub mod ClaimingAll
 pub mod ClaimLists
 pub mod Copies
 pub mod Covering
+pub mod Expanding
 pub mod Grown
 mod HandingOn
 pub mod Moves
 pub mod NearPlaces
+pub mod Refused
+pub mod Settling
+pub mod Shifted
 pub mod Shifting
 pub mod Shifts
+pub mod Sought
 pub mod TakenIn
+pub mod TieLists
 pub mod TightValid
 pub mod Told
+pub mod Values

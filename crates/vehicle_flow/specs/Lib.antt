@@ -1,3 +1,4 @@
+pub mod Choices
 pub mod Claims
 pub mod Growing
 pub mod Places

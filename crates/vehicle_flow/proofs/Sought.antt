@@ -1,0 +1,283 @@
+-- The places that a trip claims, one after another: those before the first that it may have are
+-- refused.
+use Rattle.std.proofs.Common.{◌≡◌, ℕ, zero, suc, ◌+◌, ◌-◌, ◌<◌, ◌≤◌, true, List, [], ◌∷◌, ◌++◌, length, replicate, get_or, slice_get, Option, Some, None, refl, ap, sym, ◌∙◌, subst, arith, length-append}
+use Rattle.std.proofs.lemmas.List.{length-replicate}
+use Rattle.std.proofs.lemmas.Option.{none-some}
+use Rattle.vehicle_model.specs.Plans.{next}
+use Rattle.vehicle_model.proofs.Linking.{by_number}
+use Rattle.flow_potentials.specs.Potentials.{at}
+use Rattle.flow_potentials.proofs.Certified.{by_bound}
+use Rattle.vehicle_flow.specs.declared.claim.Claim.{Claim}
+use Rattle.vehicle_flow.specs.Claims.{ClaimsParts, claim_at}
+use Rattle.vehicle_flow.specs.Places.{place_of}
+use Rattle.vehicle_flow.specs.Searches.{Search, IsTightBy, IsClaim}
+use Rattle.vehicle_flow.specs.Choices.{ArePlaces, TiesParts, AreTies, IsUndecided, is_claimed, AreExpanded, AreRight, AreMore, AreOthers, IsSearch, IsFirst, IsSought}
+use Rattle.vehicle_flow.proofs.Claimed.{IsSeeking, with_claim, claims_more, claims_right, at_place, old_or_new, some_is}
+use Rattle.vehicle_flow.proofs.ClaimingAll.{still_claimed}
+use Rattle.vehicle_flow.proofs.Expanding.{still_expanded}
+use Rattle.vehicle_flow.proofs.Refused.{inside, refused, other_tight, other_undecided}
+
+-- the trip's claim
+pub own_claim_is : (search : Search) (claims got : ClaimsParts) (place trip : ℕ)
+    → search.trip ≡ trip
+    → got ≡ with_claim claims place
+    (record { by = Some trip; from = None; step = length claims.order })
+    → got ≡ with_claim claims place
+    (record { by = Some search.trip; from = None; step = length claims.order })
+own_claim_is search claims got place trip same got_is = got_is
+    ∙ ap (λ i. with_claim claims place
+    (record { by = Some i; from = None; step = length claims.order })) (sym same)
+
+module _ (search : Search) (plan : List (Option ℕ)) (is : IsSearch search plan) where
+  -- ---- one place after another
+
+  module _ (claims : ClaimsParts) (places : List ℕ) (own index : ℕ)
+      (are : ArePlaces (λ place. IsTightBy search.links search.potentials place (Some search.trip))
+      (search.links.count + 1) places)
+      (own_is : own ≡ place_of search.links.count (next plan search.trip))
+      (seeking : IsSeeking search plan claims places own index) where
+    -- its own place is one of the places
+    own_most : (to : Option ℕ) → next plan search.trip ≡ to → place_of search.links.count
+        to ≤ search.links.count
+    own_most None e = omega arith
+    own_most (Some j) e = let bound : j < search.links.count = inside search plan is search.trip j e
+        in omega (arith, bound)
+
+    -- before the places that are still to be looked at there is none
+    nothing_before : (bound : ℕ) → bound ≤ own
+        → ((k : ℕ) → k < length places → at places k < bound → k < index)
+        → IsFirst search plan bound
+    nothing_before bound most seen other fits in_other tight agrees =
+        by_bound (place_of search.links.count (next other search.trip)) bound
+        (λ before.
+        let k = are.all (place_of search.links.count (next other search.trip))
+        (omega (arith, before, most, own_is, own_most (next plan search.trip) refl))
+        (other_tight search plan is other fits in_other tight agrees (next other search.trip) refl)
+        in
+        let here : at places k.0 < bound = omega (arith, before, k.1.1) in
+        let undecided : IsUndecided plan search.low (at places k.0) = subst
+        (IsUndecided plan search.low) (sym k.1.1)
+        (other_undecided search plan is other fits in_other tight agrees (next other search.trip)
+        refl) in
+        absurd (refused search plan is claims seeking.right seeking.expanded
+        (subst (λ some. claim_at claims some ≡ None) own_is seeking.free) other fits in_other tight
+        agrees
+        (subst (λ some. is_claimed claims some ≡ true) k.1.1
+        (seeking.before k.0 (seen k.0 k.1.0 here) (omega (arith, here, most)) undecided))))
+        (λ past. past)
+
+    -- at the end, none before the trip's own
+    pub sought_none : length places ≤ index → IsFirst search plan own
+    sought_none past = nothing_before own (omega arith) (λ k within h. omega (arith, within, past))
+
+    -- the present one is passed over
+    pub seeking_past : own ≤ at places index → IsSeeking search plan claims places own (index + 1)
+    seeking_past past = record {
+      right = seeking.right;
+      expanded = seeking.expanded;
+      free = seeking.free;
+      before = λ k bound h undecided. by_number k index
+          (λ same. let here : at places k ≡ at places index = ap (at places) same in absurd
+          (omega (arith, here, h, past)))
+          (λ apart. seeking.before k (omega (arith, bound, apart)) h undecided);
+      mine = λ place found e own_claim.
+          let k = seeking.mine place found e own_claim in (k.0, (omega (arith, k.1.0), k.1.1));
+    }
+
+    -- or it is claimed already, or decided
+    pub seeking_kept : (IsUndecided plan search.low (at places index) → is_claimed claims
+        (at places index) ≡ true)
+        → IsSeeking search plan claims places own (index + 1)
+    seeking_kept already = record {
+      right = seeking.right;
+      expanded = seeking.expanded;
+      free = seeking.free;
+      before = λ k bound h undecided. by_number k index
+          (λ same. subst (λ i. IsUndecided plan search.low (at places i) → is_claimed claims
+          (at places i) ≡ true) (sym same)
+          already undecided)
+          (λ apart. seeking.before k (omega (arith, bound, apart)) h undecided);
+      mine = λ place found e own_claim.
+          let k = seeking.mine place found e own_claim in (k.0, (omega (arith, k.1.0), k.1.1));
+    }
+
+    -- or the trip claims it
+    module _ (within : index < length places) (before_own : at places index < own)
+        (free : claim_at claims (at places index) ≡ None)
+        (few : length claims.order < length claims.at)
+        (undecided : IsUndecided plan search.low (at places index)) where
+      -- the claim
+      abbrev latest : Claim
+      latest = record { by = Some search.trip; from = None; step = length claims.order }
+
+      latest_is : IsClaim search plan claims (at places index) latest
+      latest_is = record {
+        tight = are.right index within;
+        movable = (omega (arith, is.first), is.within);
+        from = refl;
+      }
+
+      in_places : at places index < length claims.at
+      in_places = omega (arith, are.within index within, seeking.right.places)
+
+      abbrev new : ClaimsParts
+      new = with_claim claims (at places index) latest
+
+      -- what it leaves
+      new_more : AreMore claims new
+      new_more = claims_more search plan claims (at places index) latest seeking.right in_places
+          free few undecided refl latest_is
+
+      pub new_right : AreRight search plan new
+      new_right = claims_right search plan claims (at places index) latest seeking.right in_places
+          free few undecided refl latest_is
+
+      pub new_size : length new.order ≡ length claims.order + 1
+      new_size = length-append claims.order (at places index ∷ [])
+
+      pub new_expanded : AreExpanded search plan new (length new.order - 1)
+      new_expanded step place bound e =
+          let earlier : step < length claims.order = omega (arith, bound, new_size) in
+          still_expanded search plan claims new place new_more
+          (seeking.expanded step place earlier
+          (sym (before_last claims.order (at places index) step earlier) ∙ e))
+        where
+          before_last : (xs : List ℕ) (x k : ℕ) → k < length xs → slice_get (xs ++ x ∷ [])
+              k ≡ slice_get xs k
+          before_last [] x k h = absurd (omega (arith, h))
+          before_last (y ∷ xs) x zero h = refl
+          before_last (y ∷ xs) x (suc k) h = before_last xs x k (omega (arith, h))
+
+      -- no tight plan has an earlier place for the trip
+      this_first : IsFirst search plan (at places index)
+      this_first = nothing_before (at places index) (omega (arith, before_own))
+          (λ k bound h. by_bound k index (λ before. before) (λ past. by_number k index
+          (λ same. let here : at places k ≡ at places index = ap (at places) same in absurd
+          (omega (arith, here, h)))
+          (λ apart. let later : at places index < at places k = are.rising index k
+          (omega (arith, past, apart)) bound in
+          absurd (omega (arith, later, h)))))
+
+      -- what it claims itself is a place so far
+      mine_now : (after : ClaimsParts) → AreOthers search new after → (place : ℕ) (found : Claim)
+          → claim_at after place ≡ Some found → found.by ≡ Some search.trip
+          → (k : ℕ) × ((k < index + 1) × (at places k ≡ place))
+      mine_now after others place found e own_claim =
+          old_or_new search plan claims (at places index) latest seeking.right in_places free few
+          undecided refl latest_is
+          place found (others place found e own_claim)
+          (λ old. let k = seeking.mine place found old own_claim in
+          (k.0, (omega (arith, k.1.0), k.1.1)))
+          (λ same is_found. (index, (omega arith, sym same)))
+
+      -- the trip's own place is claimed with it
+      pub sought_one : (after : ClaimsParts) → AreRight search plan after
+          → AreOthers search new after
+          → is_claimed after own ≡ true → IsSought search plan after own
+      sought_one after right others claimed = record {
+        right = right;
+        claimed = claimed;
+        first = λ place found e own_claim other fits in_other tight agrees.
+            let k = mine_now after others place found e own_claim in
+            let least : at places index ≤ place_of search.links.count (next other search.trip) =
+            this_first other fits in_other tight agrees in
+            by_number k.0 index
+            (λ same. let here : at places k.0 ≡ at places index = ap (at places) same in omega
+            (arith, here, k.1.1, least))
+            (λ apart. let earlier : at places k.0 < at places index = are.rising k.0 index
+            (omega (arith, k.1.0, apart)) within in
+            omega (arith, earlier, k.1.1, least));
+      }
+
+      -- or not
+      pub seeking_more : (after : ClaimsParts) → AreRight search plan after → AreMore new after
+          → AreOthers search new after
+          → AreExpanded search plan after (length after.order) → claim_at after own ≡ None
+          → IsSeeking search plan after places own (index + 1)
+      seeking_more after right more others expanded none = record {
+        right = right;
+        expanded = expanded;
+        free = none;
+        before = λ k bound h open_place. still_claimed new after (at places k) more
+            (by_number k index
+            (λ same. some_is (claim_at new (at places k)) latest
+            (ap (λ i. claim_at new (at places i)) same
+            ∙ at_place search plan claims (at places index) latest seeking.right in_places free few
+            undecided refl latest_is))
+            (λ apart. still_claimed claims new (at places k) new_more
+            (seeking.before k (omega (arith, bound, apart)) h open_place)));
+        mine = mine_now after others;
+      }
+
+      -- the same of the claims that a call leaves
+      module _ (trip : ℕ) (same : search.trip ≡ trip) (got : ClaimsParts)
+          (got_is : got ≡ with_claim claims (at places index)
+          (record { by = Some trip; from = None; step = length claims.order })) where
+        is_new : got ≡ new
+        is_new = own_claim_is search claims got (at places index) trip same got_is
+
+        pub got_right : AreRight search plan got
+        got_right = subst (AreRight search plan) (sym is_new) new_right
+
+        pub got_some : 0 < length got.order
+        got_some = omega (arith, new_size, ap (λ some. length some.order) is_new)
+
+        pub got_expanded : AreExpanded search plan got (length got.order - 1)
+        got_expanded = subst (λ some. AreExpanded search plan some (length some.order - 1))
+            (sym is_new) new_expanded
+
+        pub got_sought : (after : ClaimsParts) → AreRight search plan after
+            → AreOthers search got after
+            → is_claimed after own ≡ true → IsSought search plan after own
+        got_sought after right others claimed =
+            sought_one after right (subst (λ some. AreOthers search some after) is_new others)
+            claimed
+
+        pub got_seeking : (after : ClaimsParts) → AreRight search plan after → AreMore got after
+            → AreOthers search got after
+            → AreExpanded search plan after (length after.order) → claim_at after own ≡ None
+            → IsSeeking search plan after places own (index + 1)
+        got_seeking after right more others expanded none =
+            seeking_more after right (subst (λ some. AreMore some after) is_new more)
+            (subst (λ some. AreOthers search some after) is_new others) expanded none
+
+  -- nothing is claimed at first
+  pub seeking_none : (claims : ClaimsParts) (places : List ℕ) (own : ℕ)
+      → claims ≡ record { at = replicate (search.links.count + 1) None; order = [] }
+      → IsSeeking search plan claims places own 0
+  seeking_none claims places own none_is =
+      subst (λ some. IsSeeking search plan some places own 0) (sym none_is) (record {
+        right = record {
+          places = length-replicate (search.links.count + 1) None;
+          few = omega arith;
+          claim = λ place found e. absurd
+              (none-some found (sym (none_at (search.links.count + 1) place) ∙ e));
+          undecided = λ place found e. absurd
+              (none-some found (sym (none_at (search.links.count + 1) place) ∙ e));
+          placed = λ place found e. absurd
+              (none-some found (sym (none_at (search.links.count + 1) place) ∙ e));
+          listed = λ step place e. absurd (none-some place e);
+        };
+        expanded = λ step place bound e. absurd (none-some place e);
+        free = none_at (search.links.count + 1) own;
+        before = λ k bound. absurd (omega (arith, bound));
+        mine = λ place found e. absurd
+            (none-some found (sym (none_at (search.links.count + 1) place) ∙ e));
+      })
+    where
+      none_at : (n place : ℕ) → claim_at (record { at = replicate n None; order = [] }) place ≡ None
+      none_at zero place = refl
+      none_at (suc n) zero = refl
+      none_at (suc n) (suc place) = none_at n place
+
+  -- the places at which the trip is tight
+  pub ties_of : (ties : TiesParts) (trip : ℕ) (places : List ℕ)
+      → AreTies search.links search.potentials ties
+      → search.trip ≡ trip → places ≡ get_or ties.by trip []
+      → ArePlaces (λ place. IsTightBy search.links search.potentials place (Some search.trip))
+      (search.links.count + 1) places
+  ties_of ties trip places are same places_are =
+      subst (ArePlaces (λ place. IsTightBy search.links search.potentials place (Some search.trip))
+      (search.links.count + 1))
+      (sym (places_are ∙ ap (λ i. get_or ties.by i []) (sym same)))
+      (are.of_trip search.trip is.within)

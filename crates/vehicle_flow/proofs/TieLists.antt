@@ -1,0 +1,117 @@
+-- Lists of places in rising order, one place after another.
+use Rattle.std.proofs.Common.{◌≡◌, ℕ, ℤ, pos, negsuc, ◌+◌, ◌<◌, ◌≤◌, ◌≤ℤ◌, List, [], ◌∷◌, ◌++◌, length, map, get_or, Option, Some, None, IfSome, refl, ap, sym, ◌∙◌, subst, arith, length-append}
+use Rattle.std.proofs.lemmas.Int.{ints}
+use Rattle.std.proofs.lemmas.List.{get_or_append_left}
+use Rattle.std.proofs.Math.Seq.{get_or-append_seam}
+use Rattle.vehicle_model.specs.Trips.{Links}
+use Rattle.vehicle_model.proofs.Linking.{by_number}
+use Rattle.flow_potentials.specs.Potentials.{PotentialParts, at, AreValid}
+use Rattle.vehicle_flow.specs.Choices.{ArePlaces}
+use Rattle.vehicle_flow.specs.Slacks.{worth, Covers}
+
+-- no places below 0
+pub places_none : (P : ℕ → Type 0) → ArePlaces P 0 []
+places_none P = record {
+  rising = λ k m before bound. absurd (omega (arith, bound));
+  right = λ k bound. absurd (omega (arith, bound));
+  within = λ k bound. absurd (omega (arith, bound));
+  all = λ place bound h. absurd (omega (arith, bound));
+}
+
+module _ (P : ℕ → Type 0) (below : ℕ) (places : List ℕ) (are : ArePlaces P below places) where
+  -- the next place is none of them
+  pub places_kept : (P below → ⊥) → ArePlaces P (below + 1) places
+  places_kept none = record {
+    rising = are.rising;
+    right = are.right;
+    within = λ k bound. let h : at places k < below = are.within k bound in omega (arith, h);
+    all = λ place bound h. by_number place below
+        (λ same. absurd (none (subst P same h)))
+        (λ apart. are.all place (omega (arith, bound, apart)) h);
+  }
+
+  abbrev more : List ℕ
+  more = places ++ below ∷ []
+
+  -- the items of the longer list
+  size : length more ≡ length places + 1
+  size = length-append places (below ∷ [])
+
+  front : (k : ℕ) → k < length places → at more k ≡ at places k
+  front k bound = get_or_append_left places (below ∷ []) 0 k bound
+
+  latest : (k : ℕ) → k ≡ length places → at more k ≡ below
+  latest k same = ap (at more) same ∙ get_or-append_seam places below [] 0
+
+  -- or is one more
+  pub places_more : P below → ArePlaces P (below + 1) more
+  places_more here = record {
+    rising = λ k m before bound. by_number m (length places)
+        (λ same.
+        let first : at more k ≡ at places k = front k (omega (arith, before, same)) in
+        let low : at places k < below = are.within k (omega (arith, before, same)) in
+        omega (arith, first, low, latest m same))
+        (λ apart.
+        let inside : m < length places = omega (arith, bound, size, apart) in
+        let first : at more k ≡ at places k = front k (omega (arith, before, inside)) in
+        let second : at more m ≡ at places m = front m inside in
+        let rising : at places k < at places m = are.rising k m before inside in
+        omega (arith, first, second, rising));
+    right = λ k bound. by_number k (length places)
+        (λ same. subst P (sym (latest k same)) here)
+        (λ apart. subst P (sym (front k (omega (arith, bound, size, apart))))
+        (are.right k (omega (arith, bound, size, apart))));
+    within = λ k bound. by_number k (length places)
+        (λ same. omega (arith, latest k same))
+        (λ apart.
+        let inside : k < length places = omega (arith, bound, size, apart) in
+        let first : at more k ≡ at places k = front k inside in
+        let low : at places k < below = are.within k inside in
+        omega (arith, first, low));
+    all = λ place bound h. by_number place below
+        (λ same. (length places, (omega (arith, size), latest (length places) refl ∙ sym same)))
+        (λ apart.
+        let k = are.all place (omega (arith, bound, apart)) h in
+        (k.0, (omega (arith, k.1.0, size), front k.0 k.1.0 ∙ k.1.1)));
+  }
+
+-- valid potentials cover what links are worth
+covered_by : (gain : Option ℤ) (both : ℕ) → IfSome gain (λ value. value ≤ℤ pos both)
+    → IfSome (worth gain) (λ value. value ≤ both)
+covered_by None both h = tt
+covered_by (Some (pos gain)) both h = omega (arith, ints, h)
+covered_by (Some (negsuc less)) both h = tt
+
+-- and so for each trip
+pub valid_covers : (links : Links) (plan : List (Option ℕ)) (potentials : PotentialParts)
+    → AreValid links plan potentials
+    → (i : ℕ) → Covers links potentials i
+valid_covers links plan potentials valid i j =
+    covered_by (links.gain i j) (at potentials.u i + at potentials.v j) (valid.covered i j)
+
+-- one trip's list more
+pub lists_more : {X : Type 0} (items : X → List ℕ) (Q : ℕ → List ℕ → Type 0) (lists : List X)
+    (list : X) (new : List X)
+    (n : ℕ) → new ≡ lists ++ list ∷ [] → length (map items lists) ≡ n
+    → ((i : ℕ) → i < n → Q i (get_or (map items lists) i [])) → Q n (items list)
+    → (length (map items new) ≡ n + 1) × ((i : ℕ) → i < n + 1 → Q i (get_or (map items new) i []))
+lists_more {X} items Q lists list new n new_is size each one = (
+  ap length whole ∙ length-append (map items lists) (items list ∷ []) ∙ ap (λ k. k + 1) size,
+  (λ i bound. subst (λ all. Q i (get_or all i [])) (sym whole) (at_number i bound)),
+)
+  where
+    map_more : (xs : List X) → map items (xs ++ list ∷ []) ≡ map items xs ++ items list ∷ []
+    map_more [] = refl
+    map_more (x ∷ xs) = ap (λ rest. items x ∷ rest) (map_more xs)
+
+    whole : map items new ≡ map items lists ++ items list ∷ []
+    whole = ap (map items) new_is ∙ map_more lists
+
+    at_number : (i : ℕ) → i < n + 1 → Q i (get_or (map items lists ++ items list ∷ []) i [])
+    at_number i bound = by_number i n
+        (λ same. subst (λ k. Q k (get_or (map items lists ++ items list ∷ []) k [])) (sym same)
+        (subst (Q n) (sym (ap (λ k. get_or (map items lists ++ items list ∷ []) k []) (sym size)
+        ∙ get_or-append_seam (map items lists) (items list) [] [])) one))
+        (λ apart. subst (Q i) (sym (get_or_append_left (map items lists) (items list ∷ []) [] i
+        (omega (arith, bound, apart, size))))
+        (each i (omega (arith, bound, apart))))
