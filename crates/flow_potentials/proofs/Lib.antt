@@ -1,11 +1,11 @@
 pub mod Certified
-mod Checked
+pub mod Checked
 mod Deeper
 mod Loops
 pub mod Rounds
 pub mod Settled
 mod Shallow
-mod Slack
+pub mod Slack
 mod Steps
 mod Tables
 pub mod TablesBack

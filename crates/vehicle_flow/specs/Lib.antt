@@ -1,0 +1,4 @@
+pub mod AcceptedSchedules
+pub mod RightVehicles
+pub mod ScheduleChecks
+pub mod VehicleStage
