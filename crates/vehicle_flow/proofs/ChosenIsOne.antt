@@ -1,7 +1,8 @@
 -- A plan that is chosen is the one that the definition finds among all plans.
-use Rattle.std.proofs.Common.{◌≡◌, ℕ, zero, suc, ◌+◌, ◌<◌, ◌≤◌, ◌⊎◌, inl, inr, Bool, true, false, cond, not, is_some, ◌&&◌, nat_eq, List, [], ◌∷◌, ◌++◌, length, map, filter, find, min, Option, Some, None, unwrap_or, refl, ap, sym, ◌∙◌, subst, arith, none-some, eqb-true, eq-eqb}
+use Rattle.std.proofs.Common.{◌≡◌, ℕ, zero, suc, ◌+◌, ◌<◌, ◌≤◌, ◌⊎◌, inl, inr, Bool, true, false, cond, not, is_some, ◌&&◌, nat_eq, List, [], ◌∷◌, ◌++◌, length, map, filter, find, min, Option, Some, None, unwrap_or, refl, ap, sym, ◌∙◌, subst, arith, eqb-true, eq-eqb}
 use Rattle.std.specs.List.{AllByRecursion, range_with_len, reduce}
 use Rattle.std.proofs.lemmas.Bool.{false≢true}
+use Rattle.std.proofs.lemmas.Option.{none-some}
 use Rattle.vehicle_model.specs.Plans.{next, is_next, is_apart, all_lists, all_plans, choices_of, chosen_plan, first_cheapest, least_cost, plan_cost, ComesNoLater, IsChosen, IsCheapest, IsPlan}
 use Rattle.vehicle_model.specs.Trips.{TripsParts, Links, links_of}
 use Rattle.vehicle_model.proofs.Following.{links_within}
@@ -77,13 +78,13 @@ module _ (p : ℕ → Bool) where
 both_true : {a b : Bool} → a ≡ true → b ≡ true → (a && b) ≡ true
 both_true {a} {b} e f = ap (λ c. c && b) e ∙ f
 
-front_true : (a : Bool) {b : Bool} → (a && b) ≡ true → a ≡ true
-front_true true e = refl
-front_true false e = e
+front_true : (a b : Bool) → (a && b) ≡ true → a ≡ true
+front_true true b e = refl
+front_true false b e = e
 
-back_true : (a : Bool) {b : Bool} → (a && b) ≡ true → b ≡ true
-back_true true e = e
-back_true false e = absurd (false≢true e)
+back_true : (a b : Bool) → (a && b) ≡ true → b ≡ true
+back_true true b e = e
+back_true false b e = absurd (false≢true e)
 
 abbrev IsOnce : List (Option ℕ) → Type 0
 IsOnce plan = (i other j : ℕ) → next plan i ≡ Some j → next plan other ≡ Some j → i ≡ other
@@ -111,19 +112,19 @@ once_where (None ∷ plan) apart (suc i) (suc other) j e f =
     ap suc (once_where plan apart i other j e f)
 once_where (Some k ∷ plan) apart zero zero j e f = refl
 once_where (Some k ∷ plan) apart zero (suc other) j e f =
-    absurd (twice k j e (front_true (not (is_next plan k)) apart) (next_found plan other j f))
+    absurd (twice k j e (front_true (not (is_next plan k)) _ apart) (next_found plan other j f))
   where
     twice : (k j : ℕ) → Some k ≡ Some j → not (is_next plan k) ≡ true → is_next plan j ≡ true → ⊥
     twice k j same new is = let at : k ≡ j = cc in
         false≢true (sym (ap not (ap (is_next plan) at ∙ is)) ∙ new)
 once_where (Some k ∷ plan) apart (suc i) zero j e f =
-    absurd (twice k j f (front_true (not (is_next plan k)) apart) (next_found plan i j e))
+    absurd (twice k j f (front_true (not (is_next plan k)) _ apart) (next_found plan i j e))
   where
     twice : (k j : ℕ) → Some k ≡ Some j → not (is_next plan k) ≡ true → is_next plan j ≡ true → ⊥
     twice k j same new is = let at : k ≡ j = cc in
         false≢true (sym (ap not (ap (is_next plan) at ∙ is)) ∙ new)
 once_where (Some k ∷ plan) apart (suc i) (suc other) j e f =
-    ap suc (once_where plan (back_true (not (is_next plan k)) apart) i other j e f)
+    ap suc (once_where plan (back_true (not (is_next plan k)) _ apart) i other j e f)
 
 -- ---- the plans of trips
 
@@ -214,9 +215,9 @@ module _ (trips : TripsParts) where
     cheapest_where : (other : List (Option ℕ)) → AreChoices (lists 0 n) other
         → (is_apart other && costs_least other) ≡ true → IsCheapest trips other
     cheapest_where other are passes =
-        let same = eqb-true (cost other) (cost plan) (back_true (is_apart other) passes) in
+        let same = eqb-true (cost other) (cost plan) (back_true (is_apart other) _ passes) in
         record {
-          possible = plan_where other are (front_true (is_apart other) passes);
+          possible = plan_where other are (front_true (is_apart other) _ passes);
           least = λ third fits. omega (arith, same, chosen.cheapest.least third fits);
         }
 

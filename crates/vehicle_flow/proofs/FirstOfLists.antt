@@ -1,8 +1,9 @@
 -- Of all lists of choices that pass a test, the one that comes first is found first.
-use Rattle.std.proofs.Common.{◌≡◌, ℕ, suc, ◌<◌, ◌≤◌, ◌⊎◌, inl, inr, Bool, true, false, cond, ◌&&◌, nat_eq, List, [], ◌∷◌, ◌++◌, length, map, filter, fold, find, take, min, Option, Some, None, option_map, refl, ap, sym, ◌∙◌, subst, arith, none-some, eqb-true}
+use Rattle.std.proofs.Common.{◌≡◌, ℕ, suc, ◌<◌, ◌≤◌, ◌⊎◌, inl, inr, Bool, true, false, cond, ◌&&◌, nat_eq, List, [], ◌∷◌, ◌++◌, length, map, filter, fold, find, take, min, Option, Some, None, option_map, refl, ap, sym, ◌∙◌, subst, arith, eqb-true}
 use Rattle.std.specs.List.{AllByRecursion, flat_map, reduce}
 use Rattle.std.specs.Option.{option_or}
 use Rattle.std.proofs.lemmas.List.Folds.{find-append}
+use Rattle.std.proofs.lemmas.Option.{none-some}
 use Rattle.vehicle_model.specs.Plans.{ComesNoLater, AreNoLater, all_lists}
 
 -- an item is one of some
@@ -165,14 +166,15 @@ module _ {X : Type 0} (cost : X → ℕ) (least : ℕ) (one : X) where
   folded start (x ∷ xs) above all (inl same) =
       folded (min start (cost x)) xs (omega (arith, above, all.0)) all.1
       (inl (omega (arith, same, all.0)))
-  folded start (x ∷ xs) above all (inr found) = split (nat_eq (cost x) least) refl found
+  folded start (x ∷ xs) above all (inr found) =
+      folded (min start (cost x)) xs (omega (arith, above, all.0)) all.1
+      (split (nat_eq (cost x) least) refl found)
     where
       split : (b : Bool) → nat_eq (cost x) least ≡ b
           → cond b (Some x) (find (λ x. nat_eq (cost x) least) xs) ≡ Some one
-          → fold min (min start (cost x)) (map cost xs) ≡ least
-      split true is h = folded (min start (cost x)) xs (omega (arith, above, all.0)) all.1
-          (inl (omega (arith, above, eqb-true (cost x) least is)))
-      split false is h = folded (min start (cost x)) xs (omega (arith, above, all.0)) all.1 (inr h)
+          → (min start (cost x) ≡ least) ⊎ (find (λ x. nat_eq (cost x) least) xs ≡ Some one)
+      split true is h = inl (omega (arith, above, eqb-true (cost x) least is))
+      split false is h = inr h
 
   pub reduced : (xs : List X) → AllByRecursion (λ x. least ≤ cost x) xs
       → find (λ x. nat_eq (cost x) least) xs ≡ Some one → reduce min (map cost xs) ≡ Some least

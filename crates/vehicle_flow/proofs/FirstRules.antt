@@ -1,6 +1,6 @@
 -- The first rule that a schedule breaks, from what its parts are found to be.
-use Rattle.std.proofs.Common.{◌≡◌, ℕ, List, [], ◌∷◌, length, map, filter_map, slice_get, Option, Some, None, option_map, Result, Ok, Err, IfOk, IfNone, refl, ap, sym, ◌∙◌, subst, none-some}
-use Rattle.std.proofs.lemmas.Option.{same_Some, slice_get-map}
+use Rattle.std.proofs.Common.{◌≡◌, ℕ, List, [], ◌∷◌, length, map, filter_map, slice_get, Option, Some, None, option_map, Result, Ok, Err, IfOk, IfNone, refl, ap, sym, ◌∙◌, subst}
+use Rattle.std.proofs.lemmas.Option.{none-some, same_Some, slice_get-map}
 use Rattle.giv_files.specs.declared.read_fault.RowFault.{RowFault}
 use Rattle.vehicle_model.specs.declared.plan_fault.PlanFault.{PlanFault}
 use Rattle.vehicle_model.specs.declared.plan_fault.PlanFault.TheVariants as plan_faults
@@ -81,6 +81,16 @@ first_text [] others first is = absurd (none-some first is)
 first_text (one ∷ all) others first is = refl
 
 module _ (trips : TripsParts) (plan : List (Option ℕ)) (text : List ℕ) where
+  -- faults by a count are those by the number of trips
+  pub counted : (count : ℕ) → count ≡ length trips.trips → table_faults count text ≡ []
+      → table_faults (length trips.trips) text ≡ []
+  counted count is none = subst (λ n. table_faults n text ≡ []) is none
+
+  pub counted_first : (count : ℕ) (first : RowFault) → count ≡ length trips.trips
+      → slice_get (table_faults count text) 0 ≡ Some first
+      → slice_get (table_faults (length trips.trips) text) 0 ≡ Some first
+  counted_first count first is found = subst (λ n. slice_get (table_faults n text) 0 ≡ Some first) is found
+
   pub no_potentials : (first : RowFault) → slice_get (table_faults (length trips.trips) text) 0 ≡ Some first
       → Some rule.Potentials ≡ slice_get (certificate_rules trips plan (Some text)) 0
   no_potentials first is = first_text (table_faults (length trips.trips) text) _ first is
@@ -109,6 +119,14 @@ module _ (trips : TripsParts) (plan : List (Option ℕ)) (text : List ℕ) where
       valid = subst (AreValid (links_of trips) plan) is valid;
       cheapest = cheapest;
     }
+
+  pub judged_fault : (potentials : PotentialParts) → table_faults (length trips.trips) text ≡ []
+      → potentials ≡ potentials_of text → (fault : PotentialFault) (rule : ScheduleFault)
+      → Some fault ≡ slice_get (potential_faults (links_of trips) plan potentials) 0
+      → rule ≡ potential_rule fault
+      → Some rule ≡ slice_get (certificate_rules trips plan (Some text)) 0
+  judged_fault potentials none is fault rule first same =
+      ap Some same ∙ judged_potentials potentials none is (Some fault) first
 
   -- those that mark a plan break no rule
   pub marked_none : IsMark trips plan text → slice_get (certificate_rules trips plan (Some text)) 0 ≡ None

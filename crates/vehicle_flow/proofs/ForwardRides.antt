@@ -1,11 +1,12 @@
 -- An empty ride between two trips goes forward over the events of the day.
-use Rattle.std.proofs.Common.{◌≡◌, ℕ, ◌+◌, ◌-◌, ◌<◌, ◌≤◌, ◌⊎◌, inl, inr, ◌==◌, ◌||◌, Bool, true, false, cond, not, List, [], ◌∷◌, map, find, Option, Some, None, refl, ap, sym, ◌∙◌, subst, arith, none-some}
+use Rattle.std.proofs.Common.{◌≡◌, ℕ, ◌+◌, ◌-◌, ◌<◌, ◌≤◌, ◌⊎◌, inl, inr, ◌==◌, ◌||◌, Bool, true, false, cond, not, List, [], ◌∷◌, map, find, Option, Some, None, refl, ap, sym, ◌∙◌, subst, arith}
 use Rattle.std.specs.Cmp.{nat_cmp_is}
 use Rattle.std.specs.Cmp.Lexicographic.{slice_cmp}
 use Rattle.std.specs.List.{list_any}
 use Rattle.std.specs.Ordering.{nat_cmp, is_lt}
 use Rattle.std.specs.declared.cmp.Ordering.TheVariants.{Less, Equal}
 use Rattle.std.proofs.lemmas.Bool.{cases_lt, le-ltb}
+use Rattle.std.proofs.lemmas.Option.{none-some}
 use Rattle.event_tables.specs.declared.event_kind.EventKind.{EventKind}
 use Rattle.event_tables.specs.declared.event_kind.EventKind.TheVariants as kinds
 use Rattle.event_tables.specs.declared.expanded_event.ExpandedEvent.{ExpandedEvent}
@@ -51,7 +52,7 @@ keys t i u j soon = by (cases_lt t u)
         → is_lt (slice_cmp nat_cmp (t ∷ 0 ∷ i ∷ []) (u ∷ 1 ∷ j ∷ [])) ≡ true
     by (inl early) = rw (less t u early) refl
     by (inr late) = let e : t ≡ u = omega (arith, soon, late) in
-        rw (same t u e, less 0 1 (omega arith)) refl
+        rw (same t u e) refl
 
 ride_stands : (event other : ExpandedEvent) → is_arrival event.kind ≡ true
     → is_arrival other.kind ≡ false → event.time ≤ other.time → stands_before event other ≡ true
@@ -74,7 +75,7 @@ module _ (events : List ExpandedEvent) (row : ScheduleRow) (after : TripEnd)
   found = ap (event_with events) at ∙ to.there
 
   early : ends_early row ≡ false
-  early = le-ltb row.run.start.time row.run.end.time (omega (arith, long))
+  early = le-ltb row.run.end.time row.run.start.time (omega (arith, long))
 
   both : (test : ExpandedEvent → ExpandedEvent → Bool) → test from.event to.event ≡ true
       → both_pass test (event_with events row.run.start.event) (event_with events row.run.end.event)
@@ -85,7 +86,7 @@ module _ (events : List ExpandedEvent) (row : ScheduleRow) (after : TripEnd)
 
   room : lacks_room events row ≡ false
   room = ap not (both (has_room (row.run.end.time - row.run.start.time))
-      (ap not (le-ltb (from.event.time + (row.run.end.time - row.run.start.time)) to.event.time
+      (ap not (le-ltb to.event.time (from.event.time + (row.run.end.time - row.run.start.time))
       (omega (arith, long, soon, from.time, to.time)))))
 
   back : goes_back events row ≡ false

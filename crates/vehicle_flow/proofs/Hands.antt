@@ -1,11 +1,11 @@
 -- A plan and its potentials, where one trip is in hand: it has no successor, and its potential may be
 -- more than nothing. Some plan takes each trip on its side, or all potentials on a side go down.
-use Rattle.std.proofs.Common.{◌≡◌, ◌≢◌, ℕ, ℤ, zero, suc, pos, ◌+◌, ◌-◌, ◌<◌, ◌≤◌, ◌≤ℤ◌, ◌==◌, ◌&&◌, ◌||◌, ◌⊎◌, inl, inr, not, Bool, true, false, cond, Option, Some, None, IfSome, refl, ap, sym, ◌∙◌, subst, arith, none-some, eqb-true, eq-eqb}
+use Rattle.std.proofs.Common.{◌≡◌, ◌≢◌, ℕ, ℤ, zero, suc, pos, ◌+◌, ◌-◌, ◌<◌, ◌≤◌, ◌≤ℤ◌, ◌==◌, ◌&&◌, ◌||◌, ◌⊎◌, inl, inr, not, Bool, true, false, cond, Option, Some, None, IfSome, refl, ap, sym, ◌∙◌, subst, arith, eqb-true, eq-eqb}
 use Rattle.std.specs.Ordering.{int_eq}
 use Rattle.std.proofs.lemmas.Bool.{false≢true, ne_eqb}
 use Rattle.std.proofs.lemmas.Bool.Decides.{Decides-int_eq}
 use Rattle.std.proofs.lemmas.Int.{ints}
-use Rattle.std.proofs.lemmas.Option.{same_Some}
+use Rattle.std.proofs.lemmas.Option.{none-some, same_Some}
 use Rattle.vehicle_model.specs.Plans.{is_trip}
 use Rattle.vehicle_model.proofs.Counting.{count, one_less}
 use Rattle.vehicle_model.proofs.Linking.{by_number, is_trip_same, same_is_trip}
@@ -44,13 +44,13 @@ none_below p (suc n) h i within = split (p n) refl h (none_below p n)
 pub both_true : {a b : Bool} → a ≡ true → b ≡ true → (a && b) ≡ true
 both_true {a} {b} e f = ap (λ c. c && b) e ∙ f
 
-pub front_true : (a : Bool) {b : Bool} → (a && b) ≡ true → a ≡ true
-front_true true e = refl
-front_true false e = e
+pub front_true : (a b : Bool) → (a && b) ≡ true → a ≡ true
+front_true true b e = refl
+front_true false b e = e
 
-pub back_true : (a : Bool) {b : Bool} → (a && b) ≡ true → b ≡ true
-back_true true e = e
-back_true false e = absurd (false≢true e)
+pub back_true : (a b : Bool) → (a && b) ≡ true → b ≡ true
+back_true true b e = e
+back_true false b e = absurd (false≢true e)
 
 pub by_bool : {P : Type 0} (b : Bool) → (b ≡ true → P) → (b ≡ false → P) → P
 by_bool true whole none = whole refl
@@ -287,9 +287,9 @@ module _ (gain : ℕ → ℕ → Option ℤ) where
         record {
           i = found.i;
           within = found.within;
-          is = front_true (hands found.i) found.passes;
+          is = front_true (hands found.i) _ found.passes;
           tight = where_exact (gain found.i j) (u found.i + v j)
-              (back_true (hands found.i) found.passes);
+              (back_true (hands found.i) _ found.passes);
         }
 
     not_reached : (hands : ℕ → Bool) (j i : ℕ) → is_reached hands j ≡ false → i < taken
@@ -342,12 +342,12 @@ module _ (gain : ℕ → ℕ → Option ℤ) where
     one_more : (hands : ℕ → Bool) → AreHands hands → IsFound (comes_next hands) taken
         → (k : ℕ) × (k < taken) × (hands k ≡ false) × AreHands (with_hand hands k)
     one_more hands are found =
-        let out : hands found.i ≡ false = was_not (hands found.i) (front_true (not (hands found.i)) found.passes) in
+        let out : hands found.i ≡ false = was_not (hands found.i) (front_true (not (hands found.i)) _ found.passes) in
         (
           found.i,
           found.within,
           out,
-          by_next (plan found.i) refl out (back_true (not (hands found.i)) found.passes),
+          by_next (plan found.i) refl out (back_true (not (hands found.i)) _ found.passes),
         )
       where
         was_not : (b : Bool) → not b ≡ true → b ≡ false
@@ -359,17 +359,39 @@ module _ (gain : ℕ → ℕ → Option ℤ) where
         by_next None is out e = absurd (false≢true e)
         by_next (Some j) is out e = more_hands hands are found.i j out is (reached hands j e)
 
-    -- until none comes next
-    pub closing : (fuel : ℕ) (hands : ℕ → Bool) → AreHands hands
-        → count (λ k. not (hands k)) 0 taken ≤ fuel → (all : ℕ → Bool) × AreAllHands all
-    closing fuel hands are few = by_bool (some_below (comes_next hands) taken)
-        (λ some. goes_on fuel few (one_more hands are (found_below (comes_next hands) taken some)))
+    -- how many are left outside
+    abbrev left : (ℕ → Bool) → ℕ
+    left hands = count (λ k. not (hands k)) 0 taken
+
+    abbrev AllHands : Type 0
+    AllHands = (all : ℕ → Bool) × AreAllHands all
+
+    record IsMore (hands : ℕ → Bool) : Type 0 where
+      more : ℕ → Bool
+      are : AreHands more
+      fewer : left more + 1 ≡ left hands
+
+    one_taken : (hands : ℕ → Bool) → AreHands hands → IsFound (comes_next hands) taken → IsMore hands
+    one_taken hands are found =
+        let more = one_more hands are found in
+        record {
+          more = with_hand hands more.0;
+          are = more.3;
+          fewer = one_less hands more.0 0 taken (omega arith) (omega (arith, more.1)) more.2;
+        }
+
+    closing_by : (fuel : ℕ)
+        → ((hands : ℕ → Bool) → AreHands hands → left hands + 1 ≤ fuel → AllHands)
+        → (hands : ℕ → Bool) → AreHands hands → left hands ≤ fuel → AllHands
+    closing_by fuel rest hands are few = by_bool (some_below (comes_next hands) taken)
+        (λ some. let more = one_taken hands are (found_below (comes_next hands) taken some) in
+        rest more.more more.are (omega (arith, few, more.fewer)))
         (λ none. (hands, record { are = are; whole = none_below (comes_next hands) taken none }))
-      where
-        goes_on : (fuel : ℕ) → count (λ k. not (hands k)) 0 taken ≤ fuel
-            → (k : ℕ) × (k < taken) × (hands k ≡ false) × AreHands (with_hand hands k)
-            → (all : ℕ → Bool) × AreAllHands all
-        goes_on zero few more =
-            absurd (omega (arith, few, one_less hands more.0 0 taken (omega arith) (omega (arith, more.1)) more.2))
-        goes_on (suc fuel) few more = closing fuel (with_hand hands more.0) more.3
-            (omega (arith, few, one_less hands more.0 0 taken (omega arith) (omega (arith, more.1)) more.2))
+
+    -- until none comes next
+    pub closing : (fuel : ℕ) (hands : ℕ → Bool) → AreHands hands → left hands ≤ fuel → AllHands
+    closing zero hands are few =
+        closing_by zero (λ more are_more fewer. absurd (omega (arith, fewer))) hands are few
+    closing (suc fuel) hands are few =
+        closing_by (suc fuel) (λ more are_more fewer. closing fuel more are_more (omega (arith, fewer)))
+        hands are few

@@ -143,7 +143,7 @@ module _ (trips : TripsParts) (plan : List (Option ℕ)) (are : AreTrips trips)
 
   under : (k : ℕ) → k ≤ 2000
       → cond (nat_lt 2000 k) (refusal.TooMany counted.Trips k ∷ []) [] ≡ []
-  under k few = ap (λ b. cond b (refusal.TooMany counted.Trips k ∷ []) []) (le-ltb k 2000 few)
+  under k few = ap (λ b. cond b (refusal.TooMany counted.Trips k ∷ []) []) (le-ltb 2000 k few)
 
   few : (rows : List ScheduleRow) → rows ≡ plan_rows trips plan
       → limit_faults (schedule_input events).limits rows ≡ []

@@ -1,4 +1,5 @@
 pub mod AcceptedSchedules
 pub mod RightVehicles
 pub mod ScheduleChecks
+pub mod SettledPlans
 pub mod VehicleStage

@@ -31,7 +31,7 @@ vehicles_faults bundle =
 abbrev pub vehicles_line : TripsParts → List (Option ℕ) → List ℕ
 vehicles_line trips plan =
     report_line stage.Vehicles (count_text (length (starts plan)) (codes "vehicles")
-    ∷ codes "cost " ++ fixed_text (pos (plan_cost trips plan))
+    ∷ (codes "cost " ++ fixed_text (pos (plan_cost trips plan)))
     ∷ codes "optimal" ∷ [])
 
 -- what is made of a plan: its schedule, its canonical potentials, and the line of the report
