@@ -22,4 +22,6 @@ pub use stage::make_vehicles;
 #[cfg(test)]
 mod check_tests;
 #[cfg(test)]
+mod stage_tests;
+#[cfg(test)]
 mod test_inputs;
