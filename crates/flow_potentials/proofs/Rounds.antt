@@ -9,16 +9,16 @@ use Rattle.std.proofs.lemmas.List.{length-map}
 use Rattle.std.proofs.lemmas.List.FromFn.{get_or-map-range_with_len, length-range_with_len}
 use Rattle.std.proofs.lemmas.List.Sums.{sum_by-cons}
 use Rattle.vehicle_model.specs.Plans.{next, is_next, plan_gain, IsPlan}
-use Rattle.vehicle_model.specs.Trips.{TripsParts, Links, links_of}
+use Rattle.vehicle_model.specs.Trips.{TripsParts, AreTrips, Links, links_of}
 use Rattle.vehicle_model.proofs.Following.{links_within}
 use Rattle.flow_potentials.specs.Canonical.{AreCanonical}
 use Rattle.flow_potentials.specs.Drops.{DropParts, drop_at, AreFound, depth, IsSearched, PairKept, LinkKept, NextKept, RootKept, AreKept}
-use Rattle.flow_potentials.specs.Potentials.{PotentialParts, at, total, AreValid}
+use Rattle.flow_potentials.specs.Potentials.{PotentialParts, at, total, ArePotentials, AreValid}
 use Rattle.flow_potentials.specs.Residual.{Node, root, left, right, arc, free_arc, walk_cost, IsLeastCost}
 use Rattle.flow_potentials.specs.Rounds.{not_below, over_arc, over, greatest, furthest, round, settled, no_drops, canonical}
 use Rattle.flow_potentials.proofs.Certified.{by_bound}
 use Rattle.flow_potentials.proofs.Deeper.{joined}
-use Rattle.flow_potentials.proofs.Settled.{searched_first, settled_canonical}
+use Rattle.flow_potentials.proofs.Settled.{searched_first, settled_canonical, settled_small, settled_valid}
 use Rattle.flow_potentials.proofs.Shallow.{walk_least, back_arc}
 use Rattle.flow_potentials.proofs.Steps.{sum_most}
 
@@ -372,16 +372,40 @@ settles links plan there (suc fuel) drops known enough =
             → (2 * links.count + 1) * unsigned_abs (plan_gain links plan) < depth (round links plan drops) + fuel
         deeper other = omega (arith, enough, round_deeper links plan drops known, other)
 
+-- rounds that are enough end
+rounds_end : (trips : TripsParts) (plan : List (Option ℕ)) (potentials : PotentialParts) → IsPlan (links_of trips) plan
+    → AreValid (links_of trips) plan potentials
+    → IsSettled (links_of trips) plan (settled (links_of trips) plan
+    (suc ((2 * length trips.trips + 1) * unsigned_abs (plan_gain (links_of trips) plan))) (no_drops (length trips.trips)))
+rounds_end trips plan potentials is valid =
+    let first = searched_first (links_of trips) plan potentials is valid (length trips.trips) refl (no_drops (length trips.trips)) refl in
+    settles (links_of trips) plan (λ i j e. (links_within trips i j (is.follow i j e)).1)
+    (suc ((2 * length trips.trips + 1) * unsigned_abs (plan_gain (links_of trips) plan))) (no_drops (length trips.trips))
+    first (omega arith)
+
 -- the canonical potentials are canonical
 pub canonical_is : (trips : TripsParts) (plan : List (Option ℕ)) (potentials : PotentialParts) → IsPlan (links_of trips) plan
     → AreValid (links_of trips) plan potentials → AreCanonical (links_of trips) plan (canonical (links_of trips) plan)
 unfolding canonical
 canonical_is trips plan potentials is valid =
-    let first = searched_first (links_of trips) plan potentials is valid (length trips.trips) refl (no_drops (length trips.trips)) refl in
-    let all = settles (links_of trips) plan (λ i j e. (links_within trips i j (is.follow i j e)).1)
-    (suc ((2 * length trips.trips + 1) * unsigned_abs (plan_gain (links_of trips) plan))) (no_drops (length trips.trips))
-    first (omega arith) in
+    let all = rounds_end trips plan potentials is valid in
     settled_canonical trips plan _ all.known all.kept
+
+-- they are valid, and in their range
+pub canonical_valid : (trips : TripsParts) (plan : List (Option ℕ)) (potentials : PotentialParts) → IsPlan (links_of trips) plan
+    → AreValid (links_of trips) plan potentials → AreValid (links_of trips) plan (canonical (links_of trips) plan)
+unfolding canonical
+canonical_valid trips plan potentials is valid =
+    let all = rounds_end trips plan potentials is valid in
+    settled_valid trips plan _ all.known all.kept
+
+pub canonical_small : (trips : TripsParts) (plan : List (Option ℕ)) (potentials : PotentialParts) → AreTrips trips
+    → IsPlan (links_of trips) plan → AreValid (links_of trips) plan potentials
+    → ArePotentials (canonical (links_of trips) plan)
+unfolding canonical
+canonical_small trips plan potentials are is valid =
+    let all = rounds_end trips plan potentials is valid in
+    settled_small trips plan _ all.known all.kept are
 
 -- ---- there are no others
 

@@ -75,14 +75,14 @@ module _ (p : ℕ → Bool) where
 
 -- ---- no trip follows two
 
-both_true : {a b : Bool} → a ≡ true → b ≡ true → (a && b) ≡ true
+pub both_true : {a b : Bool} → a ≡ true → b ≡ true → (a && b) ≡ true
 both_true {a} {b} e f = ap (λ c. c && b) e ∙ f
 
-front_true : (a b : Bool) → (a && b) ≡ true → a ≡ true
+pub front_true : (a b : Bool) → (a && b) ≡ true → a ≡ true
 front_true true b e = refl
 front_true false b e = e
 
-back_true : (a b : Bool) → (a && b) ≡ true → b ≡ true
+pub back_true : (a b : Bool) → (a && b) ≡ true → b ≡ true
 back_true true b e = e
 back_true false b e = absurd (false≢true e)
 
@@ -92,7 +92,7 @@ IsOnce plan = (i other j : ℕ) → next plan i ≡ Some j → next plan other �
 rest_once : (x : Option ℕ) (plan : List (Option ℕ)) → IsOnce (x ∷ plan) → IsOnce plan
 rest_once x plan once i other j e f = omega (arith, once (suc i) (suc other) j e f)
 
-apart_where : (plan : List (Option ℕ)) → IsOnce plan → is_apart plan ≡ true
+pub apart_where : (plan : List (Option ℕ)) → IsOnce plan → is_apart plan ≡ true
 unfolding is_apart
 apart_where [] once = refl
 apart_where (None ∷ plan) once = apart_where plan (rest_once None plan once)
@@ -138,10 +138,10 @@ module _ (trips : TripsParts) where
   abbrev may : ℕ → ℕ → Bool
   may i j = is_some (links.gain i j)
 
-  abbrev lists : ℕ → ℕ → List (List (Option ℕ))
+  abbrev pub lists : ℕ → ℕ → List (List (Option ℕ))
   lists a k = map (choices_of links) (range_with_len a k)
 
-  all_rising : (a k : ℕ) → AllByRecursion AreRising (lists a k)
+  pub all_rising : (a k : ℕ) → AllByRecursion AreRising (lists a k)
   all_rising a zero = tt
   all_rising a (suc k) = (rising (may a) 0 n, all_rising (a + 1) k)
 
@@ -187,7 +187,7 @@ module _ (trips : TripsParts) where
       first (Some j) is =
           (omega arith, omega (arith, (links_within trips a j (is j refl)).1), is j refl)
 
-  plan_where : (plan : List (Option ℕ)) → AreChoices (lists 0 n) plan → is_apart plan ≡ true
+  pub plan_where : (plan : List (Option ℕ)) → AreChoices (lists 0 n) plan → is_apart plan ≡ true
       → IsPlan links plan
   plan_where plan are apart =
       let told = next_where 0 n plan are in
@@ -198,7 +198,7 @@ module _ (trips : TripsParts) where
         once = once_where plan apart;
       }
 
-  where_plan : (plan : List (Option ℕ)) → IsPlan links plan → AreChoices (lists 0 n) plan
+  pub where_plan : (plan : List (Option ℕ)) → IsPlan links plan → AreChoices (lists 0 n) plan
   where_plan plan is = choices_where 0 n plan (record {
     each = is.each;
     follow = λ i j e. let same : i ≡ 0 + i = omega arith in

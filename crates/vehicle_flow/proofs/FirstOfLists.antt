@@ -51,7 +51,7 @@ find_filtered {X} p q (x ∷ xs) = split (q x) (find_filtered p q xs)
 -- ---- lists that begin with each of some choices
 
 module _ (rests : List (List (Option ℕ))) (P : List (Option ℕ) → Bool) where
-  abbrev behind : List (Option ℕ) → List (List (Option ℕ))
+  abbrev pub behind : List (Option ℕ) → List (List (Option ℕ))
   behind choices = flat_map (λ choice. map (λ rest. choice ∷ rest) rests) choices
 
   none_with : (b : Option ℕ) → find (λ rest. P (b ∷ rest)) rests ≡ None
@@ -59,7 +59,7 @@ module _ (rests : List (List (Option ℕ))) (P : List (Option ℕ) → Bool) whe
   none_with b none = find_mapped P (λ rest. b ∷ rest) rests
       ∙ ap (option_map (λ rest. b ∷ rest)) none
 
-  later_found : (b : Option ℕ) (choices : List (Option ℕ)) → find (λ rest. P (b ∷ rest)) rests ≡ None
+  pub later_found : (b : Option ℕ) (choices : List (Option ℕ)) → find (λ rest. P (b ∷ rest)) rests ≡ None
       → find P (behind (b ∷ choices)) ≡ find P (behind choices)
   later_found b choices none = find-append P (map (λ rest. b ∷ rest) rests) (behind choices)
       ∙ ap (λ found. option_or found (find P (behind choices))) (none_with b none)

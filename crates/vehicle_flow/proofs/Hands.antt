@@ -253,12 +253,12 @@ module _ (gain : ℕ → ℕ → Option ℤ) where
     abbrev pub is_reached : (ℕ → Bool) → ℕ → Bool
     is_reached hands j = some_below (λ i. hands i && is_exact (gain i j) (u i + v j)) taken
 
-    abbrev is_next_reached : (ℕ → Bool) → Option ℕ → Bool
+    abbrev pub is_next_reached : (ℕ → Bool) → Option ℕ → Bool
     is_next_reached hands None = false
     is_next_reached hands (Some j) = is_reached hands j
 
     -- a trip outside them that has a successor which one of them could take
-    abbrev comes_next : (ℕ → Bool) → ℕ → Bool
+    abbrev pub comes_next : (ℕ → Bool) → ℕ → Bool
     comes_next hands k = not (hands k) && is_next_reached hands (plan k)
 
     -- with all that come next among them
@@ -275,13 +275,13 @@ module _ (gain : ℕ → ℕ → Option ℤ) where
         (λ same. absurd (not_both (ap (λ b. b || hands i) (eq-eqb i k same)) e))
         (λ apart. (apart, sym (ap (λ b. b || hands i) (ne_eqb i k apart)) ∙ e))
 
-    record IsReached (hands : ℕ → Bool) (j : ℕ) : Type 0 where
-      i : ℕ
-      within : i < taken
-      is : hands i ≡ true
-      tight : gain i j ≡ Some (pos (u i + v j))
+    pub record IsReached (hands : ℕ → Bool) (j : ℕ) : Type 0 where
+      pub i : ℕ
+      pub within : i < taken
+      pub is : hands i ≡ true
+      pub tight : gain i j ≡ Some (pos (u i + v j))
 
-    reached : (hands : ℕ → Bool) (j : ℕ) → is_reached hands j ≡ true → IsReached hands j
+    pub reached : (hands : ℕ → Bool) (j : ℕ) → is_reached hands j ≡ true → IsReached hands j
     reached hands j e =
         let found = found_below (λ i. hands i && is_exact (gain i j) (u i + v j)) taken e in
         record {
@@ -292,7 +292,7 @@ module _ (gain : ℕ → ℕ → Option ℤ) where
               (back_true (hands found.i) _ found.passes);
         }
 
-    not_reached : (hands : ℕ → Bool) (j i : ℕ) → is_reached hands j ≡ false → i < taken
+    pub not_reached : (hands : ℕ → Bool) (j i : ℕ) → is_reached hands j ≡ false → i < taken
         → hands i ≡ true → gain i j ≡ Some (pos (u i + v j)) → ⊥
     not_reached hands j i e within is tight =
         not_both (both_true is (exact_where (gain i j) (u i + v j) tight))
@@ -360,10 +360,10 @@ module _ (gain : ℕ → ℕ → Option ℤ) where
         by_next (Some j) is out e = more_hands hands are found.i j out is (reached hands j e)
 
     -- how many are left outside
-    abbrev left : (ℕ → Bool) → ℕ
+    abbrev pub left : (ℕ → Bool) → ℕ
     left hands = count (λ k. not (hands k)) 0 taken
 
-    abbrev AllHands : Type 0
+    abbrev pub AllHands : Type 0
     AllHands = (all : ℕ → Bool) × AreAllHands all
 
     record IsMore (hands : ℕ → Bool) : Type 0 where
