@@ -342,8 +342,7 @@ module _ (gain : ℕ → ℕ → Option ℤ) where
     one_more : (hands : ℕ → Bool) → AreHands hands → IsFound (comes_next hands) taken
         → (k : ℕ) × (k < taken) × (hands k ≡ false) × AreHands (with_hand hands k)
     one_more hands are found =
-        let out : hands found.i ≡ false = was_not (hands found.i) (front_true (not (hands found.i)) _ found.passes) in
-        (
+        let out : hands found.i ≡ false = was_not (hands found.i) (front_true (not (hands found.i)) _ found.passes) in (
           found.i,
           found.within,
           out,

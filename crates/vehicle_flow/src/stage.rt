@@ -4,9 +4,7 @@ ghost use Rattle.giv_files.specs.declared.stage.Stage.TheVariants as stages;
 ghost use Rattle.giv_files.specs.Settings.{Fits};
 ghost use Rattle.giv_files.specs.StageCalls.{StageGives, TakesSteps};
 ghost use Rattle.vehicle_flow.specs.RightVehicles.{VehicleFilesAreRight};
-ghost use Rattle.vehicle_flow.specs.SettledPlans.{IsSettled};
-ghost use Rattle.vehicle_flow.specs.VehicleStage.{trips_in, vehicles_stage};
-ghost use Rattle.vehicle_model.specs.Plans.{chosen_plan};
+ghost use Rattle.vehicle_flow.specs.VehicleStage.{vehicles_stage};
 
 use crate::given::given_trips;
 use crate::made::vehicles_made;
@@ -36,9 +34,7 @@ pub fn make_vehicles<L: Ledger>(
 fn vehicles_of_bundle(alloc: Global, bundle: &Bundle) -> Result<Made, StageFault>
     requires stage { bundle.now.stage ≡ stages.Vehicles }
     requires fits { Fits bundle.now }
-    ensures made { StageGives (vehicles_stage bundle.now) result }
-    ensures settled { IfOk result
-        (λ _. IsSettled (trips_in bundle.now) (chosen_plan (trips_in bundle.now))) }
+    ensures { StageGives (vehicles_stage bundle.now) result }
 {
     let trips = given_trips(alloc, bundle)?;
     Ok(vehicles_made(alloc, &trips)?)

@@ -1,6 +1,6 @@
 // The stage of vehicles on whole bundles.
-use crate::test_inputs::{EIGHT, PROOF, RUNS, TWO, bundle};
 use crate::make_vehicles;
+use crate::test_inputs::{EIGHT, PROOF, RUNS, TWO, bundle};
 use giv_files::{FileId, Made, Refusal, RowWhy, Stage, StageFault};
 use plan_num::{Steps, Tally};
 use std::alloc::Global;
@@ -43,11 +43,13 @@ fn comes_to(
         return Err(Fail::from("there are two files"));
     }
     let (schedule, potentials) = (made.files.get(0), made.files.get(1));
-    Ok(schedule.file == FileId::Schedule
-        && potentials.file == FileId::Potential
-        && has_rows(schedule.text.as_bytes(), SCHEDULE, rows[0])
-        && has_rows(potentials.text.as_bytes(), POTENTIALS, rows[1])
-        && made.report.as_bytes() == report)
+    Ok(
+        schedule.file == FileId::Schedule
+            && potentials.file == FileId::Potential
+            && has_rows(schedule.text.as_bytes(), SCHEDULE, rows[0])
+            && has_rows(potentials.text.as_bytes(), POTENTIALS, rows[1])
+            && made.report.as_bytes() == report,
+    )
 }
 
 #[test]
@@ -66,8 +68,10 @@ fn no_trips_take_none(rt: HostRuntime) -> Result<(), Fail> {
 
 #[test]
 fn the_lesser_of_two_trips_follows(rt: HostRuntime) -> Result<(), Fail> {
-    let trips = b"1; 1; 1; 0; 2; 2; 2; 10; 1\n3; 1; 2; 12; 4; 2; 1; 22; 1\n5; 1; 2; 13; 6; 2; 1; 23; 1\n";
-    let schedule = b"1; 1; 1; TRIP; 1; 1; 1; 0; 2; 2; 2; 10; 1\n1; 1; 2; EMPTY; 2; 2; 2; 10; 3; 1; 2; 10; 0\n\
+    let trips =
+        b"1; 1; 1; 0; 2; 2; 2; 10; 1\n3; 1; 2; 12; 4; 2; 1; 22; 1\n5; 1; 2; 13; 6; 2; 1; 23; 1\n";
+    let schedule =
+        b"1; 1; 1; TRIP; 1; 1; 1; 0; 2; 2; 2; 10; 1\n1; 1; 2; EMPTY; 2; 2; 2; 10; 3; 1; 2; 10; 0\n\
         1; 1; 3; TRIP; 3; 1; 2; 12; 4; 2; 1; 22; 1\n2; 2; 1; TRIP; 5; 1; 2; 13; 6; 2; 1; 23; 1\n";
     let report = b"vehicles: 2 vehicles, cost 200, optimal";
     let rows: [&[u8]; 2] = [schedule, b"1; 100; 0\n2; 0; 0\n3; 0; 0\n"];
@@ -77,7 +81,8 @@ fn the_lesser_of_two_trips_follows(rt: HostRuntime) -> Result<(), Fail> {
 
 #[test]
 fn a_dear_ride_is_not_made(rt: HostRuntime) -> Result<(), Fail> {
-    let apart = b"1; 1; 1; TRIP; 1; 1; 1; 0; 2; 2; 2; 10; 1\n2; 2; 1; TRIP; 3; 1; 1; 30; 4; 2; 2; 40; 1\n";
+    let apart =
+        b"1; 1; 1; TRIP; 1; 1; 1; 0; 2; 2; 2; 10; 1\n2; 2; 1; TRIP; 3; 1; 1; 30; 4; 2; 2; 40; 1\n";
     let report = b"vehicles: 2 vehicles, cost 200, optimal";
     let rows: [&[u8]; 2] = [apart, b"1; 0; 0\n2; 0; 0\n"];
     assert!(rt; comes_to(rt.alloc(), 30_000_000, TWO, rows, report)?);
@@ -86,7 +91,8 @@ fn a_dear_ride_is_not_made(rt: HostRuntime) -> Result<(), Fail> {
 
 #[test]
 fn a_ride_that_costs_a_vehicle_is_made(rt: HostRuntime) -> Result<(), Fail> {
-    let joined = b"1; 1; 1; TRIP; 1; 1; 1; 0; 2; 2; 2; 10; 1\n1; 1; 2; EMPTY; 2; 2; 2; 10; 3; 1; 1; 14; 0\n\
+    let joined =
+        b"1; 1; 1; TRIP; 1; 1; 1; 0; 2; 2; 2; 10; 1\n1; 1; 2; EMPTY; 2; 2; 2; 10; 3; 1; 1; 14; 0\n\
         1; 1; 3; TRIP; 3; 1; 1; 30; 4; 2; 2; 40; 1\n";
     let report = b"vehicles: 1 vehicles, cost 200, optimal";
     let rows: [&[u8]; 2] = [joined, b"1; 0; 0\n2; 0; 0\n"];

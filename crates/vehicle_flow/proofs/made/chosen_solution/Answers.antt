@@ -1,6 +1,5 @@
 use Rattle.vehicle_flow.proofs.ChosenIsOne.{chosen_is}
 use Rattle.vehicle_flow.proofs.SameGains.{valid_for}
-use Rattle.vehicle_flow.proofs.VehicleReads.{settled_by}
 use Rattle.vehicle_flow.proofs.made.chosen_solution.Goals as goal
 
 pub potentials-requires-clause-valid : goal.potentials-requires-clause-valid
@@ -10,9 +9,3 @@ potentials-requires-clause-valid c =
 
 pub returns-clause-plan : goal.returns-clause-plan
 returns-clause-plan c = chosen_is c.args.trips.now c.in_ok-plan.plan c.in_ok-plan.ensures
-
-pub returns-clause-settled : goal.returns-clause-settled
-returns-clause-settled c =
-    let made = c.in_ok-potentials.ensures in
-    settled_by c.args.trips.now c.in_ok-plan.plan c.in_ok-potentials.potentials c.len.ensures.trips
-    c.in_ok-plan.ensures made.made made.valid made.least c.len-2.ensures.potentials
