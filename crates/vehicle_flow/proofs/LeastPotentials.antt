@@ -7,7 +7,8 @@ use Rattle.std.proofs.lemmas.Option.{none-some}
 use Rattle.vehicle_model.specs.Plans.{is_trip}
 use Rattle.vehicle_model.proofs.Counting.{count_most}
 use Rattle.vehicle_model.proofs.Linking.{by_number, is_trip_same, same_is_trip}
-use Rattle.vehicle_flow.proofs.Hands.{AllHands, AreAllHands, AreHands, CanHold, HasDone, IsDone, IsFound, IsFree, IsHeld, IsInHand, Plan, back_true, both_true, by_bool, closing, comes_next, drops, found_below, front_true, is_next_reached, is_reached, links, none_below, not_both, not_reached, put, put_here, put_other, reached, some_below}
+use Rattle.vehicle_flow.proofs.Below.{IsFound, back_true, both_true, by_bool, found_below, front_true, none_below, not_both, put, put_here, put_other, some_below}
+use Rattle.vehicle_flow.proofs.Hands.{AllHands, AreAllHands, AreHands, CanHold, HasDone, IsDone, IsFree, IsHeld, IsInHand, Plan, closing, comes_next, drops, is_next_reached, is_reached, links, not_reached, reached}
 
 -- a gain that is not more than a number, and not the number
 less_than : (gain : ℤ) (number : ℕ) → gain ≤ℤ pos number → (gain ≡ pos number → ⊥)

@@ -1,3 +1,4 @@
+mod Below
 pub mod ChosenIsOne
 pub mod ChosenThere
 pub mod FirstFound
