@@ -16,6 +16,7 @@ pub fn cheapest_plan(alloc: Global, trips: &Trips) -> Result<Solved, NoMemory>
     ensures valid { IfOk result (λ solved. AreValid (links_of trips.now) solved.plan solved.potentials) }
     ensures cheapest { IfOk result (λ solved. IsCheapest trips.now solved.plan) }
 {
-    let _ = (alloc, trips);
+    let _ = alloc;
+    let _ = trips;
     Err(NoMemory)
 }

@@ -15,6 +15,8 @@ pub(crate) fn chosen_plan(alloc: Global, trips: &Trips, solved: &Solved) -> Resu
     requires valid { AreValid (links_of trips.now) solved.now.plan solved.now.potentials }
     ensures { IfOk result (IsChosen trips.now) }
 {
-    let _ = (alloc, trips, solved);
+    let _ = alloc;
+    let _ = trips;
+    let _ = solved;
     Err(NoMemory)
 }
