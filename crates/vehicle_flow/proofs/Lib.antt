@@ -1,3 +1,6 @@
+mod Below
+pub mod ChosenIsOne
+pub mod ChosenThere
 pub mod Claimed
 pub mod Claiming
 pub mod ClaimingAll
@@ -5,11 +8,22 @@ pub mod ClaimLists
 pub mod Copies
 pub mod Covering
 pub mod Expanding
+pub mod FirstFound
+pub mod FirstOfLists
+pub mod FirstRules
+mod ForwardRides
+pub mod GivenTrips
 pub mod Grown
 mod HandingOn
+mod Hands
+pub mod LeastPotentials
 pub mod Moves
 pub mod NearPlaces
 pub mod Refused
+pub mod SameGains
+pub mod ScheduleAccepted
+pub mod ScheduleAnswers
+pub mod SettledThere
 pub mod Settling
 pub mod Shifted
 pub mod Shifting
@@ -19,4 +33,8 @@ pub mod TakenIn
 pub mod TieLists
 pub mod TightValid
 pub mod Told
+mod Tried
 pub mod Values
+pub mod VehicleLaws
+pub mod VehicleMakes
+pub mod VehicleReads

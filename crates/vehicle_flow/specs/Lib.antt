@@ -1,6 +1,11 @@
+pub mod AcceptedSchedules
 pub mod Choices
 pub mod Claims
 pub mod Growing
 pub mod Places
+pub mod RightVehicles
+pub mod ScheduleChecks
 pub mod Searches
+pub mod SettledPlans
 pub mod Slacks
+pub mod VehicleStage

@@ -4,18 +4,35 @@
 
 mod assignment;
 mod cheapest;
+mod check;
 mod chosen;
 mod claim;
+mod given;
 mod growing;
 mod handing;
+mod judge;
+mod made;
 mod near;
-mod slack;
+mod report;
+mod schedule_fault;
 mod shift;
+mod slack;
 mod solved;
+mod stage;
 mod taking;
 mod ties;
-#[cfg(test)]
-mod tests;
 
 pub use cheapest::cheapest_plan;
+pub use check::check_schedule;
+pub use schedule_fault::ScheduleFault;
 pub use solved::Solved;
+pub use stage::make_vehicles;
+
+#[cfg(test)]
+mod check_tests;
+#[cfg(test)]
+mod stage_tests;
+#[cfg(test)]
+mod test_inputs;
+#[cfg(test)]
+mod tests;

@@ -1,0 +1,98 @@
+-- An empty ride between two trips goes forward over the events of the day.
+use Rattle.std.proofs.Common.{◌≡◌, ℕ, ◌+◌, ◌-◌, ◌<◌, ◌≤◌, ◌⊎◌, inl, inr, ◌==◌, ◌||◌, Bool, true, false, cond, not, List, [], ◌∷◌, map, find, Option, Some, None, refl, ap, sym, ◌∙◌, subst, arith}
+use Rattle.std.specs.Cmp.{nat_cmp_is}
+use Rattle.std.specs.Cmp.Lexicographic.{slice_cmp}
+use Rattle.std.specs.List.{list_any}
+use Rattle.std.specs.Ordering.{nat_cmp, is_lt}
+use Rattle.std.specs.declared.cmp.Ordering.TheVariants.{Less, Equal}
+use Rattle.std.proofs.lemmas.Bool.{cases_lt, le-ltb}
+use Rattle.std.proofs.lemmas.Option.{none-some}
+use Rattle.event_tables.specs.declared.event_kind.EventKind.{EventKind}
+use Rattle.event_tables.specs.declared.event_kind.EventKind.TheVariants as kinds
+use Rattle.event_tables.specs.declared.expanded_event.ExpandedEvent.{ExpandedEvent}
+use Rattle.event_tables.specs.declared.schedule_row.ScheduleRow.{ScheduleRow}
+use Rattle.event_tables.specs.declared.trip.TripEnd.{TripEnd}
+use Rattle.event_tables.specs.ExpandedFiles.{expanded_event_ids}
+use Rattle.event_tables.specs.ForwardOrder.{both_pass, event_with, forward_key, goes_forward, stands_before}
+use Rattle.event_tables.specs.Kinds.{is_arrival}
+use Rattle.event_tables.specs.Places.{is_none_of}
+use Rattle.event_tables.specs.Schedules.{ends_early, goes_back, has_room, lacks_room}
+use Rattle.vehicle_flow.specs.AcceptedSchedules.{IsPlanned}
+
+-- ---- an event that is found is there
+
+known : (events : List ExpandedEvent) (id : ℕ) (event : ExpandedEvent)
+    → event_with events id ≡ Some event → is_none_of (expanded_event_ids events) id ≡ false
+known [] id event found = absurd (none-some event found)
+known (first ∷ events) id event found = split (id == first.id) found (known events id event)
+  where
+    split : (b : Bool) → cond b (Some first) (event_with events id) ≡ Some event
+        → (event_with events id ≡ Some event → is_none_of (expanded_event_ids events) id ≡ false)
+        → not (b || list_any (λ other. id == other) (expanded_event_ids events)) ≡ false
+    split true found rest = refl
+    split false found rest = rest found
+
+pub planned_known : (events : List ExpandedEvent) (end : TripEnd) (kind : EventKind)
+    → IsPlanned events kind end → is_none_of (expanded_event_ids events) end.event ≡ false
+planned_known events end kind is = known events end.event is.event is.there
+
+-- ---- an arrival stands before a departure that is not earlier
+
+less : (x y : ℕ) → x < y → nat_cmp x y ≡ Less
+less x y h = sym (nat_cmp_is x y Less h)
+
+same : (x y : ℕ) → x ≡ y → nat_cmp x y ≡ Equal
+same x y h = sym (nat_cmp_is x y Equal h)
+
+keys : (t i u j : ℕ) → t ≤ u
+    → is_lt (slice_cmp nat_cmp (t ∷ 0 ∷ i ∷ []) (u ∷ 1 ∷ j ∷ [])) ≡ true
+keys t i u j soon = by (cases_lt t u)
+  where
+    by : (t < u) ⊎ (u ≤ t)
+        → is_lt (slice_cmp nat_cmp (t ∷ 0 ∷ i ∷ []) (u ∷ 1 ∷ j ∷ [])) ≡ true
+    by (inl early) = rw (less t u early) refl
+    by (inr late) = let e : t ≡ u = omega (arith, soon, late) in
+        rw (same t u e) refl
+
+ride_stands : (event other : ExpandedEvent) → is_arrival event.kind ≡ true
+    → is_arrival other.kind ≡ false → event.time ≤ other.time → stands_before event other ≡ true
+ride_stands event other arrives departs soon =
+    ap (λ b. is_lt (slice_cmp nat_cmp (event.time ∷ cond b 0 1 ∷ event.id ∷ []) (forward_key other)))
+    arrives
+    ∙ ap (λ b. is_lt (slice_cmp nat_cmp (event.time ∷ 0 ∷ event.id ∷ [])
+    (other.time ∷ cond b 0 1 ∷ other.id ∷ []))) departs
+    ∙ keys event.time event.id other.time other.id soon
+
+-- ---- an empty ride, from the end of a trip to the start of another
+
+module _ (events : List ExpandedEvent) (row : ScheduleRow) (after : TripEnd)
+    (from : IsPlanned events kinds.Arrival row.run.start)
+    (to : IsPlanned events kinds.Departure after)
+    (at : row.run.end.event ≡ after.event) (minutes : ℕ)
+    (long : row.run.end.time ≡ row.run.start.time + minutes)
+    (soon : row.run.start.time + minutes ≤ after.time) where
+  found : event_with events row.run.end.event ≡ Some to.event
+  found = ap (event_with events) at ∙ to.there
+
+  early : ends_early row ≡ false
+  early = le-ltb row.run.end.time row.run.start.time (omega (arith, long))
+
+  both : (test : ExpandedEvent → ExpandedEvent → Bool) → test from.event to.event ≡ true
+      → both_pass test (event_with events row.run.start.event) (event_with events row.run.end.event)
+      ≡ true
+  both test passes =
+      ap (λ first. both_pass test first (event_with events row.run.end.event)) from.there
+      ∙ ap (both_pass test (Some from.event)) found ∙ passes
+
+  room : lacks_room events row ≡ false
+  room = ap not (both (has_room (row.run.end.time - row.run.start.time))
+      (ap not (le-ltb to.event.time (from.event.time + (row.run.end.time - row.run.start.time))
+      (omega (arith, long, soon, from.time, to.time)))))
+
+  back : goes_back events row ≡ false
+  back = ap not (both stands_before (ride_stands from.event to.event
+      (ap is_arrival from.is) (ap is_arrival to.is) (omega (arith, soon, from.time, to.time))))
+
+  pub goes : (ends_early row || lacks_room events row || goes_back events row) ≡ false
+  goes = ap (λ b. b || lacks_room events row || goes_back events row) early
+      ∙ ap (λ b. b || goes_back events row) room ∙ back

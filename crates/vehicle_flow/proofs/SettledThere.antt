@@ -1,0 +1,71 @@
+-- Over any trips the chosen plan is there, and its canonical potentials are valid.
+use Rattle.std.proofs.Common.{◌≡◌, ℕ, ◌≤◌, ◌&&◌, nat_eq, Bool, true, List, length, find, Option, Some, None, refl, ap, sym, subst, arith, eqb-true, eq-eqb}
+use Rattle.vehicle_model.specs.Plans.{all_lists, chosen_plan, is_apart, plan_cost, IsCheapest, IsChosen}
+use Rattle.vehicle_model.specs.Trips.{TripsParts, AreTrips, links_of}
+use Rattle.flow_potentials.proofs.Certified.{certified_cheapest}
+use Rattle.flow_potentials.proofs.Rounds.{canonical_is, canonical_small, canonical_valid}
+use Rattle.vehicle_flow.specs.SettledPlans.{IsSettled}
+use Rattle.vehicle_flow.proofs.ChosenIsOne.{all_rising, apart_where, back_true, both_true, chosen_is, front_true, lists, plan_where, where_plan}
+use Rattle.vehicle_flow.proofs.ChosenThere.{HasValid, valid_there}
+use Rattle.vehicle_flow.proofs.FirstFound.{found_holds, found_no_later, none_passes}
+use Rattle.vehicle_flow.proofs.FirstOfLists.{AreChoices, all_choices}
+use Rattle.vehicle_flow.proofs.SameGains.{valid_for}
+
+module _ (trips : TripsParts) where
+  abbrev n : ℕ
+  n = length trips.trips
+
+  abbrev certified : HasValid (links_of trips)
+  certified = valid_there trips
+
+  cheapest : IsCheapest trips certified.plan
+  cheapest = certified_cheapest trips certified.plan certified.potentials certified.valid certified.possible
+
+  abbrev passes : List (Option ℕ) → Bool
+  passes other = is_apart other && nat_eq (plan_cost trips other) (plan_cost trips certified.plan)
+
+  passes_where : (other : List (Option ℕ)) → IsCheapest trips other → passes other ≡ true
+  passes_where other also =
+      both_true (apart_where other also.possible.once)
+      (eq-eqb (plan_cost trips other) (plan_cost trips certified.plan)
+      (omega (arith, also.least certified.plan cheapest.possible, cheapest.least other also.possible)))
+
+  first_chosen : (plan : List (Option ℕ)) → find passes (all_lists (lists trips 0 n)) ≡ Some plan
+      → IsChosen trips plan
+  first_chosen plan found =
+      let told = found_holds (AreChoices (lists trips 0 n)) passes (all_lists (lists trips 0 n))
+      (all_choices (lists trips 0 n)) plan found in
+      let same = eqb-true (plan_cost trips plan) (plan_cost trips certified.plan)
+      (back_true (is_apart plan) _ told.1) in
+      record {
+        cheapest = record {
+          possible = plan_where trips plan told.0 (front_true (is_apart plan) _ told.1);
+          least = λ other fits. omega (arith, same, cheapest.least other fits);
+        };
+        first = λ other also. found_no_later (lists trips 0 n) passes plan found (all_rising trips 0 n) other
+            (where_plan trips other also.possible) (passes_where other also);
+      }
+
+  pub chosen_there : IsChosen trips (chosen_plan trips)
+  chosen_there = by (find passes (all_lists (lists trips 0 n))) refl
+    where
+      by : (found : Option (List (Option ℕ))) → find passes (all_lists (lists trips 0 n)) ≡ found
+          → IsChosen trips (chosen_plan trips)
+      by None e = absurd (none_passes (lists trips 0 n) passes e certified.plan
+          (where_plan trips certified.plan certified.possible) (passes_where certified.plan cheapest))
+      by (Some plan) e =
+          let chosen = first_chosen plan e in
+          subst (IsChosen trips) (chosen_is trips plan chosen) chosen
+
+  pub settled_there : AreTrips trips → IsSettled trips (chosen_plan trips)
+  settled_there are =
+      let possible = chosen_there.cheapest.possible in
+      let valid = valid_for trips certified.plan (chosen_plan trips) certified.potentials cheapest
+      chosen_there.cheapest certified.valid in
+      record {
+        are = are;
+        chosen = chosen_there;
+        valid = canonical_valid trips (chosen_plan trips) certified.potentials possible valid;
+        least = canonical_is trips (chosen_plan trips) certified.potentials possible valid;
+        small = canonical_small trips (chosen_plan trips) certified.potentials are possible valid;
+      }

@@ -1,0 +1,11 @@
+use Rattle.std.proofs.Common.{◌∙◌, ap, option_copied}
+use Rattle.vehicle_flow.specs.ScheduleChecks.{schedule_fault}
+use Rattle.vehicle_flow.proofs.ScheduleAnswers.{none_where, right_where}
+use Rattle.vehicle_flow.proofs.check.check_schedule.Goals as goal
+
+pub returns-clause-only : goal.returns-clause-only
+returns-clause-only c right =
+    let potentials = option_copied c.args.potentials in
+    c.in_ok-first_fault.ensures.first
+    ∙ ap (λ trips. schedule_fault trips c.args.schedule.now potentials) c.in_ok-trips.ensures.1
+    ∙ none_where c.args.bundle.now c.args.schedule.now potentials right

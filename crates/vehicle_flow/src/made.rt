@@ -1,0 +1,64 @@
+// What the stage makes of its trips.
+ghost use Rattle.std.specs.Prelude.{◌≡◌, IfOk};
+ghost use Rattle.flow_potentials.specs.PotentialTables.{potentials_text};
+ghost use Rattle.flow_potentials.specs.Potentials.{AreValid};
+ghost use Rattle.flow_potentials.specs.Rounds.{canonical};
+ghost use Rattle.vehicle_flow.specs.VehicleStage.{vehicles_made};
+ghost use Rattle.vehicle_model.specs.Plans.{chosen_plan, IsPlan};
+ghost use Rattle.vehicle_model.specs.Trips.{links_of};
+
+use crate::cheapest::cheapest_plan;
+use crate::chosen::chosen_plan;
+use crate::report::vehicles_line;
+use crate::solved::Solved;
+use flow_potentials::{potentials, write_potentials};
+use giv_files::{FileId, Made, MadeFile, MadeList};
+use plan_num::{NoMemory, Text};
+use std::alloc::Global;
+use vehicle_model::{Trips, write_plan};
+
+/// What is made of trips: the schedule of the chosen plan, its canonical potentials, and the line of
+/// the report.
+pub(crate) fn vehicles_made(alloc: Global, trips: &Trips) -> Result<Made, NoMemory>
+    ensures { IfOk result (λ made. made ≡ vehicles_made trips.now (chosen_plan trips.now)) }
+{
+    let chosen = chosen_solution(alloc, trips)?;
+    let mut files = MadeList::new(alloc);
+    files.push(MadeFile {
+        file: FileId::Schedule,
+        text: write_plan(alloc, trips, &chosen.plan)?,
+    })?;
+    files.push(MadeFile {
+        file: FileId::Potential,
+        text: potentials_text(alloc, trips, &chosen)?,
+    })?;
+    Ok(Made {
+        files,
+        report: vehicles_line(alloc, trips, &chosen)?,
+    })
+}
+
+// The chosen plan, with its canonical potentials.
+fn chosen_solution(alloc: Global, trips: &Trips) -> Result<Solved, NoMemory>
+    ensures possible { IfOk result (λ chosen. IsPlan (links_of trips.now) chosen.plan) }
+    ensures valid { IfOk result (λ chosen.
+        AreValid (links_of trips.now) chosen.plan chosen.potentials) }
+    ensures plan { IfOk result (λ chosen. chosen.plan ≡ chosen_plan trips.now) }
+    ensures potentials { IfOk result (λ chosen.
+        chosen.potentials ≡ canonical (links_of trips.now) chosen.plan) }
+{
+    let solved = cheapest_plan(alloc, trips)?;
+    let plan = chosen_plan(alloc, trips, &solved)?;
+    let potentials = potentials(alloc, trips, &plan, &solved.potentials)?;
+    Ok(Solved { plan, potentials })
+}
+
+// The text of the potentials of a plan.
+fn potentials_text(alloc: Global, trips: &Trips, solved: &Solved) -> Result<Text, NoMemory>
+    requires { AreValid (links_of trips.now) solved.now.plan solved.now.potentials }
+    ensures { IfOk result (λ text. text ≡ potentials_text solved.now.potentials) }
+{
+    // A count tells that there are few trips.
+    let _ = trips.len();
+    write_potentials(alloc, &solved.potentials)
+}
