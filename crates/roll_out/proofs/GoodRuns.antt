@@ -1,10 +1,10 @@
 -- Runs and activities that keep the rules of runs.
 use Rattle.std.proofs.Common.{◌≡◌, ℕ, zero, suc, ◌+◌, ◌-◌, ◌%◌, ◌<◌, ◌≤◌, ◌==◌, arith, Bool, true, false, ◌&&◌, ◌||◌, not, cond, All, IfSome, List, [], ◌∷◌, length, map, filter, get_or, find, Some, refl, ap, subst, sym, ◌∙◌}
 use Rattle.std.specs.List.{flat_map, enumerate_from, count_by, AllByRecursion}
-use Rattle.std.proofs.lemmas.Bool.{eqb-true, eqb-false, false≢true}
+use Rattle.std.proofs.lemmas.Bool.{eq-eqb, eqb-true, eqb-false, false≢true}
 use Rattle.std.proofs.lemmas.List.{get_or-map}
 use Rattle.std.proofs.lemmas.List.Elements.{All-from_recursion, recursion_from_All}
-use Rattle.std.proofs.lemmas.List.FromFn.{get_or-range_with_len}
+use Rattle.std.proofs.lemmas.List.FromFn.{get_or-enumerate_from, get_or-range_with_len, length-enumerate_from}
 use Rattle.std.proofs.lemmas.List.Sums.{sum_by-cons}
 use Rattle.giv_files.proofs.Ranges.{front_none, back_none}
 use Rattle.event_tables.specs.declared.activity_kind.ActivityKind.{ActivityKind}
@@ -135,10 +135,11 @@ abbrev pub IsIn : TimedParts → PeriodicEvent → Type 0
 IsIn network event = IsOneOf (length network.events) event.id
     × (get_or network.events (event.id - 1) no_event ≡ event)
 
--- a run that goes on by drives and waits, from a departure on
+-- a run that goes on by drives and waits, from a departure to an arrival
 pub record IsGoodRun (network : TimedParts) (run : List PeriodicEvent) : Type 0 where
   pub more : 2 ≤ length run
   pub departs : is_arrival (get_or run 0 no_event).kind ≡ false
+  pub arrives : is_arrival (get_or run (length run - 1) no_event).kind ≡ true
   pub joined : unjoined_in network.activities run ≡ []
   pub within : AllByRecursion (IsIn network) run
 
@@ -153,6 +154,31 @@ first_turn : (kind : EventKind) (odd : Bool) → (not (event_kind_place kind == 
 first_turn kinds.Departure odd none = (refl, none)
 first_turn kinds.Arrival odd none = no_false none
 
+last_breaks : (run : List PeriodicEvent) → 1 ≤ length run → broken_in run ≡ []
+    → breaks (length run) (0 + (length run - 1), get_or run (length run - 1) no_event) ≡ false
+last_breaks run some none =
+    let all = nothing_passes (breaks (length run)) (enumerate_from 0 run)
+    (nothing_mapped (λ (at : ℕ × PeriodicEvent). at.1) _ none) in
+    let size = length-enumerate_from 0 run in
+    let last = All-from_recursion (λ at. breaks (length run) at ≡ false) (enumerate_from 0 run) all
+    (length run - 1) (0, no_event) (omega (arith, some, size)) in
+    subst (λ at. breaks (length run) at ≡ false)
+    (get_or-enumerate_from 0 run (length run - 1) (0, no_event) (omega (arith, some))) last
+
+last_turn : (kind : EventKind) (size place : ℕ) → place + 1 ≡ size
+    → (not (event_kind_place kind == place % 2) || (place + 1 == size && size % 2 == 1)) ≡ false
+    → is_arrival kind ≡ true
+last_turn kinds.Arrival size place last none = refl
+last_turn kinds.Departure size place last none =
+    let parts = or_none _ _ none in
+    let even : place % 2 ≡ 0 = sym (eqb-true 0 (place % 2) (not_false _ parts.0)) in
+    let odd = eqb-false (size % 2) 1 (ap (λ b. b && size % 2 == 1) (sym (eq-eqb _ _ last)) ∙ parts.1) in
+    absurd (omega (arith, even, odd, last))
+  where
+    not_false : (b : Bool) → not b ≡ false → b ≡ true
+    not_false true none = refl
+    not_false false none = no_false none
+
 good_run : (network : TimedParts) (run : List PeriodicEvent) → 1 ≤ length run → broken_in run ≡ []
     → unjoined_in network.activities run ≡ [] → AllByRecursion (IsIn network) run
     → IsGoodRun network run
@@ -161,7 +187,15 @@ good_run network (event ∷ []) some whole joined within =
     let turn = first_turn event.kind true (first_breaks event [] whole) in no_false turn.1
 good_run network (event ∷ next ∷ run) some whole joined within =
     let turn = first_turn event.kind _ (first_breaks event (next ∷ run) whole) in
-    record { more = omega arith; departs = turn.0; joined = joined; within = within }
+    let all = event ∷ next ∷ run in
+    record {
+      more = omega arith;
+      departs = turn.0;
+      arrives = last_turn (get_or all (length all - 1) no_event).kind (length all)
+          (0 + (length all - 1)) (omega arith) (last_breaks all some whole);
+      joined = joined;
+      within = within;
+    }
 
 module _ (network : TimedParts) (is : IsTimed network)
     (keep : KeepRunRules network.events network.activities) where

@@ -4,6 +4,7 @@ mod DayCells
 mod DayChanges
 mod DayChangesGood
 mod DayInWords
+mod EndsOfTrips
 mod FoundOnes
 mod GoesForward
 mod GoodRuns

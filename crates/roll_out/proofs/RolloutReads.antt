@@ -3,6 +3,7 @@ use Rattle.std.proofs.Common.{◌≡◌, ℕ, ℤ, ◌≤◌, arith, All, List, 
 use Rattle.std.specs.Prelude.{IfOk}
 use Rattle.std.specs.List.{AllByRecursion, enumerate_from, range_with_len}
 use Rattle.std.proofs.lemmas.List.{length-map}
+use Rattle.std.proofs.lemmas.List.Elements.{All-from_recursion}
 use Rattle.std.proofs.lemmas.List.FromFn.{length-enumerate_from}
 use Rattle.giv_files.specs.declared.counted.Counted.TheVariants as counted
 use Rattle.giv_files.specs.declared.file_id.FileId.TheVariants as file
@@ -12,7 +13,7 @@ use Rattle.giv_files.specs.declared.refusal.StageFault.{StageFault}
 use Rattle.giv_files.specs.declared.row_why.RowWhy.TheVariants as why
 use Rattle.giv_files.specs.declared.stage.Stage.TheVariants as stage
 use Rattle.giv_files.specs.Columns.{activities_p_columns, activities_x_columns, events_p_columns, events_x_columns, trips_columns}
-use Rattle.giv_files.specs.Inputs.{input_faults, limit_faults, row_limit}
+use Rattle.giv_files.specs.Inputs.{input_faults, limit_faults, records_of, row_limit}
 use Rattle.giv_files.specs.Settings.{BundleParts, Fits, SettingsFit}
 use Rattle.giv_files.specs.StageCalls.{StageGives, input_text}
 use Rattle.giv_files.proofs.Inputs.{limits_sound}
@@ -27,18 +28,20 @@ use Rattle.event_tables.specs.PeriodicRuns.{runs_of}
 use Rattle.event_tables.specs.Places.{AreNumbered}
 use Rattle.event_tables.specs.RowsOfTables.{file_text}
 use Rattle.event_tables.specs.RunRules.{KeepRunRules, broken_events, stray_activities, unjoined_events}
+use Rattle.event_tables.specs.Trips.{trip_input}
 use Rattle.event_tables.proofs.SoundFiles.{periodic_activities_sound, periodic_events_sound}
 use Rattle.event_tables.proofs.SoundTimes.{periodic_times_sound}
 use Rattle.pesp_model.specs.PespTexts.{activities_of, events_of}
 use Rattle.roll_out.specs.DayActivities.{day_activities, day_changes, day_ways, with_number}
 use Rattle.roll_out.specs.DayTrips.{TripParts, day_events, trip_events, trip_row}
 use Rattle.roll_out.specs.Plans.{IsDay, IsTimed, IsTrip, PlanParts, plan_of, trips_by}
-use Rattle.roll_out.specs.RightRollout.{AtStops, RolloutIsAccepted, RolloutIsRight}
+use Rattle.roll_out.specs.RightRollout.{AtStops, IsTripOver, RolloutIsAccepted, RolloutIsRight}
 use Rattle.roll_out.specs.RolloutStage.{activities_in, day_in, events_in, faults_at, file_faults, long_lists, made_of, network_in, period_in, rollout_faults, rollout_stage, run_faults, trip_rows, trips_in}
 use Rattle.roll_out.specs.TimedRuns.{TimedParts}
 use Rattle.roll_out.proofs.DayCells.{activities_fit, events_fit, trips_fit}
 use Rattle.roll_out.proofs.DayChangesGood.{changes_good, events_of_trips, mapped_from}
 use Rattle.roll_out.proofs.DayInWords.{changes_are_those, trips_are_those}
+use Rattle.roll_out.proofs.EndsOfTrips.{trips_over}
 use Rattle.roll_out.proofs.FilesRead.{activities_fine, events_fine, times_fine}
 use Rattle.roll_out.proofs.GoodRuns.{IsFit, all_fit, nothing_mapped, runs_good}
 use Rattle.roll_out.proofs.GoodTrips.{starts_rise, trip_stops, trip_takes}
@@ -247,6 +250,13 @@ module _ (bundle : BundleParts) (own : bundle.stage ≡ stage.Rollout) (fits : F
     trips_fine = λ stops at. trips_accepted stops (trip_rows trips) trips_text rows_few
         (starts_rise network (day_in bundle) rolled) (trips_good stops at)
         (trips_back (trip_rows trips) (trips_fit trips sound));
+    ends_fine = subst (λ some. All (IsTripOver some) (records_of (trip_input None) trips_text))
+        (sym (events_again (events_in bundle) (events_fit trips sound)).1)
+        (subst (All (IsTripOver (events_in bundle)))
+        (sym (trips_again (trip_rows trips) (trips_fit trips sound)).1)
+        (All-from_recursion (IsTripOver (events_in bundle)) (trip_rows trips)
+        (trips_over network (events_in bundle) trips rolled
+        (parts_of_all (IsListed (events_in bundle)) trip_events trips listed))));
   }
 
   pub made_right : RolloutIsRight bundle (made_of network trips)

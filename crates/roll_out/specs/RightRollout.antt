@@ -6,9 +6,15 @@ use Rattle.giv_files.specs.declared.made.MadeFile.{MadeFile}
 use Rattle.giv_files.specs.Columns.{events_x_columns, activities_x_columns, trips_columns}
 use Rattle.giv_files.specs.Inputs.{input_faults, records_of}
 use Rattle.giv_files.specs.Settings.{BundleParts}
+use Rattle.event_tables.specs.declared.event_kind.EventKind.{EventKind}
+use Rattle.event_tables.specs.declared.event_kind.EventKind.TheVariants as kind
+use Rattle.event_tables.specs.declared.expanded_event.ExpandedEvent.{ExpandedEvent}
 use Rattle.event_tables.specs.declared.periodic_event.PeriodicEvent.{PeriodicEvent}
+use Rattle.event_tables.specs.declared.trip.Trip.{Trip}
+use Rattle.event_tables.specs.declared.trip.TripEnd.{TripEnd}
 use Rattle.event_tables.specs.Cells.{expanded_event, expanded_activity, trip}
 use Rattle.event_tables.specs.ExpandedFiles.{expanded_event_input, expanded_activity_input}
+use Rattle.event_tables.specs.ForwardOrder.{event_with}
 use Rattle.event_tables.specs.RowsOfTables.{ReadsAs}
 use Rattle.event_tables.specs.Trips.{is_stop, trip_input}
 use Rattle.roll_out.specs.DayActivities.{day_changes}
@@ -20,9 +26,25 @@ abbrev pub AtStops : Option (List ℤ) → List PeriodicEvent → Type 0
 AtStops None events = ⊤
 AtStops (Some stops) events = All (λ event. is_stop stops event.stop ≡ true) events
 
+-- an end of a trip is an event of a day, of a kind: it has its id, its periodic event, its stop and
+-- its time
+pub record IsEndAt (events : List ExpandedEvent) (kind : EventKind) (end : TripEnd) : Type 0 where
+  pub event : ExpandedEvent
+  pub there : event_with events end.event ≡ Some event
+  pub is : event.kind ≡ kind
+  pub periodic : event.periodic ≡ end.periodic
+  pub stop : event.stop ≡ end.stop
+  pub time : event.time ≡ end.time
+
+-- a trip of a day starts with one of its departures and ends with one of its arrivals
+pub record IsTripOver (events : List ExpandedEvent) (trip : Trip) : Type 0 where
+  pub start : IsEndAt events kind.Departure trip.start
+  pub end : IsEndAt events kind.Arrival trip.end
+
 -- The files of a day are accepted by the rules of their kinds: events are numbered in their order;
 -- activities go forward between them, with bounds in order, and none is a sync; trips have start
 -- events of their own, end after they start, and are at stops wherever the periodic events are.
+-- Trips start with departures and end with arrivals, which are among the events.
 pub record RolloutIsAccepted (periodic : List PeriodicEvent)
     (events activities trips : List ℕ) : Type 0 where
   pub events_fine : input_faults expanded_event_input events ≡ []
@@ -30,6 +52,8 @@ pub record RolloutIsAccepted (periodic : List PeriodicEvent)
       (expanded_activity_input (records_of expanded_event_input events)) activities ≡ []
   pub trips_fine : (stops : Option (List ℤ)) → AtStops stops periodic
       → input_faults (trip_input stops) trips ≡ []
+  pub ends_fine : All (IsTripOver (records_of expanded_event_input events))
+      (records_of (trip_input None) trips)
 
 -- The files that are made are right: the inputs have no fault, and there are three files. Read
 -- again,

@@ -19,13 +19,14 @@ use Rattle.config_keys.specs.Items.{look_in}
 use Rattle.config_keys.specs.Values.{effective}
 use Rattle.line_search.specs.RightConcepts.{ConceptFilesAreRight, mark_files}
 use Rattle.pesp_search.specs.RightTimetables.{TimetableFilesAreRight}
+use Rattle.vehicle_flow.specs.RightVehicles.{VehicleFilesAreRight}
 use Rattle.stage_driver.specs.declared.cause.Cause.{Cause}
 use Rattle.stage_driver.specs.declared.cause.Cause.TheVariants as cause
 use Rattle.stage_driver.specs.declared.finding.Finding.{Finding}
 use Rattle.stage_driver.specs.declared.outcome.RunEnd.TheVariants as end
 use Rattle.stage_driver.specs.Built.{built, cause_of, files_of, made, run_stage, trace_of, trace_under}
 use Rattle.stage_driver.specs.Chain.{Halt, Trace, Visit, bundle_by, chain_from, go_on, is_to_run, to_run, visit_of}
-use Rattle.stage_driver.specs.Checks.{check_of, concept_verdict, first_found, first_text, found_under, is_lacking, judge, lacks_file, standing, timetable_verdict, verdict}
+use Rattle.stage_driver.specs.Checks.{check_of, concept_verdict, first_found, first_text, found_under, is_lacking, judge, lacks_file, schedule_verdict, standing, timetable_verdict, verdict}
 use Rattle.stage_driver.specs.Hand.{hand_of}
 use Rattle.stage_driver.specs.Passing.{RunsPass}
 use Rattle.stage_driver.specs.Reports.{end_of, end_of_refusal}
@@ -89,6 +90,23 @@ timetable_none : (bundle : BundleParts) (there : List MadeFile) → TimetableFil
     → timetable_verdict bundle there ≡ None
 timetable_none bundle there right = rw (right.one, right.inputs, right.passes) refl
 
+-- ---- a vehicle schedule that was made
+
+schedule_there : (schedule potentials : Option (List ℕ)) (text other : List ℕ)
+    → found_file file.Schedule (ok_or schedule (cause.Missing file.Schedule)) (found_file file.Potential (ok_or potentials (cause.Missing file.Potential)) [])
+    ≡ record { file = file.Schedule; text = text } ∷ record { file = file.Potential; text = other } ∷ []
+    → (is_lacking file.Schedule schedule || (is_lacking file.Potential potentials || false)) ≡ false
+schedule_there (Some schedule) (Some potentials) text other is = refl
+schedule_there (Some schedule) None text other is = refl
+schedule_there None None text other is =
+    let none : [] ≡ file.Schedule ∷ file.Potential ∷ [] = ap ids_of is in absurd (cc)
+schedule_there None (Some potentials) text other is =
+    let first : file.Potential ∷ [] ≡ file.Schedule ∷ file.Potential ∷ [] = ap ids_of is in absurd (cc)
+
+schedule_none : (bundle : BundleParts) (there : List MadeFile) → VehicleFilesAreRight bundle there
+    → schedule_verdict bundle there ≡ None
+schedule_none bundle there right = rw (right.right.both, right.right.inputs, right.passes) refl
+
 module _ (folder : Folder) (values : List ℤ) where
   -- nothing is found of a stage over what it is given, where its files stand there
   abbrev NoneFound : Stage → Type 0
@@ -127,6 +145,9 @@ module _ (folder : Folder) (values : List ℤ) where
       (ap (timetable_verdict visit.bundle) found ∙ timetable_none visit.bundle visit.made.files right)
   one_passes stage.Rollout visit given found right solved makes =
       by_content stage.Rollout refl visit given found solved makes
+  one_passes stage.Vehicles visit given found right solved makes =
+      none_by stage.Vehicles visit.bundle given (schedule_there (map.get folder (file_name file.Schedule)) (map.get folder (file_name file.Potential)) right.right.schedule right.right.potentials (found ∙ right.right.both))
+      (ap (schedule_verdict visit.bundle) found ∙ schedule_none visit.bundle visit.made.files right)
   one_passes _ visit given found right solved makes = absurd right
 
   -- the first that is found of stages, all of which are to run

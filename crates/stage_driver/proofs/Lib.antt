@@ -22,6 +22,7 @@ pub mod Refusing
 pub mod Running
 pub mod SameTexts
 pub mod Starting
+pub mod StopsThere
 pub mod Traces
 pub mod Visiting
 pub mod Visits

@@ -11,23 +11,29 @@ use Rattle.giv_files.specs.Keys.{stage_keys}
 use Rattle.giv_files.specs.MadeLists.{MakesAs, ids_of}
 use Rattle.giv_files.specs.Settings.{BundleParts, amount}
 use Rattle.giv_files.specs.Stages.{stage_inputs}
+use Rattle.giv_files.proofs.Ranges.{front_none}
 use Rattle.config_keys.specs.Config.{part_of}
 use Rattle.demand_load.specs.RightLoads.{LoadFilesAreRight}
 use Rattle.ptn_network.specs.Loads.{load_input}
-use Rattle.ptn_network.specs.Networks.{NetworkParts, network_of}
+use Rattle.ptn_network.specs.Inputs.{edge_input, stop_input}
+use Rattle.ptn_network.specs.Networks.{NetworkParts, network_faults, network_of, stops_of}
 use Rattle.line_pool.specs.PoolCosts.{pool_cost_input}
 use Rattle.line_pool.specs.Pools.{concept_faults, pool_of}
 use Rattle.line_pool.specs.RightCosts.{CostFilesAreRight}
 use Rattle.line_search.specs.RightConcepts.{ConceptFilesAreRight, mark_files}
 use Rattle.event_tables.specs.PeriodicFiles.{periodic_event_ids, periodic_time_input}
+use Rattle.event_tables.specs.Trips.{trip_input}
+use Rattle.event_activity.specs.EanStage.{ean_faults, events_in, rows_of}
 use Rattle.event_activity.specs.RightEan.{EanFilesAreRight, EanIsAccepted}
 use Rattle.pesp_model.specs.PespTexts.{activities_of, events_of, problem_faults}
 use Rattle.pesp_search.specs.RightTimetables.{TimetableFilesAreRight}
 use Rattle.pesp_search.specs.TimetableStage.{timetable_faults}
+use Rattle.roll_out.specs.RightRollout.{AtStops, RolloutFilesAreRight, RolloutIsAccepted}
 use Rattle.roll_out.specs.RolloutStage.{rollout_faults, times_in}
 use Rattle.stage_driver.specs.Chain.{bundle_for, chosen}
 use Rattle.stage_driver.specs.Checks.{first_text}
 use Rattle.stage_driver.specs.Right.{IsRightAs}
+use Rattle.stage_driver.proofs.StopsThere.{rows_at_stops}
 
 -- what a stage is given over one look of texts
 abbrev pub bundle_over : List ℤ → (FileId → List ℕ) → Stage → BundleParts
@@ -62,6 +68,11 @@ first_own look file (id ∷ ids) text more is =
     let own : look id ≡ text = cc in
     sym own ∙ ap look same
 
+-- files without the first one
+abbrev behind_first : List MadeFile → List MadeFile
+behind_first [] = []
+behind_first (file ∷ files) = files
+
 -- both of two do
 both_own : (look : FileId → List ℕ) (first second : FileId) (ids : List FileId) (text other : List ℕ)
     → files_over look ids
@@ -72,10 +83,20 @@ both_own look first second (id ∷ ids) text other is = (
   first_own look first (id ∷ ids) text (record { file = second; text = other } ∷ []) is,
   first_own look second ids other [] (ap behind_first is),
 )
-  where
-    behind_first : List MadeFile → List MadeFile
-    behind_first [] = []
-    behind_first (file ∷ files) = files
+-- each of three does
+three_own : (look : FileId → List ℕ) (first second third : FileId) (ids : List FileId)
+    (text other last : List ℕ) → files_over look ids
+    ≡ record { file = first; text = text } ∷ record { file = second; text = other }
+    ∷ record { file = third; text = last } ∷ []
+    → (text ≡ look first) × (other ≡ look second) × (last ≡ look third)
+three_own look first second third [] text other last is = absurd (let none = ap ids_of is in cc)
+three_own look first second third (id ∷ ids) text other last is =
+    let rest = both_own look second third ids other last (ap behind_first is) in (
+      first_own look first (id ∷ ids) text
+          (record { file = second; text = other } ∷ record { file = third; text = last } ∷ []) is,
+      rest.0,
+      rest.1,
+    )
 
 -- ---- what an earlier stage made has no fault by the rules of its kind
 
@@ -139,3 +160,33 @@ module _ (values : List ℤ) (look : FileId → List ℕ) where
       (subst (EanIsAccepted right.events) both.1 right.accepted) in
       let runs = accepted.runs_fine in
       rw (periodic_accepted ean, times_accepted times) (rw (runs.whole, runs.joined, runs.placed) refl)
+
+  -- the periodic events are at stops
+  at_stops : IsRightOver values look stage.Ean
+      → AtStops (Some (stops_of (look file.Stop))) (events_of (look file.EventsP))
+  unfolding network_of network_faults events_of
+  at_stops ean =
+      let bundle = bundle_over values look stage.Ean in
+      let right : EanFilesAreRight bundle (files_over look ean.ids) = ean.right in
+      let both = both_own look file.EventsP file.ActivitiesP ean.ids right.events right.activities right.both in
+      let network_none : network_faults (look file.Stop) (look file.Edge) ≡ [] = front_none _ _ right.inputs in
+      let fine : input_faults stop_input (look file.Stop) ≡ [] = front_none _ _ network_none in
+      subst (λ text. AtStops (Some (stops_of (look file.Stop))) (events_of text)) both.0
+      (subst (AtStops (Some (stops_of (look file.Stop)))) (sym right.reads_events.1)
+      (rows_at_stops (events_in bundle) (λ event. event.row) (look file.Stop) fine right.network.at_stops))
+
+  -- what the roll-out made is accepted
+  day_made : IsRightOver values look stage.Rollout
+      → RolloutIsAccepted (events_of (look file.EventsP)) (look file.EventsX)
+      (look file.ActivitiesX) (look file.Trips)
+  day_made day =
+      let right : RolloutFilesAreRight (bundle_over values look stage.Rollout) (files_over look day.ids) = day.right in
+      let own = three_own look file.EventsX file.ActivitiesX file.Trips day.ids right.events right.activities right.trips right.three in
+      let periodic = events_of (look file.EventsP) in
+      subst (RolloutIsAccepted periodic (look file.EventsX) (look file.ActivitiesX)) own.2
+      (subst (λ text. RolloutIsAccepted periodic (look file.EventsX) text right.trips) own.1
+      (subst (λ text. RolloutIsAccepted periodic text right.activities right.trips) own.0 right.accepted))
+
+  pub trips_accepted : IsRightOver values look stage.Ean → IsRightOver values look stage.Rollout
+      → input_faults (trip_input (Some (stops_of (look file.Stop)))) (look file.Trips) ≡ []
+  trips_accepted ean day = (day_made day).trips_fine (Some (stops_of (look file.Stop))) (at_stops ean)

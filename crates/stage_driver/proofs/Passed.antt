@@ -1,5 +1,5 @@
 -- Files of which a check finds nothing satisfy the models of their stages.
-use Rattle.std.proofs.Common.{◌≡◌, ℕ, ℤ, Bool, true, false, cond, is_some, ◌||◌, ◌+◌, ◌<◌, ◌≤◌, List, [], length, get_or, drop, Option, Some, None, IfSome, IfOk, IfNone, Result, Ok, Err, refl, ap, subst, sym, ◌∙◌, arith}
+use Rattle.std.proofs.Common.{◌≡◌, ℕ, ℤ, Bool, true, false, cond, is_some, ◌||◌, ◌+◌, ◌<◌, ◌≤◌, List, [], ◌∷◌, length, get_or, slice_get, drop, Option, Some, None, IfSome, IfOk, IfNone, Result, Ok, Err, refl, ap, subst, sym, ◌∙◌, arith}
 use Rattle.std.proofs.lemmas.List.{at_drop_more, at_drop_all}
 use Rattle.std.specs.Option.{ok_or}
 use Rattle.std.specs.FinMap as map
@@ -17,6 +17,12 @@ use Rattle.config_keys.specs.declared.config_end.ConfigEnd.TheVariants as config
 use Rattle.config_keys.specs.Effective.{ConfigGives}
 use Rattle.config_keys.specs.Items.{look_in}
 use Rattle.config_keys.specs.Values.{effective}
+use Rattle.giv_files.specs.declared.refusal.Refusal.{Refusal}
+use Rattle.vehicle_model.specs.ReadSchedules.{or_others}
+use Rattle.vehicle_flow.specs.declared.schedule_fault.ScheduleFault.{ScheduleFault}
+use Rattle.vehicle_flow.specs.declared.schedule_fault.ScheduleFault.TheVariants as rule
+use Rattle.vehicle_flow.specs.ScheduleChecks.{schedule_fault}
+use Rattle.vehicle_flow.specs.VehicleStage.{trips_in, vehicles_faults}
 use Rattle.stage_driver.specs.declared.cause.Cause.TheVariants as cause
 use Rattle.stage_driver.specs.declared.chain_end.ChainEnd.{ChainEnd}
 use Rattle.stage_driver.specs.declared.chain_end.ChainEnd.TheVariants as end
@@ -28,7 +34,9 @@ use Rattle.stage_driver.specs.declared.outcome.ChainFault.{ChainFault}
 use Rattle.stage_driver.specs.Built.{built, run_stage}
 use Rattle.stage_driver.specs.Chain.{bundle_by}
 use Rattle.stage_driver.specs.Checks.{EndedAs, UnsettledAs, check_end, content_found}
-use Rattle.stage_driver.specs.Checks.{is_lacking, lacks_file, standing, verdict}
+use Rattle.stage_driver.specs.Checks.{is_lacking, judged_found, lacks_file, schedule_verdict}
+use Rattle.stage_driver.specs.Checks.{standing, verdict}
+use Rattle.stage_driver.specs.Findings.{schedule_rule}
 use Rattle.stage_driver.specs.Passing.{AllStand, PassesIn, RunsStand, SatisfyModel, StageStands}
 use Rattle.stage_driver.specs.Right.{found_file, text_in}
 use Rattle.stage_driver.proofs.ContentFiles.{by_contents, content_right, content_stands, is_content}
@@ -57,6 +65,36 @@ times_stand : (times : Option (List ℕ)) → (is_lacking file.TimesP times || f
 times_stand None lacks = absurd (cc)
 times_stand (Some text) lacks = (0, omega arith, refl)
 
+-- a list that is there has a first item
+some_first : {X : Type 0} (first : List X) (other : X) → slice_get (or_others first (other ∷ [])) 0 ≡ None
+    → ⊥
+some_first [] other none = absurd (cc)
+some_first (x ∷ first) other none = absurd (cc)
+
+-- a schedule without potentials beside it is found at fault
+bare_schedule : (bundle : BundleParts) (text : List ℕ) (faults : List Refusal)
+    (broken : Option ScheduleFault) → broken ≡ schedule_fault (trips_in bundle) text None
+    → judged_found stage.Vehicles schedule_rule faults broken ≡ None → ⊥
+unfolding schedule_fault
+bare_schedule bundle text (first ∷ more) broken is none = absurd (cc)
+bare_schedule bundle text [] (Some fault) is none = absurd (cc)
+bare_schedule bundle text [] None is none = some_first _ rule.Certificate (sym is)
+
+schedule_stands : (bundle : BundleParts) (found : Option Finding) (schedule potentials : Option (List ℕ))
+    → (is_lacking file.Schedule schedule || (is_lacking file.Potential potentials || false)) ≡ false
+    → found ≡ schedule_verdict bundle (found_file file.Schedule (ok_or schedule (cause.Missing file.Schedule)) (found_file file.Potential (ok_or potentials (cause.Missing file.Potential)) []))
+    → (found ≡ None → MakesAs stage.Vehicles (ids_of (found_file file.Schedule (ok_or schedule (cause.Missing file.Schedule)) (found_file file.Potential (ok_or potentials (cause.Missing file.Potential)) []))))
+schedule_stands bundle found None potentials lacks is none = absurd (cc)
+schedule_stands bundle found (Some text) None lacks is none =
+    absurd (bare_schedule bundle text (vehicles_faults bundle) _ refl (sym is ∙ none))
+schedule_stands bundle found (Some text) (Some other) lacks is none = (0, omega arith, refl)
+
+-- what holds of what is found where nothing is found
+where_none : (P : Type 0) {Q : Type 0} (found : Option Finding) → (found ≡ None → Q) → (Q → IfNone found P)
+    → IfNone found P
+where_none P None there right = right (there refl)
+where_none P (Some finding) there right = tt
+
 -- what a stage found of files that stand there says of them
 module _ (folder : Folder) (bundle : BundleParts) (found : Option Finding) where
   abbrev text : FileId → Option (List ℕ)
@@ -78,6 +116,8 @@ module _ (folder : Folder) (bundle : BundleParts) (found : Option Finding) where
   stands_right stage.Timetable lacks is right = right (times_stand (text file.TimesP) lacks)
   stands_right stage.Rollout lacks is right =
       right (content_stands stage.Rollout (by_contents stage.Rollout refl) folder lacks)
+  stands_right stage.Vehicles lacks is right =
+      where_none (SatisfyModel stage.Vehicles bundle (standing folder stage.Vehicles)) found (schedule_stands bundle found (text file.Schedule) (text file.Potential) lacks is) right
   stands_right _ lacks is right = rw is tt
 
 -- ---- clauses

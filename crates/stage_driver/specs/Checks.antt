@@ -26,6 +26,8 @@ use Rattle.line_search.specs.GivenProblems.{problem_faults, problem_of}
 use Rattle.line_search.specs.Judged.{first_broken}
 use Rattle.pesp_search.specs.Judged.{first_broken_rule}
 use Rattle.pesp_search.specs.TimetableStage.{problem_in, timetable_faults}
+use Rattle.vehicle_flow.specs.ScheduleChecks.{schedule_fault}
+use Rattle.vehicle_flow.specs.VehicleStage.{trips_in, vehicles_faults}
 use Rattle.stage_driver.specs.declared.cause.Cause.{Cause}
 use Rattle.stage_driver.specs.declared.cause.Cause.TheVariants as cause
 use Rattle.stage_driver.specs.declared.chain_end.ChainEnd.{ChainEnd}
@@ -41,7 +43,7 @@ use Rattle.stage_driver.specs.declared.rule.Rule.{Rule}
 use Rattle.stage_driver.specs.declared.rule.Rule.TheVariants as rule
 use Rattle.stage_driver.specs.Built.{built, run_stage}
 use Rattle.stage_driver.specs.Chain.{bundle_by, is_to_run}
-use Rattle.stage_driver.specs.Findings.{concept_rule, finding_of, rule_name, timetable_rule}
+use Rattle.stage_driver.specs.Findings.{concept_rule, finding_of, rule_name, schedule_rule, timetable_rule}
 use Rattle.stage_driver.specs.Reports.{cause_text, line_of}
 use Rattle.stage_driver.specs.Right.{files_by, made_in, text_in}
 
@@ -112,6 +114,13 @@ timetable_verdict bundle (times ∷ more) =
     judged_found stage.Timetable timetable_rule (timetable_faults bundle)
     (first_broken_rule (problem_in bundle) times.text)
 
+-- what is found of a vehicle schedule, with the potentials that may stand behind it
+abbrev pub schedule_verdict : BundleParts → List MadeFile → Option Finding
+schedule_verdict bundle [] = None
+schedule_verdict bundle (schedule ∷ potentials) =
+    judged_found stage.Vehicles schedule_rule (vehicles_faults bundle)
+    (schedule_fault (trips_in bundle) schedule.text (first_text potentials))
+
 -- what is found of the files of a stage over what it is given; a stage that is not built
 -- never passes
 unfoldable pub verdict : Stage → BundleParts → List MadeFile → Option Finding
@@ -121,6 +130,7 @@ verdict stage.Concept bundle others = concept_verdict bundle others
 verdict stage.Ean bundle others = content_found stage.Ean (run_stage bundle) others
 verdict stage.Timetable bundle others = timetable_verdict bundle others
 verdict stage.Rollout bundle others = content_found stage.Rollout (run_stage bundle) others
+verdict stage.Vehicles bundle others = schedule_verdict bundle others
 verdict stage bundle others = Some (Broken stage rule.Content)
 
 -- what is found of a stage: first of its inputs, then of the files that it makes

@@ -7,6 +7,8 @@ use Rattle.line_search.specs.declared.fault.ConceptFault.{ConceptFault}
 use Rattle.line_search.specs.declared.fault.ConceptFault.TheVariants as concept
 use Rattle.pesp_search.specs.declared.fault.TimetableFault.{TimetableFault}
 use Rattle.pesp_search.specs.declared.fault.TimetableFault.TheVariants as timetable
+use Rattle.vehicle_flow.specs.declared.schedule_fault.ScheduleFault.{ScheduleFault}
+use Rattle.vehicle_flow.specs.declared.schedule_fault.ScheduleFault.TheVariants as schedule
 use Rattle.stage_driver.specs.declared.cause.Cause.{Cause}
 use Rattle.stage_driver.specs.declared.cause.Cause.TheVariants as cause
 use Rattle.stage_driver.specs.declared.finding.Finding.{Finding}
@@ -60,6 +62,16 @@ abbrev pub timetable_rule : TimetableFault → Rule
 timetable_rule timetable.Row = rule.Row
 timetable_rule timetable.Events = rule.Events
 timetable_rule timetable.Tension = rule.Tension
+
+-- the rule that a vehicle schedule or the potentials beside it break
+abbrev pub schedule_rule : ScheduleFault → Rule
+schedule_rule schedule.Row = rule.Row
+schedule_rule schedule.Trips = rule.Trips
+schedule_rule schedule.Follow = rule.Follow
+schedule_rule schedule.Certificate = rule.Certificate
+schedule_rule schedule.Potentials = rule.Potentials
+schedule_rule schedule.Pair = rule.Pair
+schedule_rule schedule.Sum = rule.Sum
 
 -- people write the files of an origin
 abbrev pub is_of_people : Origin → Bool

@@ -17,6 +17,7 @@ use Rattle.event_activity.specs.RightEan.{EanFilesAreRight}
 use Rattle.pesp_search.specs.Judged.{Passes as KeepsRules}
 use Rattle.pesp_search.specs.TimetableStage.{problem_in, timetable_faults}
 use Rattle.roll_out.specs.RightRollout.{RolloutFilesAreRight}
+use Rattle.vehicle_flow.specs.RightVehicles.{VehiclesAreRight}
 use Rattle.stage_driver.specs.declared.outcome.RunEnd.TheVariants as end
 use Rattle.stage_driver.specs.Built.{built, made}
 use Rattle.stage_driver.specs.Chain.{bundle_by, is_to_run}
@@ -51,6 +52,7 @@ SatisfyModel stage.Concept bundle files = ConceptPasses bundle files
 SatisfyModel stage.Ean bundle files = EanFilesAreRight bundle files
 SatisfyModel stage.Timetable bundle files = TimetablePasses bundle files
 SatisfyModel stage.Rollout bundle files = RolloutFilesAreRight bundle files
+SatisfyModel stage.Vehicles bundle files = VehiclesAreRight bundle files
 SatisfyModel _ bundle files = ⊥
 
 -- The files of a stage that stand in a folder satisfy its model over the files that stand there.

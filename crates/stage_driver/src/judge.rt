@@ -8,7 +8,8 @@ ghost use Rattle.giv_files.specs.MadeLists.{MakesAs, ids_of};
 ghost use Rattle.giv_files.specs.Settings.{Fits};
 ghost use Rattle.stage_driver.specs.Checks.{concept_verdict, content_found, first_text, found_over};
 ghost use Rattle.stage_driver.specs.Checks.{EndedAs, files_found, judge, same_texts, verdict};
-ghost use Rattle.stage_driver.specs.Checks.{standing, timetable_verdict};
+ghost use Rattle.stage_driver.specs.Checks.{schedule_verdict, standing, timetable_verdict};
+ghost use Rattle.vehicle_flow.specs.RightVehicles.{VehiclesAreRight};
 ghost use Rattle.stage_driver.specs.Passing.{ConceptPasses, SatisfyModel, StageStands};
 ghost use Rattle.stage_driver.specs.Passing.{TimetablePasses};
 ghost use Rattle.stage_driver.specs.Built.{run_stage};
@@ -29,6 +30,7 @@ use pesp_search::check_timetable;
 use plan_files::Files;
 use plan_num::{NoMemory, Silent, Steps};
 use std::alloc::Global;
+use vehicle_flow::check_schedule;
 
 /// What is found of a stage, where it does not pass: first of its inputs, then of the files that it
 /// makes.
@@ -106,7 +108,8 @@ fn verdict(
         Stage::Ean => content_found(alloc, bundle, stage, there),
         Stage::Timetable => timetable_verdict(alloc, bundle, there),
         Stage::Rollout => content_found(alloc, bundle, stage, there),
-        Stage::Vehicles | Stage::Disposition | Stage::Statistic => {
+        Stage::Vehicles => schedule_verdict(alloc, bundle, there),
+        Stage::Disposition | Stage::Statistic => {
             Ok(Some(Finding::Broken(stage, Rule::Content)))
         }
     }
@@ -215,6 +218,32 @@ fn timetable_verdict(
         Err(StageFault::Refused(refusal)) => Ok(Some(Finding::of(
             Stage::Timetable,
             Cause::Refused(Stage::Timetable, refusal),
+        ))),
+        Err(StageFault::NoMemory) => Err(NoMemory),
+    }
+}
+
+// What is found of a vehicle schedule, with the potentials that may stand behind it.
+fn schedule_verdict(
+    alloc: Global,
+    bundle: &Bundle,
+    there: &[MadeFile],
+) -> Result<Option<Finding>, NoMemory>
+    requires fits { Fits bundle.now }
+    requires stage { bundle.now.stage ≡ stages.Vehicles }
+    ensures found { IfOk result (λ found. found ≡ schedule_verdict bundle.now there.now) }
+    ensures passes { MakesAs stages.Vehicles (ids_of there.now) → IfOk result (λ found.
+        IfNone found (VehiclesAreRight bundle.now there.now)) }
+{
+    let [schedule, more @ ..] = there else {
+        return Ok(None);
+    };
+    match check_schedule(alloc, bundle, schedule.text.as_bytes(), first_text(more)) {
+        Ok(None) => Ok(None),
+        Ok(Some(fault)) => Ok(Some(Finding::Broken(Stage::Vehicles, Rule::from(fault)))),
+        Err(StageFault::Refused(refusal)) => Ok(Some(Finding::of(
+            Stage::Vehicles,
+            Cause::Refused(Stage::Vehicles, refusal),
         ))),
         Err(StageFault::NoMemory) => Err(NoMemory),
     }

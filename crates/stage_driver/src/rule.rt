@@ -1,9 +1,11 @@
 // The rules of a check.
 ghost use Rattle.std.specs.Prelude.{◌≡◌};
-ghost use Rattle.stage_driver.specs.Findings.{concept_rule, rule_name, timetable_rule};
+ghost use Rattle.stage_driver.specs.Findings.{concept_rule, rule_name, schedule_rule};
+ghost use Rattle.stage_driver.specs.Findings.{timetable_rule};
 
 use line_search::ConceptFault;
 use pesp_search::TimetableFault;
+use vehicle_flow::ScheduleFault;
 
 /// A rule that the files of a stage keep where a check passes.
 #[derive(Clone, Copy, Debug, PartialEq, Eq)]
@@ -115,6 +117,22 @@ impl From<TimetableFault> for Rule {
             TimetableFault::Row => Rule::Row,
             TimetableFault::Events => Rule::Events,
             TimetableFault::Tension => Rule::Tension,
+        }
+    }
+}
+
+impl From<ScheduleFault> for Rule {
+    ghost from_gives = { λ fault rule. rule ≡ schedule_rule fault };
+
+    fn from(fault: ScheduleFault) -> Rule {
+        match fault {
+            ScheduleFault::Row => Rule::Row,
+            ScheduleFault::Trips => Rule::Trips,
+            ScheduleFault::Follow => Rule::Follow,
+            ScheduleFault::Certificate => Rule::Certificate,
+            ScheduleFault::Potentials => Rule::Potentials,
+            ScheduleFault::Pair => Rule::Pair,
+            ScheduleFault::Sum => Rule::Sum,
         }
     }
 }

@@ -15,6 +15,7 @@ use pesp_search::make_timetable;
 use plan_num::{Ledger, Steps};
 use roll_out::make_rollout;
 use std::alloc::Global;
+use vehicle_flow::make_vehicles;
 
 /// The stages that are built, in the order in which they run.
 pub(crate) fn built() -> &'static [Stage]
@@ -27,6 +28,7 @@ pub(crate) fn built() -> &'static [Stage]
         Stage::Ean,
         Stage::Timetable,
         Stage::Rollout,
+        Stage::Vehicles,
     ]
 }
 
@@ -48,7 +50,8 @@ pub(crate) fn make_stage<L: Ledger>(
         Stage::Ean => make_ean(alloc, bundle, steps),
         Stage::Timetable => make_timetable(alloc, bundle, steps),
         Stage::Rollout => make_rollout(alloc, bundle, steps),
-        Stage::Vehicles | Stage::Disposition | Stage::Statistic => {
+        Stage::Vehicles => make_vehicles(alloc, bundle, steps),
+        Stage::Disposition | Stage::Statistic => {
             steps.tick();
             Err(StageFault::Refused(Refusal::NoSolution))
         }
