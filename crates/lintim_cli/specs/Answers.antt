@@ -38,14 +38,14 @@ status_of_check (check.Failed stage rule) = Uncertified
 
 -- the answers that a command has, by which one the words ask for, if they ask for one
 abbrev pub AnswersTo : Option Command → Status → Type 0
-AnswersTo (Some command.Make) Done = Unit {0}
-AnswersTo (Some command.Make) BadInput = Unit {0}
-AnswersTo (Some command.Make) NoSolution = Unit {0}
-AnswersTo (Some command.Make) Spent = Unit {0}
-AnswersTo (Some command.Make) FileFault = Unit {0}
-AnswersTo (Some command.Make) SinkFault = Unit {0}
-AnswersTo (Some command.Make) NoMemory = Unit {0}
-AnswersTo (Some command.Make) _ = ⊥
+AnswersTo (Some (command.Run by)) Done = Unit {0}
+AnswersTo (Some (command.Run by)) BadInput = Unit {0}
+AnswersTo (Some (command.Run by)) NoSolution = Unit {0}
+AnswersTo (Some (command.Run by)) Spent = Unit {0}
+AnswersTo (Some (command.Run by)) FileFault = Unit {0}
+AnswersTo (Some (command.Run by)) SinkFault = Unit {0}
+AnswersTo (Some (command.Run by)) NoMemory = Unit {0}
+AnswersTo (Some (command.Run by)) _ = ⊥
 AnswersTo (Some command.Check) Done = Unit {0}
 AnswersTo (Some command.Check) BadInput = Unit {0}
 AnswersTo (Some command.Check) Uncertified = Unit {0}

@@ -1,6 +1,6 @@
 -- What the top call answers and leaves.
 use Rattle.std.specs.Prelude.{ℕ, ◌≡◌, ◌⊎◌, ◌+◌, if◌then◌else◌, List, [], ◌∷◌, ◌++◌, codes, Option}
-use Rattle.std.specs.Prelude.{Some, None, string_bytes, take, ⊤}
+use Rattle.std.specs.Prelude.{Some, None, IfSome, string_bytes, take, ⊤}
 use Rattle.std.specs.Str.{bytes_eq}
 use Rattle.std.specs.Option.{option_map}
 use Rattle.std.specs.declared.string.String.{String}
@@ -8,12 +8,17 @@ use Rattle.std.specs.declared.alloc.Global.{Global}
 use Rattle.plan_files.specs.declared.write.Write.{Write}
 use Rattle.plan_files.specs.Counts.{Raised, Rose}
 use Rattle.plan_files.specs.Folder.{Folder}
+use Rattle.std.specs.FinMap as files
 use Rattle.stage_driver.specs.declared.outcome.ChainFault.TheVariants as faults
+use Rattle.stage_driver.specs.declared.outcome.Mode.{Mode}
+use Rattle.stage_driver.specs.declared.outcome.Mode.TheVariants as mode
 use Rattle.stage_driver.specs.Built.{made}
 use Rattle.stage_driver.specs.Checks.{check_end, check_of, check_report}
 use Rattle.stage_driver.specs.Hand.{hand_of}
 use Rattle.stage_driver.specs.Right.{IsLeftRight}
-use Rattle.stage_driver.specs.Runs.{AreNotAll, IsLeft, writes_of}
+use Rattle.stage_driver.specs.Kept.{IsKeptHonest}
+use Rattle.stage_driver.specs.Runs.{IsLeft, IsUnfinished, Trusts, made_part, run_over, started}
+use Rattle.stage_driver.specs.Runs.{with_files, writes_of}
 use Rattle.lintim_cli.specs.declared.answers.Status.{Status}
 use Rattle.lintim_cli.specs.declared.answers.Status.TheVariants.{FileFault, SinkFault, NoMemory}
 use Rattle.lintim_cli.specs.declared.command.Command.{Command}
@@ -24,8 +29,9 @@ use Rattle.lintim_cli.specs.Reports.{Whole, Broken, fault_report}
 -- the command of a word
 abbrev pub command_word : List ℕ → Option Command
 command_word word =
-    if bytes_eq word (codes "make") then Some command.Make
-    else (if bytes_eq word (codes "check") then Some command.Check else None)
+    if bytes_eq word (codes "make") then Some (command.Run mode.Make)
+    else (if bytes_eq word (codes "fresh") then Some (command.Run mode.Fresh)
+    else (if bytes_eq word (codes "check") then Some command.Check else None))
 
 -- the command that words ask for: they are one word, which is a command's
 abbrev pub command_of : List (String Global) → Option Command
@@ -35,38 +41,58 @@ command_of _ = None
 abbrev pub Asks : Command → List (String Global) → Type 0
 Asks command words = command_of words ≡ Some command
 
--- the folder and the writes are those that a finished run leaves, each stage that was made is right
--- in that folder, and the count of steps rose by the work
-pub record Finished (read : Folder) (left : Option Folder) (written noted : Option (List Write)) (before now : ℕ) : Type 0 where
-  pub files : IsLeft read left written noted
-  pub right : IsLeftRight read left
-  pub steps : now ≡ before + (made (hand_of read)).work
+-- The folder and the writes are those that a finished run leaves, and the count of steps rose by the
+-- work. Where the run trusts what is kept, each stage that was made is right in that folder, and what is
+-- kept there is honest. A further run over it writes nothing.
+pub record Finished (by : Mode) (read : Folder) (left : Option Folder) (written noted : Option (List Write)) (before now : ℕ) : Type 0 where
+  pub files : IsLeft by read left written noted
+  pub right : Trusts by read → IsLeftRight read left
+  pub keep : Trusts by read → IfSome left IsKeptHonest
+  pub again : IfSome left (λ folder. writes_of folder ≡ [])
+  pub steps : now ≡ before + (run_over (started by read)).work
 
 -- the report of a run, or a front part of it, is out
-abbrev pub AllOut : Folder → Option (List ℕ) → Option (List ℕ) → Type 0
-AllOut read old new = new ≡ option_map (λ bytes. bytes ++ (made (hand_of read)).report) old
+abbrev pub AllOut : Mode → Folder → Option (List ℕ) → Option (List ℕ) → Type 0
+AllOut by read old new = new ≡ option_map (λ bytes. bytes ++ (run_over (started by read)).report) old
 
-abbrev pub PartOut : Folder → Option (List ℕ) → Option (List ℕ) → Type 0
-PartOut read old new =
-    (kept : ℕ) × (new ≡ option_map (λ bytes. bytes ++ take kept (made (hand_of read)).report) old)
+abbrev pub PartOut : Mode → Folder → Option (List ℕ) → Option (List ℕ) → Type 0
+PartOut by read old new =
+    (kept : ℕ) × (new ≡ option_map (λ bytes. bytes ++ take kept (run_over (started by read)).report) old)
 
 -- What is told and left after a run over a folder, by its answer. Without a fault the answer, the
--- report, the folder, the writes and the steps are those that the hand files determine. After a
+-- report, the folder, the writes and the steps are those of the chain over what is kept. After a
 -- fault of the sink only a front part of the report is out. After a fault of a file not all writes
 -- were made. Where memory was refused, either not all writes were made, or all of them: a write is
 -- in part only where the count of file faults rose.
-abbrev pub Leaves : Folder → Option Folder → Option (List Write) → Option (List Write) → ℕ → ℕ
+abbrev pub Leaves : Mode → Folder → Option Folder → Option (List Write) → Option (List Write) → ℕ → ℕ
     → Option (List ℕ) → Option (List ℕ) → ℕ → ℕ → Status → Type 0
-Leaves read left written noted faults_before faults_now old new before now SinkFault =
-    PartOut read old new × Finished read left written noted before now
-Leaves read left written noted faults_before faults_now old new before now FileFault =
-    AreNotAll faults.FileFault (writes_of read) (Some read) left written noted
-Leaves read left written noted faults_before faults_now old new before now NoMemory =
-    AreNotAll faults.NoMemory (writes_of read) (Some read) left written noted
-    ⊎ (Rose faults_before faults_now × AreNotAll faults.FileFault (writes_of read) (Some read) left written noted)
-    ⊎ Finished read left written noted before now
-Leaves read left written noted faults_before faults_now old new before now result =
-    (result ≡ status_of (made (hand_of read)).end) × AllOut read old new × Finished read left written noted before now
+Leaves by read left written noted faults_before faults_now old new before now SinkFault =
+    PartOut by read old new × Finished by read left written noted before now
+Leaves by read left written noted faults_before faults_now old new before now FileFault =
+    IsUnfinished by faults.FileFault read left written noted
+Leaves by read left written noted faults_before faults_now old new before now NoMemory =
+    IsUnfinished by faults.NoMemory read left written noted
+    ⊎ (Rose faults_before faults_now × IsUnfinished by faults.FileFault read left written noted)
+    ⊎ Finished by read left written noted before now
+Leaves by read left written noted faults_before faults_now old new before now result =
+    (result ≡ status_of (run_over (started by read)).end) × AllOut by read old new × Finished by read left written noted before now
+
+-- A run leaves the made files, the report and the answer which the hand files alone determine: those of
+-- a run from scratch. In the folder that is left each stage that was made has its files, which,
+-- read again, satisfy its model over the files there from which they were made; a concept with a
+-- tree beside it costs no more than any feasible one.
+pub record AsFromScratch (read : Folder) (left : Option Folder) (old new : Option (List ℕ)) (result : Status) : Type 0 where
+  pub files : IfSome left (λ folder. made_part folder ≡ with_files (made (hand_of read)).files files.empty)
+  pub report : new ≡ option_map (λ bytes. bytes ++ (made (hand_of read)).report) old
+  pub answer : result ≡ status_of (made (hand_of read)).end
+  pub right : IsLeftRight read left
+
+-- that is so after each answer that is no fault
+abbrev pub Headline : Folder → Option Folder → Option (List ℕ) → Option (List ℕ) → Status → Type 0
+Headline read left old new SinkFault = ⊤
+Headline read left old new FileFault = ⊤
+Headline read left old new NoMemory = ⊤
+Headline read left old new result = AsFromScratch read left old new result
 
 -- After a fault of the files their count rose, and the report of it is out, whole or, where the
 -- sink failed too, a front part.

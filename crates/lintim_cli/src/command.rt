@@ -2,11 +2,13 @@
 ghost use Rattle.std.specs.Prelude.{◌≡◌};
 ghost use Rattle.lintim_cli.specs.Top.{command_of};
 
+use stage_driver::Mode;
+
 /// What the program is asked for.
 #[derive(Clone, Copy, Debug, PartialEq, Eq)]
 pub(crate) enum Command {
     /// To run the planning stages.
-    Make,
+    Run(Mode),
     /// To judge the files that stand there.
     Check,
 }
@@ -16,7 +18,8 @@ pub(crate) fn command_of(words: &[String]) -> Option<Command>
     ensures { result ≡ command_of words.now }
 {
     match words {
-        [word] if word.as_str() == "make" => Some(Command::Make),
+        [word] if word.as_str() == "make" => Some(Command::Run(Mode::Make)),
+        [word] if word.as_str() == "fresh" => Some(Command::Run(Mode::Fresh)),
         [word] if word.as_str() == "check" => Some(Command::Check),
         _ => None,
     }

@@ -4,8 +4,8 @@
 mod answers;
 mod check;
 mod command;
-mod make;
 mod report;
+mod run;
 mod top;
 
 pub use answers::Status;
@@ -53,6 +53,8 @@ mod check_tests;
 mod concept_tests;
 #[cfg(test)]
 mod ean_tests;
+#[cfg(test)]
+mod keep_tests;
 #[cfg(test)]
 mod refused_tests;
 #[cfg(test)]

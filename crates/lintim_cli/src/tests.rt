@@ -179,7 +179,10 @@ fn other_words_are_usage(rt: HostRuntime) -> Result<(), Fail> {
         let status = lintim(alloc, &words, &mut files, &mut out, &mut steps);
         assert_eq!(rt; status, Status::Usage);
         assert_eq!(rt; status.number(), 2);
-        assert_eq!(rt; out.bytes(), b"usage: lintim make | check\n".as_slice());
+        assert_eq!(rt;
+            out.bytes(),
+            b"usage: lintim make | fresh | check\n".as_slice()
+        );
         assert_eq!(rt; steps.ledger().seen(), 0);
     }
     Ok(())
@@ -193,6 +196,7 @@ fn a_real_folder_is_used(rt: HostRuntime) -> Result<(), Fail> {
     let _ = fs::remove_dir_all(&rt, "basis");
     let _ = fs::remove_dir_all(&rt, "line-planning");
     let _ = fs::remove_dir_all(&rt, "timetabling");
+    let _ = fs::remove_dir_all(&rt, "keep");
     let make = words(alloc, "make")?;
     let mut steps = Steps::new(Tally::new());
     let mut files = FolderFiles::here(&rt, alloc);
@@ -222,6 +226,7 @@ fn a_real_folder_is_used(rt: HostRuntime) -> Result<(), Fail> {
     fs::remove_dir_all(&rt, "basis")?;
     fs::remove_dir_all(&rt, "line-planning")?;
     fs::remove_dir_all(&rt, "timetabling")?;
+    fs::remove_dir_all(&rt, "keep")?;
     Ok(())
 }
 

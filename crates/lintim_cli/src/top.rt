@@ -3,21 +3,23 @@ ghost use Rattle.std.specs.Prelude.{◌≡◌, ◌≤◌, ◌<◌, ◌+◌, ◌�
 ghost use Rattle.plan_files.specs.Counts.{Rose};
 ghost use Rattle.plan_files.specs.Folder.{Folder};
 ghost use Rattle.plan_files.specs.Others.{AreOutside};
-ghost use Rattle.stage_driver.specs.Built.{made};
+ghost use Rattle.stage_driver.specs.declared.outcome.Mode.{Mode};
 ghost use Rattle.stage_driver.specs.Hand.{hand_of, is_hand};
 ghost use Rattle.stage_driver.specs.Passing.{PassesIn, RunsPass};
 ghost use Rattle.stage_driver.specs.Right.{MadeFilesAreRight, RefusesHand};
-ghost use Rattle.stage_driver.specs.Runs.{AddsNoHandFile, SameHand, writes_of};
+ghost use Rattle.stage_driver.specs.Runs.{AddsNoHandFile, IsOnce, SameHand, Trusts, run_over};
+ghost use Rattle.stage_driver.specs.Runs.{started, writes_of};
 ghost use Rattle.lintim_cli.specs.declared.command.Command.TheVariants as commands;
 ghost use Rattle.lintim_cli.specs.Answers.{AnswersTo};
 ghost use Rattle.lintim_cli.specs.Reports.{Reported, usage_report};
-ghost use Rattle.lintim_cli.specs.Top.{Asks, ChangesNothing, CheckTells, FileBroke, Leaves, command_of};
+ghost use Rattle.lintim_cli.specs.Top.{Asks, ChangesNothing, CheckTells, FileBroke, Headline};
+ghost use Rattle.lintim_cli.specs.Top.{Leaves, command_of};
 
 use crate::answers::Status;
 use crate::check::check;
 use crate::command::{Command, command_of};
-use crate::make::make;
 use crate::report;
+use crate::run::run;
 use plan_files::{Files, Sink};
 use plan_num::{Ledger, Steps};
 use std::alloc::Global;
@@ -25,9 +27,10 @@ use std::alloc::Global;
 /// Runs a command line over a dataset, and reports.
 ///
 /// `make` runs the planning stages over the files that people write, puts the files that the stages
-/// make and removes others of theirs. `check` judges the files that stand there, whoever made them,
+/// make and removes others of theirs. A stage that was given the same before is taken from the folder
+/// `keep`. `fresh` first removes what is kept there, and then does the same. `check` judges the files that stand there, whoever made them,
 /// and changes none. Each writes its report by one call.
-#[tactic(auto, using(stage_driver::proofs::CheckedRuns::runs_pass))]
+#[tactic(auto, using(stage_driver::proofs::CheckedRuns::runs_pass, stage_driver::proofs::LeftRight::left_right, stage_driver::proofs::Refusing::refuses_hand, stage_driver::proofs::HandKept::writes_outside, stage_driver::proofs::HandKept::writes_once))]
 pub fn lintim<F: Files, K: Sink, L: Ledger>(
     alloc: Global,
     words: &[String],
@@ -44,21 +47,25 @@ pub fn lintim<F: Files, K: Sink, L: Ledger>(
     ensures usage_calls_nothing { command_of words.now ≡ None →
         (files.new ≡ files.old) × (steps.new ≡ steps.old) }
 
-    // Over a told folder the answer says what is told and left.
-    ensures leaves { Asks commands.Make words.now → IfSome (F.contents files.old) (λ folder.
-        Leaves folder (F.contents files.new) (F.writes files.old) (F.writes files.new)
+    // Over a told folder the answer says what is told and left, whatever is kept there.
+    ensures leaves { (mode : Mode) → Asks (commands.Run mode) words.now →
+        IfSome (F.contents files.old) (λ folder.
+        Leaves mode folder (F.contents files.new) (F.writes files.old) (F.writes files.new)
         (F.faults files.old) (F.faults files.new)
         (K.written out.old) (K.written out.new) steps.old steps.new result) }
 
-    // In the folder that a finished run leaves, the files of each stage, read again, satisfy its
-    // model over the files from which they were made, and these have no fault.
-    ensures made_files_are_right { Asks commands.Make words.now →
-        IfSome (F.contents files.old) MadeFilesAreRight }
+    // Whatever edits and runs went before: a run that meets no fault, over an honest keep or a fresh
+    // one over any, leaves the made files, the report and the answer which the hand files alone
+    // determine. Each made file, read again, satisfies its model over the files from which it was
+    // made, and a concept with a tree beside it costs no more than any feasible one.
+    ensures headline { (mode : Mode) → Asks (commands.Run mode) words.now →
+        IfSome (F.contents files.old) (λ folder. Trusts mode folder →
+        Headline folder (F.contents files.new) (K.written out.old) (K.written out.new) result) }
+    ensures made_files_are_right { (folder : Folder) → MadeFilesAreRight folder }
 
     // A refused row, a file that is missing or too long, and a file with a fault of the settings
-    // are files that people write.
-    ensures refusal { Asks commands.Make words.now → IfSome (F.contents files.old) (λ folder.
-        RefusesHand (hand_of folder)) }
+    // are files that people write, where what is kept is honest.
+    ensures refusal { (folder : Folder) → RefusesHand (hand_of folder) }
 
     // A check tells what it finds over a told folder, and changes nothing. Where it passes, the
     // files of each stage that is judged satisfy its model, and a concept with a tree beside it
@@ -76,8 +83,8 @@ pub fn lintim<F: Files, K: Sink, L: Ledger>(
     // whatever the answer. No write names one, also where the contents are not told.
     ensures hand { SameHand (F.contents files.old) (F.contents files.new) }
     ensures writes_no_hand_file { AddsNoHandFile (F.writes files.old) (F.writes files.new) }
-    ensures outside { Asks commands.Make words.now → IfSome (F.contents files.old) (λ folder.
-        AreOutside is_hand (writes_of folder)) }
+    ensures outside { (folder : Folder) → AreOutside is_hand (writes_of folder) }
+    ensures once { (folder : Folder) → IsOnce (writes_of folder) }
 
     // A file fault comes only where the count rose, and its line is out.
     ensures file_fault { result ≡ Status.FileFault →
@@ -94,14 +101,17 @@ pub fn lintim<F: Files, K: Sink, L: Ledger>(
     // Where memory was refused nothing is out.
     ensures no_memory { result ≡ Status.NoMemory → K.written out.new ≡ K.written out.old }
 
-    // The count of steps rises by at most the work.
+    // The count of steps rises by at most the work of the stages that are not kept.
     ensures no_less_steps { steps.old ≤ steps.new }
-    ensures no_more_steps { IfSome (F.contents files.old) (λ folder.
-        steps.new ≤ steps.old + (made (hand_of folder)).work) }
+    ensures no_more_steps { (mode : Mode) → Asks (commands.Run mode) words.now →
+        IfSome (F.contents files.old) (λ folder.
+        steps.new ≤ steps.old + (run_over (started mode folder)).work) }
+    ensures no_steps { (command_of words.now ≡ None) ⊎ Asks commands.Check words.now →
+        steps.new ≡ steps.old }
 {
     match command_of(words) {
-        Some(Command::Make) => make(alloc, files, out, steps),
+        Some(Command::Run(mode)) => run(alloc, mode, files, out, steps),
         Some(Command::Check) => check(alloc, files, out),
-        None => report::tell(out, b"usage: lintim make | check\n", Status::Usage),
+        None => report::tell(out, b"usage: lintim make | fresh | check\n", Status::Usage),
     }
 }

@@ -31,10 +31,12 @@ use Rattle.stage_driver.specs.Hand.{hand_of}
 use Rattle.stage_driver.specs.Passing.{RunsPass}
 use Rattle.stage_driver.specs.Reports.{end_of, end_of_refusal}
 use Rattle.stage_driver.specs.Right.{AllStandRight, IsRightAs, files_by, found_file, text_in}
-use Rattle.stage_driver.specs.Runs.{after}
+use Rattle.stage_driver.specs.Kept.{IsKeptHonest}
+use Rattle.stage_driver.specs.Runs.{after, run_over}
 use Rattle.stage_driver.proofs.ContentFiles.{by_contents, content_passes, is_content}
 use Rattle.stage_driver.proofs.Laws.{run_makes}
-use Rattle.stage_driver.proofs.LeftRight.{files_are, left_by, settings_after}
+use Rattle.stage_driver.proofs.Keeping.{from_scratch}
+use Rattle.stage_driver.proofs.LeftRight.{left_by, run_files, settings_after}
 use Rattle.stage_driver.proofs.Placed.{ArePlaced}
 use Rattle.stage_driver.proofs.Traces.{are_placed, chain, stages_run, traced}
 
@@ -200,14 +202,14 @@ module _ (folder : Folder) (values : List ℤ) where
   hand = hand_of folder
 
   passes_under : effective (look_in hand) ≡ Ok values
-      → (made hand).files ≡ files_of (chain values hand).visits
+      → (run_over folder).files ≡ files_of (chain values hand).visits
       → (chain values hand).halt ≡ None → check_of (after folder) ≡ None
   unfolding check_of
   passes_under is same none =
       let placed = subst (λ all. ArePlaced run_stage run_makes values hand all (stages_run values) (chain values hand).visits) (sym same) (are_placed values hand) in
       ap (λ settings. found_under settings (after folder)) (settings_after folder ∙ is)
       ∙ by_run (after folder) values built
-      ∙ all_pass (after folder) values hand (made hand).files (stages_run values) (chain values hand).visits (all_visited run_stage values hand [] (stages_run values) none) placed
+      ∙ all_pass (after folder) values hand (run_over folder).files (stages_run values) (chain values hand).visits (all_visited run_stage values hand [] (stages_run values) none) placed
       (left_by folder values is same)
 
 end_by : (folder : Folder) (trace : Trace) → trace_of folder ≡ trace
@@ -220,8 +222,11 @@ never reason done = absurd (cc)
 
 pub runs_pass : (folder : Folder) → RunsPass folder
 unfolding RunsPass
-runs_pass folder =
-    traced (hand_of folder) (λ trace. trace_of (hand_of folder) ≡ trace → (made (hand_of folder)).end ≡ end.Done → check_of (after folder) ≡ None)
-    (λ reason is same done. absurd (never reason (sym (end_by (hand_of folder) (trace_under (Err reason) (hand_of folder)) same) ∙ done)))
-    (λ values is same done. passes_under folder values is (files_are (hand_of folder) (chain values (hand_of folder)) same) (no_cause (chain values (hand_of folder)).halt (sym (end_by (hand_of folder) (chain values (hand_of folder)) same) ∙ done)))
-    refl
+runs_pass folder = λ honest done. by honest (sym (from_scratch folder honest).end ∙ done)
+  where
+    by : IsKeptHonest folder → (made (hand_of folder)).end ≡ end.Done
+        → check_of (after folder) ≡ None
+    by honest done = traced (hand_of folder) (λ trace. trace_of (hand_of folder) ≡ trace → check_of (after folder) ≡ None)
+        (λ reason is same. absurd (never reason (sym (end_by (hand_of folder) (trace_under (Err reason) (hand_of folder)) same) ∙ done)))
+        (λ values is same. passes_under folder values is (run_files folder honest (chain values (hand_of folder)) same) (no_cause (chain values (hand_of folder)).halt (sym (end_by (hand_of folder) (chain values (hand_of folder)) same) ∙ done)))
+        refl

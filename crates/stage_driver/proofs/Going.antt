@@ -18,12 +18,16 @@ use Rattle.stage_driver.specs.Chain.{Visit, Halt, Trace, go_on, handed, handed_o
 use Rattle.stage_driver.specs.Chain.{chain_from, to_run, stage_place}
 use Rattle.stage_driver.specs.Built.{files_of, cause_of}
 use Rattle.stage_driver.specs.Reports.{stage_lines, line_of}
-use Rattle.stage_driver.specs.Progress.{SoFar, nothing, with_made, IsRest, VisitGives, visit_work}
+use Rattle.stage_driver.specs.Kept.{IsReadBack, kept_in, new_entries, new_entry, work_over}
+use Rattle.stage_driver.specs.Progress.{SoFar, nothing, with_visit, IsRest, VisitGives, visit_work}
 use Rattle.stage_driver.specs.Progress.{IsAll, ChainGives, trace_work}
 
 -- ---- one step of a chain
 
-module _ (work : BundleParts → ℕ) where
+module _ (keep : Folder) where
+  abbrev work : BundleParts → ℕ
+  work = work_over keep
+
   handed_more : (rest : Trace) (visit : Visit)
       → sum_by work (handed (go_on (Ok visit) (λ _. rest))) ≡ work visit.bundle + sum_by work (handed rest)
   handed_more rest visit = sum_by-cons work visit.bundle (handed rest)
@@ -32,42 +36,45 @@ module _ (work : BundleParts → ℕ) where
   handed_here visit = omega arith
 
   -- before the first stage
-  pub rest_first : (whole : Trace) (before : ℕ) → IsRest work whole whole nothing before before
-  rest_first whole before = record { files = refl; report = refl; steps = refl; halt = refl }
+  pub rest_first : (whole : Trace) (before : ℕ) → IsRest keep whole whole nothing before before
+  rest_first whole before = record { files = refl; report = refl; entries = refl; back = λ h. h; steps = refl; halt = refl }
 
   -- behind a stage that was made
   pub rest_more : (whole rest : Trace) (visit : Visit) (so_far : SoFar) (before mid now : ℕ)
-      → now ≡ mid + visit_work work (Ok visit)
-      → IsRest work whole (go_on (Ok visit) (λ _. rest)) so_far before mid
-      → IsRest work whole rest (with_made so_far visit.made) before now
-  rest_more whole rest visit so_far before mid now e h =
+      → now ≡ mid + visit_work keep (Ok visit)
+      → (kept_in keep visit.bundle ≡ None → IsReadBack visit)
+      → IsRest keep whole (go_on (Ok visit) (λ _. rest)) so_far before mid
+      → IsRest keep whole rest (with_visit keep so_far visit) before now
+  rest_more whole rest visit so_far before mid now e own h =
       let more = handed_more rest visit in
       let here = handed_here visit in
       record {
         files = h.files ∙ sym (append_assoc so_far.files visit.made.files (files_of rest.visits));
         report = h.report ∙ sym (append_assoc so_far.report (line_of visit.made.report) (stage_lines rest.visits));
+        entries = h.entries ∙ sym (append_assoc so_far.entries (new_entry keep visit) (new_entries keep rest.visits));
+        back = λ more. h.back (own, more);
         steps = omega (arith, h.steps, more, here, e);
         halt = h.halt;
       }
 
   -- behind the last stage
-  pub rest_none : (whole : Trace) (so_far : SoFar) (before now : ℕ) → IsRest work whole (record { visits = []; halt = None }) so_far before now → (cause_of whole.halt ≡ None) × IsAll whole so_far × (now ≡ before + trace_work work whole)
+  pub rest_none : (whole : Trace) (so_far : SoFar) (before now : ℕ) → IsRest keep whole (record { visits = []; halt = None }) so_far before now → (cause_of whole.halt ≡ None) × IsAll keep whole so_far × (now ≡ before + trace_work keep whole)
   rest_none whole so_far before now h =
       let none : sum_by work (handed (record { visits = []; halt = None })) ≡ 0 = refl in
-      (ap cause_of h.halt, record { files = h.files ∙ append-nil so_far.files; report = h.report ∙ append-nil so_far.report }, omega (arith, h.steps, none))
+      (ap cause_of h.halt, record { files = h.files ∙ append-nil so_far.files; report = h.report ∙ append-nil so_far.report; entries = h.entries ∙ append-nil so_far.entries; back = h.back tt }, omega (arith, h.steps, none))
 
   -- where a stage ends the chain
   pub rest_stops : (whole : Trace) (halt : Halt) (so_far : SoFar) (before mid now : ℕ)
-      → IsRest work whole (go_on (Err halt) (λ _. whole)) so_far before mid
-      → now ≡ mid + visit_work work (Err halt)
-      → (cause_of whole.halt ≡ Some halt.cause) × IsAll whole so_far × (now ≡ before + trace_work work whole)
+      → IsRest keep whole (go_on (Err halt) (λ _. whole)) so_far before mid
+      → now ≡ mid + visit_work keep (Err halt)
+      → (cause_of whole.halt ≡ Some halt.cause) × IsAll keep whole so_far × (now ≡ before + trace_work keep whole)
   rest_stops whole halt so_far before mid now h e =
-      (ap cause_of h.halt, record { files = h.files ∙ append-nil so_far.files; report = h.report ∙ append-nil so_far.report }, omega (arith, h.steps, e))
+      (ap cause_of h.halt, record { files = h.files ∙ append-nil so_far.files; report = h.report ∙ append-nil so_far.report; entries = h.entries ∙ append-nil so_far.entries; back = h.back tt }, omega (arith, h.steps, e))
 
   -- a stage that is not finished takes at most its work
   pub rest_bounds : (whole : Trace) (told : Result Visit Halt) (rest : Visit → Trace)
-      (so_far : SoFar) (before mid now : ℕ) → IsRest work whole (go_on told rest) so_far before mid
-      → now ≤ mid + visit_work work told → now ≤ before + trace_work work whole
+      (so_far : SoFar) (before mid now : ℕ) → IsRest keep whole (go_on told rest) so_far before mid
+      → now ≤ mid + visit_work keep told → now ≤ before + trace_work keep whole
   rest_bounds whole (Ok visit) rest so_far before mid now h few =
       let more = handed_more (rest visit) visit in
       let here = handed_here visit in
@@ -104,103 +111,103 @@ module _ (solve : BundleParts → Result Made Refusal) (values : List ℤ) (fold
   }
   still_none stages i made past = at_drop_all (λ rest. still made rest) stages i past
 
-  module _ (work : BundleParts → ℕ) where
+  module _ (keep : Folder) where
     -- one stage was made
     pub made_more : (stages : List Stage) (i : ℕ) (d : Stage) (whole : Trace) (old new : SoFar)
         (before mid now : ℕ) → i < length stages → in_time values (get_or stages i d) ≡ true
-        → VisitGives work (visit_of solve values folder old.files (get_or stages i d)) old new mid now (Ok tt)
-        → IsRest work whole (still old.files (drop i stages)) old before mid
-        → IsRest work whole (still new.files (drop (i + 1) stages)) new before now
+        → VisitGives keep (visit_of solve values folder old.files (get_or stages i d)) old new mid now (Ok tt)
+        → IsRest keep whole (still old.files (drop i stages)) old before mid
+        → IsRest keep whole (still new.files (drop (i + 1) stages)) new before now
     made_more stages i d whole old new before mid now inside is told h =
         let visit = told.0 in
         let here : still old.files (drop i stages) ≡ go_on (Ok visit) (λ visit. still (old.files ++ visit.made.files) (drop (i + 1) stages)) =
         still_here stages i d old.files inside is ∙ ap (λ t. go_on t (λ visit. still (old.files ++ visit.made.files) (drop (i + 1) stages))) told.1 in
-        let so : IsRest work whole (still (old.files ++ visit.made.files) (drop (i + 1) stages)) (with_made old visit.made) before now =
-        rest_more work whole (still (old.files ++ visit.made.files) (drop (i + 1) stages)) visit old before mid now (told.3 ∙ ap (λ t. mid + visit_work work t) told.1) (subst (λ rest. IsRest work whole rest old before mid) here h) in
+        let so : IsRest keep whole (still (old.files ++ visit.made.files) (drop (i + 1) stages)) (with_visit keep old visit) before now =
+        rest_more keep whole (still (old.files ++ visit.made.files) (drop (i + 1) stages)) visit old before mid now (told.4 ∙ ap (λ t. mid + visit_work keep t) told.1) told.3 (subst (λ rest. IsRest keep whole rest old before mid) here h) in
         rw told.2 so
 
     -- a stage that does not run leaves all as it is
     pub made_same : (stages : List Stage) (i : ℕ) (d : Stage) (whole : Trace) (so_far : SoFar)
         (before now : ℕ) → i < length stages → in_time values (get_or stages i d) ≡ false
-        → IsRest work whole (still so_far.files (drop i stages)) so_far before now
-        → IsRest work whole (still so_far.files (drop (i + 1) stages)) so_far before now
-    made_same stages i d whole so_far before now inside is h = subst (λ rest. IsRest work whole rest so_far before now) (still_later stages i d so_far.files inside is) h
+        → IsRest keep whole (still so_far.files (drop i stages)) so_far before now
+        → IsRest keep whole (still so_far.files (drop (i + 1) stages)) so_far before now
+    made_same stages i d whole so_far before now inside is h = subst (λ rest. IsRest keep whole rest so_far before now) (still_later stages i d so_far.files inside is) h
 
     -- one stage ends the chain
     pub ended : (stages : List Stage) (i : ℕ) (d : Stage) (whole : Trace) (old new : SoFar)
         (before mid now : ℕ) (why : ChainEnd) → i < length stages
         → in_time values (get_or stages i d) ≡ true → before ≤ mid
-        → VisitGives work (visit_of solve values folder old.files (get_or stages i d)) old new mid now (Err why)
-        → IsRest work whole (still old.files (drop i stages)) old before mid
-        → ChainGives work whole new before now (Err why)
+        → VisitGives keep (visit_of solve values folder old.files (get_or stages i d)) old new mid now (Err why)
+        → IsRest keep whole (still old.files (drop i stages)) old before mid
+        → ChainGives keep whole new before now (Err why)
     ended stages i d whole old new before mid now (end.Stopped why) inside is least told h =
         let halt = told.0 in
         let here : still old.files (drop i stages) ≡ go_on (Err halt) (λ _. whole) =
         still_here stages i d old.files inside is ∙ ap (λ t. go_on t (λ visit. still (old.files ++ visit.made.files) (drop (i + 1) stages))) told.1 in
-        let done = rest_stops work whole halt old before mid now (subst (λ rest. IsRest work whole rest old before mid) here h) (told.4 ∙ ap (λ t. mid + visit_work work t) told.1) in
+        let done = rest_stops keep whole halt old before mid now (subst (λ rest. IsRest keep whole rest old before mid) here h) (told.4 ∙ ap (λ t. mid + visit_work keep t) told.1) in
         (done.0 ∙ ap Some told.2, rw told.3 done.1, done.2)
     ended stages i d whole old new before mid now end.FileFault inside is least told h =
-        (omega (arith, least, told.0), rest_bounds work whole _ _ old before mid now (subst (λ rest. IsRest work whole rest old before mid) (still_here stages i d old.files inside is) h) told.1)
+        (omega (arith, least, told.0), rest_bounds keep whole _ _ old before mid now (subst (λ rest. IsRest keep whole rest old before mid) (still_here stages i d old.files inside is) h) told.1)
     ended stages i d whole old new before mid now end.NoMemory inside is least told h =
-        (omega (arith, least, told.0), rest_bounds work whole _ _ old before mid now (subst (λ rest. IsRest work whole rest old before mid) (still_here stages i d old.files inside is) h) told.1)
+        (omega (arith, least, told.0), rest_bounds keep whole _ _ old before mid now (subst (λ rest. IsRest keep whole rest old before mid) (still_here stages i d old.files inside is) h) told.1)
 
     -- all stages were made
     pub finished : (stages : List Stage) (i : ℕ) (whole : Trace) (so_far : SoFar) (before now : ℕ)
         → length stages ≤ i
-        → IsRest work whole (still so_far.files (drop i stages)) so_far before now
-        → (cause_of whole.halt ≡ None) × IsAll whole so_far × (now ≡ before + trace_work work whole)
-    finished stages i whole so_far before now past h = rest_none work whole so_far before now (subst (λ rest. IsRest work whole rest so_far before now) (still_none stages i so_far.files past) h)
+        → IsRest keep whole (still so_far.files (drop i stages)) so_far before now
+        → (cause_of whole.halt ≡ None) × IsAll keep whole so_far × (now ≡ before + trace_work keep whole)
+    finished stages i whole so_far before now past h = rest_none keep whole so_far before now (subst (λ rest. IsRest keep whole rest so_far before now) (still_none stages i so_far.files past) h)
 
 -- ---- the same in a folder that may be told
 
-module _ (solve : BundleParts → Result Made Refusal) (work : BundleParts → ℕ) where
+module _ (solve : Folder → BundleParts → Result Made Refusal) where
   module _ (contents : Option Folder) (values : List ℤ) (stages : List Stage) where
     -- the whole chain, and what is still to run from a place on
     abbrev pub IsRestAt : ℕ → SoFar → ℕ → ℕ → Type 0
-    IsRestAt i so_far before now = IfSome contents (λ folder. IsRest work (still solve values folder [] stages) (still solve values folder so_far.files (drop i stages)) so_far before now)
+    IsRestAt i so_far before now = IfSome contents (λ folder. IsRest folder (still (solve folder) values folder [] stages) (still (solve folder) values folder so_far.files (drop i stages)) so_far before now)
 
     pub told_first : (so_far : SoFar) (before : ℕ) → so_far ≡ nothing
         → IsRestAt 0 so_far before before
     told_first so_far before e = rw e (by contents)
       where
         by : (contents : Option Folder)
-            → IfSome contents (λ folder. IsRest work (still solve values folder [] stages) (still solve values folder [] (drop 0 stages)) nothing before before)
+            → IfSome contents (λ folder. IsRest folder (still (solve folder) values folder [] stages) (still (solve folder) values folder [] (drop 0 stages)) nothing before before)
         by None = tt
-        by (Some folder) = rest_first work (still solve values folder [] stages) before
+        by (Some folder) = rest_first folder (still (solve folder) values folder [] stages) before
 
   module _ (values : List ℤ) (stages : List Stage) (i : ℕ) (d : Stage) (inside : i < length stages) where
     pub told_more : (contents now : Option Folder) (old new : SoFar) (before mid count : ℕ)
         → in_time values (get_or stages i d) ≡ true → now ≡ contents
-        → IfSome now (λ folder. VisitGives work (visit_of solve values folder old.files (get_or stages i d)) old new mid count (Ok tt))
+        → IfSome now (λ folder. VisitGives folder (visit_of (solve folder) values folder old.files (get_or stages i d)) old new mid count (Ok tt))
         → IsRestAt contents values stages i old before mid
         → IsRestAt contents values stages (i + 1) new before count
     told_more None now old new before mid count is same told h = tt
     told_more (Some folder) now old new before mid count is same told h =
-        let here : IfSome (Some folder) (λ folder. VisitGives work (visit_of solve values folder old.files (get_or stages i d)) old new mid count (Ok tt)) = rw same at told in
-        made_more solve values folder work stages i d (still solve values folder [] stages) old new before mid count inside is here h
+        let here : IfSome (Some folder) (λ folder. VisitGives folder (visit_of (solve folder) values folder old.files (get_or stages i d)) old new mid count (Ok tt)) = rw same at told in
+        made_more (solve folder) values folder folder stages i d (still (solve folder) values folder [] stages) old new before mid count inside is here h
 
     pub told_same : (contents : Option Folder) (so_far : SoFar) (before now : ℕ)
         → in_time values (get_or stages i d) ≡ false
         → IsRestAt contents values stages i so_far before now
         → IsRestAt contents values stages (i + 1) so_far before now
     told_same None so_far before now is h = tt
-    told_same (Some folder) so_far before now is h = made_same solve values folder work stages i d (still solve values folder [] stages) so_far before now inside is h
+    told_same (Some folder) so_far before now is h = made_same (solve folder) values folder folder stages i d (still (solve folder) values folder [] stages) so_far before now inside is h
 
     pub told_ended : (all : List Stage) → stages ≡ all → (contents now : Option Folder)
         (old new : SoFar) (before mid count : ℕ) (why : ChainEnd)
         (result : Result (Unit {0}) ChainEnd) → in_time values (get_or stages i d) ≡ true
         → now ≡ contents → before ≤ mid
-        → IfSome now (λ folder. VisitGives work (visit_of solve values folder old.files (get_or stages i d)) old new mid count (Err why))
+        → IfSome now (λ folder. VisitGives folder (visit_of (solve folder) values folder old.files (get_or stages i d)) old new mid count (Err why))
         → IsRestAt contents values stages i old before mid → result ≡ Err why
-        → IfSome contents (λ folder. ChainGives work (still solve values folder [] all) new before count result)
+        → IfSome contents (λ folder. ChainGives folder (still (solve folder) values folder [] all) new before count result)
     told_ended all whole None now old new before mid count why result is same least told h e = tt
     told_ended all whole (Some folder) now old new before mid count why result is same least told h e =
-        let here : IfSome (Some folder) (λ folder. VisitGives work (visit_of solve values folder old.files (get_or stages i d)) old new mid count (Err why)) = rw same at told in
-        rw e (subst (λ stages. ChainGives work (still solve values folder [] stages) new before count (Err why)) whole (ended solve values folder work stages i d (still solve values folder [] stages) old new before mid count why inside is least here h))
+        let here : IfSome (Some folder) (λ folder. VisitGives folder (visit_of (solve folder) values folder old.files (get_or stages i d)) old new mid count (Err why)) = rw same at told in
+        rw e (subst (λ stages. ChainGives folder (still (solve folder) values folder [] stages) new before count (Err why)) whole (ended (solve folder) values folder folder stages i d (still (solve folder) values folder [] stages) old new before mid count why inside is least here h))
 
   pub told_finished : (contents : Option Folder) (values : List ℤ) (stages all : List Stage) (i : ℕ)
       (so_far : SoFar) (before now : ℕ) → length stages ≤ i → stages ≡ all
       → IsRestAt contents values stages i so_far before now
-      → IfSome contents (λ folder. ChainGives work (still solve values folder [] all) so_far before now (Ok tt))
+      → IfSome contents (λ folder. ChainGives folder (still (solve folder) values folder [] all) so_far before now (Ok tt))
   told_finished None values stages all i so_far before now past same h = tt
-  told_finished (Some folder) values stages all i so_far before now past same h = subst (λ stages. ChainGives work (still solve values folder [] stages) so_far before now (Ok tt)) same (finished solve values folder work stages i (still solve values folder [] stages) so_far before now past h)
+  told_finished (Some folder) values stages all i so_far before now past same h = subst (λ stages. ChainGives folder (still (solve folder) values folder [] stages) so_far before now (Ok tt)) same (finished (solve folder) values folder folder stages i (still (solve folder) values folder [] stages) so_far before now past h)

@@ -24,7 +24,8 @@ use Rattle.config_keys.proofs.Looks.{effective_same}
 use Rattle.stage_driver.specs.Hand.{is_hand, hand_of}
 use Rattle.stage_driver.specs.Chain.{hand_text, input_text, chosen, with_text, texts_of}
 use Rattle.stage_driver.specs.Chain.{bundle_told, tried, go_on, visit_of, chain_from, to_run}
-use Rattle.stage_driver.specs.Built.{built, run_stage, trace_under, trace_of}
+use Rattle.stage_driver.specs.Built.{built, chain_under, run_stage, trace_under, trace_of}
+use Rattle.stage_driver.specs.Kept.{solve_over, trace_over}
 
 -- under the name of a hand file the hand files have what the folder has
 pub look_same : (folder : Folder) (name : List ℕ) → is_hand name ≡ true
@@ -89,14 +90,21 @@ module _ (folder : Folder) where
         ap (λ visit. go_on visit (λ visit. chain_from solve values (hand_of folder) (made ++ visit.made.files) stages)) (visit_same values made stage)
         ∙ ap (go_on (visit_of solve values folder made stage)) (λ i visit. chain_same values (made ++ visit.made.files) stages i)
 
-  under_same : (settings : Result (List ℤ) ConfigFault)
-      → trace_under settings (hand_of folder) ≡ trace_under settings folder
-  under_same (Err reason) = refl
-  under_same (Ok values) = chain_same run_stage values [] (to_run values built)
+  under_same : (solve : BundleParts → Result Made Refusal) (settings : Result (List ℤ) ConfigFault)
+      → chain_under solve settings (hand_of folder) ≡ chain_under solve settings folder
+  under_same solve (Err reason) = refl
+  under_same solve (Ok values) = chain_same solve values [] (to_run values built)
 
   -- the chain over a folder is that over its hand files
   pub hand_alone : trace_of (hand_of folder) ≡ trace_of folder
   unfolding trace_of
   hand_alone =
       ap (λ settings. trace_under settings (hand_of folder)) (settings_same folder)
-      ∙ under_same (effective (look_in folder))
+      ∙ under_same run_stage (effective (look_in folder))
+
+  -- also over what is kept
+  pub over_alone : (keep : Folder) → trace_over keep (hand_of folder) ≡ trace_over keep folder
+  unfolding trace_over
+  over_alone keep =
+      ap (λ settings. chain_under (solve_over keep) settings (hand_of folder)) (settings_same folder)
+      ∙ under_same (solve_over keep) (effective (look_in folder))

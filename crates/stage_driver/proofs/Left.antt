@@ -11,10 +11,15 @@ use Rattle.plan_files.specs.Changes.{after_write, folder_after}
 use Rattle.plan_files.proofs.OtherFiles.{get_part, same_folder}
 use Rattle.plan_files.proofs.Writes.{folder_after_both, get_written}
 use Rattle.giv_files.specs.declared.made.MadeFile.{MadeFile}
-use Rattle.stage_driver.specs.Hand.{is_among, names_made_by}
-use Rattle.stage_driver.specs.Built.{built}
-use Rattle.stage_driver.specs.Runs.{name_of, with_files, without_made, put_of, names_besides}
-use Rattle.stage_driver.specs.Runs.{writes_for}
+use Rattle.stage_driver.specs.Hand.{hand_of, is_among, keep_names, names_made_by}
+use Rattle.stage_driver.specs.Built.{built, files_of}
+use Rattle.stage_driver.specs.Kept.{made_over, new_entries, trace_over}
+use Rattle.stage_driver.specs.Runs.{after, entries_over, name_of, with_files, without_keep}
+use Rattle.stage_driver.specs.Runs.{without_made, put_of, names_besides, unmet, writes_for}
+use Rattle.stage_driver.specs.Runs.{writes_of}
+use Rattle.stage_driver.proofs.Differing.{differing}
+use Rattle.stage_driver.proofs.Wishes.{unmet_leaves}
+use Rattle.stage_driver.proofs.WrittenNames.{are_apart, files_differ, names_removed}
 
 -- puts leave a folder with the files
 puts_leave : (made : List MadeFile) (folder : Folder)
@@ -39,7 +44,7 @@ get_removed (other ∷ names) folder name =
 
 -- with files a folder has them under their names, and under others what it had: where two folders
 -- differ under no other name, both have the same
-same_with : (made : List MadeFile) (folder other : Folder) (name : List ℕ)
+pub same_with : (made : List MadeFile) (folder other : Folder) (name : List ℕ)
     → (is_among name (map name_of made) ≡ false → files.get folder name ≡ files.get other name)
     → files.get (with_files made folder) name ≡ files.get (with_files made other) name
 same_with [] folder other name same = same refl
@@ -54,7 +59,7 @@ same_with (file ∷ made) folder other name same =
     by false is out = same (rw (is, out) refl)
 
 -- a name that was not made is under no file that was put
-other_with : (made : List MadeFile) (folder : Folder) (name : List ℕ)
+pub other_with : (made : List MadeFile) (folder : Folder) (name : List ℕ)
     → is_among name (map name_of made) ≡ false
     → files.get (with_files made folder) name ≡ files.get folder name
 other_with [] folder name out = refl
@@ -126,3 +131,32 @@ writes_leave made folder = same_folder (folder_after (map put_of made ++ map Rem
         ∙ none_or (is_among name (names_made_by built)) (files.get folder name)
         ∙ sym (get_part (λ name. not (is_among name (names_made_by built))) folder name)
         ∙ sym (other_with made (without_made folder) name is)
+
+-- The writes of a run over a folder leave what is there after it.
+pub after_is : (folder : Folder) → folder_after (writes_of folder) folder ≡ after folder
+unfolding after writes_of made_over entries_over
+after_is folder =
+    let visits = (trace_over folder (hand_of folder)).visits in
+    let made = files_of visits in
+    let apart = are_apart folder (hand_of folder) in
+    folder_after_both (unmet folder (writes_for made)) (new_entries folder visits) folder
+    ∙ ap (folder_after (new_entries folder visits)) (unmet_leaves (writes_for made) folder (files_differ made apart.differ) ∙ writes_leave made folder)
+
+-- ---- a fresh run
+
+keep_names_differ : differing keep_names ≡ true
+keep_names_differ = refl
+
+-- the removals of what is kept leave a folder without it
+pub fresh_left : (folder : Folder)
+    → folder_after (unmet folder (map Removal keep_names)) folder ≡ without_keep folder
+fresh_left folder =
+    unmet_leaves (map Removal keep_names) folder (ap differing (names_removed keep_names) ∙ keep_names_differ)
+    ∙ same_folder (folder_after (map Removal keep_names) folder) (without_keep folder) (λ name.
+    get_removed keep_names folder name ∙ by (is_among name keep_names) (files.get folder name)
+    ∙ sym (get_part (λ name. not (is_among name keep_names)) folder name))
+  where
+    by : (among : Bool) (found : Option (List ℕ))
+        → cond among None found ≡ cond (not among) found None
+    by true found = refl
+    by false found = refl

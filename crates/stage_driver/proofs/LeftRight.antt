@@ -8,7 +8,6 @@ use Rattle.std.specs.Str.{bytes_eq}
 use Rattle.std.specs.FinMap as files
 use Rattle.std.proofs.lemmas.Bool.{and_parts}
 use Rattle.std.proofs.lemmas.Slice.Eq.{bytes_eq-Decides}
-use Rattle.plan_files.specs.declared.write.Write.{Write}
 use Rattle.plan_files.specs.declared.write.Write.TheVariants.{Put}
 use Rattle.plan_files.specs.Folder.{Folder}
 use Rattle.plan_files.proofs.OtherFiles.{get_part, part_after}
@@ -24,8 +23,6 @@ use Rattle.config_keys.specs.Config.{last_stage_of}
 use Rattle.config_keys.specs.Items.{look_in}
 use Rattle.config_keys.specs.Values.{effective}
 use Rattle.config_keys.proofs.Settling.{effective_settings}
-use Rattle.stage_driver.specs.declared.outcome.ChainFault.{ChainFault}
-use Rattle.stage_driver.specs.declared.outcome.Outcome.{Outcome}
 use Rattle.stage_driver.specs.declared.cause.Cause.{Cause}
 use Rattle.stage_driver.specs.declared.cause.Cause.TheVariants as cause
 use Rattle.stage_driver.specs.Built.{built, run_stage, files_of, trace_of, made}
@@ -33,16 +30,21 @@ use Rattle.stage_driver.specs.Chain.{Visit, Trace, hand_text, made_text, input_t
 use Rattle.stage_driver.specs.Hand.{is_among, is_hand, hand_of, names_made_by}
 use Rattle.stage_driver.specs.Right.{made_in, text_in, files_by, StandsRight, AllStandRight}
 use Rattle.stage_driver.specs.Right.{StandRightIn, MadeFilesAreRight, IsLeftRight}
-use Rattle.stage_driver.specs.Runs.{name_of, with_files, without_made, after, writes_of, IsLeft}
+use Rattle.stage_driver.specs.Kept.{IsKeptHonest, made_over, new_entries, trace_over}
+use Rattle.stage_driver.specs.Runs.{name_of, with_files, without_made, after, entries_over}
+use Rattle.stage_driver.specs.Runs.{run_over, writes_of}
 use Rattle.stage_driver.proofs.Differing.{all_filter, differs_from, differing, same_way, not_among}
 use Rattle.stage_driver.proofs.HandAlone.{look_same, settings_same}
 use Rattle.stage_driver.proofs.HandKept.{writes_outside}
+use Rattle.stage_driver.proofs.Keeping.{from_scratch}
 use Rattle.stage_driver.proofs.Laws.{run_makes}
-use Rattle.stage_driver.proofs.Left.{writes_leave}
+use Rattle.stage_driver.proofs.Left.{after_is}
 use Rattle.stage_driver.proofs.MadeRight.{visits_right}
 use Rattle.stage_driver.proofs.MadeTexts.{names_of, text_nowhere, Agree, files_same}
 use Rattle.stage_driver.proofs.Placed.{ArePlaced, bundle_more, made_looks}
-use Rattle.stage_driver.proofs.Traces.{traced, chain, stages_run, are_placed, made_differ}
+use Rattle.stage_driver.proofs.Traces.{traced, chain, stages_run, are_placed}
+use Rattle.stage_driver.proofs.Wishes.{get_behind, names_in}
+use Rattle.stage_driver.proofs.WrittenNames.{are_apart, file_no_keep, is_kept_name, none_by}
 
 -- ---- made files in a folder that has them
 
@@ -93,16 +95,23 @@ found_missing (other ∷ made) file =
 
 module _ (folder : Folder) where
   abbrev all : List MadeFile
-  all = (made (hand_of folder)).files
+  all = (run_over folder).files
 
   all_differ : differing (names_of all) ≡ true
-  unfolding made
-  all_differ = traced (hand_of folder) (λ trace. differing (names_of (files_of trace.visits)) ≡ true) (λ reason is. refl) (λ values is. made_differ values (hand_of folder))
+  unfolding made_over
+  all_differ = (are_apart folder (hand_of folder)).differ
+
+  -- no entry has the name of a file of the dataset
+  not_kept : (file : FileId) → is_among (file_name file) (names_in (entries_over folder)) ≡ false
+  unfolding entries_over
+  not_kept file = none_by is_kept_name (file_name file) (names_in (new_entries folder (trace_over folder (hand_of folder)).visits)) (file_no_keep file) (are_apart folder (hand_of folder)).kept
 
   found_after : (file : FileId)
       → made_in (after folder) file ≡ or_text (made_text all file) (made_in (without_made folder) file)
   unfolding after
-  found_after file = with_found all (without_made folder) file all_differ
+  found_after file =
+      ap (λ found. ok_or found (cause.Missing file)) (get_behind (entries_over folder) (with_files all (without_made folder)) (file_name file) (not_kept file))
+      ∙ with_found all (without_made folder) file all_differ
 
   -- a text that was made stands there
   get_after : (file : FileId) (text : List ℕ) → made_text all file ≡ Ok text
@@ -126,10 +135,10 @@ module _ (folder : Folder) where
   agree_after (file ∷ some) h =
       let parts = and_parts _ _ h in (same_after file parts.0, agree_after some parts.1)
 
-  hand_after : hand_of (after folder) ≡ hand_of folder
-  unfolding after hand_of
+  pub hand_after : hand_of (after folder) ≡ hand_of folder
+  unfolding hand_of
   hand_after =
-      ap (λ left. files.retain_keys left is_hand) (sym (writes_leave all folder))
+      ap (λ left. files.retain_keys left is_hand) (sym (after_is folder))
       ∙ part_after is_hand (writes_of folder) folder (writes_outside folder)
 
   -- a hand file is found as before
@@ -209,14 +218,14 @@ settings_after folder =
     sym (settings_same (after folder)) ∙ ap (λ hand. effective (look_in hand)) (hand_after folder)
 
 pub left_by : (folder : Folder) (values : List ℤ) → effective (look_in (hand_of folder)) ≡ Ok values
-    → (made (hand_of folder)).files ≡ files_of (chain values (hand_of folder)).visits
+    → (run_over folder).files ≡ files_of (chain values (hand_of folder)).visits
     → AllStandRight (text_in (after folder)) values (chain values (hand_of folder)).visits
 left_by folder values is same =
     let hand = hand_of folder in
     let visits = (chain values hand).visits in
     let placed = subst (λ all. ArePlaced run_stage run_makes values hand all (stages_run values) visits) (sym same) (are_placed values hand) in
     all_after folder values (stages_run values) visits (all_filter (is_own folder) (λ stage. leb (stage_place stage) (stage_place (last_stage_of values))) built (built_own folder)) placed
-    (visits_right values hand (effective_settings (look_in hand) values is) (made hand).files (stages_run values) visits placed)
+    (visits_right values hand (effective_settings (look_in hand) values is) (run_over folder).files (stages_run values) visits placed)
 
 under : (folder : Folder) (visits : List Visit) (values : List ℤ)
     → effective (look_in (after folder)) ≡ Ok values
@@ -228,29 +237,22 @@ pub files_are : (hand : Folder) (trace : Trace) → trace_of hand ≡ trace
 unfolding made
 files_are hand trace same = ap (λ (trace : Trace). files_of trace.visits) same
 
-left_right : (folder : Folder) → MadeFilesAreRight folder
+-- over an honest keep they are those that were made
+pub run_files : (folder : Folder) → IsKeptHonest folder → (trace : Trace)
+    → trace_of (hand_of folder) ≡ trace → (run_over folder).files ≡ files_of trace.visits
+run_files folder honest trace same =
+    (from_scratch folder honest).files ∙ files_are (hand_of folder) trace same
+
+pub left_right : (folder : Folder) → MadeFilesAreRight folder
 unfolding MadeFilesAreRight
-left_right folder =
+left_right folder = λ honest.
     traced (hand_of folder) (λ trace. trace_of (hand_of folder) ≡ trace → StandRightIn (after folder) trace.visits)
     (λ reason is _. subst (λ settings. IfOk settings (λ values. AllStandRight (text_in (after folder)) values [])) (sym (settings_after folder ∙ is)) tt)
-    (λ values is same. under folder (chain values (hand_of folder)).visits values (settings_after folder ∙ is) (left_by folder values is (files_are (hand_of folder) (chain values (hand_of folder)) same)))
+    (λ values is same. under folder (chain values (hand_of folder)).visits values (settings_after folder ∙ is) (left_by folder values is (run_files folder honest (chain values (hand_of folder)) same)))
     refl
 
 -- the folder that a finished run left is that one
-left_in : (folder : Folder) (left : Option Folder) → left ≡ Some (after folder)
-    → IsLeftRight folder left
+pub left_in : (folder : Folder) (left : Option Folder) → IsKeptHonest folder
+    → left ≡ Some (after folder) → IsLeftRight folder left
 unfolding MadeFilesAreRight
-left_in folder left is = rw is (left_right folder)
-
-pub told_left : (contents left : Option Folder) (before now : Option (List Write))
-    (result : Result Outcome ChainFault)
-    → IfSome contents (λ folder. OnOk result (IsLeft folder left before now))
-    → IfSome contents (λ folder. OnOk result (IsLeftRight folder left))
-told_left None left before now result h = tt
-told_left (Some folder) left before now (Ok outcome) h = left_in folder left h.folder
-told_left (Some folder) left before now (Err fault) h = tt
-
--- the same of a folder that may be told
-pub told_right : (contents : Option Folder) → IfSome contents (λ folder. MadeFilesAreRight folder)
-told_right None = tt
-told_right (Some folder) = left_right folder
+left_in folder left honest is = rw is (left_right folder honest)

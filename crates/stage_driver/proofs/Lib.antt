@@ -1,3 +1,4 @@
+pub mod BothModes
 pub mod CheckedRuns
 pub mod ContentFiles
 pub mod Differing
@@ -7,10 +8,13 @@ pub mod HandAlone
 pub mod HandFiles
 pub mod HandKept
 pub mod Judging
+pub mod Keeping
+pub mod KeptAfter
 pub mod Laws
 pub mod Left
 pub mod LeftRight
 pub mod MadeLists
+pub mod MadeParts
 pub mod MadeRight
 pub mod MadeTexts
 pub mod MadeThere
@@ -21,8 +25,11 @@ pub mod Placed
 pub mod Refusing
 pub mod Running
 pub mod SameTexts
+pub mod Settling
 pub mod Starting
 pub mod StopsThere
 pub mod Traces
 pub mod Visiting
 pub mod Visits
+pub mod Wishes
+pub mod WrittenNames

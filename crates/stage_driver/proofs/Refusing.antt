@@ -421,7 +421,7 @@ chain_names values hand visits (Some halt) right are placed =
     (ap (λ some. list_all (λ file. is_among (file_name file) (names_of all)) (flat_map always_made some)) before ∙ done_there values hand all stages visits placed)
     (subst (AreRightOver values (looked (input_text hand all))) (sym before) (done_right values hand all stages visits placed right)) ended.halts
 
-refuses_hand : (hand : Folder) → RefusesHand hand
+pub refuses_hand : (hand : Folder) → RefusesHand hand
 unfolding RefusesHand
 refuses_hand hand = traced hand (λ trace. NamesHand (cause_of trace.halt))
     (λ reason is. subst (λ settings. IfErr settings (ConfigNames is_hand)) is (config_names is_hand path_is_hand (look_in hand) config_is_hand))
@@ -429,9 +429,3 @@ refuses_hand hand = traced hand (λ trace. NamesHand (cause_of trace.halt))
     let visits = (chain values hand).visits in
     chain_names values hand visits (chain values hand).halt (visits_right values hand (effective_settings (look_in hand) values is) (files_of visits) (stages_run values) visits (are_placed values hand))
     (are_visits values hand) (are_placed values hand))
-
--- the same over the hand files of a folder that may be told
-pub told_refuses : (contents : Option Folder)
-    → IfSome contents (λ folder. RefusesHand (hand_of folder))
-told_refuses None = tt
-told_refuses (Some folder) = refuses_hand (hand_of folder)

@@ -9,22 +9,19 @@ use Rattle.config_keys.specs.Items.{look_in}
 use Rattle.config_keys.specs.Values.{effective}
 use Rattle.stage_driver.specs.declared.chain_end.ChainEnd.{ChainEnd}
 use Rattle.stage_driver.specs.Chain.{chain_from, to_run}
-use Rattle.stage_driver.specs.Built.{built, run_stage, stage_work, trace_under, trace_of}
+use Rattle.stage_driver.specs.Built.{built, chain_under}
+use Rattle.stage_driver.specs.Kept.{solve_over, trace_over}
 use Rattle.stage_driver.specs.Ends.{end_of_config}
 use Rattle.stage_driver.specs.Progress.{SoFar, nothing, ChainGives}
 
 refused_in : (folder : Folder) (end : ConfigEnd) (count : ℕ)
     → ConfigGives (effective (look_in folder)) (Err end)
-    → ChainGives stage_work (trace_of folder) nothing count count (Err (end_of_config end))
-unfolding trace_of
+    → ChainGives folder (trace_over folder folder) nothing count count (Err (end_of_config end))
+unfolding trace_over
 refused_in folder (config.Refused reason) count told =
-    subst (λ settings. ChainGives stage_work (trace_under settings folder) nothing count count (Err (end_of_config (config.Refused reason)))) (sym told) (
+    subst (λ settings. ChainGives folder (chain_under (solve_over folder) settings folder) nothing count count (Err (end_of_config (config.Refused reason)))) (sym told) (
       refl,
-      record {
-        files =
-            refl;
-        report = refl;
-      },
+      record { files = refl; report = refl; entries = refl; back = tt },
       omega arith,
     )
 refused_in folder config.FileFault count told = (omega arith, omega arith)
@@ -35,7 +32,7 @@ pub refused : (contents : Option Folder) (end : ConfigEnd) (so_far : SoFar) (cou
     (result : Result (Unit {0}) ChainEnd) → so_far ≡ nothing
     → IfSome contents (λ folder. ConfigGives (effective (look_in folder)) (Err end))
     → result ≡ Err (end_of_config end)
-    → IfSome contents (λ folder. ChainGives stage_work (trace_of folder) so_far count count result)
+    → IfSome contents (λ folder. ChainGives folder (trace_over folder folder) so_far count count result)
 refused None end so_far count result none told e = tt
 refused (Some folder) end so_far count result none told e =
     rw (none, e) (refused_in folder end count told)
@@ -44,10 +41,10 @@ refused (Some folder) end so_far count result none told e =
 pub settled : (contents now : Option Folder) (values : List ℤ) (new : SoFar) (before count : ℕ)
     (result : Result (Unit {0}) ChainEnd) → now ≡ contents
     → IfSome contents (λ folder. ConfigGives (effective (look_in folder)) (Ok values))
-    → IfSome now (λ folder. ChainGives stage_work (chain_from run_stage values folder [] (to_run values built)) new before count result)
-    → IfSome contents (λ folder. ChainGives stage_work (trace_of folder) new before count result)
-unfolding trace_of
+    → IfSome now (λ folder. ChainGives folder (chain_from (solve_over folder) values folder [] (to_run values built)) new before count result)
+    → IfSome contents (λ folder. ChainGives folder (trace_over folder folder) new before count result)
+unfolding trace_over
 settled None now values new before count result same told h = tt
 settled (Some folder) now values new before count result same told h =
-    let here : IfSome (Some folder) (λ folder. ChainGives stage_work (chain_from run_stage values folder [] (to_run values built)) new before count result) = rw same at h in
-    subst (λ settings. ChainGives stage_work (trace_under settings folder) new before count result) (sym told) here
+    let here : IfSome (Some folder) (λ folder. ChainGives folder (chain_from (solve_over folder) values folder [] (to_run values built)) new before count result) = rw same at h in
+    subst (λ settings. ChainGives folder (chain_under (solve_over folder) settings folder) new before count result) (sym told) here

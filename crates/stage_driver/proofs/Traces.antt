@@ -3,22 +3,28 @@ use Rattle.std.proofs.Common.{◌≡◌, ℕ, ℤ, Bool, true, false, cond, leb,
 use Rattle.std.proofs.Common.{Result, Ok, Err, refl, ap, sym, ◌∙◌}
 use Rattle.std.specs.List.{list_all}
 use Rattle.plan_files.specs.Folder.{Folder}
+use Rattle.giv_files.specs.declared.made.Made.{Made}
+use Rattle.giv_files.specs.declared.refusal.Refusal.{Refusal}
 use Rattle.giv_files.specs.declared.stage.Stage.{Stage}
 use Rattle.giv_files.specs.FileNames.{file_name}
+use Rattle.giv_files.specs.MadeLists.{MakesAs, ids_of}
+use Rattle.giv_files.specs.Settings.{BundleParts}
 use Rattle.giv_files.specs.Stages.{stage_makes}
 use Rattle.config_keys.specs.declared.config_fault.ConfigFault.{ConfigFault}
 use Rattle.config_keys.specs.Config.{last_stage_of}
 use Rattle.config_keys.specs.Items.{look_in}
 use Rattle.config_keys.specs.Values.{effective}
-use Rattle.stage_driver.specs.Built.{built, run_stage, files_of, trace_under, trace_of}
+use Rattle.stage_driver.specs.Built.{built, chain_under, run_stage, files_of, trace_under, trace_of}
 use Rattle.stage_driver.specs.Chain.{Trace, stage_place, to_run}
 use Rattle.stage_driver.specs.Hand.{names_made_by}
+use Rattle.stage_driver.specs.Kept.{solve_over, trace_over}
 use Rattle.stage_driver.specs.Runs.{name_of}
 use Rattle.stage_driver.proofs.Differing.{all_both, all_parts, differs_from, Differ, differing}
 use Rattle.stage_driver.proofs.Differing.{none_differ, differ_swap, differing_parts}
 use Rattle.stage_driver.proofs.Differing.{parts_differing}
 use Rattle.stage_driver.proofs.Laws.{run_makes}
 use Rattle.stage_driver.proofs.Placed.{names_more, ArePlaced, visits_placed, visits_differ}
+use Rattle.stage_driver.proofs.Placed.{visits_within}
 use Rattle.stage_driver.proofs.Visits.{AreVisits, chain_visits}
 
 -- what holds of a chain whose settings are refused, and of one that runs, holds of the chain over
@@ -32,6 +38,19 @@ traced hand P refused run = by (effective (look_in hand)) refl
   where
     by : (settings : Result (List ℤ) ConfigFault) → effective (look_in hand) ≡ settings
         → P (trace_under settings hand)
+    by (Err reason) is = refused reason is
+    by (Ok values) is = run values is
+
+-- the same of a chain over a keep
+pub traced_over : (keep hand : Folder) (P : Trace → Type 0)
+    → ((reason : ConfigFault) → effective (look_in hand) ≡ Err reason → P (chain_under (solve_over keep) (Err reason) hand))
+    → ((values : List ℤ) → effective (look_in hand) ≡ Ok values → P (chain_under (solve_over keep) (Ok values) hand))
+    → P (trace_over keep hand)
+unfolding trace_over
+traced_over keep hand P refused run = by (effective (look_in hand)) refl
+  where
+    by : (settings : Result (List ℤ) ConfigFault) → effective (look_in hand) ≡ settings
+        → P (chain_under (solve_over keep) settings hand)
     by (Err reason) is = refused reason is
     by (Ok values) is = run values is
 
@@ -80,20 +99,36 @@ built_differ = refl
 abbrev pub stages_run : List ℤ → List Stage
 stages_run values = to_run values built
 
+run_differ : (values : List ℤ) → differing (names_made_by (stages_run values)) ≡ true
+run_differ values = some_differ (λ stage. leb (stage_place stage) (stage_place (last_stage_of values))) built built_differ
+
+module _ (solve : BundleParts → Result Made Refusal) (makes : (bundle : BundleParts) (made : Made) → solve bundle ≡ Ok made → MakesAs bundle.stage (ids_of made.files)) (values : List ℤ) (hand : Folder) where
+  abbrev pub chain_by : Trace
+  chain_by = chain_under solve (Ok values) hand
+
+  pub by_visits : AreVisits solve values hand [] (stages_run values) chain_by.visits chain_by.halt
+  by_visits = chain_visits solve values hand [] (stages_run values)
+
+  -- its visits are placed among all that it made
+  pub by_placed : ArePlaced solve makes values hand (files_of chain_by.visits) (stages_run values) chain_by.visits
+  by_placed = visits_placed solve makes values hand [] (files_of chain_by.visits) (stages_run values) chain_by.visits chain_by.halt by_visits (run_differ values) (none_differ (names_made_by (stages_run values))) refl
+
+  -- the names of these differ
+  pub by_differ : differing (map name_of (files_of chain_by.visits)) ≡ true
+  by_differ = visits_differ solve makes values hand [] (stages_run values) chain_by.visits chain_by.halt by_visits (run_differ values)
+
+  -- what holds of all names that the built stages make holds of them
+  pub by_within : (p : List ℕ → Bool) → list_all p (names_made_by built) ≡ true
+      → list_all p (map name_of (files_of chain_by.visits)) ≡ true
+  by_within p h = visits_within solve makes values hand p [] (stages_run values) chain_by.visits chain_by.halt by_visits (some_within (λ stage. leb (stage_place stage) (stage_place (last_stage_of values))) p built h)
+
+-- the same of a chain from scratch
 module _ (values : List ℤ) (hand : Folder) where
   abbrev pub chain : Trace
   chain = trace_under (Ok values) hand
 
   pub are_visits : AreVisits run_stage values hand [] (stages_run values) chain.visits chain.halt
-  are_visits = chain_visits run_stage values hand [] (stages_run values)
+  are_visits = by_visits run_stage run_makes values hand
 
-  run_differ : differing (names_made_by (stages_run values)) ≡ true
-  run_differ = some_differ (λ stage. leb (stage_place stage) (stage_place (last_stage_of values))) built built_differ
-
-  -- its visits are placed among all that it made
   pub are_placed : ArePlaced run_stage run_makes values hand (files_of chain.visits) (stages_run values) chain.visits
-  are_placed = visits_placed run_stage run_makes values hand [] (files_of chain.visits) (stages_run values) chain.visits chain.halt are_visits run_differ (none_differ (names_made_by (stages_run values))) refl
-
-  -- the names of these differ
-  pub made_differ : differing (map name_of (files_of chain.visits)) ≡ true
-  made_differ = visits_differ run_stage run_makes values hand [] (stages_run values) chain.visits chain.halt are_visits run_differ
+  are_placed = by_placed run_stage run_makes values hand

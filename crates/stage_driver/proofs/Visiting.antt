@@ -1,6 +1,8 @@
 -- One stage of a chain is run.
-use Rattle.std.proofs.Common.{◌≡◌, ℕ, ℤ, ◌+◌, ◌≤◌, List, Option, Some, None, IfSome, Result, Ok}
+use Rattle.std.proofs.Common.{◌≡◌, ℕ, ℤ, ◌+◌, ◌≤◌, List, [], ◌∷◌, Option, Some, None, IfSome, Result, Ok}
 use Rattle.std.proofs.Common.{Err, refl, ap, sym, ◌∙◌, subst, arith}
+use Rattle.plan_files.specs.declared.file_fault.FileFault.{FileFault}
+use Rattle.plan_files.specs.declared.file_fault.FileFault.TheVariants as file_fault
 use Rattle.plan_files.specs.Folder.{Folder}
 use Rattle.giv_files.specs.declared.made.Made.{Made}
 use Rattle.giv_files.specs.declared.made.MadeFile.{MadeFile}
@@ -13,11 +15,33 @@ use Rattle.stage_driver.specs.declared.chain_end.ChainEnd.TheVariants as end
 use Rattle.stage_driver.specs.declared.cause.Cause.{Cause}
 use Rattle.stage_driver.specs.declared.cause.Cause.TheVariants as cause
 use Rattle.stage_driver.specs.Chain.{Visit, Halt, texts_of, bundle_told, solved, tried, visit_of}
-use Rattle.stage_driver.specs.Ends.{Gives}
-use Rattle.stage_driver.specs.Progress.{SoFar, with_made, VisitGives, visit_work}
-use Rattle.stage_driver.proofs.Visits.{bundle_stage}
+use Rattle.stage_driver.specs.Ends.{Gives, end_of_file}
+use Rattle.stage_driver.specs.Built.{run_stage, stage_work}
+use Rattle.stage_driver.specs.Kept.{entry_put, kept_in, new_entry, solve_over, work_over}
+use Rattle.stage_driver.specs.Progress.{SoFar, with_made, MakingGives, VisitGives, visit_work}
 
-module _ (solve : BundleParts → Result Made Refusal) (work : BundleParts → ℕ) (values : List ℤ) (stage : Stage) (old new : SoFar) where
+-- the work of a bundle that is kept, and of one that is not
+kept_work : (keep : Folder) (bundle : BundleParts) (made : Made) → kept_in keep bundle ≡ Some made
+    → work_over keep bundle ≡ 0
+unfolding work_over
+kept_work keep bundle made is = rw is refl
+
+made_work : (keep : Folder) (bundle : BundleParts) → kept_in keep bundle ≡ None
+    → work_over keep bundle ≡ stage_work bundle
+unfolding work_over
+made_work keep bundle is = rw is refl
+
+kept_solve : (keep : Folder) (bundle : BundleParts) (made : Made) → kept_in keep bundle ≡ Some made
+    → solve_over keep bundle ≡ Ok made
+unfolding solve_over
+kept_solve keep bundle made is = rw is refl
+
+made_solve : (keep : Folder) (bundle : BundleParts) → kept_in keep bundle ≡ None
+    → solve_over keep bundle ≡ run_stage bundle
+unfolding solve_over
+made_solve keep bundle is = rw is refl
+
+module _ (values : List ℤ) (stage : Stage) (old new : SoFar) where
   -- what the stage is given, where some files were made
   abbrev pub told_with : List MadeFile → Folder → Result BundleParts Cause
   told_with made folder =
@@ -27,73 +51,120 @@ module _ (solve : BundleParts → Result Made Refusal) (work : BundleParts → �
   told_in folder = told_with old.files folder
 
   abbrev pub visit_in : Folder → Result Visit Halt
-  visit_in folder = visit_of solve values folder old.files stage
+  visit_in folder = visit_of (solve_over folder) values folder old.files stage
 
   -- the work of a stage that has its inputs
   solved_work : (folder : Folder) (bundle : BundleParts) (made : Result Made Refusal)
-      → visit_work work (solved solve values folder bundle made) ≡ work bundle
+      → visit_work folder (solved (solve_over folder) values folder bundle made) ≡ work_over folder bundle
   solved_work folder bundle (Ok made) = omega arith
   solved_work folder bundle (Err refusal) = omega arith
 
   given_work_is : (folder : Folder) (bundle : BundleParts) → told_in folder ≡ Ok bundle
-      → visit_work work (visit_in folder) ≡ work bundle
+      → visit_work folder (visit_in folder) ≡ work_over folder bundle
   unfolding visit_of
   given_work_is folder bundle told =
-      ap (λ told. visit_work work (tried solve values folder told)) told
-      ∙ solved_work folder bundle (solve bundle)
+      ap (λ told. visit_work folder (tried (solve_over folder) values folder told)) told
+      ∙ solved_work folder bundle (solve_over folder bundle)
 
-  -- an input is not there
-  ungiven : (folder : Folder) (why : ChainEnd) (count : ℕ) → Gives {T = BundleParts} (told_in folder) (Err why) → VisitGives work (visit_in folder) old old count count (Err why)
+  visit_is : (folder : Folder) (bundle : BundleParts) → told_in folder ≡ Ok bundle
+      → visit_in folder ≡ solved (solve_over folder) values folder bundle (solve_over folder bundle)
+  unfolding visit_of
+  visit_is folder bundle told = ap (tried (solve_over folder) values folder) told
+
+  -- an input is not there, or a file failed
+  ungiven : (folder : Folder) (why : ChainEnd) (count : ℕ) → Gives {T = BundleParts} (told_in folder) (Err why) → VisitGives folder (visit_in folder) old old count count (Err why)
   unfolding visit_of
   ungiven folder (end.Stopped why) count told =
-      let none : visit_work work (visit_in folder) ≡ 0 = ap (λ told. visit_work work (tried solve values folder told)) told in
-      (record { cause = why; given = None }, ap (tried solve values folder) told, refl, refl, omega (arith, none))
+      let none : visit_work folder (visit_in folder) ≡ 0 = ap (λ told. visit_work folder (tried (solve_over folder) values folder told)) told in
+      (record { cause = why; given = None }, ap (tried (solve_over folder) values folder) told, refl, refl, omega (arith, none))
   ungiven folder end.FileFault count told = (omega arith, omega arith)
   ungiven folder end.NoMemory count told = (omega arith, omega arith)
 
   pub not_given : (contents : Option Folder) (made : List MadeFile) (why : ChainEnd) (count : ℕ) (result : Result (Unit {0}) ChainEnd) → made ≡ old.files → IfSome contents (λ folder. Gives {T =
       BundleParts} (told_with made folder) (Err why)) → result ≡ Err why
-      → IfSome contents (λ folder. VisitGives work (visit_in folder) old old count count result)
+      → IfSome contents (λ folder. VisitGives folder (visit_in folder) old old count count result)
   not_given None made why count result same told e = tt
   not_given (Some folder) made why count result same told e = rw e (ungiven folder why count (subst (λ files. Gives {T = BundleParts} (told_with files folder) (Err why)) same told))
 
-  -- the stage is made
-  pub is_made : (contents : Option Folder) (files : List MadeFile) (bundle : BundleParts)
-      (made : Made) (before now : ℕ) → files ≡ old.files
-      → IfSome contents (λ folder. told_with files folder ≡ Ok bundle) → solve bundle ≡ Ok made
-      → new ≡ with_made old made → now ≡ before + work bundle
-      → IfSome contents (λ folder. VisitGives work (visit_in folder) old new before now (Ok tt))
-  unfolding visit_of
-  is_made None files bundle made before now same told is more count = tt
-  is_made (Some folder) files bundle made before now same given is more count =
-      let told : told_in folder ≡ Ok bundle = ap (λ files. told_with files folder) (sym same) ∙ given in
-      (record { bundle = bundle; made = made }, ap (tried solve values folder) told ∙ ap (solved solve values folder bundle) is, more, count ∙ ap (λ n. before + n) (sym (given_work_is folder bundle told)))
+  -- what is kept could not be read
+  not_read : (folder : Folder) (fault : FileFault) (count : ℕ)
+      → VisitGives folder (visit_in folder) old old count count (Err (end_of_file fault))
+  not_read folder file_fault.Failed count = (omega arith, omega arith)
+  not_read folder file_fault.NoMemory count = (omega arith, omega arith)
 
-  -- the stage refuses what it is given
-  pub is_refused : (contents : Option Folder) (files : List MadeFile) (bundle : BundleParts)
-      (refusal : Refusal) (before now : ℕ) → files ≡ old.files
-      → IfSome contents (λ folder. told_with files folder ≡ Ok bundle) → solve bundle ≡ Err refusal
-      → now ≡ before + work bundle
-      → IfSome contents (λ folder. VisitGives work (visit_in folder) old old before now (Err (end.Stopped (cause.Refused stage refusal))))
-  unfolding visit_of
-  is_refused None files bundle refusal before now same told is count = tt
-  is_refused (Some folder) files bundle refusal before now same given is count =
-      let told : told_in folder ≡ Ok bundle = ap (λ files. told_with files folder) (sym same) ∙ given in (
-        record { cause = cause.Refused bundle.stage refusal; given = Some bundle },
-        ap (tried solve values folder) told ∙ ap (solved solve values folder bundle) is,
-        ap (λ s. cause.Refused s refusal) (bundle_stage values stage (texts_of values folder old.files (stage_inputs stage)) bundle told),
-        refl,
-        count ∙ ap (λ n. before + n) (sym (given_work_is folder bundle told)),
+  pub is_unread : (contents : Option Folder) (fault : FileFault) (count : ℕ)
+      (result : Result (Unit {0}) ChainEnd) → result ≡ Err (end_of_file fault)
+      → IfSome contents (λ folder. VisitGives folder (visit_in folder) old old count count result)
+  is_unread None fault count result e = tt
+  is_unread (Some folder) fault count result e = rw e (not_read folder fault count)
+
+  -- the stage is kept
+  pub is_kept : (contents now : Option Folder) (files : List MadeFile) (bundle : BundleParts)
+      (made : Made) (count : ℕ) → files ≡ old.files → now ≡ contents
+      → IfSome contents (λ folder. told_with files folder ≡ Ok bundle)
+      → IfSome now (λ folder. Some made ≡ kept_in folder bundle)
+      → new ≡ with_made old made []
+      → IfSome contents (λ folder. VisitGives folder (visit_in folder) old new count count (Ok tt))
+  is_kept None now files bundle made count same here told kept more = tt
+  is_kept (Some folder) now files bundle made count same here given found more =
+      let told : told_in folder ≡ Ok bundle = ap (λ files. told_with files folder) (sym same) ∙ given in
+      let kept : kept_in folder bundle ≡ Some made = sym (subst (λ now. IfSome now (λ folder. Some made ≡ kept_in folder bundle)) here found) in
+      let none : visit_work folder (visit_in folder) ≡ 0 = given_work_is folder bundle told ∙ kept_work folder bundle made kept in
+      let old_entry : new_entry folder (record { bundle = bundle; made = made }) ≡ [] = rw kept refl in (
+        record { bundle = bundle; made = made },
+        visit_is folder bundle told ∙ ap (solved (solve_over folder) values folder bundle) (kept_solve folder bundle made kept),
+        more ∙ ap (with_made old made) (sym old_entry),
+        (λ not. absurd (never made (sym kept ∙ not))),
+        omega (arith, none),
       )
+    where
+      never : (made : Made) → Some made ≡ None → ⊥
+      never made e = cc
 
-  -- memory is refused on the way
-  pub is_cut : (contents : Option Folder) (files : List MadeFile) (bundle : BundleParts)
-      (before now : ℕ) (result : Result (Unit {0}) ChainEnd) → files ≡ old.files
-      → IfSome contents (λ folder. told_with files folder ≡ Ok bundle) → before ≤ now
-      → now ≤ before + work bundle → result ≡ Err end.NoMemory
-      → IfSome contents (λ folder. VisitGives work (visit_in folder) old new before now result)
-  is_cut None files bundle before now result same told least most e = tt
-  is_cut (Some folder) files bundle before now result same given least most e =
+  -- memory was refused where it was to be added
+  pub is_cut : (contents : Option Folder) (count : ℕ) (result : Result (Unit {0}) ChainEnd)
+      → result ≡ Err end.NoMemory
+      → IfSome contents (λ folder. VisitGives folder (visit_in folder) old new count count result)
+  is_cut None count result e = tt
+  is_cut (Some folder) count result e = rw e (omega arith, omega arith)
+
+  -- the stage is not kept, and made, or it refuses what it is given
+  making : (folder : Folder) (bundle : BundleParts) (before now : ℕ)
+      (result : Result (Unit {0}) ChainEnd) → told_in folder ≡ Ok bundle
+      → kept_in folder bundle ≡ None → MakingGives bundle old new before now result
+      → VisitGives folder (visit_in folder) old new before now result
+  making folder bundle before now (Ok _) told none (made, is, more, back, count) =
+      let work : visit_work folder (visit_in folder) ≡ stage_work bundle = given_work_is folder bundle told ∙ made_work folder bundle none in
+      let entry : new_entry folder (record { bundle = bundle; made = made }) ≡ entry_put bundle made ∷ [] = rw none refl in (
+        record { bundle = bundle; made = made },
+        visit_is folder bundle told ∙ ap (solved (solve_over folder) values folder bundle) (made_solve folder bundle none ∙ is),
+        more ∙ ap (with_made old made) (sym entry),
+        (λ _. back),
+        omega (arith, count, work),
+      )
+  making folder bundle before now (Err (end.Stopped why)) told none (reason, is, own, more, count) =
+      let work : visit_work folder (visit_in folder) ≡ stage_work bundle = given_work_is folder bundle told ∙ made_work folder bundle none in (
+        record { cause = cause.Refused bundle.stage reason; given = Some bundle },
+        visit_is folder bundle told ∙ ap (solved (solve_over folder) values folder bundle) (made_solve folder bundle none ∙ is),
+        sym own,
+        more,
+        omega (arith, count, work),
+      )
+  making folder bundle before now (Err end.FileFault) told none (least, most) =
+      let work : visit_work folder (visit_in folder) ≡ stage_work bundle = given_work_is folder bundle told ∙ made_work folder bundle none in
+      (least, omega (arith, work, most))
+  making folder bundle before now (Err end.NoMemory) told none (least, most) =
+      let work : visit_work folder (visit_in folder) ≡ stage_work bundle = given_work_is folder bundle told ∙ made_work folder bundle none in
+      (least, omega (arith, work, most))
+
+  pub is_making : (contents now : Option Folder) (files : List MadeFile) (bundle : BundleParts)
+      (before count : ℕ) (result : Result (Unit {0}) ChainEnd) → files ≡ old.files → now ≡ contents
+      → IfSome contents (λ folder. told_with files folder ≡ Ok bundle)
+      → IfSome now (λ folder. None ≡ kept_in folder bundle)
+      → MakingGives bundle old new before count result
+      → IfSome contents (λ folder. VisitGives folder (visit_in folder) old new before count result)
+  is_making None now files bundle before count result same here told none gives = tt
+  is_making (Some folder) now files bundle before count result same here given found gives =
       let told : told_in folder ≡ Ok bundle = ap (λ files. told_with files folder) (sym same) ∙ given in
-      let work : visit_work work (visit_in folder) ≡ work bundle = given_work_is folder bundle told in
-      rw e (least, omega (arith, work, most))
+      let none : kept_in folder bundle ≡ None = sym (subst (λ now. IfSome now (λ folder. None ≡ kept_in folder bundle)) here found) in
+      making folder bundle before count result told none gives

@@ -58,11 +58,17 @@ stage_steps _ bundle = 1
 abbrev pub stage_work : BundleParts → ℕ
 stage_work bundle = stage_steps bundle.stage bundle
 
--- what the chain over hand files does, under settings or a fault of them
-abbrev pub trace_under : Result (List ℤ) ConfigFault → Folder → Trace
-trace_under (Err reason) hand =
+-- what the chain over hand files does, under settings or a fault of them, where each stage gives what
+-- a function says
+abbrev pub chain_under : (BundleParts → Result Made Refusal) → Result (List ℤ) ConfigFault → Folder
+    → Trace
+chain_under solve (Err reason) hand =
     record { visits = []; halt = Some (record { cause = cause.BadConfig reason; given = None }) }
-trace_under (Ok values) hand = chain_from run_stage values hand [] (to_run values built)
+chain_under solve (Ok values) hand = chain_from solve values hand [] (to_run values built)
+
+-- the same, where each stage is made
+abbrev pub trace_under : Result (List ℤ) ConfigFault → Folder → Trace
+trace_under settings hand = chain_under run_stage settings hand
 
 -- what the chain over hand files does from scratch
 unfoldable pub trace_of : Folder → Trace
@@ -83,14 +89,15 @@ pub record RunParts : Type 0 where
   pub end : RunEnd
   pub work : ℕ
 
-abbrev pub told_by : Trace → RunParts
-told_by trace = record {
+-- what a trace tells, where the work of a bundle is what a function says
+abbrev pub told_by : (BundleParts → ℕ) → Trace → RunParts
+told_by work trace = record {
   files = files_of trace.visits;
   report = stage_lines trace.visits ++ last_line (cause_of trace.halt);
   end = end_of (cause_of trace.halt);
-  work = sum_by stage_work (handed trace);
+  work = sum_by work (handed trace);
 }
 
 -- what the chain makes of hand files from scratch
 unfoldable pub made : Folder → RunParts
-made hand = told_by (trace_of hand)
+made hand = told_by stage_work (trace_of hand)

@@ -4,6 +4,7 @@ pub mod Checks
 pub mod Ends
 pub mod Findings
 pub mod Hand
+pub mod Kept
 pub mod Looks
 pub mod Passing
 pub mod Progress

@@ -19,12 +19,12 @@ use Rattle.pesp_search.specs.TimetableStage.{problem_in, timetable_faults}
 use Rattle.roll_out.specs.RightRollout.{RolloutFilesAreRight}
 use Rattle.vehicle_flow.specs.RightVehicles.{VehiclesAreRight}
 use Rattle.stage_driver.specs.declared.outcome.RunEnd.TheVariants as end
-use Rattle.stage_driver.specs.Built.{built, made}
+use Rattle.stage_driver.specs.Built.{built}
 use Rattle.stage_driver.specs.Chain.{bundle_by, is_to_run}
 use Rattle.stage_driver.specs.Checks.{check_of, standing}
-use Rattle.stage_driver.specs.Hand.{hand_of}
+use Rattle.stage_driver.specs.Kept.{IsKeptHonest}
 use Rattle.stage_driver.specs.Right.{text_in}
-use Rattle.stage_driver.specs.Runs.{after}
+use Rattle.stage_driver.specs.Runs.{after, run_over}
 
 -- A concept from any hand passes over its inputs: these have no fault, and its text is the table of
 -- frequencies which keep the bounds of each edge. Where a tree stands beside it, that marks it: no
@@ -77,7 +77,7 @@ pub record PassesIn (folder : Folder) : Type 0 where
   pub settled : effective (look_in folder) ≡ Ok values
   pub stand : AllStand folder values built
 
--- The folder that a run leaves which made all of its stages passes.
+-- The folder that a run leaves which started from an honest keep and made all of its stages passes.
 unfoldable pub RunsPass : Folder → Type 0
 RunsPass folder =
-    (made (hand_of folder)).end ≡ end.Done → check_of (after folder) ≡ None
+    IsKeptHonest folder → (run_over folder).end ≡ end.Done → check_of (after folder) ≡ None

@@ -29,6 +29,7 @@ use Rattle.stage_driver.specs.declared.origin.Origin.TheVariants as origin
 use Rattle.stage_driver.specs.Built.{cause_of, trace_of}
 use Rattle.stage_driver.specs.Chain.{Visit, hand_text, origin_of, bundle_by}
 use Rattle.stage_driver.specs.Hand.{is_hand, is_hand_file, hand_of}
+use Rattle.stage_driver.specs.Kept.{IsKeptHonest}
 use Rattle.stage_driver.specs.Runs.{after}
 
 -- The files of a stage are right over what it was given: its inputs have no fault, and the files,
@@ -83,12 +84,13 @@ abbrev pub StandRightIn : Folder → List Visit → Type 0
 StandRightIn folder visits =
     IfOk (effective (look_in folder)) (λ values. AllStandRight (text_in folder) values visits)
 
--- In the folder that a run over a folder leaves, each stage that was made has the files that it
--- made, and they are right over the files there from which they were made.
+-- In the folder that a run leaves which started from an honest keep, each stage that was made has the
+-- files that it makes from scratch, and they are right over the files there from which they were made.
 unfoldable pub MadeFilesAreRight : Folder → Type 0
-MadeFilesAreRight folder = StandRightIn (after folder) (trace_of (hand_of folder)).visits
+MadeFilesAreRight folder =
+    IsKeptHonest folder → StandRightIn (after folder) (trace_of (hand_of folder)).visits
 
--- the same of the folder that is left, where it is told
+-- each of these stages is right in the folder that is left, where it is told
 abbrev pub IsLeftRight : Folder → Option Folder → Type 0
 IsLeftRight read left = IfSome left (λ folder. StandRightIn folder (trace_of (hand_of read)).visits)
 

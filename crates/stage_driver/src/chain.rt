@@ -1,27 +1,30 @@
-// The stages of a chain, one after the other.
-ghost use Rattle.std.specs.Prelude.{◌≡◌, ◌≤◌, [], IfSome};
+// The stages of a chain, one after the other, over what is kept of them.
+ghost use Rattle.std.specs.Prelude.{◌≡◌, ◌≤◌, [], false, IfSome};
 ghost use Rattle.plan_files.specs.Reads.{OnlyReads};
 ghost use Rattle.config_keys.specs.Items.{look_in};
 ghost use Rattle.config_keys.specs.Values.{effective};
-ghost use Rattle.stage_driver.specs.Built.{built, run_stage, stage_work, trace_of};
+ghost use Rattle.giv_files.specs.Settings.{Fits};
+ghost use Rattle.stage_driver.specs.Built.{built};
 ghost use Rattle.stage_driver.specs.Chain.{chain_from, to_run, visit_of};
 ghost use Rattle.stage_driver.specs.Ends.{is_broken};
-ghost use Rattle.stage_driver.specs.Hand.{AreNoHandFiles};
-ghost use Rattle.stage_driver.specs.Progress.{ChainGives, HasNoHandFile, VisitGives, nothing};
+ghost use Rattle.stage_driver.specs.Kept.{solve_over, trace_over};
+ghost use Rattle.stage_driver.specs.Progress.{ChainGives, HasNoHandFile, MakingGives, NamesNoHand};
+ghost use Rattle.stage_driver.specs.Progress.{VisitGives, nothing};
 
 use crate::cause::Cause;
 use crate::chain_end::ChainEnd;
 use crate::gather::gather;
+use crate::keep::{kept, new_entry};
 use crate::progress::Progress;
 use crate::stages::{built, make_stage, place_of};
 use config_keys::{Config, read_config};
-use giv_files::{Stage, StageFault};
+use giv_files::{Bundle, Stage, StageFault};
 use plan_files::Files;
 use plan_num::{Ledger, Steps};
 use std::alloc::Global;
 
 /// Runs the stages that are built over the files of a dataset, up to the last one that its settings
-/// name or to where the chain ends early.
+/// name or to where the chain ends early. What is kept of what a stage is given is taken from there.
 pub(crate) fn run_built<F: Files, L: Ledger>(
     alloc: Global,
     files: &mut F,
@@ -30,7 +33,8 @@ pub(crate) fn run_built<F: Files, L: Ledger>(
 ) -> Result<(), ChainEnd>
     requires { progress.old ≡ nothing }
     ensures chain { IfSome (F.contents files.old) (λ folder.
-        ChainGives stage_work (trace_of folder) progress.new steps.old steps.new result) }
+        ChainGives folder (trace_over folder folder)
+        progress.new steps.old steps.new result) }
     ensures only_reads { OnlyReads F.contents F.writes F.faults files.old files.new
         (is_broken result) }
     ensures no_hand_file { HasNoHandFile progress.new result }
@@ -50,7 +54,7 @@ fn run_stages<F: Files, L: Ledger>(
 ) -> Result<(), ChainEnd>
     requires { progress.old ≡ nothing }
     ensures chain { IfSome (F.contents files.old) (λ folder.
-        ChainGives stage_work (chain_from run_stage config.now folder [] (to_run config.now built))
+        ChainGives folder (chain_from (solve_over folder) config.now folder [] (to_run config.now built))
         progress.new steps.old steps.new result) }
     ensures only_reads { OnlyReads F.contents F.writes F.faults files.old files.new
         (is_broken result) }
@@ -65,7 +69,7 @@ fn run_stages<F: Files, L: Ledger>(
     Ok(())
 }
 
-// Runs one stage.
+// Takes one stage from what is kept, or makes it.
 fn visit<F: Files, L: Ledger>(
     alloc: Global,
     files: &mut F,
@@ -74,9 +78,9 @@ fn visit<F: Files, L: Ledger>(
     steps: &mut Steps<L>,
     progress: &mut Progress,
 ) -> Result<(), ChainEnd>
-    requires { AreNoHandFiles progress.old.files }
-    ensures visit { IfSome (F.contents files.old) (λ folder.
-        VisitGives stage_work (visit_of run_stage config.now folder progress.old.files stage)
+    requires { NamesNoHand progress.old }
+    ensures visit { IfSome (F.contents files.old) (λ folder. VisitGives folder
+        (visit_of (solve_over folder) config.now folder progress.old.files stage)
         progress.old progress.new steps.old steps.new result) }
     ensures only_reads { OnlyReads F.contents F.writes F.faults files.old files.new
         (is_broken result) }
@@ -84,12 +88,37 @@ fn visit<F: Files, L: Ledger>(
     ensures no_less { steps.old ≤ steps.new }
 {
     let bundle = gather(alloc, files, config, stage, Some(progress.files()))?;
-    match make_stage(alloc, &bundle, steps) {
-        Ok(made) => {
-            progress.add(made)?;
+    match kept(alloc, files, &bundle)? {
+        Some(made) => {
+            progress.add(made, None)?;
             Ok(())
         }
-        Err(StageFault::Refused(refusal)) => Err(ChainEnd::Stopped(Cause::Refused(stage, refusal))),
+        None => make(alloc, &bundle, steps, progress),
+    }
+}
+
+// Makes a stage that is not kept, with its entry.
+fn make<L: Ledger>(
+    alloc: Global,
+    bundle: &Bundle,
+    steps: &mut Steps<L>,
+    progress: &mut Progress,
+) -> Result<(), ChainEnd>
+    requires fits { Fits bundle.now }
+    requires no_hand_file { NamesNoHand progress.old }
+    ensures makes { MakingGives bundle.now progress.old progress.new steps.old steps.new result }
+    ensures no_hand_file { HasNoHandFile progress.new result }
+    ensures fault_free { is_broken result ≡ false }
+{
+    match make_stage(alloc, bundle, steps) {
+        Ok(made) => {
+            let entry = new_entry(alloc, bundle, &made)?;
+            progress.add(made, Some(entry))?;
+            Ok(())
+        }
+        Err(StageFault::Refused(refusal)) => {
+            Err(ChainEnd::Stopped(Cause::Refused(bundle.stage(), refusal)))
+        }
         Err(StageFault::NoMemory) => Err(ChainEnd::NoMemory),
     }
 }

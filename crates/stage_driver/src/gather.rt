@@ -42,7 +42,7 @@ pub(crate) fn gather<F: Files>(
     let mut bundle = Bundle::new(alloc, stage, settings);
     for file in stage.inputs() {
         let text = input(alloc, files, chosen(config, *file), made)?;
-        bundle.push_input(text.as_bytes())?;
+        bundle.push_text(text)?;
     }
     Ok(bundle)
 }

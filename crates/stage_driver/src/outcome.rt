@@ -8,11 +8,12 @@ use plan_num::{NoMemory, Text};
 use std::alloc::AllocFailed;
 use thiserror::Error;
 
-/// Whether a run may take what earlier runs kept, or has to make all of it afresh. As long as
-/// nothing is kept, both modes do the same.
+/// Whether a run may take what earlier runs kept, or has to make all of it afresh.
 #[derive(Clone, Copy, Debug, PartialEq, Eq)]
 pub enum Mode {
+    /// A stage that was given the same before is taken from what is kept.
     Make,
+    /// What is kept is removed first.
     Fresh,
 }
 

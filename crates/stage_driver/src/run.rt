@@ -1,62 +1,112 @@
 // A run of the chain over the files of a dataset.
-ghost use Rattle.std.specs.Prelude.{◌≡◌, ◌≤◌, ◌+◌, ◌++◌, IfSome, IfOk, IfErr, OnOk, Some};
-ghost use Rattle.plan_files.specs.Counts.{Counts};
-ghost use Rattle.plan_files.specs.Reads.{OnlyReads};
+ghost use Rattle.std.specs.Prelude.{◌≡◌, ◌≤◌, ◌+◌, ◌++◌, [], IfSome, IfOk, IfErr, OnOk, Some};
 ghost use Rattle.plan_files.specs.Applied.{AreApplied};
+ghost use Rattle.plan_files.specs.Counts.{Counts};
+ghost use Rattle.plan_files.specs.Folder.{Folder};
+ghost use Rattle.plan_files.specs.Reads.{OnlyReads};
 ghost use Rattle.plan_files.specs.Others.{AreOutside};
-ghost use Rattle.stage_driver.specs.Built.{made, stage_work, trace_of};
 ghost use Rattle.stage_driver.specs.Ends.{has_failed};
-ghost use Rattle.stage_driver.specs.Hand.{hand_of, is_hand, AreNoHandFiles};
-ghost use Rattle.stage_driver.specs.Progress.{EndGives, nothing};
+ghost use Rattle.stage_driver.specs.Hand.{hand_of, is_hand};
+ghost use Rattle.stage_driver.specs.Kept.{AreReadBack, IsKeptHonest, trace_over};
+ghost use Rattle.stage_driver.specs.Progress.{EndGives, NamesNoHand, nothing};
 ghost use Rattle.stage_driver.specs.Reports.{last_line, end_of};
 ghost use Rattle.stage_driver.specs.Right.{IsLeftRight, MadeFilesAreRight, RefusesHand};
-ghost use Rattle.stage_driver.specs.Runs.{AddsNoHandFile, AreNotAll, IsOutcome, IsLeft, SameHand};
-ghost use Rattle.stage_driver.specs.Runs.{writes_for, writes_of};
+ghost use Rattle.stage_driver.specs.Runs.{AddsNoHandFile, AreNotAll, IsFromScratch, IsLeft};
+ghost use Rattle.stage_driver.specs.Runs.{IsOnce, IsOutcome, IsUnfinished, SameHand, run_over};
+ghost use Rattle.stage_driver.specs.Runs.{Trusts, started, unmet, writes_for, writes_of};
 
 use crate::cause::Cause;
 use crate::chain::run_built;
 use crate::chain_end::ChainEnd;
+use crate::fresh::clear;
 use crate::outcome::{ChainFault, Mode, Outcome};
 use crate::progress::Progress;
 use crate::report::outcome;
+use crate::settle::settle;
 use crate::writes::writes_for;
-use plan_files::{Files, apply_all};
+use plan_files::Files;
 use plan_num::{Ledger, Steps};
 use std::alloc::Global;
 
-/// Runs the stages that are built over the files of a dataset. The folder then has the made files
-/// that its hand files determine and no others of these stages, and every other file is as before.
+/// Runs the stages that are built over the files of a dataset: a stage that was given the same before
+/// is taken from what is kept, and any other one is made. The folder then has the made files that
+/// were made and no others of these stages, and the entry of each of them. Where what is kept is
+/// honest, these are the files that its hand files alone determine. A fresh run first removes what
+/// is kept. Every other file is as before.
 pub fn run_chain<F: Files, L: Ledger>(
     alloc: Global,
     files: &mut F,
     mode: Mode,
     steps: &mut Steps<L>,
 ) -> Result<Outcome, ChainFault>
+    // What a run over a folder makes, tells and leaves, whatever is kept there.
     ensures outcome { IfSome (F.contents files.old) (λ folder.
-        IfOk result (IsOutcome (hand_of folder))) }
-    ensures made_files_are_right { IfSome (F.contents files.old) MadeFilesAreRight }
-    ensures refusal { IfSome (F.contents files.old) (λ folder. RefusesHand (hand_of folder)) }
+        IfOk result (IsOutcome (run_over (started mode folder)))) }
     ensures left { IfSome (F.contents files.old) (λ folder.
-        OnOk result (IsLeft folder
+        OnOk result (IsLeft mode folder
         (F.contents files.new) (F.writes files.old) (F.writes files.new))) }
-    ensures left_is_right { IfSome (F.contents files.old) (λ folder.
-        OnOk result (IsLeftRight folder (F.contents files.new))) }
     ensures work { IfSome (F.contents files.old) (λ folder.
-        OnOk result (steps.new ≡ steps.old + (made (hand_of folder)).work)) }
+        OnOk result (steps.new ≡ steps.old + (run_over (started mode folder)).work)) }
+    ensures once { (folder : Folder) → IsOnce (writes_of folder) }
+
+    // Where what is kept is honest, and in a fresh run, that is what is made from scratch. It is right
+    // over the files in the folder that is left, and a refusal names files that people write.
+    ensures from_scratch { (folder : Folder) → Trusts mode folder
+        → IsFromScratch (run_over (started mode folder)) (hand_of folder) }
+    ensures made_files_are_right { (folder : Folder) → MadeFilesAreRight folder }
+    ensures left_is_right { IfSome (F.contents files.old) (λ folder.
+        OnOk result (Trusts mode folder → IsLeftRight folder (F.contents files.new))) }
+    ensures refusal { (folder : Folder) → RefusesHand (hand_of folder) }
+
+    // What is kept stays honest. Before a fresh run it need not be.
+    ensures keep { IfSome (F.contents files.old) (λ folder.
+        OnOk result (Trusts mode folder → IfSome (F.contents files.new) IsKeptHonest)) }
+
+    // A further run over what is left writes nothing.
+    ensures again { IfSome (F.contents files.old) (λ folder.
+        OnOk result (IfSome (F.contents files.new) (λ left. writes_of left ≡ []))) }
+
+    // What a fault leaves.
     ensures unfinished { IfSome (F.contents files.old) (λ folder.
-        IfErr result (λ fault. AreNotAll fault (writes_of folder) (Some folder)
+        IfErr result (λ fault. IsUnfinished mode fault folder
         (F.contents files.new) (F.writes files.old) (F.writes files.new))) }
-    ensures outside { IfSome (F.contents files.old) (λ folder.
-        AreOutside is_hand (writes_of folder)) }
-    ensures writes_no_hand_file { AddsNoHandFile (F.writes files.old) (F.writes files.new) }
     ensures no_more { IfSome (F.contents files.old) (λ folder.
-        steps.new ≤ steps.old + (made (hand_of folder)).work) }
+        steps.new ≤ steps.old + (run_over (started mode folder)).work) }
     ensures no_less { steps.old ≤ steps.new }
+    ensures outside { (folder : Folder) → AreOutside is_hand (writes_of folder) }
+    ensures writes_no_hand_file { AddsNoHandFile (F.writes files.old) (F.writes files.new) }
     ensures hand { SameHand (F.contents files.old) (F.contents files.new) }
     ensures faults { Counts (has_failed result) (F.faults files.old) (F.faults files.new) }
 {
-    // Nothing is kept yet, so both modes do the same.
-    let _ = mode;
+    clear(alloc, files, mode)?;
+    run_kept(alloc, files, steps)
+}
+
+// The same over what is kept.
+fn run_kept<F: Files, L: Ledger>(
+    alloc: Global,
+    files: &mut F,
+    steps: &mut Steps<L>,
+) -> Result<Outcome, ChainFault>
+    ensures outcome { IfSome (F.contents files.old) (λ folder.
+        IfOk result (IsOutcome (run_over folder))) }
+    ensures left { IfSome (F.contents files.old) (λ folder. OnOk result (AreApplied
+        (writes_of folder) (Some folder)
+        (F.contents files.new) (F.writes files.old) (F.writes files.new))) }
+    ensures back { IfSome (F.contents files.old) (λ folder.
+        OnOk result (AreReadBack folder (trace_over folder folder).visits)) }
+    ensures work { IfSome (F.contents files.old) (λ folder.
+        OnOk result (steps.new ≡ steps.old + (run_over folder).work)) }
+    ensures unfinished { IfSome (F.contents files.old) (λ folder.
+        IfErr result (λ fault. AreNotAll fault (writes_of folder) (Some folder)
+        (F.contents files.new) (F.writes files.old) (F.writes files.new))) }
+    ensures no_more { IfSome (F.contents files.old) (λ folder.
+        steps.new ≤ steps.old + (run_over folder).work) }
+    ensures no_less { steps.old ≤ steps.new }
+    ensures writes_no_hand_file { AddsNoHandFile (F.writes files.old) (F.writes files.new) }
+    ensures hand { SameHand (F.contents files.old) (F.contents files.new) }
+    ensures faults { Counts (has_failed result) (F.faults files.old) (F.faults files.new) }
+{
     let mut progress = Progress::new(alloc);
     let cause = run_to_end(alloc, files, steps, &mut progress)?;
     finish(alloc, files, progress, cause)
@@ -71,10 +121,10 @@ fn run_to_end<F: Files, L: Ledger>(
 ) -> Result<Option<Cause>, ChainFault>
     requires { progress.old ≡ nothing }
     ensures end { IfSome (F.contents files.old) (λ folder.
-        EndGives stage_work (trace_of folder) progress.new steps.old steps.new result) }
+        EndGives folder (trace_over folder folder) progress.new steps.old steps.new result) }
     ensures only_reads { OnlyReads F.contents F.writes F.faults files.old files.new
         (has_failed result) }
-    ensures no_hand_file { OnOk result (AreNoHandFiles progress.new.files) }
+    ensures no_hand_file { OnOk result (NamesNoHand progress.new) }
     ensures no_less { steps.old ≤ steps.new }
 {
     match run_built(alloc, files, steps, progress) {
@@ -92,17 +142,23 @@ fn finish<F: Files>(
     progress: Progress,
     cause: Option<Cause>,
 ) -> Result<Outcome, ChainFault>
+    requires { NamesNoHand progress }
     ensures report { IfOk result (λ outcome. outcome.report ≡ progress.report ++ last_line cause) }
     ensures end { IfOk result (λ outcome. outcome.end ≡ end_of cause) }
-    ensures left { OnOk result (AreApplied (writes_for progress.files)
-        (F.contents files.old) (F.contents files.new) (F.writes files.old) (F.writes files.new)) }
-    ensures unfinished { IfErr result (λ fault. AreNotAll fault (writes_for progress.files)
-        (F.contents files.old) (F.contents files.new) (F.writes files.old) (F.writes files.new)) }
+    ensures left { IfSome (F.contents files.old) (λ folder. OnOk result (AreApplied
+        (unmet folder (writes_for progress.files) ++ progress.entries) (Some folder)
+        (F.contents files.new) (F.writes files.old) (F.writes files.new))) }
+    ensures unfinished { IfSome (F.contents files.old) (λ folder.
+        IfErr result (λ fault. AreNotAll fault
+        (unmet folder (writes_for progress.files) ++ progress.entries) (Some folder)
+        (F.contents files.new) (F.writes files.old) (F.writes files.new))) }
+    ensures hand { SameHand (F.contents files.old) (F.contents files.new) }
+    ensures writes_no_hand_file { AddsNoHandFile (F.writes files.old) (F.writes files.new) }
     ensures faults { Counts (has_failed result) (F.faults files.old) (F.faults files.new) }
 {
-    let (made, lines) = progress.into_parts();
+    let (made, lines, entries) = progress.into_parts();
     let outcome = outcome(alloc, lines, cause)?;
-    let writes = writes_for(alloc, made)?;
-    apply_all(files, &writes)?;
+    let wishes = writes_for(alloc, made)?;
+    settle(alloc, files, wishes, entries)?;
     Ok(outcome)
 }

@@ -227,6 +227,15 @@ reading_is_exact at bytes short = by (read_entry at bytes) refl
           told.bytes_are,
         )
 
+-- the files of an entry that is read are some that its stage makes
+pub read_makes : (at : Stage) (bytes : List ℕ) (entry : EntryParts)
+    → read_entry at bytes ≡ Some entry → MakesAs at (ids_of entry.made.files)
+unfolding read_entry
+read_makes at bytes entry some =
+    let at_list = found_in (entry_with at bytes) entry (made_lists at) some in
+    let told = entry_told at bytes at_list.0 entry at_list.2 in
+    subst (λ files. MakesAs at files) (sym told.made) at_list.1
+
 pub entries_are_read_back : EntriesAreReadBack
 entries_are_read_back at entry is =
     by (read_entry at (entry_bytes at entry)) (reading_is_exact at (entry_bytes at entry) is.short)

@@ -1,32 +1,63 @@
 -- What is written is honest, fronts of it are, and what an honest keep holds is made.
-use Rattle.std.proofs.Common.{◌≡◌, ℕ, List, refl, ap, sym, subst, ◌∙◌, Bool, true, false, cond, Option, Some, None, option_and_then, Ok}
+use Rattle.std.proofs.Common.{◌≡◌, ℕ, List, refl, ap, sym, subst, ◌∙◌, Bool, true, false, cond, Option, Some, None, option_and_then, Result, Ok}
 use Rattle.std.specs.Cmp.Lexicographic.{pointwise}
 use Rattle.std.specs.Str.{bytes_eq}
 use Rattle.std.proofs.lemmas.Bool.{and_parts}
 use Rattle.std.proofs.lemmas.Option.{same_Some}
 use Rattle.std.proofs.lemmas.Slice.Eq.{bytes_eq-Decides, slice_eq-Decides}
 use Rattle.giv_files.specs.declared.made.Made.{Made}
+use Rattle.giv_files.specs.declared.refusal.Refusal.{Refusal}
+use Rattle.giv_files.specs.MadeLists.{MakesAs, ids_of}
 use Rattle.giv_files.specs.Settings.{BundleParts, Fits, SettingsFit}
 use Rattle.giv_files.specs.SettingsText.{settings_text}
 use Rattle.giv_files.proofs.SettingsTold.{text_tells}
-use Rattle.stage_keep.specs.Entries.{EntryParts, entry_for}
+use Rattle.stage_keep.specs.Entries.{EntryParts, entry_bytes, entry_for}
 use Rattle.stage_keep.specs.EntryReading.{read_entry}
-use Rattle.stage_keep.specs.Honest.{held_for, matches}
+use Rattle.stage_keep.specs.Honest.{IsHonest, held_for, kept_for, matches}
 use Rattle.stage_keep.specs.Laws.{FrontsAreHonest, HonestIsMade, WrittenIsEntry, WrittenIsHonest}
-use Rattle.stage_keep.proofs.EntriesRead.{entries_are_read_back, entry_fits, fronts_are_none}
+use Rattle.stage_keep.proofs.EntriesRead.{entries_are_read_back, entry_fits, fronts_are_none, read_makes}
 
 texts_decide : (xs ys : List (List ℕ)) → (pointwise bytes_eq xs ys ≡ true → xs ≡ ys)
     × (xs ≡ ys → pointwise bytes_eq xs ys ≡ true)
 texts_decide xs ys = slice_eq-Decides bytes_eq-Decides xs ys (pointwise bytes_eq xs ys) refl
 
+-- the entry of a bundle is one of it
+own_entry : (bundle : BundleParts) (made : Made) → matches (entry_for bundle made) bundle ≡ true
+own_entry bundle made = rw (
+  (bytes_eq-Decides (settings_text bundle.settings) (settings_text bundle.settings)).1 refl,
+  (texts_decide bundle.inputs bundle.inputs).1 refl,
+) refl
+
 pub written_is_entry : WrittenIsEntry
-written_is_entry bundle made fits makes short = (
-  entry_fits bundle made fits makes short,
-  rw (
-    (bytes_eq-Decides (settings_text bundle.settings) (settings_text bundle.settings)).1 refl,
-    (texts_decide bundle.inputs bundle.inputs).1 refl,
-  ) refl,
-)
+written_is_entry bundle made fits makes short =
+    (entry_fits bundle made fits makes short, own_entry bundle made)
+
+-- where the entry of a bundle is read back, it is what is kept of that bundle
+pub own_kept : (bundle : BundleParts) (made : Made) (bytes : List ℕ)
+    → read_entry bundle.stage bytes ≡ Some (entry_for bundle made)
+    → kept_for bundle (Some bytes) ≡ Some made
+own_kept bundle made bytes back =
+    ap (option_and_then (held_for bundle)) back
+    ∙ ap (λ b. cond b (Some made) None) (own_entry bundle made)
+
+-- the files that are kept are some that the stage makes
+pub kept_makes : (bundle : BundleParts) (text : Option (List ℕ)) (made : Made)
+    → kept_for bundle text ≡ Some made → MakesAs bundle.stage (ids_of made.files)
+kept_makes bundle None made found = absurd (cc)
+kept_makes bundle (Some bytes) made found = read (read_entry bundle.stage bytes) refl found
+  where
+    held : (entry : EntryParts) (b : Bool) → read_entry bundle.stage bytes ≡ Some entry
+        → cond b (Some entry.made) None ≡ Some made → MakesAs bundle.stage (ids_of made.files)
+    held entry true at found =
+        subst (λ (made : Made). MakesAs bundle.stage (ids_of made.files))
+        (same_Some entry.made made found) (read_makes bundle.stage bytes entry at)
+    held entry false at found = absurd (cc)
+
+    read : (entry : Option EntryParts) → read_entry bundle.stage bytes ≡ entry
+        → option_and_then (held_for bundle) entry ≡ Some made
+        → MakesAs bundle.stage (ids_of made.files)
+    read None at found = absurd (cc)
+    read (Some entry) at found = held entry (matches entry bundle) at found
 
 -- an entry of a bundle matches no other bundle of its stage
 same_bundle : (bundle other : BundleParts) (made : Made) → Fits bundle → Fits other
@@ -41,14 +72,20 @@ same_bundle bundle other made fits also stage is =
     (subst (λ at. SettingsFit at other.settings) stage also.settings) (sym text) in
     λ i. record { stage = stage i; settings = settings i; inputs = sym inputs i }
 
-pub written_is_honest : WrittenIsHonest
-written_is_honest makes bundle made fits of short is = λ entry other read stage also matching.
-    let own = same_Some (entry_for bundle made) entry
-    (sym (entries_are_read_back bundle.stage (entry_for bundle made)
-    (entry_fits bundle made fits of short)) ∙ read) in
+-- bytes that are read as the entry of a bundle and of what its stage makes of it are honest
+pub read_is_honest : (makes : BundleParts → Result Made Refusal) (bundle : BundleParts) (made : Made)
+    (bytes : List ℕ) → Fits bundle → read_entry bundle.stage bytes ≡ Some (entry_for bundle made)
+    → makes bundle ≡ Ok made → IsHonest makes bundle.stage bytes
+read_is_honest makes bundle made bytes fits back is = λ entry other read stage also matching.
+    let own = same_Some (entry_for bundle made) entry (sym back ∙ read) in
     ap makes (same_bundle bundle other made fits also stage
     (ap (λ e. matches e other) own ∙ matching))
     ∙ is ∙ ap (λ e. Ok e.made) own
+
+pub written_is_honest : WrittenIsHonest
+written_is_honest makes bundle made fits of short is =
+    read_is_honest makes bundle made (entry_bytes bundle.stage (entry_for bundle made)) fits
+    (entries_are_read_back bundle.stage (entry_for bundle made) (entry_fits bundle made fits of short)) is
 
 pub fronts_are_honest : FrontsAreHonest
 fronts_are_honest makes stage entry front more of whole some = λ other bundle read at fits matching.

@@ -1,14 +1,11 @@
 use Rattle.std.proofs.Common.{◌≡◌, true, false, not, get_or, Err, ap, ◌∙◌, arith}
-use Rattle.std.specs.List.{list_all}
 use Rattle.plan_files.proofs.Reading.{nothing_read, both_read}
 use Rattle.std.proofs.lemmas.Bool.{le-leb, lt-leb}
 use Rattle.std.proofs.lemmas.Result.{err_from_is_err_and}
 use Rattle.giv_files.specs.declared.stage.Stage.TheVariants.{Load}
-use Rattle.giv_files.specs.MadeLists.{ids_of}
-use Rattle.stage_driver.specs.Built.{run_stage, stage_work}
+use Rattle.stage_driver.specs.Kept.{solve_over}
 use Rattle.stage_driver.specs.Chain.{stage_place}
-use Rattle.stage_driver.specs.Hand.{is_hand_file}
-use Rattle.stage_driver.specs.Progress.{SoFar}
+use Rattle.stage_driver.proofs.HandKept.{names_none}
 use Rattle.stage_driver.proofs.Going.{in_time, told_first, told_more, told_same, told_ended}
 use Rattle.stage_driver.proofs.Going.{told_finished}
 use Rattle.stage_driver.proofs.chain.run_stages.Goals as goal
@@ -17,9 +14,9 @@ use Rattle.stage_driver.proofs.chain.run_stages.Goals.{then-place_of+in_ok-visit
 pub loop-stage-init : goal.loop-stage-init
 loop-stage-init g c = record {
   reads = nothing_read _ _ _ _;
-  none = ap (λ (so_far : SoFar). list_all (λ file. not (is_hand_file file)) (ids_of so_far.files)) c.requires;
+  none = names_none _ c.requires;
   least = omega arith;
-  rest = told_first run_stage stage_work _ c.args.config.now c.built-stage-items.result.now c.args.progress.now c.args.steps.now c.requires;
+  rest = told_first solve_over _ c.args.config.now c.built-stage-items.result.now c.args.progress.now c.args.steps.now c.requires;
 }
 
 pub loop-stage-preserved : goal.loop-stage-preserved
@@ -32,7 +29,7 @@ loop-stage-preserved g c =
             reads = both_read _ _ _ _ _ _ _ c.loop-stage.invariant.reads w.in_ok-visit.ensures.only_reads;
             none = w.in_ok-visit.ensures.no_hand_file;
             least = omega (arith, c.loop-stage.invariant.least, w.in_ok-visit.ensures.no_less);
-            rest = told_more run_stage stage_work c.args.config.now c.built-stage-items.result.now c.loop-stage.stage-index Load c.loop-stage-test.true _ _ c.loop-stage.progress _ c.args.steps.now c.loop-stage.steps _
+            rest = told_more solve_over c.args.config.now c.built-stage-items.result.now c.loop-stage.stage-index Load c.loop-stage-test.true _ _ c.loop-stage.progress _ c.args.steps.now c.loop-stage.steps _
                 is c.loop-stage.invariant.reads.contents w.in_ok-visit.ensures.visit c.loop-stage.invariant.rest;
           })
       | else-place_of w ↦
@@ -41,7 +38,7 @@ loop-stage-preserved g c =
             reads = c.loop-stage.invariant.reads;
             none = c.loop-stage.invariant.none;
             least = c.loop-stage.invariant.least;
-            rest = told_same run_stage stage_work c.args.config.now c.built-stage-items.result.now c.loop-stage.stage-index Load c.loop-stage-test.true _ c.loop-stage.progress c.args.steps.now c.loop-stage.steps not c.loop-stage.invariant.rest;
+            rest = told_same solve_over c.args.config.now c.built-stage-items.result.now c.loop-stage.stage-index Load c.loop-stage-test.true _ c.loop-stage.progress c.args.steps.now c.loop-stage.steps not c.loop-stage.invariant.rest;
           })
     ]
 
@@ -50,8 +47,8 @@ returns-in_err-visit-clause-chain g c =
     let p = err_from_is_err_and c.from_residual.result c.from_residual.ensures.1 in
     let last = c.place_of-in-loop-stage.ensures ∙ ap stage_place c.last_stage.ensures in
     let in_time_is : in_time c.args.config.now (get_or c.built-stage-items.result.now c.loop-stage.stage-index Load) ≡ true = le-leb _ _ (omega (arith, c.place_of.ensures, last, c.if-place_of.true)) in
-    told_ended run_stage stage_work c.args.config.now c.built-stage-items.result.now c.loop-stage.stage-index Load c.loop-stage-test.true _ c.built-stage-items.ensures _ _ c.loop-stage.progress c.visit.new.progress c.args.steps.now c.loop-stage.steps c.visit.new.steps c.in_err-visit.field-0.0 _
+    told_ended solve_over c.args.config.now c.built-stage-items.result.now c.loop-stage.stage-index Load c.loop-stage-test.true _ c.built-stage-items.ensures _ _ c.loop-stage.progress c.visit.new.progress c.args.steps.now c.loop-stage.steps c.visit.new.steps c.in_err-visit.field-0.0 _
     in_time_is c.loop-stage.invariant.reads.contents c.loop-stage.invariant.least c.in_err-visit.ensures.visit c.loop-stage.invariant.rest (p.1 ∙ ap Err p.2)
 
 pub returns-clause-chain : goal.returns-clause-chain
-returns-clause-chain g c = told_finished run_stage stage_work _ c.args.config.now c.built-stage-items.result.now _ c.loop-stage.stage-index c.loop-stage.progress c.args.steps.now c.loop-stage.steps c.loop-stage-test.false c.built-stage-items.ensures c.loop-stage.invariant.rest
+returns-clause-chain g c = told_finished solve_over _ c.args.config.now c.built-stage-items.result.now _ c.loop-stage.stage-index c.loop-stage.progress c.args.steps.now c.loop-stage.steps c.loop-stage-test.false c.built-stage-items.ensures c.loop-stage.invariant.rest

@@ -10,16 +10,16 @@ use Rattle.stage_driver.proofs.gather.gather.Goals as goal
 
 pub loop-file-preserved : goal.loop-file-preserved
 loop-file-preserved g c =
-    let k = c.in_ok-push_input.ensures.ok in
+    let k = c.in_ok-push_text.ensures.ok in
     let inputs = c.loop-file.bundle.inputs in
     record {
       reads = both_read _ _ _ _ _ _ _ c.loop-file.invariant.reads c.in_ok-text.ensures.only_reads;
       stage = ap (λ (bundle : BundleParts). bundle.stage) k ∙ c.loop-file.invariant.stage;
       settings = ap (λ (bundle : BundleParts). bundle.settings) k ∙ c.loop-file.invariant.settings;
-      count = ap (λ (bundle : BundleParts). length bundle.inputs) k ∙ length-append inputs (c.as_bytes.result.now ∷ []) ∙ ap (λ n. n + 1) c.loop-file.invariant.count;
-      texts = told_more (look_over _) c.args.config.now _ _ c.inputs-file-items.result.now c.loop-file.file-index Stop inputs c.push_input.new.self.inputs c.in_ok-text.text
+      count = ap (λ (bundle : BundleParts). length bundle.inputs) k ∙ length-append inputs (c.in_ok-text.text ∷ []) ∙ ap (λ n. n + 1) c.loop-file.invariant.count;
+      texts = told_more (look_over _) c.args.config.now _ _ c.inputs-file-items.result.now c.loop-file.file-index Stop inputs c.push_text.new.self.inputs c.in_ok-text.text
           c.loop-file-test.true c.loop-file.invariant.reads.contents (rw c.chosen.ensures at c.in_ok-text.ensures.text)
-          (ap (λ (bundle : BundleParts). bundle.inputs) k ∙ ap (λ text. inputs ++ text ∷ []) c.as_bytes.ensures) c.loop-file.invariant.texts;
+          (ap (λ (bundle : BundleParts). bundle.inputs) k) c.loop-file.invariant.texts;
     }
 
 pub returns-clause-bundle : goal.returns-clause-bundle

@@ -1,61 +1,81 @@
-use Rattle.stage_driver.proofs.LeftRight.{told_left, told_right}
-use Rattle.stage_driver.proofs.Refusing.{told_refuses}
-use Rattle.stage_driver.proofs.Running.{outcome_is, left_is, unfinished_is, untouched, work_told}
-use Rattle.stage_driver.proofs.Running.{work_bound, hand_is, hand_untouched, told_outside}
-use Rattle.stage_driver.proofs.Running.{adds_none, adds_nothing}
+use Rattle.std.proofs.Common.{Err, ap, ◌∙◌}
+use Rattle.std.proofs.lemmas.Result.{err_from_is_err_and}
+use Rattle.stage_driver.specs.Hand.{hand_of}
+use Rattle.stage_driver.proofs.BothModes.{again_left, back_both, both_scratch, cleared_not, keep_left}
+use Rattle.stage_driver.proofs.BothModes.{left_both, most_both, outcome_both, right_left}
+use Rattle.stage_driver.proofs.BothModes.{unfinished_both, work_both}
+use Rattle.stage_driver.proofs.HandKept.{writes_once, writes_outside}
+use Rattle.stage_driver.proofs.LeftRight.{left_right}
+use Rattle.stage_driver.proofs.Refusing.{refuses_hand}
+use Rattle.stage_driver.proofs.Running.{adds_both}
 use Rattle.stage_driver.proofs.run.run_chain.Goals as goal
 
-pub returns-clause-outcome : goal.returns-clause-outcome
-returns-clause-outcome g c = outcome_is _ c.run_to_end.new.progress c.in_ok-cause.cause c.args.steps.now c.run_to_end.new.steps _ c.in_ok-cause.ensures.end c.finish.ensures.report c.finish.ensures.end
+pub returns-in_err-clear-clause-once : goal.returns-in_err-clear-clause-once
+returns-in_err-clear-clause-once g c = writes_once
 
-pub returns-clause-left : goal.returns-clause-left
-returns-clause-left g c = left_is _ _ _ _ _ _ c.run_to_end.new.progress c.in_ok-cause.cause c.args.steps.now c.run_to_end.new.steps _ c.in_ok-cause.ensures.only_reads.contents c.in_ok-cause.ensures.only_reads.writes c.in_ok-cause.ensures.end c.finish.ensures.left
+pub returns-clause-once : goal.returns-clause-once
+returns-clause-once g c = writes_once
 
-pub returns-clause-unfinished : goal.returns-clause-unfinished
-returns-clause-unfinished g c = unfinished_is _ _ _ _ _ _ c.run_to_end.new.progress c.in_ok-cause.cause c.args.steps.now c.run_to_end.new.steps _ c.in_ok-cause.ensures.only_reads.contents c.in_ok-cause.ensures.only_reads.writes c.in_ok-cause.ensures.end c.finish.ensures.unfinished
+pub returns-in_err-clear-clause-from_scratch : goal.returns-in_err-clear-clause-from_scratch
+returns-in_err-clear-clause-from_scratch g c = both_scratch c.args.mode
 
-pub returns-clause-work : goal.returns-clause-work
-returns-clause-work g c = work_told _ c.run_to_end.new.progress c.in_ok-cause.cause c.args.steps.now c.run_to_end.new.steps _ c.in_ok-cause.ensures.end
+pub returns-clause-from_scratch : goal.returns-clause-from_scratch
+returns-clause-from_scratch g c = both_scratch c.args.mode
 
-pub returns-clause-no_more : goal.returns-clause-no_more
-returns-clause-no_more g c = work_bound _ c.run_to_end.new.progress c.args.steps.now c.run_to_end.new.steps c.run_to_end.result c.run_to_end.ensures.end
-
-pub returns-clause-hand : goal.returns-clause-hand
-returns-clause-hand g c = hand_is _ _ _ _ _ c.run_to_end.new.progress c.in_ok-cause.cause c.args.steps.now c.run_to_end.new.steps _ c.in_ok-cause.ensures.only_reads.contents c.in_ok-cause.ensures.end c.finish.ensures.left c.finish.ensures.unfinished
-
-pub returns-in_err-cause-clause-unfinished : goal.returns-in_err-cause-clause-unfinished
-returns-in_err-cause-clause-unfinished g c = untouched _ _ _ _ _ c.in_err-cause.ensures.only_reads.contents c.in_err-cause.ensures.only_reads.writes
-
-pub returns-in_err-cause-clause-no_more : goal.returns-in_err-cause-clause-no_more
-returns-in_err-cause-clause-no_more g c = work_bound _ c.run_to_end.new.progress c.args.steps.now c.run_to_end.new.steps c.run_to_end.result c.run_to_end.ensures.end
-
-pub returns-in_err-cause-clause-hand : goal.returns-in_err-cause-clause-hand
-returns-in_err-cause-clause-hand g c = hand_untouched _ _ c.in_err-cause.ensures.only_reads.contents
+pub returns-in_err-clear-clause-made_files_are_right : goal.returns-in_err-clear-clause-made_files_are_right
+returns-in_err-clear-clause-made_files_are_right g c = left_right
 
 pub returns-clause-made_files_are_right : goal.returns-clause-made_files_are_right
-returns-clause-made_files_are_right g c = told_right _
+returns-clause-made_files_are_right g c = left_right
 
-pub returns-in_err-cause-clause-made_files_are_right : goal.returns-in_err-cause-clause-made_files_are_right
-returns-in_err-cause-clause-made_files_are_right g c = told_right _
-
-pub returns-clause-outside : goal.returns-clause-outside
-returns-clause-outside g c = told_outside _
-
-pub returns-in_err-cause-clause-outside : goal.returns-in_err-cause-clause-outside
-returns-in_err-cause-clause-outside g c = told_outside _
+pub returns-in_err-clear-clause-refusal : goal.returns-in_err-clear-clause-refusal
+returns-in_err-clear-clause-refusal g c = λ folder. refuses_hand (hand_of folder)
 
 pub returns-clause-refusal : goal.returns-clause-refusal
-returns-clause-refusal g c = told_refuses _
+returns-clause-refusal g c = λ folder. refuses_hand (hand_of folder)
 
-pub returns-in_err-cause-clause-refusal : goal.returns-in_err-cause-clause-refusal
-returns-in_err-cause-clause-refusal g c = told_refuses _
+pub returns-in_err-clear-clause-outside : goal.returns-in_err-clear-clause-outside
+returns-in_err-clear-clause-outside g c = writes_outside
 
-pub returns-clause-writes_no_hand_file : goal.returns-clause-writes_no_hand_file
-returns-clause-writes_no_hand_file g c = adds_none c.run_to_end.new.progress.files _ _ _ _ _ _ c.in_ok-cause.ensures.no_hand_file c.in_ok-cause.ensures.only_reads.writes c.finish.ensures.left c.finish.ensures.unfinished
+pub returns-clause-outside : goal.returns-clause-outside
+returns-clause-outside g c = writes_outside
 
-pub returns-in_err-cause-clause-writes_no_hand_file : goal.returns-in_err-cause-clause-writes_no_hand_file
-returns-in_err-cause-clause-writes_no_hand_file g c =
-    adds_nothing _ _ c.in_err-cause.ensures.only_reads.writes
+pub returns-in_err-clear-clause-unfinished : goal.returns-in_err-clear-clause-unfinished
+returns-in_err-clear-clause-unfinished g c =
+    let p = err_from_is_err_and c.from_residual.result c.from_residual.ensures.1 in
+    cleared_not c.args.mode _ _ _ _ c.in_err-clear.field-0.0 _ c.in_err-clear.ensures.err (p.1 ∙ ap Err p.2)
+
+pub returns-clause-outcome : goal.returns-clause-outcome
+returns-clause-outcome g c =
+    outcome_both c.args.mode _ _ _ _ _ c.in_ok-clear.ensures.ok c.run_kept.ensures.outcome
+
+pub returns-clause-left : goal.returns-clause-left
+returns-clause-left g c =
+    left_both c.args.mode _ _ _ _ _ _ _ c.in_ok-clear.ensures.ok c.run_kept.ensures.left
+
+pub returns-clause-work : goal.returns-clause-work
+returns-clause-work g c =
+    work_both c.args.mode _ _ _ _ c.args.steps.now c.run_kept.new.steps _ c.in_ok-clear.ensures.ok c.run_kept.ensures.work
 
 pub returns-clause-left_is_right : goal.returns-clause-left_is_right
-returns-clause-left_is_right g c = told_left _ _ _ _ _ (returns-clause-left g c)
+returns-clause-left_is_right g c = right_left c.args.mode _ _ _ _ _ (returns-clause-left g c)
+
+pub returns-clause-keep : goal.returns-clause-keep
+returns-clause-keep g c =
+    keep_left c.args.mode _ _ _ _ _ (returns-clause-left g c) (back_both c.args.mode _ _ _ _ _ c.in_ok-clear.ensures.ok c.run_kept.ensures.back)
+
+pub returns-clause-again : goal.returns-clause-again
+returns-clause-again g c =
+    again_left c.args.mode _ _ _ _ _ (returns-clause-left g c) (back_both c.args.mode _ _ _ _ _ c.in_ok-clear.ensures.ok c.run_kept.ensures.back)
+
+pub returns-clause-unfinished : goal.returns-clause-unfinished
+returns-clause-unfinished g c =
+    unfinished_both c.args.mode _ _ _ _ _ _ _ c.in_ok-clear.ensures.ok c.run_kept.ensures.unfinished
+
+pub returns-clause-no_more : goal.returns-clause-no_more
+returns-clause-no_more g c =
+    most_both c.args.mode _ _ _ _ c.args.steps.now c.run_kept.new.steps c.in_ok-clear.ensures.ok c.run_kept.ensures.no_more
+
+pub returns-clause-writes_no_hand_file : goal.returns-clause-writes_no_hand_file
+returns-clause-writes_no_hand_file g c =
+    adds_both _ _ _ c.clear.ensures.writes_no_hand_file c.run_kept.ensures.writes_no_hand_file

@@ -1,14 +1,15 @@
-// The command that runs the planning stages.
+// The commands that run the planning stages.
 ghost use Rattle.std.specs.Prelude.{◌≡◌, ◌≤◌, ◌<◌, ◌+◌, ◌⊎◌, IfSome, Some};
 ghost use Rattle.plan_files.specs.Counts.{Rose};
+ghost use Rattle.plan_files.specs.Folder.{Folder};
 ghost use Rattle.plan_files.specs.Others.{AreOutside};
-ghost use Rattle.stage_driver.specs.Built.{made};
 ghost use Rattle.stage_driver.specs.Hand.{hand_of, is_hand};
 ghost use Rattle.stage_driver.specs.Right.{MadeFilesAreRight, RefusesHand};
-ghost use Rattle.stage_driver.specs.Runs.{AddsNoHandFile, SameHand, writes_of};
+ghost use Rattle.stage_driver.specs.Runs.{AddsNoHandFile, IsOnce, SameHand, Trusts, run_over};
+ghost use Rattle.stage_driver.specs.Runs.{started, writes_of};
 ghost use Rattle.lintim_cli.specs.declared.command.Command.TheVariants as commands;
 ghost use Rattle.lintim_cli.specs.Answers.{AnswersTo};
-ghost use Rattle.lintim_cli.specs.Top.{FileBroke, Leaves};
+ghost use Rattle.lintim_cli.specs.Top.{FileBroke, Headline, Leaves};
 
 use crate::answers::Status;
 use crate::report;
@@ -18,23 +19,26 @@ use stage_driver::{ChainFault, Mode, run_chain};
 use std::alloc::Global;
 
 // Runs the planning stages over a dataset, and reports.
-pub(crate) fn make<F: Files, K: Sink, L: Ledger>(
+pub(crate) fn run<F: Files, K: Sink, L: Ledger>(
     alloc: Global,
+    mode: Mode,
     files: &mut F,
     out: &mut K,
     steps: &mut Steps<L>,
 ) -> Status
-    ensures answers { AnswersTo (Some commands.Make) result }
+    ensures answers { AnswersTo (Some (commands.Run mode)) result }
     ensures leaves { IfSome (F.contents files.old) (λ folder.
-        Leaves folder (F.contents files.new) (F.writes files.old) (F.writes files.new)
+        Leaves mode folder (F.contents files.new) (F.writes files.old) (F.writes files.new)
         (F.faults files.old) (F.faults files.new)
         (K.written out.old) (K.written out.new) steps.old steps.new result) }
-    ensures made_files_are_right { IfSome (F.contents files.old) MadeFilesAreRight }
-    ensures refusal { IfSome (F.contents files.old) (λ folder. RefusesHand (hand_of folder)) }
+    ensures headline { IfSome (F.contents files.old) (λ folder. Trusts mode folder →
+        Headline folder (F.contents files.new) (K.written out.old) (K.written out.new) result) }
+    ensures made_files_are_right { (folder : Folder) → MadeFilesAreRight folder }
+    ensures refusal { (folder : Folder) → RefusesHand (hand_of folder) }
+    ensures once { (folder : Folder) → IsOnce (writes_of folder) }
+    ensures outside { (folder : Folder) → AreOutside is_hand (writes_of folder) }
     ensures hand { SameHand (F.contents files.old) (F.contents files.new) }
     ensures writes_no_hand_file { AddsNoHandFile (F.writes files.old) (F.writes files.new) }
-    ensures outside { IfSome (F.contents files.old) (λ folder.
-        AreOutside is_hand (writes_of folder)) }
     ensures file_fault { result ≡ Status.FileFault →
         FileBroke (F.faults files.old) (F.faults files.new)
         (K.written out.old) (K.written out.new) (K.faults out.old) (K.faults out.new) }
@@ -46,9 +50,9 @@ pub(crate) fn make<F: Files, K: Sink, L: Ledger>(
     ensures no_memory { result ≡ Status.NoMemory → K.written out.new ≡ K.written out.old }
     ensures no_less_steps { steps.old ≤ steps.new }
     ensures no_more_steps { IfSome (F.contents files.old) (λ folder.
-        steps.new ≤ steps.old + (made (hand_of folder)).work) }
+        steps.new ≤ steps.old + (run_over (started mode folder)).work) }
 {
-    match run_chain(alloc, files, Mode::Make, steps) {
+    match run_chain(alloc, files, mode, steps) {
         Ok(outcome) => report::tell(out, outcome.report.as_bytes(), Status::from(outcome.end)),
         Err(ChainFault::NoMemory) => Status::NoMemory,
         Err(ChainFault::FileFault) => report::tell_fault(out),

@@ -1,0 +1,366 @@
+-- What a run keeps is honest, and a further run over it makes the same and writes nothing.
+use Rattle.std.proofs.Common.{◌≡◌, ℕ, ℤ, Bool, true, false, cond, not, is_some, ◌||◌, List, [], ◌∷◌, ◌++◌}
+use Rattle.std.proofs.Common.{map, Option, Some, None, Result, Ok, Err, refl, ap, sym, subst, ◌∙◌, ◌⊎◌, inl, inr, ⊎_elim}
+use Rattle.std.specs.Prelude.{⊤}
+use Rattle.std.specs.List.{list_all}
+use Rattle.std.specs.Str.{bytes_eq}
+use Rattle.std.specs.FinMap as files
+use Rattle.std.proofs.lemmas.Bool.{false≢true, and_parts}
+use Rattle.std.proofs.lemmas.Slice.Eq.{bytes_eq-Decides}
+use Rattle.plan_files.specs.declared.write.Write.{Write}
+use Rattle.plan_files.specs.declared.write.Write.TheVariants.{Put}
+use Rattle.plan_files.specs.Changes.{after_write, folder_after, write_name}
+use Rattle.plan_files.specs.Folder.{Folder}
+use Rattle.plan_files.proofs.OtherFiles.{get_part}
+use Rattle.plan_files.proofs.Writes.{folder_after_both, get_written}
+use Rattle.giv_files.specs.declared.made.Made.{Made}
+use Rattle.giv_files.specs.declared.made.MadeFile.{MadeFile}
+use Rattle.giv_files.specs.declared.refusal.Refusal.{Refusal}
+use Rattle.giv_files.specs.declared.stage.Stage.{Stage}
+use Rattle.giv_files.specs.declared.stage.Stage.TheVariants as stage
+use Rattle.giv_files.specs.Settings.{BundleParts, Fits}
+use Rattle.giv_files.specs.Stages.{all_stages}
+use Rattle.config_keys.specs.declared.config_fault.ConfigFault.{ConfigFault}
+use Rattle.config_keys.specs.Config.{AreSettings}
+use Rattle.config_keys.specs.Items.{look_in}
+use Rattle.config_keys.specs.Values.{effective}
+use Rattle.config_keys.proofs.Settling.{effective_settings}
+use Rattle.stage_keep.specs.Entries.{entry_for, keep_name}
+use Rattle.stage_keep.specs.EntryReading.{read_entry}
+use Rattle.stage_keep.specs.Honest.{IsHonest, kept_for}
+use Rattle.stage_keep.proofs.Honesty.{own_kept, read_is_honest}
+use Rattle.stage_driver.specs.Built.{built, chain_under, files_of, run_stage}
+use Rattle.stage_driver.specs.Chain.{Halt, Trace, Visit, bundle_told, chain_from, go_on, input_text, solved}
+use Rattle.stage_driver.specs.Chain.{texts_of, to_run, tried, visit_of}
+use Rattle.stage_driver.specs.Hand.{hand_of, is_among, keep_names, names_made_by}
+use Rattle.stage_driver.specs.Kept.{AreReadBack, IsKeptHonest, IsReadBack, bytes_for, entry_put, kept_in}
+use Rattle.stage_driver.specs.Kept.{kept_or, made_over, new_entries, new_entry, solve_over, trace_over}
+use Rattle.stage_driver.specs.Runs.{after, entries_over, name_of, unmet, with_files, without_keep}
+use Rattle.stage_driver.specs.Runs.{without_made, writes_for, writes_of}
+use Rattle.stage_driver.proofs.Differing.{differs_from, differing, not_among, same_way}
+use Rattle.stage_driver.proofs.HandAlone.{over_alone}
+use Rattle.stage_driver.proofs.Keeping.{solve_makes}
+use Rattle.stage_driver.proofs.Left.{other_with, writes_leave}
+use Rattle.stage_driver.proofs.LeftRight.{hand_after}
+use Rattle.stage_driver.proofs.MadeRight.{given_fits}
+use Rattle.stage_driver.proofs.Traces.{by_visits, stages_run, traced_over}
+use Rattle.stage_driver.proofs.Visits.{AreVisits, IsHalt, IsRefused, IsVisit, bundle_stage, given_to}
+use Rattle.stage_driver.proofs.Wishes.{Alike, AreMet, alike_after, get_behind, met_after, met_behind}
+use Rattle.stage_driver.proofs.Wishes.{names_in, none_unmet}
+use Rattle.stage_driver.proofs.WrittenNames.{AreApart, are_apart, entries_within, files_apart}
+use Rattle.stage_driver.proofs.WrittenNames.{files_differ, run_apart}
+
+-- ---- the name under which a stage keeps tells the stage
+
+named_stage : List ℕ → List Stage → Stage
+named_stage name [] = stage.Load
+named_stage name (at ∷ stages) = cond (bytes_eq name (keep_name at)) at (named_stage name stages)
+
+stage_named : (at : Stage) → named_stage (keep_name at) all_stages ≡ at
+unfolding named_stage
+stage_named stage.Load = refl
+stage_named stage.Cost = refl
+stage_named stage.Concept = refl
+stage_named stage.Ean = refl
+stage_named stage.Timetable = refl
+stage_named stage.Rollout = refl
+stage_named stage.Vehicles = refl
+stage_named stage.Disposition = refl
+stage_named stage.Statistic = refl
+
+same_stage : (at other : Stage) → keep_name at ≡ keep_name other → at ≡ other
+same_stage at other same =
+    sym (stage_named at) ∙ ap (λ name. named_stage name all_stages) same ∙ stage_named other
+
+-- ---- what is kept is where it was, apart from new entries
+
+-- no stage keeps under the name of a made file
+built_apart_of : (at : Stage) → differs_from (names_made_by built) (keep_name at) ≡ true
+built_apart_of stage.Load = refl
+built_apart_of stage.Cost = refl
+built_apart_of stage.Concept = refl
+built_apart_of stage.Ean = refl
+built_apart_of stage.Timetable = refl
+built_apart_of stage.Rollout = refl
+built_apart_of stage.Vehicles = refl
+built_apart_of stage.Disposition = refl
+built_apart_of stage.Statistic = refl
+
+module _ (folder : Folder) where
+  abbrev run_visits : List Visit
+  run_visits = (trace_over folder (hand_of folder)).visits
+
+  abbrev made_base : Folder
+  made_base = with_files (files_of run_visits) (without_made folder)
+
+  base_keeps : (at : Stage) → files.get made_base (keep_name at) ≡ files.get folder (keep_name at)
+  base_keeps at =
+      let apart = are_apart folder (hand_of folder) in
+      let out = not_among (map name_of (files_of run_visits)) (keep_name at) (apart.within (λ name. not (bytes_eq (keep_name at) name)) (built_apart_of at)) in
+      other_with (files_of run_visits) (without_made folder) (keep_name at) out
+      ∙ get_part (λ name. not (is_among name (names_made_by built))) folder (keep_name at)
+      ∙ ap (λ b. cond (not b) (files.get folder (keep_name at)) None) (not_among (names_made_by built) (keep_name at) (built_apart_of at))
+
+  alike_base : (stages : List Stage) → Alike made_base folder (map keep_name stages)
+  alike_base [] = tt
+  alike_base (at ∷ stages) = (base_keeps at, alike_base stages)
+
+-- ---- what is kept stays honest
+
+-- a stage that was made and not kept makes what its entry says
+not_kept : (keep : Folder) (visit : Visit) → kept_in keep visit.bundle ≡ None
+    → solve_over keep visit.bundle ≡ Ok visit.made → run_stage visit.bundle ≡ Ok visit.made
+unfolding solve_over
+not_kept keep visit none is =
+    ap (λ kept. kept_or kept (run_stage visit.bundle)) (sym none) ∙ is
+
+put_honest : (base : Folder) (visit : Visit) → Fits visit.bundle → IsReadBack visit
+    → run_stage visit.bundle ≡ Ok visit.made → IsKeptHonest base
+    → IsKeptHonest (after_write (entry_put visit.bundle visit.made) base)
+put_honest base visit fits back is honest = λ at bytes there. by at bytes (bytes_eq (keep_name at) (keep_name visit.bundle.stage)) refl
+    (sym (get_written (entry_put visit.bundle visit.made) base (keep_name at)) ∙ there)
+  where
+    by : (at : Stage) (bytes : List ℕ) (here : Bool)
+        → bytes_eq (keep_name at) (keep_name visit.bundle.stage) ≡ here
+        → cond here (Some (bytes_for visit)) (files.get base (keep_name at)) ≡ Some bytes
+        → IsHonest run_stage at bytes
+    by at bytes true same there =
+        let own : visit.bundle.stage ≡ at = sym (same_stage at visit.bundle.stage ((bytes_eq-Decides (keep_name at) (keep_name visit.bundle.stage)).0 same)) in
+        let text : bytes_for visit ≡ bytes = cc in
+        subst (λ at. IsHonest run_stage at bytes) own (subst (λ bytes. IsHonest run_stage visit.bundle.stage bytes) text
+        (read_is_honest run_stage visit.bundle visit.made (bytes_for visit) fits back is))
+    by at bytes false same there = honest at bytes there
+
+module _ (keep : Folder) (values : List ℤ) (are : AreSettings values) (hand : Folder) where
+  entries_honest : (before : List MadeFile) (stages : List Stage) (visits : List Visit)
+      (halt : Option Halt) (base : Folder)
+      → AreVisits (solve_over keep) values hand before stages visits halt → AreReadBack keep visits
+      → IsKeptHonest base → IsKeptHonest (folder_after (new_entries keep visits) base)
+  entries_honest before stages [] halt base visited back honest = honest
+  entries_honest before [] (visit ∷ visits) halt base visited back honest = absurd visited
+  entries_honest before (at ∷ stages) (visit ∷ visits) halt base visited back honest =
+      subst IsKeptHonest (sym (folder_after_both (new_entry keep visit) (new_entries keep visits) base))
+      (entries_honest (before ++ visit.made.files) stages visits halt (folder_after (new_entry keep visit) base) visited.1 back.1 (by (kept_in keep visit.bundle) refl))
+    where
+      by : (kept : Option Made) → kept_in keep visit.bundle ≡ kept
+          → IsKeptHonest (folder_after (cond (is_some kept) [] (entry_put visit.bundle visit.made ∷ [])) base)
+      by (Some made) is = honest
+      by None is = put_honest base visit (given_fits (input_text hand before) values at visit.bundle are visited.0.given) (back.0 is) (not_kept keep visit is visited.0.solved) honest
+
+-- What a run keeps that started from an honest keep is honest.
+pub honest_after : (folder : Folder) → AreReadBack folder (trace_over folder (hand_of folder)).visits
+    → IsKeptHonest folder → IsKeptHonest (after folder)
+unfolding after entries_over made_over
+honest_after folder back honest =
+    traced_over folder (hand_of folder) (λ trace. AreReadBack folder trace.visits → IsKeptHonest (folder_after (new_entries folder trace.visits) (made_base folder)))
+    (λ reason is _. start)
+    (λ values is back. entries_honest folder values (effective_settings (look_in (hand_of folder)) values is) (hand_of folder) [] (stages_run values) _ _ (made_base folder) (by_visits (solve_over folder) (solve_makes folder) values (hand_of folder)) back start)
+    back
+  where
+    start : IsKeptHonest (made_base folder)
+    start = λ at bytes there. honest at bytes (sym (base_keeps folder at) ∙ there)
+
+-- ---- a further run makes the same
+
+-- what a folder has for the stages that were made, and the one behind them: what was kept of them,
+-- or their new entry
+abbrev KeepsOn : Folder → Folder → List Stage → List Visit → Type 0
+KeepsOn left keep [] visits = ⊤
+KeepsOn left keep (at ∷ stages) [] = files.get left (keep_name at) ≡ files.get keep (keep_name at)
+KeepsOn left keep (at ∷ stages) (visit ∷ visits) =
+    (files.get left (keep_name at) ≡ cond (is_some (kept_in keep visit.bundle)) (files.get keep (keep_name at)) (Some (bytes_for visit)))
+    × KeepsOn left keep stages visits
+
+-- each stage that was made is kept
+abbrev AreKept : Folder → List Visit → Type 0
+AreKept left [] = ⊤
+AreKept left (visit ∷ visits) = (kept_in left visit.bundle ≡ Some visit.made) × AreKept left visits
+
+kept_none : (left : Folder) (visits : List Visit) → AreKept left visits → new_entries left visits ≡ []
+kept_none left [] h = refl
+kept_none left (visit ∷ visits) h =
+    ap (λ kept. cond (is_some kept) [] (entry_put visit.bundle visit.made ∷ []) ++ new_entries left visits) h.0
+    ∙ kept_none left visits h.1
+
+ok_same : (made other : Made) (told : Result Made Refusal) → told ≡ Ok made → told ≡ Ok other
+    → made ≡ other
+ok_same made other told first second = cc
+
+module _ (keep : Folder) (values : List ℤ) (hand : Folder) where
+  keeps_on : (before : List MadeFile) (stages : List Stage) (visits : List Visit)
+      (halt : Option Halt) (base : Folder)
+      → AreVisits (solve_over keep) values hand before stages visits halt
+      → differing (map keep_name stages) ≡ true → Alike base keep (map keep_name stages)
+      → KeepsOn (folder_after (new_entries keep visits) base) keep stages visits
+  keeps_on before [] visits halt base visited h same = tt
+  keeps_on before (at ∷ stages) [] halt base visited h same = same.0
+  keeps_on before (at ∷ stages) (visit ∷ visits) halt base visited h same =
+      let parts = and_parts _ _ h in
+      let own : visit.bundle.stage ≡ at = bundle_stage values at _ visit.bundle visited.0.given in
+      let later = entries_within keep values hand (λ other. not (bytes_eq (keep_name at) other)) (before ++ visit.made.files) stages visits halt visited.1 parts.0 in
+      let next = folder_after (new_entry keep visit) base in
+      let whole = folder_after_both (new_entry keep visit) (new_entries keep visits) base in (
+        ap (λ left. files.get left (keep_name at)) whole
+            ∙ get_behind (new_entries keep visits) next (keep_name at) (not_among (names_in (new_entries keep visits)) (keep_name at) later)
+            ∙ here (is_some (kept_in keep visit.bundle)) own,
+        subst (λ left. KeepsOn left keep stages visits) (sym whole) (keeps_on (before ++ visit.made.files) stages visits halt next visited.1 parts.1 (still (is_some (kept_in keep visit.bundle)) own parts.0)),
+      )
+    where
+      here : (kept : Bool) → visit.bundle.stage ≡ at
+          → files.get (folder_after (cond kept [] (entry_put visit.bundle visit.made ∷ [])) base) (keep_name at) ≡ cond kept (files.get keep (keep_name at)) (Some (bytes_for visit))
+      here true own = same.0
+      here false own =
+          get_written (entry_put visit.bundle visit.made) base (keep_name at)
+          ∙ ap (λ b. cond b (Some (bytes_for visit)) (files.get base (keep_name at))) ((bytes_eq-Decides (keep_name at) (keep_name visit.bundle.stage)).1 (ap keep_name (sym own)))
+
+      still : (kept : Bool) → visit.bundle.stage ≡ at
+          → differs_from (map keep_name stages) (keep_name at) ≡ true
+          → Alike (folder_after (cond kept [] (entry_put visit.bundle visit.made ∷ [])) base) keep (map keep_name stages)
+      still true own out = same.1
+      still false own out = alike_after (entry_put visit.bundle visit.made) base keep (map keep_name stages) (ap (λ s. differs_from (map keep_name stages) (keep_name s)) own ∙ out) same.1
+
+  module _ (left : Folder) where
+    -- what is kept of a stage that was made is what was made
+    kept_on : (at : Stage) (before : List MadeFile) (visit : Visit)
+        → IsVisit (solve_over keep) values hand before at visit
+        → (kept_in keep visit.bundle ≡ None → IsReadBack visit)
+        → files.get left (keep_name at) ≡ cond (is_some (kept_in keep visit.bundle)) (files.get keep (keep_name at)) (Some (bytes_for visit))
+        → kept_in left visit.bundle ≡ Some visit.made
+    unfolding solve_over
+    kept_on at before visit is back there =
+        let own : visit.bundle.stage ≡ at = bundle_stage values at _ visit.bundle is.given in
+        by (kept_in keep visit.bundle) refl is.solved
+        (ap (λ s. files.get left (keep_name s)) own ∙ there ∙ ap (λ s. cond (is_some (kept_in keep visit.bundle)) (files.get keep (keep_name s)) (Some (bytes_for visit))) (sym own))
+      where
+        by : (kept : Option Made) → kept_in keep visit.bundle ≡ kept
+            → kept_or (kept_in keep visit.bundle) (run_stage visit.bundle) ≡ Ok visit.made
+            → files.get left (keep_name visit.bundle.stage) ≡ cond (is_some (kept_in keep visit.bundle)) (files.get keep (keep_name visit.bundle.stage)) (Some (bytes_for visit))
+            → kept_in left visit.bundle ≡ Some visit.made
+        by (Some made) kept gives there =
+            let same : made ≡ visit.made = ok_same made visit.made (kept_or (kept_in keep visit.bundle) (run_stage visit.bundle)) (ap (λ kept. kept_or kept (run_stage visit.bundle)) kept) gives in
+            ap (kept_for visit.bundle) (there ∙ ap (λ kept. cond (is_some kept) (files.get keep (keep_name visit.bundle.stage)) (Some (bytes_for visit))) kept)
+            ∙ kept ∙ ap Some same
+        by None kept gives there =
+            ap (kept_for visit.bundle) (there ∙ ap (λ kept. cond (is_some kept) (files.get keep (keep_name visit.bundle.stage)) (Some (bytes_for visit))) kept)
+            ∙ own_kept visit.bundle visit.made (bytes_for visit) (back kept)
+
+    kept_gives : (visit : Visit) → kept_in left visit.bundle ≡ Some visit.made
+        → solve_over left visit.bundle ≡ Ok visit.made
+    unfolding solve_over
+    kept_gives visit kept = ap (λ kept. kept_or kept (run_stage visit.bundle)) kept
+
+    -- and what was refused is refused
+    still_refused : (at : Stage) (before : List MadeFile) (halt : Halt)
+        → files.get left (keep_name at) ≡ files.get keep (keep_name at)
+        → IsHalt (solve_over keep) values hand before at halt
+        → IsHalt (solve_over left) values hand before at halt
+    unfolding solve_over
+    still_refused at before halt there h =
+        ⊎_elim (λ none. inl none)
+        (λ refused.
+        let own : refused.bundle.stage ≡ at = bundle_stage values at _ refused.bundle refused.given in
+        let same : kept_in left refused.bundle ≡ kept_in keep refused.bundle = ap (kept_for refused.bundle) (ap (λ s. files.get left (keep_name s)) own ∙ there ∙ ap (λ s. files.get keep (keep_name s)) (sym own)) in
+        inr (record {
+          bundle = refused.bundle;
+          reason = refused.reason;
+          given = refused.given;
+          solved = ap (λ kept. kept_or kept (run_stage refused.bundle)) same ∙ refused.solved;
+          cause = refused.cause;
+        }))
+        h
+
+    -- so the same stages are made
+    still_visits : (before : List MadeFile) (stages : List Stage) (visits : List Visit)
+        (halt : Option Halt) → AreVisits (solve_over keep) values hand before stages visits halt
+        → AreReadBack keep visits → KeepsOn left keep stages visits
+        → AreVisits (solve_over left) values hand before stages visits halt × AreKept left visits
+    still_visits before [] [] None visited back on = (tt, tt)
+    still_visits before [] [] (Some halt) visited back on = absurd visited
+    still_visits before [] (visit ∷ visits) halt visited back on = absurd visited
+    still_visits before (at ∷ stages) [] None visited back on = absurd visited
+    still_visits before (at ∷ stages) [] (Some halt) visited back on =
+        (still_refused at before halt on visited, tt)
+    still_visits before (at ∷ stages) (visit ∷ visits) halt visited back on =
+        let kept = kept_on at before visit visited.0 back.0 on.0 in
+        let rest = still_visits (before ++ visit.made.files) stages visits halt visited.1 back.1 on.1 in
+        ((record { given = visited.0.given; solved = kept_gives visit kept }, rest.0), (kept, rest.1))
+
+  -- visits are those of the chain
+  module _ (other : Folder) where
+    visits_are : (before : List MadeFile) (stages : List Stage) (visits : List Visit)
+        (halt : Option Halt) → AreVisits (solve_over other) values hand before stages visits halt
+        → (chain_from (solve_over other) values hand before stages).visits ≡ visits
+    unfolding visit_of
+    visits_are before [] [] None visited = refl
+    visits_are before [] [] (Some halt) visited = absurd visited
+    visits_are before [] (visit ∷ visits) halt visited = absurd visited
+    visits_are before (at ∷ stages) [] None visited = absurd visited
+    visits_are before (at ∷ stages) [] (Some halt) visited =
+        ⊎_elim
+        (λ none. ap (λ told. (go_on (tried (solve_over other) values hand told) (λ visit. chain_from (solve_over other) values hand (before ++ visit.made.files) stages)).visits) none)
+        (λ refused. ap (λ told. (go_on (tried (solve_over other) values hand told) (λ visit. chain_from (solve_over other) values hand (before ++ visit.made.files) stages)).visits) refused.given
+        ∙ ap (λ result. (go_on (solved (solve_over other) values hand refused.bundle result) (λ visit. chain_from (solve_over other) values hand (before ++ visit.made.files) stages)).visits) refused.solved)
+        visited
+    visits_are before (at ∷ stages) (visit ∷ visits) halt visited =
+        ap (λ told. (go_on (tried (solve_over other) values hand told) (λ visit. chain_from (solve_over other) values hand (before ++ visit.made.files) stages)).visits) visited.0.given
+        ∙ ap (λ result. (go_on (solved (solve_over other) values hand visit.bundle result) (λ visit. chain_from (solve_over other) values hand (before ++ visit.made.files) stages)).visits) visited.0.solved
+        ∙ ap (λ more. visit ∷ more) (visits_are (before ++ visit.made.files) stages visits halt visited.1)
+
+-- The chain over what a run left makes what the run made, and all of it is kept.
+record IsStill (left : Folder) (visits : List Visit) : Type 0 where
+  same : (trace_over left (hand_of left)).visits ≡ visits
+  kept : AreKept left visits
+
+none_made : (folder hand : Folder) (reason : ConfigFault) → effective (look_in hand) ≡ Err reason
+    → (trace_over folder hand).visits ≡ []
+unfolding trace_over
+none_made folder hand reason is =
+    ap (λ settings. (chain_under (solve_over folder) settings hand).visits) is
+
+made_by : (folder hand : Folder) (values : List ℤ) → effective (look_in hand) ≡ Ok values
+    → (trace_over folder hand).visits ≡ (chain_from (solve_over folder) values hand [] (stages_run values)).visits
+unfolding trace_over
+made_by folder hand values is =
+    ap (λ settings. (chain_under (solve_over folder) settings hand).visits) is
+
+still_under : (folder : Folder) → AreReadBack folder (trace_over folder (hand_of folder)).visits
+    → IsStill (after folder) (trace_over folder (hand_of folder)).visits
+unfolding after entries_over made_over
+still_under folder back =
+    let hand = hand_of folder in
+    let there = ap (λ hand. (trace_over (after folder) hand).visits) (hand_after folder) in
+    traced_over folder hand
+    (λ trace. (trace_over folder hand).visits ≡ trace.visits → AreReadBack folder trace.visits → IsStill (after folder) trace.visits)
+    (λ reason is same back. record { same = there ∙ none_made (after folder) hand reason is; kept = tt })
+    (λ values is same back.
+    let stages = stages_run values in
+    let own = by_visits (solve_over folder) (solve_makes folder) values hand in
+    let on = subst (λ visits. KeepsOn (folder_after (new_entries folder visits) (made_base folder)) folder stages (chain_under (solve_over folder) (Ok values) hand).visits) (sym same)
+    (keeps_on folder values hand [] stages _ _ (made_base folder) own (run_apart values) (alike_base folder stages)) in
+    let still = still_visits folder values hand (after folder) [] stages _ _ own back on in
+    record {
+      same = there ∙ made_by (after folder) hand values is ∙ visits_are folder values hand (after folder) [] stages _ _ still.0;
+      kept = still.1;
+    })
+    refl back
+
+-- the made files are as they were made
+met_left : (folder : Folder)
+    → AreMet (after folder) (writes_for (files_of (trace_over folder (hand_of folder)).visits))
+unfolding after entries_over made_over
+met_left folder =
+    let made = files_of (run_visits folder) in
+    let apart = are_apart folder (hand_of folder) in
+    met_behind (writes_for made) (new_entries folder (run_visits folder)) (made_base folder) (files_apart folder (run_visits folder) apart)
+    (subst (λ left. AreMet left (writes_for made)) (writes_leave made folder) (met_after (writes_for made) folder (files_differ made apart.differ)))
+
+-- A further run over what a run left writes nothing.
+pub none_again : (folder : Folder) → AreReadBack folder (trace_over folder (hand_of folder)).visits
+    → writes_of (after folder) ≡ []
+unfolding writes_of made_over entries_over
+none_again folder back =
+    let made = files_of (run_visits folder) in
+    let still = still_under folder back in
+    ap (λ some. unmet (after folder) (writes_for (files_of some)) ++ new_entries (after folder) some) still.same
+    ∙ ap (λ some. unmet (after folder) (writes_for made) ++ some) (kept_none (after folder) (run_visits folder) still.kept)
+    ∙ ap (λ some. some ++ []) (none_unmet (writes_for made) (after folder) (met_left folder))
