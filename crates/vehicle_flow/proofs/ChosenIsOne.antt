@@ -1,9 +1,9 @@
 -- A plan that is chosen is the one that the definition finds among all plans.
-use Rattle.std.proofs.Common.{◌≡◌, ℕ, zero, suc, ◌+◌, ◌<◌, ◌≤◌, ◌⊎◌, inl, inr, Bool, true, false, cond, not, is_some, ◌&&◌, nat_eq, List, [], ◌∷◌, ◌++◌, length, map, filter, find, min, Option, Some, None, unwrap_or, refl, ap, sym, ◌∙◌, subst, arith, eqb-true, eq-eqb}
-use Rattle.std.specs.List.{AllByRecursion, range_with_len, reduce}
+use Rattle.std.proofs.Common.{◌≡◌, ℕ, zero, suc, ◌+◌, ◌<◌, ◌≤◌, inl, inr, Bool, true, false, cond, not, is_some, ◌&&◌, nat_eq, List, [], ◌∷◌, ◌++◌, length, map, filter, find, Option, Some, None, unwrap_or, refl, ap, sym, ◌∙◌, subst, arith, eqb-true, eq-eqb}
+use Rattle.std.specs.List.{AllByRecursion, range_with_len}
 use Rattle.std.proofs.lemmas.Bool.{false≢true}
 use Rattle.std.proofs.lemmas.Option.{none-some}
-use Rattle.vehicle_model.specs.Plans.{next, is_next, is_apart, all_lists, all_plans, choices_of, chosen_plan, first_cheapest, least_cost, plan_cost, ComesNoLater, IsChosen, IsCheapest, IsPlan}
+use Rattle.vehicle_model.specs.Plans.{next, is_next, is_apart, all_lists, all_plans, choices_of, chosen_plan, least_cost, plan_cost, ComesNoLater, IsChosen, IsCheapest, IsPlan}
 use Rattle.vehicle_model.specs.Trips.{TripsParts, Links, links_of}
 use Rattle.vehicle_model.proofs.Following.{links_within}
 use Rattle.vehicle_model.proofs.Linking.{by_number, next_found, never_next}

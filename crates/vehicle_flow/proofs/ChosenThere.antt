@@ -1,13 +1,11 @@
 -- Over any trips there is a chosen plan, for which its canonical potentials are valid.
-use Rattle.std.proofs.Common.{◌≡◌, ◌≢◌, ℕ, ℤ, zero, suc, pos, ◌+◌, ◌<◌, ◌≤◌, ◌≤ℤ◌, ◌⊎◌, inl, inr, ◌&&◌, is_some, nat_eq, Bool, true, false, cond, List, [], ◌∷◌, ◌++◌, length, map, filter, find, take, get_or, sum, Option, Some, None, IfSome, option_map, unwrap_or, refl, ap, sym, ◌∙◌, subst, arith, eqb-true, eq-eqb}
-use Rattle.std.specs.List.{AllByRecursion, range_with_len}
+use Rattle.std.proofs.Common.{◌≡◌, ℕ, ℤ, pos, ◌+◌, ◌<◌, ◌≤◌, ◌≤ℤ◌, is_some, List, length, map, get_or, Option, Some, None, IfSome, unwrap_or, refl, ap, sym, ◌∙◌, subst, arith}
+use Rattle.std.specs.List.{range_with_len}
 use Rattle.std.proofs.Math.ListN.{get_or-eq_default}
-use Rattle.std.proofs.lemmas.Bool.{false≢true}
 use Rattle.std.proofs.lemmas.Int.{ints}
 use Rattle.std.proofs.lemmas.List.{get_or-map, length-map}
 use Rattle.std.proofs.lemmas.List.FromFn.{get_or-range_with_len, length-range_with_len}
-use Rattle.std.proofs.lemmas.Option.{none-some}
-use Rattle.vehicle_model.specs.Plans.{is_next, next, IsPlan}
+use Rattle.vehicle_model.specs.Plans.{next, IsPlan}
 use Rattle.vehicle_model.specs.Trips.{TripsParts, Links, links_of}
 use Rattle.vehicle_model.proofs.Following.{links_most, links_within}
 use Rattle.vehicle_model.proofs.Linking.{not_next}

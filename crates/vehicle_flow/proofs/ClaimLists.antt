@@ -1,9 +1,9 @@
 -- Claims and the order in which they were made.
-use Rattle.std.proofs.Common.{◌≡◌, ◌≢◌, ◌⊎◌, inl, inr, ℕ, zero, suc, ◌<◌, ◌≤◌, ◌+◌, List, [], ◌∷◌, ◌++◌, length, sum_by, get_or, slice_get, slice_set, replicate, Option, Some, None, refl, ap, sym, ◌∙◌, subst, arith, get_or-set_same, get_or-set_other}
+use Rattle.std.proofs.Common.{◌≡◌, ◌⊎◌, inl, inr, ℕ, zero, suc, ◌<◌, ◌≤◌, ◌+◌, List, [], ◌∷◌, ◌++◌, length, sum_by, get_or, slice_get, slice_set, replicate, Option, Some, None, refl, ap, sym, ◌∙◌, subst, arith, get_or-set_same, get_or-set_other}
 use Rattle.std.proofs.lemmas.List.{length-set, length-replicate, length_push}
 use Rattle.std.proofs.lemmas.List.Folds.{sum_by-replicate}
-use Rattle.std.proofs.lemmas.List.Sums.{sum_by-set, count_by-le-length}
-use Rattle.std.proofs.lemmas.Option.{none-some, same_Some, slice_get_within}
+use Rattle.std.proofs.lemmas.List.Sums.{sum_by-set}
+use Rattle.std.proofs.lemmas.Option.{none-some, same_Some}
 use Rattle.vehicle_model.proofs.Linking.{by_number}
 use Rattle.vehicle_flow.specs.declared.claim.Claim.{Claim}
 use Rattle.vehicle_flow.specs.Claims.{ClaimsParts, claim_at, one_if_open, AreClaims}
@@ -31,7 +31,7 @@ reset_more claims size place are inside = record {
   each = length-set claims place None ∙ are.each;
   none = λ i h. by_number i place
       (λ here. ap (λ k. get_or (slice_set claims place None) k None) here
-          ∙ get_or-set_same claims place None None (omega (arith, inside, are.each)))
+      ∙ get_or-set_same claims place None None (omega (arith, inside, are.each)))
       (λ apart. get_or-set_other claims place i None None apart ∙ are.none i (omega (arith, h, apart)));
 }
 
@@ -80,7 +80,7 @@ module _ (claims : ClaimsParts) (are : AreClaims claims) (place : ℕ) (found : 
       ≡ length claims.at
   counted_more =
       let set_one : sum_by one_if_open (slice_set claims.at place (Some found)) + one_if_open (claim_at claims place)
-          ≡ sum_by one_if_open claims.at + 0 =
+      ≡ sum_by one_if_open claims.at + 0 =
       sum_by-set one_if_open claims.at place (Some found) None inside in
       let one : one_if_open (claim_at claims place) ≡ 1 = ap one_if_open open_place in
       omega (arith, set_one, one, are.counted)
@@ -92,20 +92,27 @@ module _ (claims : ClaimsParts) (are : AreClaims claims) (place : ℕ) (found : 
       (record {
         placed = λ at other e. by_number at place
             (λ here. subst (λ k. slice_get (claims.order ++ place ∷ []) k ≡ Some at)
-                (sym step ∙ ap (λ x. x.step) (same_Some found other
-                (sym (get_or-set_same claims.at place (Some found) None inside)
-                ∙ ap (λ k. get_or (slice_set claims.at place (Some found)) k None) (sym here) ∙ e)))
-                (get_last claims.order place ∙ ap Some (sym here)))
+            (sym step ∙ ap (λ x. x.step) (same_Some found other
+            (sym (get_or-set_same claims.at place (Some found) None inside)
+            ∙ ap (λ k. get_or (slice_set claims.at place (Some found)) k None) (sym here) ∙ e)))
+            (get_last claims.order place ∙ ap Some (sym here)))
             (λ apart. get_sooner claims.order place other.step at
-                (are.placed at other (sym (get_or-set_other claims.at place at (Some found) None apart) ∙ e)));
+            (are.placed at other (sym (get_or-set_other claims.at place at (Some found) None apart) ∙ e)));
         claimed = λ at other e. elim (get_pushed claims.order place at other e) as
             (λ _. other < length (slice_set claims.at place (Some found))) [
               | inl last ↦ omega (arith, inside, last.1, length-set claims.at place (Some found))
-              | inr sooner ↦ omega (arith, are.claimed at other sooner,
-                  length-set claims.at place (Some found))
+              | inr sooner ↦ omega (
+                arith,
+                are.claimed at other sooner,
+                length-set claims.at place (Some found),
+              )
             ];
-        counted = omega (arith, counted_more, length_push claims.order place,
-            length-set claims.at place (Some found));
+        counted = omega (
+          arith,
+          counted_more,
+          length_push claims.order place,
+          length-set claims.at place (Some found),
+        );
       })
 
   pub few_claims : length claims.order < length claims.at

@@ -1,7 +1,7 @@
 -- The nearest place of a tree is claimed: it is found, or the tree grows by the trip that has it.
-use Rattle.std.proofs.Common.{◌≡◌, ◌≢◌, ◌⊎◌, inl, inr, ℕ, ℤ, pos, ◌<◌, ◌≤◌, ◌+◌, ◌-◌, nat_lt, is_some, Bool, true, false, cond, List, [], ◌∷◌, ◌++◌, length, get_or, slice_set, slice_get, Option, Some, None, MatchOption, IfSome, refl, ap, sym, ◌∙◌, subst, arith, get_or-set_same, get_or-set_other}
+use Rattle.std.proofs.Common.{◌≡◌, ◌≢◌, ◌⊎◌, inl, inr, ℕ, pos, ◌<◌, ◌≤◌, ◌+◌, ◌-◌, nat_lt, is_some, Bool, true, false, cond, List, [], ◌∷◌, ◌++◌, length, get_or, slice_set, Option, Some, None, MatchOption, IfSome, refl, ap, sym, ◌∙◌, subst, arith, get_or-set_same, get_or-set_other}
 use Rattle.std.proofs.Math.ListN.{get_or-eq_default}
-use Rattle.std.proofs.lemmas.Bool.{false≢true, ltb-true, ltb-false}
+use Rattle.std.proofs.lemmas.Bool.{ltb-true, ltb-false}
 use Rattle.std.proofs.lemmas.List.{length-set, length_push}
 use Rattle.std.proofs.lemmas.Option.{none-some, same_Some, slice_get_within}
 use Rattle.vehicle_model.specs.Plans.{next, is_next}
@@ -12,12 +12,11 @@ use Rattle.flow_potentials.proofs.Certified.{by_bound}
 use Rattle.vehicle_flow.specs.declared.claim.Claim.{Claim}
 use Rattle.vehicle_flow.specs.declared.near.Near.{Near}
 use Rattle.vehicle_flow.specs.Claims.{ClaimsParts, claim_at, AreClaims}
-use Rattle.vehicle_flow.specs.Growing.{first_links, looking, is_claimed, is_claimed_at, in_tree, nearer, looked, IsFrom, IsNearest, IsNear, AreNear, IsTreeClaim, IsGrowing, IsPlaceFound}
-use Rattle.vehicle_flow.specs.Places.{successor_at}
-use Rattle.vehicle_flow.specs.Searches.{Search, IsTightAt, IsTightBut, IsLeft, ComesFrom, IsClaim, AreClaimsBefore, IsFound}
+use Rattle.vehicle_flow.specs.Growing.{first_links, looking, is_claimed, in_tree, nearer, looked, IsFrom, IsNearest, IsNear, AreNear, IsTreeClaim, IsGrowing, IsPlaceFound}
+use Rattle.vehicle_flow.specs.Searches.{IsTightAt, ComesFrom, IsClaim, AreClaimsBefore}
 use Rattle.vehicle_flow.specs.Slacks.{worth, slack_of, slack_to}
 use Rattle.vehicle_flow.proofs.Moves.{successor_within}
-use Rattle.vehicle_flow.proofs.Shifting.{gain_first, pos_worth, slack_inside, slack_past, tree_trip, tree_next, tree_linked, tree_is, claim_there, is_open, tree_first, claimed_inside}
+use Rattle.vehicle_flow.proofs.Shifting.{gain_first, pos_worth, slack_inside, slack_past, tree_trip, tree_linked, tree_is, claim_there, tree_first, claimed_inside}
 
 -- what is nearest after one trip more was looked from
 pub nearest_more : (links : Links) (potentials : PotentialParts) (some more : ℕ → Bool) (place by : ℕ)
@@ -192,8 +191,11 @@ module _ (links : Links) (potentials : PotentialParts) (trip : ℕ) (plan : List
             before = found.0;
             is = kept before found.0 found.1;
             sooner = sooner before found.0 found.1;
-            left = (left.0, left.1 ∙ sym (successor_within links.count before
-                (claimed_inside links potentials trip plan claims is before left.2)));
+            left = (
+              left.0,
+              left.1 ∙ sym (successor_within links.count before
+                  (claimed_inside links potentials trip plan claims is before left.2)),
+            );
           }
 
   -- and so are the others
@@ -219,8 +221,8 @@ module _ (links : Links) (potentials : PotentialParts) (trip : ℕ) (plan : List
   claims_more : AreClaimsBefore (looking links potentials trip) plan more (length claims.order + 1)
   claims_more other found e less = by_number other place
       (λ same. subst (λ x. IsClaim (looking links potentials trip) plan more x found) (sym same)
-          (subst (IsClaim (looking links potentials trip) plan more place)
-          (same_Some new_claim found (sym new_is ∙ ap (claim_at more) (sym same) ∙ e)) claim_new))
+      (subst (IsClaim (looking links potentials trip) plan more place)
+      (same_Some new_claim found (sym new_is ∙ ap (claim_at more) (sym same) ∙ e)) claim_new))
       (λ apart. claim_old other found (sym (old_is other apart) ∙ e))
 
   -- a place without a trip is found

@@ -1,8 +1,8 @@
 -- A plan that is made link by link from another one.
-use Rattle.std.proofs.Common.{◌≡◌, ◌≢◌, ◌⊎◌, inl, inr, ℕ, zero, suc, ◌<◌, ◌≤◌, ◌+◌, false, List, [], ◌∷◌, length, slice_set, replicate, Option, Some, None, IfSome, refl, ap, sym, ◌∙◌, subst, arith}
+use Rattle.std.proofs.Common.{◌≡◌, ◌≢◌, ℕ, zero, suc, ◌<◌, ◌≤◌, ◌+◌, false, List, [], ◌∷◌, length, slice_set, replicate, Option, Some, None, IfSome, refl, ap, sym, ◌∙◌, arith}
 use Rattle.std.proofs.lemmas.List.{length-set}
 use Rattle.std.proofs.lemmas.List.{length-replicate}
-use Rattle.std.proofs.lemmas.Option.{none-some, same_Some}
+use Rattle.std.proofs.lemmas.Option.{none-some}
 use Rattle.vehicle_model.specs.Plans.{next, is_next, AreSuccessors}
 use Rattle.vehicle_model.proofs.Linking.{by_number, none_next, never_next}
 use Rattle.flow_potentials.proofs.Certified.{by_bound}
@@ -37,9 +37,9 @@ module _ (full copy : List (Option ℕ)) (done : ℕ) (is : IsCopied full copy d
       each = length-set copy done at ∙ is.each;
       same = λ i h. by_number i done
           (λ here. ap (next (slice_set copy done at)) here
-              ∙ moved_is copy done at copied_within ∙ e ∙ ap (next full) (sym here))
+          ∙ moved_is copy done at copied_within ∙ e ∙ ap (next full) (sym here))
           (λ apart. moved_other copy done at copied_within i apart
-              ∙ is.same i (omega (arith, h, apart)));
+          ∙ is.same i (omega (arith, h, apart)));
       none = λ i h. moved_other copy done at copied_within i (past i h) ∙ is.none i (omega (arith, h));
     }
       where

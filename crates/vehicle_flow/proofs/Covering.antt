@@ -1,6 +1,5 @@
 -- A potential that covers what the links of a trip gain.
-use Rattle.std.proofs.Common.{◌≡◌, ◌≢◌, ℕ, ℤ, ◌<◌, ◌≤◌, ◌+◌, ◌-◌, max, List, length, slice_set, is_some, Option, Some, None, IfSome, refl, ap, sym, ◌∙◌, subst, arith, get_or-set_same}
-use Rattle.std.proofs.lemmas.Option.{none-some, same_Some}
+use Rattle.std.proofs.Common.{◌≡◌, ℕ, ℤ, ◌<◌, ◌≤◌, ◌+◌, ◌-◌, max, length, slice_set, is_some, Option, Some, None, IfSome, refl, ap, sym, ◌∙◌, subst, arith, get_or-set_same}
 use Rattle.vehicle_model.specs.Trips.{TripsParts, Links, links_of}
 use Rattle.vehicle_model.proofs.Following.{links_within}
 use Rattle.vehicle_model.proofs.Linking.{by_number}
@@ -31,7 +30,7 @@ module _ (links : Links) (potentials : PotentialParts) (i most place : ℕ) (are
     small = are.small;
     covers = λ j before. by_number j place
         (λ same. subst (λ at_j. IfSome at_j (λ gain. gain ≤ most + at potentials.v j))
-            (sym none ∙ ap (λ k. worth (links.gain i k)) (sym same)) tt)
+        (sym none ∙ ap (λ k. worth (links.gain i k)) (sym same)) tt)
         (λ apart. are.covers j (omega (arith, before, apart)));
   }
 
@@ -42,8 +41,8 @@ module _ (links : Links) (potentials : PotentialParts) (i most place : ℕ) (are
     small = omega (arith, are.small, small, most_is);
     covers = λ j before. by_number j place
         (λ same. subst (λ at_j. IfSome at_j (λ other. other ≤ more + at potentials.v j))
-            (sym is ∙ ap (λ k. worth (links.gain i k)) (sym same))
-            (subst (λ k. gain ≤ more + at potentials.v k) (sym same) (omega (arith, most_is))))
+        (sym is ∙ ap (λ k. worth (links.gain i k)) (sym same))
+        (subst (λ k. gain ≤ more + at potentials.v k) (sym same) (omega (arith, most_is))))
         (λ apart. higher more (omega (arith, most_is)) j (omega (arith, before, apart)));
   }
 
@@ -56,7 +55,7 @@ module _ (links : Links) (potentials : PotentialParts) (i most place : ℕ) (are
       covered : (k : ℕ) → IfSome (worth (links.gain i k)) (λ gain. gain ≤ most + at potentials.v k)
       covered k = by_bound k place (λ before. are.covers k before)
           (λ behind. subst (λ at_k. IfSome at_k (λ gain. gain ≤ most + at potentials.v k))
-              (sym (none k (omega (arith, past, behind)))) tt)
+          (sym (none k (omega (arith, past, behind)))) tt)
 
 -- no link is to a trip that is not there
 pub none_past : (trips : TripsParts) (i j : ℕ) → length trips.trips ≤ j

@@ -1,5 +1,5 @@
 -- An empty ride between two trips goes forward over the events of the day.
-use Rattle.std.proofs.Common.{◌≡◌, ℕ, ◌+◌, ◌-◌, ◌<◌, ◌≤◌, ◌⊎◌, inl, inr, ◌==◌, ◌||◌, Bool, true, false, cond, not, List, [], ◌∷◌, map, find, Option, Some, None, refl, ap, sym, ◌∙◌, subst, arith}
+use Rattle.std.proofs.Common.{◌≡◌, ℕ, ◌+◌, ◌-◌, ◌<◌, ◌≤◌, ◌⊎◌, inl, inr, ◌==◌, ◌||◌, Bool, true, false, cond, not, List, [], ◌∷◌, Some, refl, ap, sym, ◌∙◌, arith}
 use Rattle.std.specs.Cmp.{nat_cmp_is}
 use Rattle.std.specs.Cmp.Lexicographic.{slice_cmp}
 use Rattle.std.specs.List.{list_any}
@@ -13,7 +13,7 @@ use Rattle.event_tables.specs.declared.expanded_event.ExpandedEvent.{ExpandedEve
 use Rattle.event_tables.specs.declared.schedule_row.ScheduleRow.{ScheduleRow}
 use Rattle.event_tables.specs.declared.trip.TripEnd.{TripEnd}
 use Rattle.event_tables.specs.ExpandedFiles.{expanded_event_ids}
-use Rattle.event_tables.specs.ForwardOrder.{both_pass, event_with, forward_key, goes_forward, stands_before}
+use Rattle.event_tables.specs.ForwardOrder.{both_pass, event_with, forward_key, stands_before}
 use Rattle.event_tables.specs.Kinds.{is_arrival}
 use Rattle.event_tables.specs.Places.{is_none_of}
 use Rattle.event_tables.specs.Schedules.{ends_early, goes_back, has_room, lacks_room}

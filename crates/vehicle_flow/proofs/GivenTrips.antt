@@ -1,11 +1,9 @@
 -- The trips of a bundle, from what its texts and settings are read as.
-use Rattle.std.proofs.Common.{◌≡◌, ℕ, ℤ, pos, ◌≤◌, List, Result, refl, ap, sym, ◌∙◌, subst, arith, unsigned_abs, to_z, of_z}
+use Rattle.std.proofs.Common.{◌≡◌, ℕ, pos, ◌≤◌, List, Result, refl, ap, ◌∙◌, subst, arith, unsigned_abs, to_z}
 use Rattle.std.proofs.lemmas.Int.{ints, to_z-of_z}
 use mir.Syntax.{w64}
-use Rattle.giv_files.specs.declared.key.Key.{Key}
 use Rattle.giv_files.specs.declared.key.Key.TheVariants as key
 use Rattle.giv_files.specs.declared.refusal.StageFault.{StageFault}
-use Rattle.giv_files.specs.declared.setting.Setting.{Setting}
 use Rattle.giv_files.specs.declared.stage.Stage.TheVariants as stage
 use Rattle.giv_files.specs.Inputs.{UnlessFault}
 use Rattle.giv_files.specs.Settings.{BundleParts, Fits, SettingsFit, amount}

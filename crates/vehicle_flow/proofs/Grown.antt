@@ -1,15 +1,14 @@
 -- What one turn of growing a tree leaves.
-use Rattle.std.proofs.Common.{◌≡◌, ◌≢◌, ℕ, ℤ, pos, ◌<◌, ◌≤◌, ◌≤ℤ◌, ◌+◌, ◌-◌, is_some, true, false, List, [], ◌∷◌, ◌++◌, length, get_or, slice_set, Option, Some, None, IfSome, option_map, refl, ap, sym, ◌∙◌, subst, arith}
+use Rattle.std.proofs.Common.{◌≡◌, ℕ, pos, ◌<◌, ◌≤◌, ◌≤ℤ◌, ◌+◌, ◌-◌, true, false, List, [], ◌∷◌, ◌++◌, length, get_or, slice_set, Option, Some, None, IfSome, option_map, ap, sym, ◌∙◌, subst, arith}
 use Rattle.std.proofs.lemmas.Int.{ints}
 use Rattle.std.proofs.lemmas.Option.{none-some}
 use Rattle.vehicle_model.specs.Plans.{next, is_next}
-use Rattle.vehicle_model.specs.Trips.{TripsParts, AreTrips, Links, links_of}
+use Rattle.vehicle_model.specs.Trips.{TripsParts, AreTrips, links_of}
 use Rattle.vehicle_model.proofs.Following.{links_within, links_most}
 use Rattle.flow_potentials.specs.Potentials.{PotentialParts, at}
-use Rattle.vehicle_flow.specs.declared.claim.Claim.{Claim}
 use Rattle.vehicle_flow.specs.declared.near.Near.{Near}
 use Rattle.vehicle_flow.specs.Claims.{ClaimsParts, claim_at, AreClaims}
-use Rattle.vehicle_flow.specs.Growing.{is_claimed, in_tree, moved_near, shifted, looked, IsNear, AreNear, IsTreeClaim, IsGrowing, IsNearestPlace, AreShifted, IsPlaceFound}
+use Rattle.vehicle_flow.specs.Growing.{is_claimed, in_tree, moved_near, shifted, looked, IsNear, AreNear, IsGrowing, IsNearestPlace, AreShifted, IsPlaceFound}
 use Rattle.vehicle_flow.specs.Slacks.{slack_to, Covers}
 use Rattle.vehicle_flow.proofs.Claiming.{place_found, grown, left_first, nears_grown}
 use Rattle.vehicle_flow.proofs.Shifting.{first_gain, slack_past, tree_trip, tree_linked, claim_there, last_open, tree_least, growing_after, nears_after}
@@ -26,9 +25,9 @@ module _ (trips : TripsParts) (potentials : PotentialParts) (trip : ℕ) (plan :
   never_none none =
       let free = last_open (links_of trips) potentials trip plan claims is in
       let near = subst (IsNear (links_of trips) potentials (in_tree trip plan claims) count)
-          (none count (omega (arith, are.each)) free) (are.near count (omega arith) free) in
+      (none count (omega (arith, are.each)) free) (are.near count (omega arith) free) in
       absurd (none-some (at potentials.u trip) (sym (near trip (tree_trip trip plan claims))
-          ∙ slack_past (links_of trips) potentials trip count (omega arith)))
+      ∙ slack_past (links_of trips) potentials trip count (omega arith)))
 
   module _ (place : ℕ) (near : Near) (best : IsNearestPlace claims nears place near) where
     -- potentials of claimed places stay in their range
@@ -38,13 +37,13 @@ module _ (trips : TripsParts) (potentials : PotentialParts) (trip : ℕ) (plan :
         let found = claim_there claims j e in
         let tree = is.tree j found.0 found.1 in
         let gain = (first_gain (links_of trips) (trip + 1) tree.owner j _
-            (is.tight.linked tree.owner j tree.owns)).1 in
+        (is.tight.linked tree.owner j tree.owns)).1 in
         let most : pos (at potentials.u tree.owner + at potentials.v j) ≤ℤ pos trips.vehicle =
-            subst (λ it. IfSome it (λ value. value ≤ℤ pos trips.vehicle)) gain (links_most trips tree.owner j) in
+        subst (λ it. IfSome it (λ value. value ≤ℤ pos trips.vehicle)) gain (links_most trips tree.owner j) in
         let least : near.slack ≤ at potentials.u tree.owner =
-            tree_least (links_of trips) potentials trip plan claims is nears are near.slack best.least tree.owner
-            (tree_linked trip plan claims tree.owner j (λ same. none-some j
-            (sym is.waits ∙ ap (next plan) (sym same) ∙ tree.owns)) tree.owns ∙ e) in
+        tree_least (links_of trips) potentials trip plan claims is nears are near.slack best.least tree.owner
+        (tree_linked trip plan claims tree.owner j (λ same. none-some j
+        (sym is.waits ∙ ap (next plan) (sym same) ∙ tree.owns)) tree.owns ∙ e) in
         omega (arith, ints, most, least, sound.cheap_vehicle)
 
     module _ (after : PotentialParts) (shift : AreShifted trip plan claims near.slack count potentials after)

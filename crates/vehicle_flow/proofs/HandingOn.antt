@@ -1,12 +1,11 @@
 -- Places that are handed on along claims: each step leaves a tight plan, but for one place.
-use Rattle.std.proofs.Common.{◌≡◌, ◌≢◌, ◌⊎◌, inl, inr, ℕ, zero, suc, pos, ◌<◌, ◌≤◌, ◌+◌, false, List, length, get_or, slice_set, Option, Some, None, MatchOption, IfSome, refl, ap, sym, ◌∙◌, subst, arith}
+use Rattle.std.proofs.Common.{◌≡◌, ◌≢◌, inl, inr, ℕ, pos, ◌<◌, ◌≤◌, ◌+◌, false, List, length, slice_set, Option, Some, None, MatchOption, IfSome, refl, ap, sym, ◌∙◌, subst, arith}
 use Rattle.std.proofs.Math.ListN.{get_or-eq_default}
 use Rattle.std.proofs.lemmas.List.{length-set}
 use Rattle.std.proofs.lemmas.Option.{none-some, same_Some}
 use Rattle.vehicle_model.specs.Plans.{next, is_next}
-use Rattle.vehicle_model.specs.Trips.{Links}
 use Rattle.vehicle_model.proofs.Linking.{by_number, not_next, never_next}
-use Rattle.flow_potentials.specs.Potentials.{PotentialParts, at}
+use Rattle.flow_potentials.specs.Potentials.{at}
 use Rattle.flow_potentials.proofs.Certified.{by_bound}
 use Rattle.vehicle_flow.specs.declared.claim.Claim.{Claim}
 use Rattle.vehicle_flow.specs.Claims.{ClaimsParts, claim_at}
@@ -119,10 +118,10 @@ module _ (search : Search) (plan : List (Option ℕ)) (claims : ClaimsParts) (pl
     last : (k : ℕ) → (k ≡ search.trip → ⊥) → next after k ≡ None → at search.potentials.u k ≡ 0
     last k apart e = by_number k i
         (λ same. ap (at search.potentials.u) same ∙ tight.last (no_successor search.links.count place
-            (sym (moved_is plan i (successor_at search.links.count place) inside)
-            ∙ ap (next after) (sym same) ∙ e)))
+        (sym (moved_is plan i (successor_at search.links.count place) inside)
+        ∙ ap (next after) (sym same) ∙ e)))
         (λ other. is.tight.last k apart
-            (sym (moved_other plan i (successor_at search.links.count place) inside k other) ∙ e))
+        (sym (moved_other plan i (successor_at search.links.count place) inside k other) ∙ e))
 
     same_before : (k : ℕ) → k < search.low → next after k ≡ next plan k
     same_before k less = moved_other plan i (successor_at search.links.count place) inside k
@@ -141,16 +140,16 @@ module _ (search : Search) (plan : List (Option ℕ)) (claims : ClaimsParts) (pl
       once = once;
       last = λ k e. by_number k search.trip
           (λ same. ap (at search.potentials.u) (same ∙ sym own_trip) ∙ tight.last
-              (no_successor search.links.count place
-              (sym (moved_is plan i (successor_at search.links.count place) inside)
-              ∙ ap (next after) (own_trip ∙ sym same) ∙ e)))
+          (no_successor search.links.count place
+          (sym (moved_is plan i (successor_at search.links.count place) inside)
+          ∙ ap (next after) (own_trip ∙ sym same) ∙ e)))
           (λ apart. last k apart e);
       first = λ j low free. by_number j place
           (λ same. absurd (not_next after i j free
-              (moved_is plan i (successor_at search.links.count place) inside
-              ∙ successor_within search.links.count place (omega (arith, low, same)) ∙ ap Some (sym same))))
+          (moved_is plan i (successor_at search.links.count place) inside
+          ∙ successor_within search.links.count place (omega (arith, low, same)) ∙ ap Some (sym same))))
           (λ apart. is.tight.first j low apart (free_before j
-              (λ e. none-some j (sym is.waits ∙ ap (next plan) (sym own_trip) ∙ e)) free));
+          (λ e. none-some j (sym is.waits ∙ ap (next plan) (sym own_trip) ∙ e)) free));
       same = same_before;
       place = place;
       found = is.found;
@@ -180,10 +179,10 @@ module _ (search : Search) (plan : List (Option ℕ)) (claims : ClaimsParts) (pl
         last = last;
         first = λ j low apart free. by_number j place
             (λ same. absurd (not_next after i j free
-                (moved_is plan i (successor_at search.links.count place) inside
-                ∙ successor_within search.links.count place (omega (arith, low, same)) ∙ ap Some (sym same))))
+            (moved_is plan i (successor_at search.links.count place) inside
+            ∙ successor_within search.links.count place (omega (arith, low, same)) ∙ ap Some (sym same))))
             (λ other. is.tight.first j low other (free_before j
-                (λ e. apart (sym (some_successor search.links.count from j (sym leaves.1 ∙ e)).1)) free));
+            (λ e. apart (sym (some_successor search.links.count from j (sym leaves.1 ∙ e)).1)) free));
       }
 
       free_after : is_next after from ≡ false
@@ -202,8 +201,8 @@ module _ (search : Search) (plan : List (Option ℕ)) (claims : ClaimsParts) (pl
       left_after None sooner place_left left less e f free =
           moved_free plan i (successor_at search.links.count place) inside place_left
           (λ same. apart_by_step claims place place_left is.found left is.claimed e
-              (omega (arith, less, f, comes.sooner))
-              (sym (some_successor search.links.count place place_left same).1)) free
+          (omega (arith, less, f, comes.sooner))
+          (sym (some_successor search.links.count place place_left same).1)) free
       left_after (Some k) sooner place_left left less e f leaves_it = (
         leaves_it.0,
         moved_other plan i (successor_at search.links.count place) inside k (λ same. apart_by_step claims from place_left
@@ -306,10 +305,10 @@ module _ (search : Search) (plan : List (Option ℕ)) (claims : ClaimsParts) (pl
       (λ from. IsPassedOn search claims plan left place from)
   passed_by claim e left leaves = subst
       (λ xs. MatchOption claim.from (IsHandedOn search claims plan xs)
-          (λ from. IsPassedOn search claims plan xs place from)) (sym leaves)
+      (λ from. IsPassedOn search claims plan xs place from)) (sym leaves)
       (subst (λ x. MatchOption x.from (IsHandedOn search claims plan (given_to plan x.by place))
-          (λ from. IsPassedOn search claims plan (given_to plan x.by place) place from))
-          (same_Some is.found claim (sym is.claimed ∙ e)) passed_on)
+      (λ from. IsPassedOn search claims plan (given_to plan x.by place) place from))
+      (same_Some is.found claim (sym is.claimed ∙ e)) passed_on)
 
 -- a place that was handed on so far
 pub record IsHanding (search : Search) (claims : ClaimsParts) (start plan : List (Option ℕ)) (place : ℕ) : Type 0 where

@@ -1,14 +1,14 @@
 -- For each links there are a plan and potentials that are valid for it: trip by trip, where potentials go
 -- down until the trip in hand has its place.
 use Rattle.std.proofs.Common.{◌≡◌, ◌≢◌, ℕ, ℤ, zero, suc, pos, negsuc, ◌+◌, ◌-◌, ◌<◌, ◌≤◌, ◌≤ℤ◌, ◌==◌, ◌&&◌, not, is_some, Bool, true, false, cond, Option, Some, None, IfSome, refl, ap, sym, ◌∙◌, subst, arith, eqb-true, eq-eqb}
-use Rattle.std.proofs.lemmas.Bool.{false≢true, ne_eqb}
+use Rattle.std.proofs.lemmas.Bool.{false≢true}
 use Rattle.std.proofs.lemmas.Int.{ints}
 use Rattle.std.proofs.lemmas.Option.{none-some}
 use Rattle.vehicle_model.specs.Plans.{is_trip}
 use Rattle.vehicle_model.proofs.Counting.{count_most}
 use Rattle.vehicle_model.proofs.Linking.{by_number, is_trip_same, same_is_trip}
 use Rattle.vehicle_flow.proofs.Below.{IsFound, back_true, both_true, by_bool, found_below, front_true, none_below, not_both, put, put_here, put_other, some_below}
-use Rattle.vehicle_flow.proofs.Hands.{AllHands, AreAllHands, AreHands, CanHold, HasDone, IsDone, IsFree, IsHeld, IsInHand, Plan, closing, comes_next, drops, is_next_reached, is_reached, links, not_reached, reached}
+use Rattle.vehicle_flow.proofs.Hands.{AreAllHands, AreHands, HasDone, IsFree, IsInHand, Plan, closing, drops, is_next_reached, is_reached, links, not_reached, reached}
 
 -- a gain that is not more than a number, and not the number
 less_than : (gain : ℤ) (number : ℕ) → gain ≤ℤ pos number → (gain ≡ pos number → ⊥)

@@ -1,10 +1,10 @@
 -- What a plan is after one trip was given another place, and the trips before them.
-use Rattle.std.proofs.Common.{◌≡◌, ◌≢◌, ◌⊎◌, ◌↔◌, inl, inr, ℕ, zero, suc, ◌<◌, ◌≤◌, ◌+◌, nat_lt, Bool, true, false, cond, List, [], ◌∷◌, length, slice_set, replicate, Option, Some, None, MatchOption, IfSome, refl, ap, sym, ◌∙◌, subst, arith, get_or-set_same, get_or-set_other}
-use Rattle.std.proofs.lemmas.Bool.{false≢true, ltb-true, ltb-false}
+use Rattle.std.proofs.Common.{◌≡◌, ◌≢◌, ◌⊎◌, inl, inr, ℕ, zero, suc, ◌<◌, ◌≤◌, nat_lt, Bool, true, false, cond, List, [], ◌∷◌, length, slice_set, replicate, Option, Some, None, MatchOption, IfSome, refl, ap, sym, ◌∙◌, subst, arith, get_or-set_same, get_or-set_other}
+use Rattle.std.proofs.lemmas.Bool.{ltb-true, ltb-false}
 use Rattle.std.proofs.lemmas.List.{length-set}
 use Rattle.std.proofs.lemmas.Option.{none-some, same_Some}
 use Rattle.vehicle_model.specs.Plans.{next, is_next, AreSuccessors}
-use Rattle.vehicle_model.proofs.Linking.{by_number, none_next, not_next, never_next, next_found}
+use Rattle.vehicle_model.proofs.Linking.{by_number, none_next, not_next, never_next}
 use Rattle.vehicle_flow.specs.Places.{successor_at, place_of, forgotten, AreLinked}
 
 -- ---- places
@@ -87,8 +87,8 @@ module _ (plan : List (Option ℕ)) (i : ℕ) (at : Option ℕ) (within : i < le
       → is_next plan k ≡ false
   moved_from k apart none = never_next plan k
       (λ other e. by_number other i
-          (λ same. apart (sym (ap (next plan) same) ∙ e))
-          (λ other_one. not_next (slice_set plan i at) other k none (moved_other other other_one ∙ e)))
+      (λ same. apart (sym (ap (next plan) same) ∙ e))
+      (λ other_one. not_next (slice_set plan i at) other k none (moved_other other other_one ∙ e)))
 
 -- a trip with a next one is there
 pub has_next : (plan : List (Option ℕ)) (i j : ℕ) → next plan i ≡ Some j → i < length plan
@@ -176,7 +176,7 @@ module _ (after before : List (Option ℕ)) (are : AreLinked after before) where
               | inl new ↦ absurd (none-some k new.1)
               | inr old ↦ moved_other after i None inside k
                   (λ same. old.0 (same_Some j own
-                      (sym ((are.both i j).1 (old.1 ∙ ap Some same)) ∙ is)))
+                  (sym ((are.both i j).1 (old.1 ∙ ap Some same)) ∙ is)))
                   ∙ (are.both k j).1 old.1
             ]),
       );

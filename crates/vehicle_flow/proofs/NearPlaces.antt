@@ -1,7 +1,7 @@
 -- The nearest place among those that were looked at.
-use Rattle.std.proofs.Common.{◌≡◌, ◌⊎◌, inl, inr, ℕ, ◌<◌, ◌≤◌, ◌+◌, true, false, List, length, get_or, replicate, is_some, Option, Some, None, MatchOption, IfSome, refl, ap, sym, ◌∙◌, subst, arith}
+use Rattle.std.proofs.Common.{◌≡◌, inl, inr, ℕ, ◌<◌, ◌≤◌, ◌+◌, List, length, get_or, replicate, Option, Some, None, MatchOption, IfSome, refl, ap, sym, ◌∙◌, subst, arith}
 use Rattle.std.proofs.lemmas.Bool.{false≢true}
-use Rattle.std.proofs.lemmas.Option.{none-some, same_Some}
+use Rattle.std.proofs.lemmas.Option.{none-some}
 use Rattle.vehicle_model.proofs.Linking.{by_number}
 use Rattle.vehicle_flow.specs.declared.claim.Claim.{Claim}
 use Rattle.vehicle_flow.specs.declared.near.Near.{Near}
@@ -56,7 +56,7 @@ module _ (claims : ClaimsParts) (nears : List (Option Near)) (place : ℕ) where
     least = λ other before. by_number other place
         (λ same. subst (λ it. IfSome it (λ x. near.slack ≤ x.slack)) (sym is ∙ ap near_at (sym same)) (omega arith))
         (λ apart. subst (λ it. IfSome it (λ x. near.slack ≤ x.slack))
-            (sym (are other (omega (arith, before, apart)))) tt);
+        (sym (are other (omega (arith, before, apart)))) tt);
   }
 
   -- a nearer one, or not

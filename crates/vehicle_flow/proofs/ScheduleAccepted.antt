@@ -1,6 +1,6 @@
 -- The schedule of a plan has no fault as an input over the events of which its trips are.
-use Rattle.std.proofs.Common.{◌≡◌, ℕ, zero, suc, ◌+◌, ◌<◌, ◌≤◌, ◌&&◌, ◌||◌, Bool, true, false, not, cond, nat_lt, List, [], ◌∷◌, ◌++◌, length, map, filter, replicate, slice_set, All, Option, Some, None, unwrap_or, refl, ap, sym, ◌∙◌, subst, arith}
-use Rattle.std.specs.List.{AllByRecursion, range_with_len}
+use Rattle.std.proofs.Common.{◌≡◌, ℕ, ◌+◌, ◌<◌, ◌≤◌, ◌&&◌, ◌||◌, false, not, cond, nat_lt, List, [], ◌∷◌, ◌++◌, length, filter, replicate, slice_set, All, Option, Some, None, unwrap_or, refl, ap, sym, ◌∙◌, subst, arith}
+use Rattle.std.specs.List.{AllByRecursion}
 use Rattle.std.proofs.lemmas.Bool.{le-ltb}
 use Rattle.event_tables.specs.declared.expanded_event.ExpandedEvent.{ExpandedEvent}
 use Rattle.event_tables.specs.declared.schedule_row.ScheduleRow.{ScheduleRow}
@@ -16,8 +16,7 @@ use Rattle.event_tables.proofs.WrittenRecords.{rows_inside}
 use Rattle.giv_files.specs.declared.counted.Counted.TheVariants as counted
 use Rattle.giv_files.specs.declared.refusal.Refusal.TheVariants as refusal
 use Rattle.giv_files.specs.Columns.{schedule_columns}
-use Rattle.giv_files.specs.Inputs.{broken_whys, input_faults, limit_fault, limit_faults, records}
-use Rattle.giv_files.specs.Tables.{TableRow}
+use Rattle.giv_files.specs.Inputs.{input_faults, limit_fault, limit_faults, records}
 use Rattle.giv_files.specs.Writing.{ReadsBack}
 use Rattle.giv_files.proofs.Accepted.{KeepRules, accepted}
 use Rattle.giv_files.proofs.Headers.{plain_header}

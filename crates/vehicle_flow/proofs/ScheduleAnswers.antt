@@ -1,6 +1,5 @@
 -- What the test of a schedule answers, over a bundle.
-use Rattle.std.proofs.Common.{◌≡◌, ℕ, List, [], ◌∷◌, map, Option, Some, None, Result, Ok, Err, IfOk, IfNone, refl, ap, sym, ◌∙◌, subst}
-use Rattle.giv_files.specs.declared.file_id.FileId.TheVariants as file
+use Rattle.std.proofs.Common.{◌≡◌, ℕ, List, [], map, Option, Some, None, IfNone, refl, ap, sym, subst}
 use Rattle.giv_files.specs.declared.made.MadeFile.{MadeFile}
 use Rattle.giv_files.specs.Settings.{BundleParts}
 use Rattle.vehicle_model.specs.Trips.{TripsParts}

@@ -1,21 +1,19 @@
 -- Potentials of a tree that are shifted: it stays one, and each place without a claim is nearer.
-use Rattle.std.proofs.Common.{◌≡◌, ◌≢◌, ◌⊎◌, inl, inr, ℕ, ℤ, pos, negsuc, ◌<◌, ◌≤◌, ◌+◌, ◌-◌, ◌||◌, nat_eq, nat_lt, is_some, Bool, true, false, cond, List, length, get_or, Option, Some, None, option_map, MatchOption, IfSome, refl, ap, sym, ◌∙◌, subst, arith, eq-eqb}
+use Rattle.std.proofs.Common.{◌≡◌, ◌≢◌, ◌⊎◌, inl, inr, ℕ, ℤ, pos, negsuc, ◌<◌, ◌≤◌, ◌+◌, ◌-◌, ◌||◌, nat_lt, is_some, Bool, true, false, cond, List, length, get_or, Option, Some, None, option_map, MatchOption, IfSome, refl, ap, sym, ◌∙◌, subst, arith, eq-eqb}
 use Rattle.std.proofs.Math.ListN.{get_or-eq_default}
-use Rattle.std.proofs.lemmas.Bool.{false≢true, ne_eqb, eqb-true, ltb-true, ltb-false}
+use Rattle.std.proofs.lemmas.Bool.{false≢true, ne_eqb, ltb-true, ltb-false}
 use Rattle.std.proofs.lemmas.Option.{none-some, same_Some}
 use Rattle.vehicle_model.specs.Plans.{next, is_next}
 use Rattle.vehicle_model.specs.Trips.{Links}
 use Rattle.vehicle_model.proofs.Linking.{by_number, not_next}
-use Rattle.flow_potentials.specs.Potentials.{PotentialParts, at, AreOver}
+use Rattle.flow_potentials.specs.Potentials.{PotentialParts, at}
 use Rattle.flow_potentials.proofs.Certified.{by_bound}
 use Rattle.vehicle_flow.specs.declared.claim.Claim.{Claim}
 use Rattle.vehicle_flow.specs.declared.near.Near.{Near}
 use Rattle.vehicle_flow.specs.Claims.{ClaimsParts, claim_at}
-use Rattle.vehicle_flow.specs.Growing.{first_links, looking, is_claimed, is_claimed_at, in_tree, moved_near, shifted, IsFrom, IsNearest, IsNear, AreNear, IsTreeClaim, IsGrowing, IsNearestPlace, AreShifted}
-use Rattle.vehicle_flow.specs.Places.{successor_at}
-use Rattle.vehicle_flow.specs.Searches.{Search, IsTightAt, IsTightBy, IsTightBut, IsLeft, ComesFrom, IsClaim, AreClaimsBefore}
+use Rattle.vehicle_flow.specs.Growing.{first_links, looking, is_claimed, is_claimed_at, in_tree, moved_near, shifted, IsFrom, IsNearest, IsNear, AreNear, IsTreeClaim, IsGrowing, AreShifted}
+use Rattle.vehicle_flow.specs.Searches.{IsTightAt, IsTightBy, IsTightBut, IsLeft, ComesFrom, AreClaimsBefore}
 use Rattle.vehicle_flow.specs.Slacks.{worth, slack_of, slack_to, Covers}
-use Rattle.vehicle_flow.proofs.Moves.{some_successor, successor_within}
 
 -- ---- the first links
 
@@ -149,7 +147,6 @@ module _ (links : Links) (potentials : PotentialParts) (trip : ℕ) (plan : List
   module _ (nears : List (Option Near)) (are : AreNear links potentials trip plan claims nears) (slack : ℕ)
       (least : (place : ℕ) → place < length nears → claim_at claims place ≡ None
       → IfSome (get_or nears place None) (λ it. slack ≤ it.slack)) where
-
     -- the slack of each trip of the tree at a place without a claim is no less
     pub slack_least : (i place known : ℕ) → in_tree trip plan claims i ≡ true → place < links.count + 1
         → claim_at claims place ≡ None → slack_to links potentials i place ≡ Some known → slack ≤ known
@@ -273,7 +270,7 @@ module _ (links : Links) (potentials : PotentialParts) (trip : ℕ) (plan : List
           once = is.tight.once;
           last = λ i apart e. by_bound i links.count
               (λ within. u_out i within (tree_next trip plan claims i apart ∙ ap (is_claimed_at claims) e)
-                  ∙ is.tight.last i apart e)
+              ∙ is.tight.last i apart e)
               (λ past. get_or-eq_default after.u 0 (omega (arith, past, shift.over.each_u)));
           first = λ j within apart free. v_out j within (not_claimed j free (is_claimed claims j) refl)
               ∙ is.tight.first j within apart free;
@@ -349,7 +346,7 @@ module _ (links : Links) (potentials : PotentialParts) (trip : ℕ) (plan : List
         slack_after i place e within free = by_bound place links.count
             (λ inside_place. inside_is inside_place (worth (links.gain i place)) refl)
             (λ past. slack_past links after i place past ∙ ap Some (u_in i (tree_inside i e) e)
-                ∙ ap (option_map (λ known. known - slack)) (sym (slack_past links potentials i place past)))
+            ∙ ap (option_map (λ known. known - slack)) (sym (slack_past links potentials i place past)))
           where
             not_claimed : is_claimed claims place ≡ false
             not_claimed = ap is_some free
@@ -363,8 +360,11 @@ module _ (links : Links) (potentials : PotentialParts) (trip : ℕ) (plan : List
                 ∙ ap (slack_of (at potentials.u i + at potentials.v place)) f))
             inside_is inside_place (Some gain) f =
                 slack_is links after i place gain inside_place f
-                ∙ ap Some (omega (arith, (moved i place (tree_inside i e) inside_place).near e not_claimed,
-                tree_least i e))
+                ∙ ap Some (omega (
+                  arith,
+                  (moved i place (tree_inside i e) inside_place).near e not_claimed,
+                  tree_least i e,
+                ))
                 ∙ ap (option_map (λ known. known - slack)) (sym (slack_is links potentials i place gain inside_place f))
 
         -- so the nearest trips are those that were

@@ -1,6 +1,5 @@
 -- Potentials that are lowered and raised one by one.
-use Rattle.std.proofs.Common.{◌≡◌, ℕ, ◌<◌, ◌≤◌, ◌+◌, ◌-◌, cond, List, length, slice_set, Option, refl, ap, sym, ◌∙◌, subst, arith}
-use Rattle.std.proofs.lemmas.List.{length-set}
+use Rattle.std.proofs.Common.{◌≡◌, ℕ, ◌<◌, ◌+◌, ◌-◌, cond, List, length, slice_set, Option, refl, ap, sym, ◌∙◌, subst, arith}
 use Rattle.flow_potentials.specs.Potentials.{PotentialParts, at, AreOver}
 use Rattle.vehicle_flow.specs.Claims.{ClaimsParts}
 use Rattle.vehicle_flow.specs.Growing.{in_tree, is_claimed}

@@ -1,26 +1,25 @@
 -- One trip more is taken into a plan: how a tree begins, and what is left where a place was found.
-use Rattle.std.proofs.Common.{◌≡◌, ◌≢◌, ◌⊎◌, inl, inr, ℕ, ℤ, zero, suc, pos, negsuc, ◌<◌, ◌≤◌, ◌≤ℤ◌, ◌+◌, is_some, Bool, true, false, List, [], length, get_or, slice_set, replicate, Option, Some, None, IfSome, refl, ap, sym, ◌∙◌, subst, arith, get_or-set_other}
+use Rattle.std.proofs.Common.{◌≡◌, ◌≢◌, inl, inr, ℕ, ℤ, zero, suc, pos, negsuc, ◌<◌, ◌≤◌, ◌≤ℤ◌, ◌+◌, is_some, true, false, List, [], length, get_or, slice_set, replicate, Option, Some, None, IfSome, refl, ap, sym, ◌∙◌, subst, arith, get_or-set_other}
 use Rattle.std.proofs.Math.ListN.{get_or-eq_default}
 use Rattle.std.proofs.lemmas.Bool.{false≢true}
 use Rattle.std.proofs.lemmas.Int.{ints}
 use Rattle.std.proofs.lemmas.List.{length-set, length-replicate}
 use Rattle.std.proofs.lemmas.Option.{none-some, same_Some}
-use Rattle.vehicle_model.specs.Plans.{next, is_next, IsPlan}
+use Rattle.vehicle_model.specs.Plans.{next, IsPlan}
 use Rattle.vehicle_model.specs.Trips.{TripsParts, Links, links_of}
 use Rattle.vehicle_model.proofs.Following.{links_within}
 use Rattle.vehicle_model.proofs.Linking.{by_number, none_next}
-use Rattle.flow_potentials.specs.Potentials.{PotentialParts, at, AreOver, AreValid, IsTight}
+use Rattle.flow_potentials.specs.Potentials.{PotentialParts, at, AreOver, AreValid}
 use Rattle.flow_potentials.proofs.Certified.{by_bound}
-
 use Rattle.vehicle_flow.specs.declared.claim.Claim.{Claim}
 use Rattle.vehicle_flow.specs.declared.near.Near.{Near}
 use Rattle.vehicle_flow.specs.Claims.{ClaimsParts, claim_at, AreClaims}
-use Rattle.vehicle_flow.specs.Growing.{first_links, looking, settled, is_claimed, in_tree, looked, IsTaken, IsFrom, IsNear, AreNear, IsGrowing, IsPlaceFound}
+use Rattle.vehicle_flow.specs.Growing.{looking, in_tree, looked, IsTaken, IsNear, AreNear, IsGrowing, IsPlaceFound}
 use Rattle.vehicle_flow.specs.Searches.{IsTightBut, IsHandedOn}
 use Rattle.vehicle_flow.specs.Slacks.{worth, slack_to, Covers}
 use Rattle.vehicle_flow.proofs.Claiming.{nearest_more, from_more}
 use Rattle.vehicle_flow.proofs.ClaimLists.{none_at}
-use Rattle.vehicle_flow.proofs.Shifting.{first_gain, gain_first, pos_worth, tree_is}
+use Rattle.vehicle_flow.proofs.Shifting.{first_gain, gain_first, tree_is}
 use Rattle.vehicle_flow.proofs.TightValid.{tight_valid}
 
 abbrev no_one : Option Claim
@@ -81,7 +80,7 @@ module _ (links : Links) (potentials : PotentialParts) (plan : List (Option ℕ)
   covered_now i early = by_number i trip
       (λ same. subst (Covers links now) (sym same) covers)
       (λ apart j. subst (λ n. IfSome (worth (links.gain i j)) (λ gain. gain ≤ n))
-          (both apart j) (is.covered i (omega (arith, early, apart)) j))
+      (both apart j) (is.covered i (omega (arith, early, apart)) j))
     where
       both : i ≢ trip → (j : ℕ) → at potentials.u i + at potentials.v j ≡ at now.u i + at now.v j
       both apart j = omega (arith, u_other i apart, v_same j)

@@ -1,9 +1,9 @@
 -- Potentials that cover all links are valid for a plan that is tight for them.
 use Rattle.std.proofs.Common.{◌≡◌, ℕ, ℤ, pos, ◌+◌, ◌≤ℤ◌, true, List, is_some, Option, Some, None, IfSome, unwrap_or, ap, sym, ◌∙◌, subst, arith}
 use Rattle.std.proofs.lemmas.Bool.{false≢true}
-use Rattle.vehicle_model.specs.Plans.{next, IsPlan}
+use Rattle.vehicle_model.specs.Plans.{IsPlan}
 use Rattle.vehicle_model.specs.Trips.{Links}
-use Rattle.flow_potentials.specs.Potentials.{PotentialParts, at, total, AreOver, AreValid, IsTight}
+use Rattle.flow_potentials.specs.Potentials.{PotentialParts, at, AreOver, AreValid, IsTight}
 use Rattle.flow_potentials.proofs.Slack.{tight_gains}
 
 covered_by : (gain : Option ℤ) (most : ℕ) → is_some gain ≡ true → IfSome gain (λ value. value ≤ℤ pos most)

@@ -1,6 +1,6 @@
 -- Lists that are written from the first place on: what is told of the places that are written, and that
 -- the others are as before.
-use Rattle.std.proofs.Common.{◌≡◌, ℕ, ◌<◌, ◌≤◌, ◌+◌, List, length, get_or, slice_set, refl, ap, sym, ◌∙◌, subst, arith, get_or-set_same, get_or-set_other}
+use Rattle.std.proofs.Common.{◌≡◌, ℕ, ◌<◌, ◌≤◌, ◌+◌, List, length, get_or, slice_set, refl, ap, sym, ◌∙◌, arith, get_or-set_same, get_or-set_other}
 use Rattle.std.proofs.lemmas.List.{length-set}
 use Rattle.vehicle_model.proofs.Linking.{by_number}
 
@@ -23,7 +23,7 @@ told_more none told old now done x are inside is = record {
   each = length-set now done x ∙ are.each;
   is = λ i h. by_number i done
       (λ same. ap (λ k. get_or (slice_set now done x) k none) same
-          ∙ get_or-set_same now done x none inside ∙ is ∙ ap told (sym same))
+      ∙ get_or-set_same now done x none inside ∙ is ∙ ap told (sym same))
       (λ apart. get_or-set_other now done i x none apart ∙ are.is i (omega (arith, h, apart)));
   left = λ i h. get_or-set_other now done i x none (λ same. omega (arith, h, same))
       ∙ are.left i (omega (arith, h));

@@ -1,5 +1,5 @@
 -- What the stage of vehicles makes of a bundle that fits it is right.
-use Rattle.std.proofs.Common.{◌≡◌, ℕ, List, [], Option, Some, Result, Ok, Err, IfOk}
+use Rattle.std.proofs.Common.{◌≡◌, ℕ, List, [], Some, Result, Ok, Err, IfOk}
 use Rattle.giv_files.specs.declared.made.Made.{Made}
 use Rattle.giv_files.specs.declared.refusal.StageFault.{StageFault}
 use Rattle.giv_files.specs.declared.stage.Stage.TheVariants as stage

@@ -1,10 +1,10 @@
 -- The files of the stage are right, from what is known of the chosen plan.
-use Rattle.std.proofs.Common.{◌≡◌, ◌≤◌, ℕ, List, [], length, Option, Some, Ok, refl, sym, subst, arith}
+use Rattle.std.proofs.Common.{◌≡◌, ℕ, List, [], Option, Some, Ok, refl, sym, subst, arith}
 use Rattle.giv_files.specs.declared.made.Made.{Made}
 use Rattle.giv_files.specs.Settings.{BundleParts}
 use Rattle.giv_files.proofs.StageCalls.{made_unless, none_unless}
 use Rattle.vehicle_model.specs.Plans.{chosen_plan, IsCheapest, IsChosen, IsPlan}
-use Rattle.vehicle_model.specs.ReadSchedules.{plan_of, IsReadBack}
+use Rattle.vehicle_model.specs.ReadSchedules.{IsReadBack}
 use Rattle.vehicle_model.specs.Schedules.{plan_text}
 use Rattle.vehicle_model.specs.Trips.{TripsParts, links_of}
 use Rattle.vehicle_model.proofs.PlanBack.{plan_text_back}

@@ -1,6 +1,6 @@
 -- Inner words of both searches: a plan that is tight for potentials but for a trip that looks for a
 -- place and for a place that was left, and claims along which places can be handed on.
-use Rattle.std.specs.Prelude.{ℕ, pos, ◌≡◌, ◌+◌, ◌<◌, ◌≤◌, Bool, false, List, length, slice_set, Option, Some, None, MatchOption, IfSome}
+use Rattle.std.specs.Prelude.{ℕ, pos, ◌≡◌, ◌+◌, ◌<◌, ◌≤◌, false, List, length, slice_set, Option, Some, None, MatchOption, IfSome}
 use Rattle.vehicle_model.specs.Plans.{next, is_next}
 use Rattle.vehicle_model.specs.Trips.{Links}
 use Rattle.flow_potentials.specs.Potentials.{PotentialParts, at}

@@ -27,7 +27,14 @@ pub fn cheapest_plan(alloc: Global, trips: &Trips) -> Result<Solved, NoMemory>
     let mut claims = Claims::new(alloc, trips.len() + 1)?;
     let mut nears = nothing_near(alloc, trips.len() + 1)?;
     for trip in 0..trips.len() {
-        take_in(trips, trip, &mut assignment, &mut potentials, &mut claims, &mut nears)?;
+        take_in(
+            trips,
+            trip,
+            &mut assignment,
+            &mut potentials,
+            &mut claims,
+            &mut nears,
+        )?;
     }
     let plan = assignment.to_plan(alloc)?;
     Ok(Solved { plan, potentials })

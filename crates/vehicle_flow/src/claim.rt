@@ -86,12 +86,17 @@ impl Claims {
 
     /// Claims a place that is not claimed.
     #[tactic(auto, using(crate::proofs::ClaimLists::claimed_more, crate::proofs::ClaimLists::few_claims))]
-    pub(crate) fn claim(&mut self, place: usize, by: Option<usize>, from: Option<usize>) -> Result<(), NoMemory>
+    pub(crate) fn claim(
+        &mut self,
+        place: usize,
+        by: Option<usize>,
+        from: Option<usize>,
+    ) -> Result<(), NoMemory>
         requires place { place < length self.old.at }
         requires open { claim_at self.old place ≡ None }
         ensures claimed { OnOk result (self.new ≡ record {
-            at = slice_set self.old.at place (Some (record { by = by; from = from; step = length self.old.order }));
-            order = self.old.order ++ place ∷ [];
+          at = slice_set self.old.at place (Some (record { by = by; from = from; step = length self.old.order }));
+          order = self.old.order ++ place ∷ [];
         }) }
         ensures few { length self.old.order < length self.old.at }
     {

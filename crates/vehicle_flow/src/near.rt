@@ -55,7 +55,15 @@ pub(crate) fn look(
         (get_or nears.old.items place None) }
 {
     for place in 0..nears.len() {
-        nears[place] = look_at(trips, potentials, claims, place, by, from, near_at(nears, place));
+        nears[place] = look_at(
+            trips,
+            potentials,
+            claims,
+            place,
+            by,
+            from,
+            near_at(nears, place),
+        );
     }
 }
 
@@ -99,7 +107,11 @@ fn nearer(slack: u64, by: usize, from: Option<usize>, old: Option<Near>) -> Near
     ensures { result ≡ nearer slack by from old }
 {
     match old {
-        Some(old) => if slack < old.slack { Near { slack, by, from } } else { old },
+        Some(old) => if slack < old.slack {
+            Near { slack, by, from }
+        } else {
+            old
+        },
         None => Near { slack, by, from },
     }
 }
@@ -160,7 +172,11 @@ fn open_near(claims: &Claims, nears: &[Option<Near>], place: usize) -> Option<Ne
     requires nears { place < length nears.now }
     ensures { result ≡ open_near (claim_at claims.now place) (get_or nears.now place None) }
 {
-    if claims.at(place).is_some() { None } else { near_at(nears, place) }
+    if claims.at(place).is_some() {
+        None
+    } else {
+        near_at(nears, place)
+    }
 }
 
 // The nearer one of the nearest place so far and another one.

@@ -73,7 +73,11 @@ fn lowered(lower: bool, own: u64, slack: u64) -> u64
     ensures value { result ≡ (if lower then own - slack else own) }
     ensures most { result ≤ own }
 {
-    if lower { own.saturating_sub(slack) } else { own }
+    if lower {
+        own.saturating_sub(slack)
+    } else {
+        own
+    }
 }
 
 // A number with another one, or as it is.

@@ -9,7 +9,12 @@ use vehicle_model::Trips;
 
 /// The slack of a trip at a place: how much both potentials are more than what the link gains, and the
 /// trip's own behind all trips. None where no link is worth it.
-pub(crate) fn slack(trips: &Trips, potentials: &Potentials, trip: usize, place: usize) -> Option<u64>
+pub(crate) fn slack(
+    trips: &Trips,
+    potentials: &Potentials,
+    trip: usize,
+    place: usize,
+) -> Option<u64>
     requires each { AreOver (length trips.now.trips) potentials.now }
     requires trip { trip < length trips.now.trips }
     requires place { place ≤ length trips.now.trips }
@@ -39,7 +44,11 @@ pub(crate) fn worth(trips: &Trips, i: usize, j: usize) -> Option<u64>
     match trips.link_gain(i, j) {
         Some(gain) => {
             let natural = gain + 0;
-            if natural < 0 { None } else { Some(natural as u64) }
+            if natural < 0 {
+                None
+            } else {
+                Some(natural as u64)
+            }
         }
         None => None,
     }

@@ -1,5 +1,6 @@
 // Plans of least cost.
-use crate::{chosen::chosen_plan, cheapest_plan};
+use crate::cheapest_plan;
+use crate::chosen::chosen_plan;
 use std::alloc::Global;
 use std::test::Fail;
 use vehicle_model::{Trips, plan_cost};
@@ -8,7 +9,8 @@ const STOPS: &[u8] = b"1;;;;;\n2;;;;;\n3;;;;;\n";
 
 const EDGES: &[u8] = b"1; 1; 2; 2; 4; 5\n2; 2; 3; 3; 6; 6\n";
 
-const THREE: &[u8] = b"1; 1; 1; 0; 2; 2; 2; 10; 1\n3; 1; 2; 12; 4; 2; 1; 22; 1\n5; 1; 2; 13; 6; 2; 1; 23; 1\n";
+const THREE: &[u8] =
+    b"1; 1; 1; 0; 2; 2; 2; 10; 1\n3; 1; 2; 12; 4; 2; 1; 22; 1\n5; 1; 2; 13; 6; 2; 1; 23; 1\n";
 
 #[test]
 fn three(rt: HostRuntime) -> Result<(), Fail> {

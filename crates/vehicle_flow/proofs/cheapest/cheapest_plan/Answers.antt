@@ -1,4 +1,4 @@
-use Rattle.std.proofs.Common.{◌≡◌, ◌≤◌, ◌+◌, List, Option, None, length, replicate, [], ap, ◌∙◌, sym, subst, arith}
+use Rattle.std.proofs.Common.{◌+◌, None, replicate, [], ap, ◌∙◌, sym, subst, arith}
 use Rattle.flow_potentials.specs.Potentials.{AreValid}
 use Rattle.flow_potentials.proofs.Certified.{certified_cheapest}
 use Rattle.vehicle_model.specs.Plans.{IsPlan, IsCheapest}

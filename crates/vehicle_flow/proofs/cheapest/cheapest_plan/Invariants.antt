@@ -1,5 +1,4 @@
 -- The first trips are taken in so far.
-use Rattle.std.proofs.Common.{◌≡◌, ◌+◌, length}
 use Rattle.vehicle_model.specs.Trips.{links_of}
 use Rattle.vehicle_flow.proofs.TakenIn.{AreTakenIn}
 use Rattle.vehicle_flow.proofs.cheapest.cheapest_plan.Given as goal

@@ -1,6 +1,6 @@
 use Rattle.std.proofs.Common.{◌∙◌, ap, option_copied}
 use Rattle.vehicle_flow.specs.ScheduleChecks.{schedule_fault}
-use Rattle.vehicle_flow.proofs.ScheduleAnswers.{none_where, right_where}
+use Rattle.vehicle_flow.proofs.ScheduleAnswers.{none_where}
 use Rattle.vehicle_flow.proofs.check.check_schedule.Goals as goal
 
 pub returns-clause-only : goal.returns-clause-only

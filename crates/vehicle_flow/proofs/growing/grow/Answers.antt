@@ -70,4 +70,4 @@ returns-in-None-clause-more c =
     never_none c.args.trips.now c.args.potentials.now c.args.trip c.args.assignment.now c.args.claims.now
     c.requires.growing c.args.nears.now.items c.requires.near
     (subst (λ xs. (place : ℕ) → place < length xs → claim_at c.args.claims.now place ≡ None
-        → get_or xs place None ≡ None) c.deref.ensures.value c.in-None.ensures)
+    → get_or xs place None ≡ None) c.deref.ensures.value c.in-None.ensures)

@@ -1,4 +1,4 @@
-use Rattle.std.proofs.Common.{rules, ◌≡◌, ◌<◌, length, get_or, None, ap, ◌∙◌, arith}
+use Rattle.std.proofs.Common.{rules, None, ap, ◌∙◌}
 use Rattle.vehicle_model.specs.Trips.{links_of}
 use Rattle.vehicle_flow.specs.Claims.{claim_at}
 use Rattle.vehicle_flow.specs.Growing.{looked}

@@ -1,7 +1,4 @@
 -- The potentials of the first trips are lowered so far.
-use Rattle.std.proofs.Common.{◌≡◌, ◌-◌, cond, length}
-use Rattle.flow_potentials.specs.Potentials.{at, AreOver}
-use Rattle.vehicle_flow.specs.Growing.{in_tree}
 use Rattle.vehicle_flow.proofs.Shifts.{AreLowered}
 use Rattle.vehicle_flow.proofs.shift.lower.Given as goal
 

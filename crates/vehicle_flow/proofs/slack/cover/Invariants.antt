@@ -1,8 +1,5 @@
 -- The potential covers the links to the first trips so far.
-use Rattle.std.proofs.Common.{ℕ, ◌≡◌, ◌<◌, ◌≤◌, ◌+◌, IfSome}
 use Rattle.vehicle_model.specs.Trips.{links_of}
-use Rattle.flow_potentials.specs.Potentials.{at}
-use Rattle.vehicle_flow.specs.Slacks.{worth}
 use Rattle.vehicle_flow.proofs.Covering.{CoversBefore}
 use Rattle.vehicle_flow.proofs.slack.cover.Given as goal
 

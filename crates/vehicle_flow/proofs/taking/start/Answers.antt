@@ -1,4 +1,4 @@
-use Rattle.std.proofs.Common.{◌≡◌, ◌+◌, length, replicate, None, [], ap, ◌∙◌, sym}
+use Rattle.std.proofs.Common.{replicate, None, [], ap, ◌∙◌}
 use Rattle.vehicle_model.specs.Trips.{links_of}
 use Rattle.vehicle_flow.proofs.TakenIn.{started, near_started}
 use Rattle.vehicle_flow.proofs.taking.start.Goals as goal

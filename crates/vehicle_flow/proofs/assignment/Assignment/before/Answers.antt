@@ -1,4 +1,4 @@
-use Rattle.std.proofs.Common.{◌≡◌, ◌<◌, length, IfSome, ap, ◌∙◌, sym, subst}
+use Rattle.std.proofs.Common.{◌<◌, length, IfSome, ap, ◌∙◌, sym, subst}
 use Rattle.vehicle_model.specs.Plans.{next}
 use Rattle.vehicle_flow.proofs.Moves.{before_inside}
 use Rattle.vehicle_flow.proofs.assignment.Assignment.before.Goals as goal

@@ -1,4 +1,4 @@
-use Rattle.std.proofs.Common.{◌≡◌, ◌<◌, length, None, false, sym, ◌∙◌, ap, subst, arith}
+use Rattle.std.proofs.Common.{◌≡◌, None, false, sym, ◌∙◌, subst, arith}
 use Rattle.vehicle_model.specs.Plans.{is_next}
 use Rattle.vehicle_flow.proofs.Moves.{moved_free, none_apart, given_inside}
 use Rattle.vehicle_flow.proofs.assignment.Assignment.give.Goals as goal

@@ -1,4 +1,4 @@
-use Rattle.std.proofs.Common.{◌≡◌, ◌<◌, ◌≤◌, length, arith}
+use Rattle.std.proofs.Common.{arith}
 use Rattle.vehicle_flow.proofs.Copies.{copied_fits, copied_all}
 use Rattle.vehicle_flow.proofs.assignment.Assignment.of_plan.Goals as goal
 

@@ -1,4 +1,4 @@
-use Rattle.std.proofs.Common.{◌≡◌, ◌<◌, length, IfSome, sym, ◌∙◌, ap, subst}
+use Rattle.std.proofs.Common.{◌<◌, length, IfSome, sym, ◌∙◌, ap, subst}
 use Rattle.vehicle_model.specs.Plans.{next}
 use Rattle.vehicle_flow.proofs.Moves.{own_inside}
 use Rattle.vehicle_flow.proofs.assignment.Assignment.take_away.Goals as goal

@@ -1,4 +1,4 @@
-use Rattle.std.proofs.Common.{◌≡◌, ◌<◌, length, false, sym, subst, arith}
+use Rattle.std.proofs.Common.{arith}
 use Rattle.vehicle_flow.proofs.Moves.{past_free}
 use Rattle.vehicle_flow.proofs.assignment.Assignment.trip_at.Goals as goal
 
