@@ -3,7 +3,7 @@ ghost use Rattle.std.specs.Prelude.{None};
 ghost use Rattle.plan_files.specs.Counts.{last_count};
 
 use crate::answers::Status;
-use crate::cases::{DAY_CONFIG, EDGES, GIVEN, POOL, STOPS, words};
+use crate::cases::{ALL_CONFIG, EDGES, GIVEN, POOL, STOPS, words};
 use crate::top::lintim;
 use plan_files::{FileFault, Files, Got, MemorySink, Sink, SinkFault, SteadyFiles};
 use plan_num::{Silent, Steps, Text};
@@ -40,7 +40,7 @@ impl SpyFiles {
     // The files of a dataset whose stages are made, and others beside them.
     fn of_dataset(alloc: Global, fails: usize) -> Result<SpyFiles, FileFault> {
         let mut files = SteadyFiles::new(alloc);
-        files.put("basis/Config.cnf", DAY_CONFIG)?;
+        files.put("basis/Config.cnf", ALL_CONFIG)?;
         files.put("basis/Stop.giv", STOPS)?;
         files.put("basis/Edge.giv", EDGES)?;
         files.put("basis/Pool.giv", POOL)?;
@@ -127,7 +127,7 @@ impl Sink for SpySink {
 
 // The calls of a run over the dataset: it reads the hand files that its settings and its stages
 // need, and then it puts what they make.
-const CALLS: [(Kind, &str); 22] = [
+const CALLS: [(Kind, &str); 30] = [
     (Kind::Get, "basis/Config.cnf"),
     (Kind::Get, "basis/Stop.giv"),
     (Kind::Get, "basis/Edge.giv"),
@@ -140,6 +140,10 @@ const CALLS: [(Kind, &str); 22] = [
     (Kind::Get, "basis/Pool.giv"),
     (Kind::Get, "basis/Stop.giv"),
     (Kind::Get, "basis/Edge.giv"),
+    (Kind::Get, "basis/Stop.giv"),
+    (Kind::Get, "basis/Edge.giv"),
+    (Kind::Get, "delay-management/Event-delays.giv"),
+    (Kind::Get, "delay-management/Activity-delays.giv"),
     (Kind::Put, "line-planning/Load.giv"),
     (Kind::Put, "basis/Pool-Cost.giv"),
     (Kind::Put, "line-planning/Line-Concept.lin"),
@@ -150,6 +154,10 @@ const CALLS: [(Kind, &str); 22] = [
     (Kind::Put, "delay-management/Events-expanded.giv"),
     (Kind::Put, "delay-management/Activities-expanded.giv"),
     (Kind::Put, "delay-management/Trips.giv"),
+    (Kind::Put, "vehicle-scheduling/Vehicle_Schedules.vs"),
+    (Kind::Put, "vehicle-scheduling/Vehicle_Schedules.cert"),
+    (Kind::Put, "delay-management/Timetable-disposition.tim"),
+    (Kind::Put, "delay-management/Timetable-disposition.cert"),
 ];
 
 // The first so many of these calls were made, and no other one.
@@ -180,15 +188,15 @@ fn a_run_names_its_files_alone(rt: HostRuntime) -> Result<(), Fail> {
     let mut out = SpySink::new(rt.alloc(), false);
     let status = run(&rt, "make", &mut files, &mut out)?;
     assert_eq!(rt; status, Status::Done);
-    are_first(&rt, &files, 22);
-    assert_eq!(rt; out.pieces.as_slice(), [176].as_slice());
+    are_first(&rt, &files, 30);
+    assert_eq!(rt; out.pieces.as_slice(), [256].as_slice());
     Ok(())
 }
 
 // After a call that fails no other one is made, and the line that tells of it is one write.
 #[test]
 fn nothing_is_called_after_a_fault(rt: HostRuntime) -> Result<(), Fail> {
-    for fails in 1..23 {
+    for fails in 1..31 {
         let mut files = SpyFiles::of_dataset(rt.alloc(), fails)?;
         let mut out = SpySink::new(rt.alloc(), false);
         let status = run(&rt, "make", &mut files, &mut out)?;
@@ -206,8 +214,8 @@ fn a_report_is_written_once(rt: HostRuntime) -> Result<(), Fail> {
     let mut out = SpySink::new(rt.alloc(), true);
     let status = run(&rt, "make", &mut files, &mut out)?;
     assert_eq!(rt; status, Status::SinkFault);
-    are_first(&rt, &files, 22);
-    assert_eq!(rt; out.pieces.as_slice(), [176].as_slice());
+    are_first(&rt, &files, 30);
+    assert_eq!(rt; out.pieces.as_slice(), [256].as_slice());
     Ok(())
 }
 
@@ -220,7 +228,7 @@ fn a_refused_run_removes_made_files_alone(rt: HostRuntime) -> Result<(), Fail> {
     let mut out = SpySink::new(rt.alloc(), false);
     let status = run(&rt, "make", &mut files, &mut out)?;
     assert_eq!(rt; status, Status::BadInput);
-    assert_eq!(rt; files.calls.len(), 12);
+    assert_eq!(rt; files.calls.len(), 16);
     let names = [
         "line-planning/Load.giv",
         "basis/Pool-Cost.giv",
@@ -232,6 +240,10 @@ fn a_refused_run_removes_made_files_alone(rt: HostRuntime) -> Result<(), Fail> {
         "delay-management/Events-expanded.giv",
         "delay-management/Activities-expanded.giv",
         "delay-management/Trips.giv",
+        "vehicle-scheduling/Vehicle_Schedules.vs",
+        "vehicle-scheduling/Vehicle_Schedules.cert",
+        "delay-management/Timetable-disposition.tim",
+        "delay-management/Timetable-disposition.cert",
     ];
     for (call, name) in files.calls.iter().skip(2).zip(names.iter()) {
         assert_eq!(rt; call.kind, Kind::Remove);

@@ -26,3 +26,4 @@ pub mod StopsThere
 pub mod Traces
 pub mod Visiting
 pub mod Visits
+pub mod WritesMade
