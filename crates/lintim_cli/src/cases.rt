@@ -10,8 +10,14 @@ use std::test::Fail;
 pub(crate) const CONFIG: &[u8] = b"load_source; file\nperiod_length; 20\nlast_stage; timetable\n";
 
 // The same with a short day, and all stages.
+pub(crate) const ALL_CONFIG: &[u8] = b"load_source; file\nperiod_length; 20\n\
+    ean_default_minimal_change_time; 2\nDM_earliest_time; 0\nDM_latest_time; 20\n\
+    vs_turn_over_time; 2\n";
+
+// The same, up to the roll-out.
 pub(crate) const DAY_CONFIG: &[u8] = b"load_source; file\nperiod_length; 20\n\
-    ean_default_minimal_change_time; 2\nDM_earliest_time; 0\nDM_latest_time; 20\n";
+    ean_default_minimal_change_time; 2\nDM_earliest_time; 0\nDM_latest_time; 20\n\
+    last_stage; rollout\n";
 
 pub(crate) const STOPS: &[u8] = b"# stops\n1; A; A; 0; 0\n2; B; B; 0; 0\n3; C; C; 0; 0\n";
 
@@ -58,6 +64,20 @@ pub(crate) struct Day {
     pub(crate) trips: &'static [u8],
 }
 
+// A vehicle schedule and its potentials.
+#[derive(Clone, Copy)]
+pub(crate) struct Plan {
+    pub(crate) schedule: &'static [u8],
+    pub(crate) potentials: &'static [u8],
+}
+
+// A disposition and its reasons.
+#[derive(Clone, Copy)]
+pub(crate) struct Last {
+    pub(crate) disposed: &'static [u8],
+    pub(crate) reasons: &'static [u8],
+}
+
 // The files that people wrote, those that are to be made, and what is to be told.
 #[derive(Clone, Copy)]
 pub(crate) struct Case {
@@ -67,6 +87,7 @@ pub(crate) struct Case {
     pub(crate) pool: Option<&'static [u8]>,
     pub(crate) given: Option<&'static [u8]>,
     pub(crate) demand: Option<&'static [u8]>,
+    pub(crate) delays: Option<&'static [u8]>,
     pub(crate) status: Status,
     pub(crate) loads: Option<&'static [u8]>,
     pub(crate) costs: Option<&'static [u8]>,
@@ -76,6 +97,8 @@ pub(crate) struct Case {
     pub(crate) activities: Option<&'static [u8]>,
     pub(crate) times: Option<&'static [u8]>,
     pub(crate) day: Option<Day>,
+    pub(crate) plan: Option<Plan>,
+    pub(crate) last: Option<Last>,
     pub(crate) report: &'static [u8],
     pub(crate) steps: u64,
 }
@@ -88,6 +111,7 @@ pub(crate) const MADE: Case = Case {
     pool: Some(POOL),
     given: Some(GIVEN),
     demand: None,
+    delays: None,
     status: Status::Done,
     loads: Some(LOADS),
     costs: Some(COSTS),
@@ -97,6 +121,8 @@ pub(crate) const MADE: Case = Case {
     activities: Some(ACTIVITIES),
     times: Some(TIMES),
     day: None,
+    plan: None,
+    last: None,
     report: b"load: 2 edges\ncost: 2 lines\nconcept: cost 27, optimal, 9 entries\n\
         ean: 12 events, 14 activities\ntimetable: 12 events, 10 entries\ndone\n",
     steps: 24,
@@ -128,6 +154,22 @@ pub(crate) fn run(rt: &(impl AllocGlobal + Abort), case: &Case) -> Result<(), Fa
             case.day.map(|day| day.activities),
         ),
         ("delay-management/Trips.giv", case.day.map(|day| day.trips)),
+        (
+            "vehicle-scheduling/Vehicle_Schedules.vs",
+            case.plan.map(|plan| plan.schedule),
+        ),
+        (
+            "vehicle-scheduling/Vehicle_Schedules.cert",
+            case.plan.map(|plan| plan.potentials),
+        ),
+        (
+            "delay-management/Timetable-disposition.tim",
+            case.last.map(|last| last.disposed),
+        ),
+        (
+            "delay-management/Timetable-disposition.cert",
+            case.last.map(|last| last.reasons),
+        ),
     ];
     let mut files = SteadyFiles::new(alloc);
     for (name, _) in &made {
@@ -141,6 +183,7 @@ pub(crate) fn run(rt: &(impl AllocGlobal + Abort), case: &Case) -> Result<(), Fa
         ("basis/Pool.giv", case.pool),
         ("basis/Load.giv", case.given),
         ("basis/OD.giv", case.demand),
+        ("delay-management/Event-delays.giv", case.delays),
     ];
     for (name, text) in &given {
         if let Some(text) = text {

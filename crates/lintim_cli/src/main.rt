@@ -65,3 +65,5 @@ mod spies;
 mod tests;
 #[cfg(test)]
 mod timetable_tests;
+#[cfg(test)]
+mod whole_tests;

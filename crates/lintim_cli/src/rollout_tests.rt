@@ -6,7 +6,7 @@ use plan_files::Files;
 use std::test::Fail;
 
 // Two trips of each of four runs: both ends of the day are its times.
-const TWO_TRIPS_A_RUN: Case = Case {
+pub(crate) const TWO_TRIPS_A_RUN: Case = Case {
     config: Some(DAY_CONFIG),
     activities: Some(
         b"# activity-id; type; from-event; to-event; lower-bound; upper-bound\n\
@@ -24,7 +24,7 @@ const TWO_TRIPS_A_RUN: Case = Case {
     ..MADE
 };
 
-const LONG_DAY: Day = Day {
+pub(crate) const LONG_DAY: Day = Day {
     events: b"# event-id; periodic-id; type; time; stop-id\n1; 1; departure; 0; 1\n\
         2; 2; arrival; 4; 2\n3; 3; departure; 5; 2\n4; 4; arrival; 11; 3\n\
         5; 1; departure; 20; 1\n6; 2; arrival; 24; 2\n7; 3; departure; 25; 2\n\
@@ -74,7 +74,7 @@ fn trips_start_at_both_ends_of_the_day(rt: HostRuntime) -> Result<(), Fail> {
         Case {
             config: Some(
                 b"load_source; file\nperiod_length; 20\nean_default_minimal_change_time; 2\n\
-                DM_earliest_time; 0\nDM_latest_time; 19\n",
+                DM_earliest_time; 0\nDM_latest_time; 19\nlast_stage; rollout\n",
             ),
             day: Some(SHORT_DAY),
             report: b"load: 2 edges\ncost: 2 lines\nconcept: cost 27, optimal, 9 entries\n\

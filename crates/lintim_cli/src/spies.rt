@@ -3,7 +3,7 @@ ghost use Rattle.std.specs.Prelude.{None};
 ghost use Rattle.plan_files.specs.Counts.{last_count};
 
 use crate::answers::Status;
-use crate::cases::{DAY_CONFIG, EDGES, GIVEN, POOL, STOPS, words};
+use crate::cases::{ALL_CONFIG, EDGES, GIVEN, POOL, STOPS, words};
 use crate::top::lintim;
 use plan_files::{FileFault, Files, Got, MemorySink, Sink, SinkFault, SteadyFiles};
 use plan_num::{Silent, Steps, Text};
@@ -40,7 +40,7 @@ impl SpyFiles {
     // The files of a dataset whose stages are made, and others beside them.
     fn of_dataset(alloc: Global, fails: usize) -> Result<SpyFiles, FileFault> {
         let mut files = SteadyFiles::new(alloc);
-        files.put("basis/Config.cnf", DAY_CONFIG)?;
+        files.put("basis/Config.cnf", ALL_CONFIG)?;
         files.put("basis/Stop.giv", STOPS)?;
         files.put("basis/Edge.giv", EDGES)?;
         files.put("basis/Pool.giv", POOL)?;
@@ -128,7 +128,7 @@ impl Sink for SpySink {
 // The calls of a run over the dataset, whose keep file is no entry. It reads the hand files that its
 // settings and its stages need, and what is kept of each stage; then it compares the made files with
 // those that are there; and then it puts what differs, and its entries.
-const CALLS: [(Kind, &str); 44] = [
+const CALLS: [(Kind, &str); 60] = [
     (Kind::Get, "basis/Config.cnf"),
     (Kind::Get, "basis/Stop.giv"),
     (Kind::Get, "basis/Edge.giv"),
@@ -147,6 +147,12 @@ const CALLS: [(Kind, &str); 44] = [
     (Kind::Get, "keep/ean.keep"),
     (Kind::Get, "keep/timetable.keep"),
     (Kind::Get, "keep/rollout.keep"),
+    (Kind::Get, "basis/Stop.giv"),
+    (Kind::Get, "basis/Edge.giv"),
+    (Kind::Get, "keep/vehicles.keep"),
+    (Kind::Get, "delay-management/Event-delays.giv"),
+    (Kind::Get, "delay-management/Activity-delays.giv"),
+    (Kind::Get, "keep/disposition.keep"),
     (Kind::Get, "line-planning/Load.giv"),
     (Kind::Get, "basis/Pool-Cost.giv"),
     (Kind::Get, "line-planning/Line-Concept.lin"),
@@ -157,6 +163,10 @@ const CALLS: [(Kind, &str); 44] = [
     (Kind::Get, "delay-management/Events-expanded.giv"),
     (Kind::Get, "delay-management/Activities-expanded.giv"),
     (Kind::Get, "delay-management/Trips.giv"),
+    (Kind::Get, "vehicle-scheduling/Vehicle_Schedules.vs"),
+    (Kind::Get, "vehicle-scheduling/Vehicle_Schedules.cert"),
+    (Kind::Get, "delay-management/Timetable-disposition.tim"),
+    (Kind::Get, "delay-management/Timetable-disposition.cert"),
     (Kind::Put, "line-planning/Load.giv"),
     (Kind::Put, "basis/Pool-Cost.giv"),
     (Kind::Put, "line-planning/Line-Concept.lin"),
@@ -167,12 +177,18 @@ const CALLS: [(Kind, &str); 44] = [
     (Kind::Put, "delay-management/Events-expanded.giv"),
     (Kind::Put, "delay-management/Activities-expanded.giv"),
     (Kind::Put, "delay-management/Trips.giv"),
+    (Kind::Put, "vehicle-scheduling/Vehicle_Schedules.vs"),
+    (Kind::Put, "vehicle-scheduling/Vehicle_Schedules.cert"),
+    (Kind::Put, "delay-management/Timetable-disposition.tim"),
+    (Kind::Put, "delay-management/Timetable-disposition.cert"),
     (Kind::Put, "keep/load.keep"),
     (Kind::Put, "keep/cost.keep"),
     (Kind::Put, "keep/concept.keep"),
     (Kind::Put, "keep/ean.keep"),
     (Kind::Put, "keep/timetable.keep"),
     (Kind::Put, "keep/rollout.keep"),
+    (Kind::Put, "keep/vehicles.keep"),
+    (Kind::Put, "keep/disposition.keep"),
 ];
 
 // The first so many of these calls were made, and no other one.
@@ -203,15 +219,15 @@ fn a_run_names_its_files_alone(rt: HostRuntime) -> Result<(), Fail> {
     let mut out = SpySink::new(rt.alloc(), false);
     let status = run(&rt, "make", &mut files, &mut out)?;
     assert_eq!(rt; status, Status::Done);
-    are_first(&rt, &files, 44);
-    assert_eq!(rt; out.pieces.as_slice(), [176].as_slice());
+    are_first(&rt, &files, 60);
+    assert_eq!(rt; out.pieces.as_slice(), [256].as_slice());
     Ok(())
 }
 
 // After a call that fails no other one is made, and the line that tells of it is one write.
 #[test]
 fn nothing_is_called_after_a_fault(rt: HostRuntime) -> Result<(), Fail> {
-    for fails in 1..45 {
+    for fails in 1..61 {
         let mut files = SpyFiles::of_dataset(rt.alloc(), fails)?;
         let mut out = SpySink::new(rt.alloc(), false);
         let status = run(&rt, "make", &mut files, &mut out)?;
@@ -229,8 +245,8 @@ fn a_report_is_written_once(rt: HostRuntime) -> Result<(), Fail> {
     let mut out = SpySink::new(rt.alloc(), true);
     let status = run(&rt, "make", &mut files, &mut out)?;
     assert_eq!(rt; status, Status::SinkFault);
-    are_first(&rt, &files, 44);
-    assert_eq!(rt; out.pieces.as_slice(), [176].as_slice());
+    are_first(&rt, &files, 60);
+    assert_eq!(rt; out.pieces.as_slice(), [256].as_slice());
     Ok(())
 }
 
@@ -243,11 +259,11 @@ fn a_refused_run_removes_made_files_alone(rt: HostRuntime) -> Result<(), Fail> {
     let mut out = SpySink::new(rt.alloc(), false);
     let status = run(&rt, "make", &mut files, &mut out)?;
     assert_eq!(rt; status, Status::BadInput);
-    assert_eq!(rt; files.calls.len(), 13);
-    for call in files.calls.iter().skip(2).take(10) {
+    assert_eq!(rt; files.calls.len(), 17);
+    for call in files.calls.iter().skip(2).take(14) {
         assert_eq!(rt; call.kind, Kind::Get);
     }
-    for call in files.calls.iter().skip(12) {
+    for call in files.calls.iter().skip(16) {
         assert_eq!(rt; call.kind, Kind::Remove);
         assert_eq!(rt;
             call.name.as_bytes(),

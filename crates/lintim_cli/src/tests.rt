@@ -1,6 +1,8 @@
 // Whole runs, over files in memory and over a real folder.
 use crate::answers::Status;
-use crate::cases::{CONFIG, COSTS, Case, Day, EDGES, GIVEN, MADE, POOL, STOPS, run, words};
+use crate::cases::{
+    CONFIG, COSTS, Case, Day, EDGES, GIVEN, Last, MADE, POOL, Plan, STOPS, run, words,
+};
 use crate::top::lintim;
 use plan_files::{Files, FolderFiles, Got, MemorySink, Sink, StdSink, SteadyFiles};
 use plan_num::{Steps, Tally};
@@ -45,7 +47,10 @@ const SQUARE: Case = Case {
     events: None,
     activities: None,
     times: None,
+    delays: None,
     day: None,
+    plan: None,
+    last: None,
     report: b"load: 4 edges\ncost: 0 lines\nno solution: concept\n",
     steps: 4,
 };
@@ -57,6 +62,18 @@ const NO_DAY: Day = Day {
         upper-bound\n",
     trips: b"# start-id; periodic-start-id; start-stop; start-time; end-id; periodic-end-id; \
         end-stop; end-time; line\n",
+};
+
+// The files of vehicles without trips, and of a disposition without events.
+const NO_PLAN: Plan = Plan {
+    schedule: b"# circulation; vehicle; number; type; start-id; periodic-start-id; start-stop; \
+        start-time; end-id; periodic-end-id; end-stop; end-time; line\n",
+    potentials: b"# trip; u; v\n",
+};
+
+const NO_LAST: Last = Last {
+    disposed: b"# event-id; time\n",
+    reasons: b"# event-id; reason; activity-id\n",
 };
 
 // A run over no edges and no lines.
@@ -149,10 +166,14 @@ fn loads_come_of_demand(rt: HostRuntime) -> Result<(), Fail> {
             stops: Some(FOUR_STOPS),
             demand: Some(b"1; 2; 0\n"),
             day: Some(NO_DAY),
+            plan: Some(NO_PLAN),
+            last: Some(NO_LAST),
             report: b"load: 0 edges\ncost: 0 lines\nconcept: cost 0, optimal, 1 entries\n\
                 ean: 0 events, 0 activities\ntimetable: 0 events, 1 entries\n\
-                rollout: 0 trips, 0 events, 0 activities\ndone\n",
-            steps: 8,
+                rollout: 0 trips, 0 events, 0 activities\n\
+                vehicles: 0 vehicles, cost 0, optimal\n\
+                disposition: delay 0, 0 missed, optimal\ndone\n",
+            steps: 10,
             ..NOTHING
         },
     ];

@@ -20,13 +20,14 @@ use Rattle.config_keys.specs.Values.{effective}
 use Rattle.line_search.specs.RightConcepts.{ConceptFilesAreRight, mark_files}
 use Rattle.pesp_search.specs.RightTimetables.{TimetableFilesAreRight}
 use Rattle.vehicle_flow.specs.RightVehicles.{VehicleFilesAreRight}
+use Rattle.delay_management.specs.RightDispositions.{DispositionFilesAreRight}
 use Rattle.stage_driver.specs.declared.cause.Cause.{Cause}
 use Rattle.stage_driver.specs.declared.cause.Cause.TheVariants as cause
 use Rattle.stage_driver.specs.declared.finding.Finding.{Finding}
 use Rattle.stage_driver.specs.declared.outcome.RunEnd.TheVariants as end
 use Rattle.stage_driver.specs.Built.{built, cause_of, files_of, made, run_stage, trace_of, trace_under}
 use Rattle.stage_driver.specs.Chain.{Halt, Trace, Visit, bundle_by, chain_from, go_on, is_to_run, to_run, visit_of}
-use Rattle.stage_driver.specs.Checks.{check_of, concept_verdict, first_found, first_text, found_under, is_lacking, judge, lacks_file, schedule_verdict, standing, timetable_verdict, verdict}
+use Rattle.stage_driver.specs.Checks.{check_of, concept_verdict, disposition_verdict, first_found, first_text, found_under, is_lacking, judge, lacks_file, schedule_verdict, standing, timetable_verdict, verdict}
 use Rattle.stage_driver.specs.Hand.{hand_of}
 use Rattle.stage_driver.specs.Passing.{RunsPass}
 use Rattle.stage_driver.specs.Reports.{end_of, end_of_refusal}
@@ -109,6 +110,23 @@ schedule_none : (bundle : BundleParts) (there : List MadeFile) → VehicleFilesA
     → schedule_verdict bundle there ≡ None
 schedule_none bundle there right = rw (right.right.both, right.right.inputs, right.passes) refl
 
+-- ---- a disposition that was made
+
+disposition_there : (times reasons : Option (List ℕ)) (text other : List ℕ)
+    → found_file file.Disposed (ok_or times (cause.Missing file.Disposed)) (found_file file.Reasons (ok_or reasons (cause.Missing file.Reasons)) [])
+    ≡ record { file = file.Disposed; text = text } ∷ record { file = file.Reasons; text = other } ∷ []
+    → (is_lacking file.Disposed times || (is_lacking file.Reasons reasons || false)) ≡ false
+disposition_there (Some times) (Some reasons) text other is = refl
+disposition_there (Some times) None text other is = refl
+disposition_there None None text other is =
+    let none : [] ≡ file.Disposed ∷ file.Reasons ∷ [] = ap ids_of is in absurd (cc)
+disposition_there None (Some reasons) text other is =
+    let first : file.Reasons ∷ [] ≡ file.Disposed ∷ file.Reasons ∷ [] = ap ids_of is in absurd (cc)
+
+disposition_none : (bundle : BundleParts) (there : List MadeFile) → DispositionFilesAreRight bundle there
+    → disposition_verdict bundle there ≡ None
+disposition_none bundle there right = rw (right.both, right.inputs, right.passes) refl
+
 module _ (folder : Folder) (values : List ℤ) where
   -- nothing is found of a stage over what it is given, where its files stand there
   abbrev NoneFound : Stage → Type 0
@@ -150,6 +168,9 @@ module _ (folder : Folder) (values : List ℤ) where
   one_passes stage.Vehicles visit given found right solved makes =
       none_by stage.Vehicles visit.bundle given (schedule_there (map.get folder (file_name file.Schedule)) (map.get folder (file_name file.Potential)) right.right.schedule right.right.potentials (found ∙ right.right.both))
       (ap (schedule_verdict visit.bundle) found ∙ schedule_none visit.bundle visit.made.files right)
+  one_passes stage.Disposition visit given found right solved makes =
+      none_by stage.Disposition visit.bundle given (disposition_there (map.get folder (file_name file.Disposed)) (map.get folder (file_name file.Reasons)) right.times_text right.reasons_text (found ∙ right.both))
+      (ap (disposition_verdict visit.bundle) found ∙ disposition_none visit.bundle visit.made.files right)
   one_passes _ visit given found right solved makes = absurd right
 
   -- the first that is found of stages, all of which are to run

@@ -26,6 +26,9 @@ use Rattle.pesp_search.proofs.TimetableMakes.{timetable_names_none, timetable_st
 use Rattle.pesp_search.proofs.TimetableReads.{timetable_is_right}
 use Rattle.roll_out.proofs.RolloutMakes.{rollout_names_none, rollout_stage_makes}
 use Rattle.roll_out.proofs.RolloutReads.{rollout_is_right}
+use Rattle.delay_management.proofs.DispositionMakes.{disposition_names_delays}
+use Rattle.delay_management.proofs.DispositionMakes.{disposition_stage_makes}
+use Rattle.delay_management.proofs.DispositionReads.{disposition_is_right}
 use Rattle.vehicle_flow.proofs.VehicleLaws.{vehicles_are_right}
 use Rattle.vehicle_flow.proofs.VehicleMakes.{vehicles_stage_makes, vehicles_stage_names}
 use Rattle.stage_driver.specs.Built.{built, stage_function, run_stage}
@@ -34,7 +37,7 @@ use Rattle.stage_driver.specs.Hand.{is_hand, is_hand_file}
 use Rattle.stage_driver.specs.Right.{IsRightAs}
 use Rattle.stage_driver.proofs.OneLook.{AreRightOver, bundle_over, loads_accepted, costs_accepted}
 use Rattle.stage_driver.proofs.OneLook.{concept_accepted, day_accepted, periodic_accepted}
-use Rattle.stage_driver.proofs.OneLook.{trips_accepted}
+use Rattle.stage_driver.proofs.OneLook.{plans_accepted, trips_accepted}
 
 -- the stages that are built and run before one
 abbrev pub earlier : Stage → List Stage
@@ -67,6 +70,7 @@ stage_laws stage.Ean = record { makes = ean_stage_makes; right = ean_is_right; r
 stage_laws stage.Timetable = record { makes = timetable_stage_makes; right = timetable_is_right; refuses = λ values look reason right. timetable_names_none is_hand_file (bundle_over values look stage.Timetable) reason (periodic_accepted values look right.1.1.1.0) }
 stage_laws stage.Rollout = record { makes = rollout_stage_makes; right = rollout_is_right; refuses = λ values look reason right. rollout_names_none is_hand_file (bundle_over values look stage.Rollout) reason (day_accepted values look right.1.1.1.0 right.1.1.1.1.0) }
 stage_laws stage.Vehicles = record { makes = vehicles_stage_makes; right = λ bundle made own fits is. vehicles_are_right bundle own fits made is; refuses = λ values look reason right. vehicles_stage_names is_hand_file refl refl (bundle_over values look stage.Vehicles) reason (trips_accepted values look right.1.1.1.0 right.1.1.1.1.1.0) }
+stage_laws stage.Disposition = record { makes = disposition_stage_makes; right = disposition_is_right; refuses = λ values look reason right. disposition_names_delays is_hand_file refl refl (bundle_over values look stage.Disposition) reason (plans_accepted values look right.1.1.1.1.1.0 right.1.1.1.1.1.1.0) }
 stage_laws _ = record { makes = λ bundle made is. absurd (cc); right = λ bundle made same fits is. absurd (cc); refuses = λ values look reason _ is. not_built _ reason refl is }
 
 -- the same of what is made of a bundle

@@ -32,4 +32,5 @@ pub mod Traces
 pub mod Visiting
 pub mod Visits
 pub mod Wishes
+pub mod WritesMade
 pub mod WrittenNames

@@ -1,12 +1,13 @@
 -- Stages over one look of texts, in which each file has one.
-use Rattle.std.proofs.Common.{◌≡◌, ℕ, ℤ, List, [], ◌∷◌, map, Some, refl, ap, subst, sym, ◌∙◌}
+use Rattle.std.proofs.Common.{◌≡◌, ℕ, ℤ, List, [], ◌∷◌, map, Some, None, refl, ap, subst, sym, ◌∙◌}
+use Rattle.std.proofs.lemmas.List.Elements.{All-weaker}
 use Rattle.giv_files.specs.declared.file_id.FileId.{FileId}
 use Rattle.giv_files.specs.declared.file_id.FileId.TheVariants as file
 use Rattle.giv_files.specs.declared.made.MadeFile.{MadeFile}
 use Rattle.giv_files.specs.declared.stage.Stage.{Stage}
 use Rattle.giv_files.specs.declared.stage.Stage.TheVariants as stage
 use Rattle.giv_files.specs.declared.key.Key.TheVariants as key
-use Rattle.giv_files.specs.Inputs.{input_faults}
+use Rattle.giv_files.specs.Inputs.{input_faults, records_of}
 use Rattle.giv_files.specs.Keys.{stage_keys}
 use Rattle.giv_files.specs.MadeLists.{MakesAs, ids_of}
 use Rattle.giv_files.specs.Settings.{BundleParts, amount}
@@ -22,14 +23,23 @@ use Rattle.line_pool.specs.Pools.{concept_faults, pool_of}
 use Rattle.line_pool.specs.RightCosts.{CostFilesAreRight}
 use Rattle.line_search.specs.RightConcepts.{ConceptFilesAreRight, mark_files}
 use Rattle.event_tables.specs.PeriodicFiles.{periodic_event_ids, periodic_time_input}
+use Rattle.event_tables.specs.declared.expanded_event.ExpandedEvent.{ExpandedEvent}
+use Rattle.event_tables.specs.declared.trip.Trip.{Trip}
+use Rattle.event_tables.specs.ExpandedFiles.{expanded_event_input}
+use Rattle.event_tables.specs.Schedules.{schedule_input}
 use Rattle.event_tables.specs.Trips.{trip_input}
 use Rattle.event_activity.specs.EanStage.{ean_faults, events_in, rows_of}
 use Rattle.event_activity.specs.RightEan.{EanFilesAreRight, EanIsAccepted}
 use Rattle.pesp_model.specs.PespTexts.{activities_of, events_of, problem_faults}
 use Rattle.pesp_search.specs.RightTimetables.{TimetableFilesAreRight}
 use Rattle.pesp_search.specs.TimetableStage.{timetable_faults}
-use Rattle.roll_out.specs.RightRollout.{AtStops, RolloutFilesAreRight, RolloutIsAccepted}
+use Rattle.roll_out.specs.RightRollout.{AtStops, IsEndAt, IsTripOver, RolloutFilesAreRight, RolloutIsAccepted}
 use Rattle.roll_out.specs.RolloutStage.{rollout_faults, times_in}
+use Rattle.vehicle_flow.specs.AcceptedSchedules.{IsRolledOut}
+use Rattle.vehicle_flow.specs.RightVehicles.{VehicleFilesAreRight}
+use Rattle.vehicle_flow.specs.VehicleStage.{trips_in}
+use Rattle.vehicle_model.specs.Trips.{trips_of}
+use Rattle.delay_management.specs.DispositionStage.{events_in as day_events_in, made_faults}
 use Rattle.stage_driver.specs.Chain.{bundle_for, chosen}
 use Rattle.stage_driver.specs.Checks.{first_text}
 use Rattle.stage_driver.specs.Right.{IsRightAs}
@@ -83,6 +93,7 @@ both_own look first second (id ∷ ids) text other is = (
   first_own look first (id ∷ ids) text (record { file = second; text = other } ∷ []) is,
   first_own look second ids other [] (ap behind_first is),
 )
+
 -- each of three does
 three_own : (look : FileId → List ℕ) (first second third : FileId) (ids : List FileId)
     (text other last : List ℕ) → files_over look ids
@@ -97,6 +108,14 @@ three_own look first second third (id ∷ ids) text other last is =
       rest.0,
       rest.1,
     )
+
+-- a trip over the events of a day is one that was rolled out
+rolled_out : (events : List ExpandedEvent) (trip : Trip) → IsTripOver events trip
+    → IsRolledOut events trip
+rolled_out events trip over = record {
+  start = record { event = over.start.event; there = over.start.there; is = over.start.is; time = over.start.time };
+  end = record { event = over.end.event; there = over.end.there; is = over.end.is; time = over.end.time };
+}
 
 -- ---- what an earlier stage made has no fault by the rules of its kind
 
@@ -190,3 +209,22 @@ module _ (values : List ℤ) (look : FileId → List ℕ) where
   pub trips_accepted : IsRightOver values look stage.Ean → IsRightOver values look stage.Rollout
       → input_faults (trip_input (Some (stops_of (look file.Stop)))) (look file.Trips) ≡ []
   trips_accepted ean day = (day_made day).trips_fine (Some (stops_of (look file.Stop))) (at_stops ean)
+
+  -- the vehicle schedule that was made is accepted over the events of the day
+  schedule_accepted : IsRightOver values look stage.Rollout → IsRightOver values look stage.Vehicles
+      → input_faults (schedule_input (records_of expanded_event_input (look file.EventsX))) (look file.Schedule) ≡ []
+  unfolding trips_in trips_of
+  schedule_accepted day vehicles =
+      let right : VehicleFilesAreRight (bundle_over values look stage.Vehicles) (files_over look vehicles.ids) = vehicles.right in
+      let events = records_of expanded_event_input (look file.EventsX) in
+      let own = both_own look file.Schedule file.Potential vehicles.ids right.right.schedule right.right.potentials right.right.both in
+      subst (λ text. input_faults (schedule_input events) text ≡ []) own.0
+      (right.accepted events (All-weaker (IsTripOver events) (IsRolledOut events) (rolled_out events)
+      (records_of (trip_input None) (look file.Trips)) (day_made day).ends_fine))
+
+  pub plans_accepted : IsRightOver values look stage.Rollout → IsRightOver values look stage.Vehicles
+      → made_faults (bundle_over values look stage.Disposition) ≡ []
+  unfolding day_events_in
+  plans_accepted day vehicles =
+      let made = day_made day in
+      rw (made.events_fine, made.activities_fine, schedule_accepted day vehicles) refl

@@ -31,10 +31,13 @@ use Rattle.stage_driver.specs.declared.checked.CheckEnd.TheVariants as checks
 use Rattle.stage_driver.specs.declared.finding.Finding.{Finding}
 use Rattle.stage_driver.specs.declared.finding.Finding.TheVariants.{BadInput, Broken}
 use Rattle.stage_driver.specs.declared.outcome.ChainFault.{ChainFault}
+use Rattle.stage_driver.specs.declared.rule.Rule.{Rule}
+use Rattle.delay_management.specs.DispositionStage.{disposition_faults}
 use Rattle.stage_driver.specs.Built.{built, run_stage}
 use Rattle.stage_driver.specs.Chain.{bundle_by}
 use Rattle.stage_driver.specs.Checks.{EndedAs, UnsettledAs, check_end, content_found}
-use Rattle.stage_driver.specs.Checks.{is_lacking, judged_found, lacks_file, schedule_verdict}
+use Rattle.stage_driver.specs.Checks.{disposition_verdict, is_lacking, judged_found, lacks_file}
+use Rattle.stage_driver.specs.Checks.{schedule_verdict}
 use Rattle.stage_driver.specs.Checks.{standing, verdict}
 use Rattle.stage_driver.specs.Findings.{schedule_rule}
 use Rattle.stage_driver.specs.Passing.{AllStand, PassesIn, RunsStand, SatisfyModel, StageStands}
@@ -89,6 +92,21 @@ schedule_stands bundle found (Some text) None lacks is none =
     absurd (bare_schedule bundle text (vehicles_faults bundle) _ refl (sym is ∙ none))
 schedule_stands bundle found (Some text) (Some other) lacks is none = (0, omega arith, refl)
 
+-- times without reasons beside them are found at fault
+bare_times : (faults : List Refusal) (rule : Rule)
+    → judged_found stage.Disposition (λ (rule : Rule). rule) faults (Some rule) ≡ None → ⊥
+bare_times (first ∷ more) rule none = absurd (cc)
+bare_times [] rule none = absurd (cc)
+
+disposition_stands : (bundle : BundleParts) (found : Option Finding) (times reasons : Option (List ℕ))
+    → (is_lacking file.Disposed times || (is_lacking file.Reasons reasons || false)) ≡ false
+    → found ≡ disposition_verdict bundle (found_file file.Disposed (ok_or times (cause.Missing file.Disposed)) (found_file file.Reasons (ok_or reasons (cause.Missing file.Reasons)) []))
+    → (found ≡ None → MakesAs stage.Disposition (ids_of (found_file file.Disposed (ok_or times (cause.Missing file.Disposed)) (found_file file.Reasons (ok_or reasons (cause.Missing file.Reasons)) []))))
+disposition_stands bundle found None reasons lacks is none = absurd (cc)
+disposition_stands bundle found (Some text) None lacks is none =
+    absurd (bare_times (disposition_faults bundle) _ (sym is ∙ none))
+disposition_stands bundle found (Some text) (Some other) lacks is none = (0, omega arith, refl)
+
 -- what holds of what is found where nothing is found
 where_none : (P : Type 0) {Q : Type 0} (found : Option Finding) → (found ≡ None → Q) → (Q → IfNone found P)
     → IfNone found P
@@ -118,6 +136,8 @@ module _ (folder : Folder) (bundle : BundleParts) (found : Option Finding) where
       right (content_stands stage.Rollout (by_contents stage.Rollout refl) folder lacks)
   stands_right stage.Vehicles lacks is right =
       where_none (SatisfyModel stage.Vehicles bundle (standing folder stage.Vehicles)) found (schedule_stands bundle found (text file.Schedule) (text file.Potential) lacks is) right
+  stands_right stage.Disposition lacks is right =
+      where_none (SatisfyModel stage.Disposition bundle (standing folder stage.Disposition)) found (disposition_stands bundle found (text file.Disposed) (text file.Reasons) lacks is) right
   stands_right _ lacks is right = rw is tt
 
 -- ---- clauses

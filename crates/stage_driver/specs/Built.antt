@@ -20,6 +20,7 @@ use Rattle.line_search.specs.ConceptStage.{concept_stage, concept_work}
 use Rattle.pesp_search.specs.TimetableStage.{timetable_stage, timetable_work}
 use Rattle.roll_out.specs.RolloutStage.{rollout_stage}
 use Rattle.vehicle_flow.specs.VehicleStage.{vehicles_stage}
+use Rattle.delay_management.specs.DispositionStage.{disposition_stage}
 use Rattle.stage_driver.specs.declared.outcome.RunEnd.{RunEnd}
 use Rattle.stage_driver.specs.declared.cause.Cause.{Cause}
 use Rattle.stage_driver.specs.declared.cause.Cause.TheVariants as cause
@@ -30,7 +31,7 @@ use Rattle.stage_driver.specs.Reports.{stage_lines, last_line, end_of}
 abbrev pub built : List Stage
 built =
     stage.Load ∷ stage.Cost ∷ stage.Concept ∷ stage.Ean ∷ stage.Timetable
-    ∷ stage.Rollout ∷ stage.Vehicles ∷ []
+    ∷ stage.Rollout ∷ stage.Vehicles ∷ stage.Disposition ∷ []
 
 -- what each stage makes of what it is given; one that is not built makes nothing, and no chain has
 -- it
@@ -42,6 +43,7 @@ stage_function stage.Ean bundle = ean_stage bundle
 stage_function stage.Timetable bundle = timetable_stage bundle
 stage_function stage.Rollout bundle = rollout_stage bundle
 stage_function stage.Vehicles bundle = vehicles_stage bundle
+stage_function stage.Disposition bundle = disposition_stage bundle
 stage_function _ bundle = Err refusal.NoSolution
 
 -- the same, by the stage of the bundle

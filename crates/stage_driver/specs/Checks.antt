@@ -28,6 +28,8 @@ use Rattle.pesp_search.specs.Judged.{first_broken_rule}
 use Rattle.pesp_search.specs.TimetableStage.{problem_in, timetable_faults}
 use Rattle.vehicle_flow.specs.ScheduleChecks.{schedule_fault}
 use Rattle.vehicle_flow.specs.VehicleStage.{trips_in, vehicles_faults}
+use Rattle.delay_management.specs.DispositionStage.{disposition_faults, kept_in, problem_in as delays_in}
+use Rattle.delay_management.specs.Judged.{first_broken_rule as first_reason_rule}
 use Rattle.stage_driver.specs.declared.cause.Cause.{Cause}
 use Rattle.stage_driver.specs.declared.cause.Cause.TheVariants as cause
 use Rattle.stage_driver.specs.declared.chain_end.ChainEnd.{ChainEnd}
@@ -43,7 +45,8 @@ use Rattle.stage_driver.specs.declared.rule.Rule.{Rule}
 use Rattle.stage_driver.specs.declared.rule.Rule.TheVariants as rule
 use Rattle.stage_driver.specs.Built.{built, run_stage}
 use Rattle.stage_driver.specs.Chain.{bundle_by, is_to_run}
-use Rattle.stage_driver.specs.Findings.{concept_rule, finding_of, rule_name, schedule_rule, timetable_rule}
+use Rattle.stage_driver.specs.Findings.{bare_rule, concept_rule, finding_of, reason_rule, rule_name}
+use Rattle.stage_driver.specs.Findings.{schedule_rule, timetable_rule}
 use Rattle.stage_driver.specs.Reports.{cause_text, line_of}
 use Rattle.stage_driver.specs.Right.{files_by, made_in, text_in}
 
@@ -121,6 +124,26 @@ schedule_verdict bundle (schedule ∷ potentials) =
     judged_found stage.Vehicles schedule_rule (vehicles_faults bundle)
     (schedule_fault (trips_in bundle) schedule.text (first_text potentials))
 
+-- what is found of a disposition, with reasons beside it or without
+abbrev pub reasons_found : BundleParts → List ℕ → List ℕ → Option Finding
+reasons_found bundle times reasons =
+    judged_found stage.Disposition reason_rule (disposition_faults bundle)
+    (first_reason_rule (delays_in bundle) (kept_in bundle) times reasons)
+
+abbrev pub bare_found : BundleParts → List ℕ → Option Finding
+bare_found bundle times =
+    judged_found stage.Disposition (λ rule. rule) (disposition_faults bundle)
+    (Some (bare_rule (first_reason_rule (delays_in bundle) (kept_in bundle) times [])))
+
+abbrev pub disposition_found : BundleParts → List ℕ → Option (List ℕ) → Option Finding
+disposition_found bundle times (Some reasons) = reasons_found bundle times reasons
+disposition_found bundle times None = bare_found bundle times
+
+abbrev pub disposition_verdict : BundleParts → List MadeFile → Option Finding
+disposition_verdict bundle [] = None
+disposition_verdict bundle (times ∷ reasons) =
+    disposition_found bundle times.text (first_text reasons)
+
 -- what is found of the files of a stage over what it is given; a stage that is not built
 -- never passes
 unfoldable pub verdict : Stage → BundleParts → List MadeFile → Option Finding
@@ -131,6 +154,7 @@ verdict stage.Ean bundle others = content_found stage.Ean (run_stage bundle) oth
 verdict stage.Timetable bundle others = timetable_verdict bundle others
 verdict stage.Rollout bundle others = content_found stage.Rollout (run_stage bundle) others
 verdict stage.Vehicles bundle others = schedule_verdict bundle others
+verdict stage.Disposition bundle others = disposition_verdict bundle others
 verdict stage bundle others = Some (Broken stage rule.Content)
 
 -- what is found of a stage: first of its inputs, then of the files that it makes

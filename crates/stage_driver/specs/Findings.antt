@@ -1,5 +1,5 @@
 -- The rules of a check, and what it finds where an input is not there or is refused.
-use Rattle.std.specs.Prelude.{ℕ, if◌then◌else◌, Bool, true, false, List, codes}
+use Rattle.std.specs.Prelude.{ℕ, if◌then◌else◌, Bool, true, false, List, codes, Option, Some}
 use Rattle.giv_files.specs.declared.refusal.Refusal.{Refusal}
 use Rattle.giv_files.specs.declared.refusal.Refusal.TheVariants as refusal
 use Rattle.giv_files.specs.declared.stage.Stage.{Stage}
@@ -9,6 +9,8 @@ use Rattle.pesp_search.specs.declared.fault.TimetableFault.{TimetableFault}
 use Rattle.pesp_search.specs.declared.fault.TimetableFault.TheVariants as timetable
 use Rattle.vehicle_flow.specs.declared.schedule_fault.ScheduleFault.{ScheduleFault}
 use Rattle.vehicle_flow.specs.declared.schedule_fault.ScheduleFault.TheVariants as schedule
+use Rattle.delay_management.specs.declared.fault.ReasonFault.{ReasonFault}
+use Rattle.delay_management.specs.declared.fault.ReasonFault.TheVariants as reason
 use Rattle.stage_driver.specs.declared.cause.Cause.{Cause}
 use Rattle.stage_driver.specs.declared.cause.Cause.TheVariants as cause
 use Rattle.stage_driver.specs.declared.finding.Finding.{Finding}
@@ -72,6 +74,22 @@ schedule_rule schedule.Certificate = rule.Certificate
 schedule_rule schedule.Potentials = rule.Potentials
 schedule_rule schedule.Pair = rule.Pair
 schedule_rule schedule.Sum = rule.Sum
+
+-- the rule that a disposition or the reasons beside it break
+abbrev pub reason_rule : ReasonFault → Rule
+reason_rule reason.TimesRow = rule.Row
+reason_rule reason.Events = rule.Events
+reason_rule (reason.Early event) = rule.Early
+reason_rule reason.ReasonsRow = rule.Reasons
+reason_rule (reason.Reason event) = rule.Reason
+
+-- the rule that a disposition breaks without reasons beside it, by what it breaks with an empty text
+-- of reasons: those on times come first, and then that reasons are there
+abbrev pub bare_rule : Option ReasonFault → Rule
+bare_rule (Some reason.TimesRow) = rule.Row
+bare_rule (Some reason.Events) = rule.Events
+bare_rule (Some (reason.Early event)) = rule.Early
+bare_rule _ = rule.Certificate
 
 -- people write the files of an origin
 abbrev pub is_of_people : Origin → Bool

@@ -18,6 +18,8 @@ use Rattle.pesp_search.specs.Judged.{Passes as KeepsRules}
 use Rattle.pesp_search.specs.TimetableStage.{problem_in, timetable_faults}
 use Rattle.roll_out.specs.RightRollout.{RolloutFilesAreRight}
 use Rattle.vehicle_flow.specs.RightVehicles.{VehiclesAreRight}
+use Rattle.delay_management.specs.DispositionStage.{disposition_faults}
+use Rattle.delay_management.specs.Judged.{Passes as PassesBy}
 use Rattle.stage_driver.specs.declared.outcome.RunEnd.TheVariants as end
 use Rattle.stage_driver.specs.Built.{built}
 use Rattle.stage_driver.specs.Chain.{bundle_by, is_to_run}
@@ -44,6 +46,17 @@ pub record TimetablePasses (bundle : BundleParts) (files : List MadeFile) : Type
   pub one : files ≡ record { file = file.TimesP; text = text } ∷ []
   pub passes : KeepsRules (problem_in bundle) text
 
+-- A disposition from any hand passes over its inputs: these have no fault, and there are two files.
+-- The first one is the table of one time for each event, and no feasible times are earlier at any
+-- event; the second one has a right reason for each.
+pub record DispositionPasses (bundle : BundleParts) (files : List MadeFile) : Type 0 where
+  pub inputs : disposition_faults bundle ≡ []
+  pub times : List ℕ
+  pub reasons : List ℕ
+  pub both : files ≡ record { file = file.Disposed; text = times }
+      ∷ record { file = file.Reasons; text = reasons } ∷ []
+  pub passes : PassesBy bundle times reasons
+
 -- The files of a stage satisfy its model over what it is given.
 abbrev pub SatisfyModel : Stage → BundleParts → List MadeFile → Type 0
 SatisfyModel stage.Load bundle files = LoadFilesAreRight bundle files
@@ -53,6 +66,7 @@ SatisfyModel stage.Ean bundle files = EanFilesAreRight bundle files
 SatisfyModel stage.Timetable bundle files = TimetablePasses bundle files
 SatisfyModel stage.Rollout bundle files = RolloutFilesAreRight bundle files
 SatisfyModel stage.Vehicles bundle files = VehiclesAreRight bundle files
+SatisfyModel stage.Disposition bundle files = DispositionPasses bundle files
 SatisfyModel _ bundle files = ⊥
 
 -- The files of a stage that stand in a folder satisfy its model over the files that stand there.

@@ -22,6 +22,7 @@ use Rattle.event_activity.specs.RightEan.{EanFilesAreRight}
 use Rattle.pesp_search.specs.RightTimetables.{TimetableFilesAreRight}
 use Rattle.roll_out.specs.RightRollout.{RolloutFilesAreRight}
 use Rattle.vehicle_flow.specs.RightVehicles.{VehicleFilesAreRight}
+use Rattle.delay_management.specs.RightDispositions.{DispositionFilesAreRight}
 use Rattle.stage_driver.specs.declared.cause.Cause.{Cause}
 use Rattle.stage_driver.specs.declared.cause.Cause.TheVariants as cause
 use Rattle.stage_driver.specs.declared.origin.Origin.{Origin}
@@ -42,6 +43,7 @@ IsRightAs stage.Ean bundle files = EanFilesAreRight bundle files
 IsRightAs stage.Timetable bundle files = TimetableFilesAreRight bundle files
 IsRightAs stage.Rollout bundle files = RolloutFilesAreRight bundle files
 IsRightAs stage.Vehicles bundle files = VehicleFilesAreRight bundle files
+IsRightAs stage.Disposition bundle files = DispositionFilesAreRight bundle files
 IsRightAs _ bundle files = ⊥
 
 -- the text of a file that a stage makes, where it stands in a folder

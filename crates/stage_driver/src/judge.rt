@@ -1,5 +1,5 @@
 // The judge of a stage whose files stand in a folder.
-ghost use Rattle.std.specs.Prelude.{◌≡◌, IfSome, IfOk, IfNone, Ok, option_copied, zip};
+ghost use Rattle.std.specs.Prelude.{◌≡◌, [], IfSome, IfOk, IfNone, Ok, option_copied, zip};
 ghost use Rattle.std.specs.List.{list_all};
 ghost use Rattle.std.specs.Str.{bytes_eq};
 ghost use Rattle.plan_files.specs.Reads.{OnlyReads};
@@ -8,10 +8,13 @@ ghost use Rattle.giv_files.specs.MadeLists.{MakesAs, ids_of};
 ghost use Rattle.giv_files.specs.Settings.{Fits};
 ghost use Rattle.stage_driver.specs.Checks.{concept_verdict, content_found, first_text, found_over};
 ghost use Rattle.stage_driver.specs.Checks.{EndedAs, files_found, judge, same_texts, verdict};
+ghost use Rattle.stage_driver.specs.Checks.{bare_found, disposition_verdict, reasons_found};
 ghost use Rattle.stage_driver.specs.Checks.{schedule_verdict, standing, timetable_verdict};
+ghost use Rattle.delay_management.specs.DispositionStage.{disposition_faults};
+ghost use Rattle.delay_management.specs.Judged.{Passes};
 ghost use Rattle.vehicle_flow.specs.RightVehicles.{VehiclesAreRight};
 ghost use Rattle.stage_driver.specs.Passing.{ConceptPasses, SatisfyModel, StageStands};
-ghost use Rattle.stage_driver.specs.Passing.{TimetablePasses};
+ghost use Rattle.stage_driver.specs.Passing.{DispositionPasses, TimetablePasses};
 ghost use Rattle.stage_driver.specs.Built.{run_stage};
 ghost use Rattle.stage_driver.specs.Ends.{has_failed};
 
@@ -24,6 +27,7 @@ use crate::rule::Rule;
 use crate::stages::make_stage;
 use crate::standing::standing;
 use config_keys::Config;
+use delay_management::check_reasons;
 use giv_files::{Bundle, MadeFile, Stage, StageFault};
 use line_search::check_concept;
 use pesp_search::check_timetable;
@@ -109,9 +113,8 @@ fn verdict(
         Stage::Timetable => timetable_verdict(alloc, bundle, there),
         Stage::Rollout => content_found(alloc, bundle, stage, there),
         Stage::Vehicles => schedule_verdict(alloc, bundle, there),
-        Stage::Disposition | Stage::Statistic => {
-            Ok(Some(Finding::Broken(stage, Rule::Content)))
-        }
+        Stage::Disposition => disposition_verdict(alloc, bundle, there),
+        Stage::Statistic => Ok(Some(Finding::Broken(stage, Rule::Content))),
     }
 }
 
@@ -244,6 +247,70 @@ fn schedule_verdict(
         Err(StageFault::Refused(refusal)) => Ok(Some(Finding::of(
             Stage::Vehicles,
             Cause::Refused(Stage::Vehicles, refusal),
+        ))),
+        Err(StageFault::NoMemory) => Err(NoMemory),
+    }
+}
+
+// What is found of a disposition, with the reasons that may stand behind it.
+fn disposition_verdict(
+    alloc: Global,
+    bundle: &Bundle,
+    there: &[MadeFile],
+) -> Result<Option<Finding>, NoMemory>
+    requires fits { Fits bundle.now }
+    requires stage { bundle.now.stage ≡ stages.Disposition }
+    ensures found { IfOk result (λ found. found ≡ disposition_verdict bundle.now there.now) }
+    ensures passes { MakesAs stages.Disposition (ids_of there.now) → IfOk result (λ found.
+        IfNone found (DispositionPasses bundle.now there.now)) }
+{
+    let [times, more @ ..] = there else {
+        return Ok(None);
+    };
+    match first_text(more) {
+        Some(reasons) => reasons_found(alloc, bundle, times.text.as_bytes(), reasons),
+        None => bare_found(alloc, bundle, times.text.as_bytes()),
+    }
+}
+
+// What is found of times with reasons beside them.
+fn reasons_found(
+    alloc: Global,
+    bundle: &Bundle,
+    times: &[u8],
+    reasons: &[u8],
+) -> Result<Option<Finding>, NoMemory>
+    requires fits { Fits bundle.now }
+    requires stage { bundle.now.stage ≡ stages.Disposition }
+    ensures found { IfOk result
+        (λ found. found ≡ reasons_found bundle.now times.now reasons.now) }
+    ensures inputs { IfOk result
+        (λ found. IfNone found (disposition_faults bundle.now ≡ [])) }
+    ensures passes { IfOk result
+        (λ found. IfNone found (Passes bundle.now times.now reasons.now)) }
+{
+    match check_reasons(alloc, bundle, times, reasons) {
+        Ok(None) => Ok(None),
+        Ok(Some(fault)) => Ok(Some(Finding::Broken(Stage::Disposition, Rule::from(fault)))),
+        Err(StageFault::Refused(refusal)) => Ok(Some(Finding::of(
+            Stage::Disposition,
+            Cause::Refused(Stage::Disposition, refusal),
+        ))),
+        Err(StageFault::NoMemory) => Err(NoMemory),
+    }
+}
+
+// What is found of times without reasons beside them: these are wanted.
+fn bare_found(alloc: Global, bundle: &Bundle, times: &[u8]) -> Result<Option<Finding>, NoMemory>
+    requires fits { Fits bundle.now }
+    requires stage { bundle.now.stage ≡ stages.Disposition }
+    ensures { IfOk result (λ found. found ≡ bare_found bundle.now times.now) }
+{
+    match check_reasons(alloc, bundle, times, b"") {
+        Ok(found) => Ok(Some(Finding::Broken(Stage::Disposition, Rule::without_reasons(found)))),
+        Err(StageFault::Refused(refusal)) => Ok(Some(Finding::of(
+            Stage::Disposition,
+            Cause::Refused(Stage::Disposition, refusal),
         ))),
         Err(StageFault::NoMemory) => Err(NoMemory),
     }

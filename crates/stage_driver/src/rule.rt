@@ -1,8 +1,9 @@
 // The rules of a check.
 ghost use Rattle.std.specs.Prelude.{◌≡◌};
-ghost use Rattle.stage_driver.specs.Findings.{concept_rule, rule_name, schedule_rule};
-ghost use Rattle.stage_driver.specs.Findings.{timetable_rule};
+ghost use Rattle.stage_driver.specs.Findings.{bare_rule, concept_rule, reason_rule, rule_name};
+ghost use Rattle.stage_driver.specs.Findings.{schedule_rule, timetable_rule};
 
+use delay_management::ReasonFault;
 use line_search::ConceptFault;
 use pesp_search::TimetableFault;
 use vehicle_flow::ScheduleFault;
@@ -91,6 +92,23 @@ impl Rule {
     }
 }
 
+impl Rule {
+    /// The rule that a disposition breaks without reasons beside it, by what it breaks with an empty
+    /// text of reasons.
+    pub(crate) fn without_reasons(found: Option<ReasonFault>) -> Rule
+        ensures { result ≡ bare_rule found }
+    {
+        match found {
+            Some(ReasonFault::TimesRow) => Rule::Row,
+            Some(ReasonFault::Events) => Rule::Events,
+            Some(ReasonFault::Early { .. }) => Rule::Early,
+            Some(ReasonFault::ReasonsRow) => Rule::Certificate,
+            Some(ReasonFault::Reason { .. }) => Rule::Certificate,
+            None => Rule::Certificate,
+        }
+    }
+}
+
 impl From<ConceptFault> for Rule {
     ghost from_gives = { λ fault rule. rule ≡ concept_rule fault };
 
@@ -133,6 +151,20 @@ impl From<ScheduleFault> for Rule {
             ScheduleFault::Potentials => Rule::Potentials,
             ScheduleFault::Pair => Rule::Pair,
             ScheduleFault::Sum => Rule::Sum,
+        }
+    }
+}
+
+impl From<ReasonFault> for Rule {
+    ghost from_gives = { λ fault rule. rule ≡ reason_rule fault };
+
+    fn from(fault: ReasonFault) -> Rule {
+        match fault {
+            ReasonFault::TimesRow => Rule::Row,
+            ReasonFault::Events => Rule::Events,
+            ReasonFault::Early { .. } => Rule::Early,
+            ReasonFault::ReasonsRow => Rule::Reasons,
+            ReasonFault::Reason { .. } => Rule::Reason,
         }
     }
 }

@@ -6,6 +6,7 @@ ghost use Rattle.config_keys.specs.Config.{last_stage_of};
 ghost use Rattle.stage_driver.specs.Chain.{stage_place};
 ghost use Rattle.stage_driver.specs.Built.{built, run_stage, stage_work};
 
+use delay_management::make_disposition;
 use demand_load::make_load;
 use event_activity::make_ean;
 use giv_files::{Bundle, Made, Refusal, Stage, StageFault};
@@ -29,6 +30,7 @@ pub(crate) fn built() -> &'static [Stage]
         Stage::Timetable,
         Stage::Rollout,
         Stage::Vehicles,
+        Stage::Disposition,
     ]
 }
 
@@ -51,7 +53,8 @@ pub(crate) fn make_stage<L: Ledger>(
         Stage::Timetable => make_timetable(alloc, bundle, steps),
         Stage::Rollout => make_rollout(alloc, bundle, steps),
         Stage::Vehicles => make_vehicles(alloc, bundle, steps),
-        Stage::Disposition | Stage::Statistic => {
+        Stage::Disposition => make_disposition(alloc, bundle, steps),
+        Stage::Statistic => {
             steps.tick();
             Err(StageFault::Refused(Refusal::NoSolution))
         }
