@@ -54,6 +54,8 @@ mod concept_tests;
 #[cfg(test)]
 mod ean_tests;
 #[cfg(test)]
+mod forged_tests;
+#[cfg(test)]
 mod keep_tests;
 #[cfg(test)]
 mod refused_tests;

@@ -27,9 +27,10 @@ use std::alloc::Global;
 /// Runs a command line over a dataset, and reports.
 ///
 /// `make` runs the planning stages over the files that people write, puts the files that the stages
-/// make and removes others of theirs. A stage that was given the same before is taken from the folder
-/// `keep`. `fresh` first removes what is kept there, and then does the same. `check` judges the files that stand there, whoever made them,
-/// and changes none. Each writes its report by one call.
+/// make and removes others of theirs. A stage that was given the same before is taken from the
+/// folder `keep`. `fresh` first removes what is kept there, and then does the same. `check` judges
+/// the files that stand there, whoever made them, and changes none. Each writes its report by one
+/// call.
 #[tactic(auto, using(stage_driver::proofs::CheckedRuns::runs_pass, stage_driver::proofs::LeftRight::left_right, stage_driver::proofs::Refusing::refuses_hand, stage_driver::proofs::HandKept::writes_outside, stage_driver::proofs::HandKept::writes_once))]
 pub fn lintim<F: Files, K: Sink, L: Ledger>(
     alloc: Global,

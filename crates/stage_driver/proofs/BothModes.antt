@@ -1,13 +1,11 @@
 -- A run over what is kept, and a fresh one, which first removes it.
-use Rattle.std.proofs.Common.{◌≡◌, ℕ, ◌+◌, ◌≤◌, Bool, true, false, cond, not, List, [], ◌∷◌, ◌++◌, map, Option, Some, None}
+use Rattle.std.proofs.Common.{◌≡◌, ℕ, ◌+◌, ◌≤◌, Bool, true, false, cond, not, List, [], ◌∷◌, ◌++◌, Option, Some, None}
 use Rattle.std.proofs.Common.{IfSome, IfOk, IfErr, OnOk, Result, Ok, Err, refl, ap, sym, subst, ◌∙◌, inl, inr, ⊎_elim, append-nil}
 use Rattle.std.specs.Option.{option_map}
 use Rattle.std.specs.FinMap as files
-use Rattle.std.proofs.lemmas.Bool.{false≢true}
 use Rattle.plan_files.specs.declared.write.Write.{Write}
-use Rattle.plan_files.specs.Applied.{AreApplied, AreCutShort}
+use Rattle.plan_files.specs.Applied.{AreApplied}
 use Rattle.plan_files.specs.Folder.{Folder}
-use Rattle.plan_files.specs.Others.{AreOutside}
 use Rattle.plan_files.proofs.OtherFiles.{get_part, same_folder}
 use Rattle.giv_files.specs.declared.stage.Stage.{Stage}
 use Rattle.stage_keep.specs.Entries.{keep_name}
@@ -15,13 +13,11 @@ use Rattle.stage_driver.specs.declared.outcome.ChainFault.{ChainFault}
 use Rattle.stage_driver.specs.declared.outcome.Mode.{Mode}
 use Rattle.stage_driver.specs.declared.outcome.Mode.TheVariants as mode
 use Rattle.stage_driver.specs.declared.outcome.Outcome.{Outcome}
-use Rattle.stage_driver.specs.Ends.{file_fault_of}
 use Rattle.stage_driver.specs.Hand.{hand_of, is_among, is_hand, keep_names}
 use Rattle.stage_driver.specs.Kept.{AreReadBack, IsKeptHonest, trace_over}
 use Rattle.stage_driver.specs.Built.{trace_of}
-use Rattle.stage_driver.specs.Chain.{Trace}
 use Rattle.stage_driver.specs.Right.{IsLeftRight, StandRightIn}
-use Rattle.stage_driver.specs.Runs.{AreNotAll, IsFromScratch, IsLeft, IsOutcome, IsUnfinished, Trusts, after}
+use Rattle.stage_driver.specs.Runs.{AreNotAll, IsFromScratch, IsLeft, IsOutcome, IsUnfinished, Trusts}
 use Rattle.stage_driver.specs.Runs.{removed, run_over, started, without_keep, writes_of}
 use Rattle.stage_driver.proofs.HandAlone.{over_alone}
 use Rattle.stage_driver.proofs.Keeping.{from_scratch}

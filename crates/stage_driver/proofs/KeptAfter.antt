@@ -1,15 +1,12 @@
 -- What a run keeps is honest, and a further run over it makes the same and writes nothing.
-use Rattle.std.proofs.Common.{◌≡◌, ℕ, ℤ, Bool, true, false, cond, not, is_some, ◌||◌, List, [], ◌∷◌, ◌++◌}
-use Rattle.std.proofs.Common.{map, Option, Some, None, Result, Ok, Err, refl, ap, sym, subst, ◌∙◌, ◌⊎◌, inl, inr, ⊎_elim}
+use Rattle.std.proofs.Common.{◌≡◌, ℕ, ℤ, Bool, true, false, cond, not, is_some, List, [], ◌∷◌, ◌++◌}
+use Rattle.std.proofs.Common.{map, Option, Some, None, Result, Ok, Err, refl, ap, sym, subst, ◌∙◌, inl, inr, ⊎_elim}
 use Rattle.std.specs.Prelude.{⊤}
-use Rattle.std.specs.List.{list_all}
 use Rattle.std.specs.Str.{bytes_eq}
 use Rattle.std.specs.FinMap as files
-use Rattle.std.proofs.lemmas.Bool.{false≢true, and_parts}
+use Rattle.std.proofs.lemmas.Bool.{and_parts}
 use Rattle.std.proofs.lemmas.Slice.Eq.{bytes_eq-Decides}
-use Rattle.plan_files.specs.declared.write.Write.{Write}
-use Rattle.plan_files.specs.declared.write.Write.TheVariants.{Put}
-use Rattle.plan_files.specs.Changes.{after_write, folder_after, write_name}
+use Rattle.plan_files.specs.Changes.{after_write, folder_after}
 use Rattle.plan_files.specs.Folder.{Folder}
 use Rattle.plan_files.proofs.OtherFiles.{get_part}
 use Rattle.plan_files.proofs.Writes.{folder_after_both, get_written}
@@ -18,36 +15,34 @@ use Rattle.giv_files.specs.declared.made.MadeFile.{MadeFile}
 use Rattle.giv_files.specs.declared.refusal.Refusal.{Refusal}
 use Rattle.giv_files.specs.declared.stage.Stage.{Stage}
 use Rattle.giv_files.specs.declared.stage.Stage.TheVariants as stage
-use Rattle.giv_files.specs.Settings.{BundleParts, Fits}
+use Rattle.giv_files.specs.Settings.{Fits}
 use Rattle.giv_files.specs.Stages.{all_stages}
 use Rattle.config_keys.specs.declared.config_fault.ConfigFault.{ConfigFault}
 use Rattle.config_keys.specs.Config.{AreSettings}
 use Rattle.config_keys.specs.Items.{look_in}
 use Rattle.config_keys.specs.Values.{effective}
 use Rattle.config_keys.proofs.Settling.{effective_settings}
-use Rattle.stage_keep.specs.Entries.{entry_for, keep_name}
-use Rattle.stage_keep.specs.EntryReading.{read_entry}
+use Rattle.stage_keep.specs.Entries.{keep_name}
 use Rattle.stage_keep.specs.Honest.{IsHonest, kept_for}
 use Rattle.stage_keep.proofs.Honesty.{own_kept, read_is_honest}
 use Rattle.stage_driver.specs.Built.{built, chain_under, files_of, run_stage}
-use Rattle.stage_driver.specs.Chain.{Halt, Trace, Visit, bundle_told, chain_from, go_on, input_text, solved}
-use Rattle.stage_driver.specs.Chain.{texts_of, to_run, tried, visit_of}
-use Rattle.stage_driver.specs.Hand.{hand_of, is_among, keep_names, names_made_by}
+use Rattle.stage_driver.specs.Chain.{Halt, Visit, chain_from, go_on, input_text, solved}
+use Rattle.stage_driver.specs.Chain.{tried, visit_of}
+use Rattle.stage_driver.specs.Hand.{hand_of, is_among, names_made_by}
 use Rattle.stage_driver.specs.Kept.{AreReadBack, IsKeptHonest, IsReadBack, bytes_for, entry_put, kept_in}
 use Rattle.stage_driver.specs.Kept.{kept_or, made_over, new_entries, new_entry, solve_over, trace_over}
-use Rattle.stage_driver.specs.Runs.{after, entries_over, name_of, unmet, with_files, without_keep}
+use Rattle.stage_driver.specs.Runs.{after, entries_over, name_of, unmet, with_files}
 use Rattle.stage_driver.specs.Runs.{without_made, writes_for, writes_of}
-use Rattle.stage_driver.proofs.Differing.{differs_from, differing, not_among, same_way}
-use Rattle.stage_driver.proofs.HandAlone.{over_alone}
+use Rattle.stage_driver.proofs.Differing.{differs_from, differing, not_among}
 use Rattle.stage_driver.proofs.Keeping.{solve_makes}
 use Rattle.stage_driver.proofs.Left.{other_with, writes_leave}
 use Rattle.stage_driver.proofs.LeftRight.{hand_after}
 use Rattle.stage_driver.proofs.MadeRight.{given_fits}
 use Rattle.stage_driver.proofs.Traces.{by_visits, stages_run, traced_over}
-use Rattle.stage_driver.proofs.Visits.{AreVisits, IsHalt, IsRefused, IsVisit, bundle_stage, given_to}
+use Rattle.stage_driver.proofs.Visits.{AreVisits, IsHalt, IsVisit, bundle_stage}
 use Rattle.stage_driver.proofs.Wishes.{Alike, AreMet, alike_after, get_behind, met_after, met_behind}
 use Rattle.stage_driver.proofs.Wishes.{names_in, none_unmet}
-use Rattle.stage_driver.proofs.WrittenNames.{AreApart, are_apart, entries_within, files_apart}
+use Rattle.stage_driver.proofs.WrittenNames.{are_apart, entries_within, files_apart}
 use Rattle.stage_driver.proofs.WrittenNames.{files_differ, run_apart}
 
 -- ---- the name under which a stage keeps tells the stage

@@ -1,6 +1,6 @@
 -- What a run leaves in its folder is right there.
 use Rattle.std.proofs.Common.{◌≡◌, ℕ, ℤ, Bool, true, false, cond, leb, not, List, [], ◌∷◌, Option}
-use Rattle.std.proofs.Common.{Some, None, IfSome, IfOk, OnOk, Result, Ok, Err, refl, ap, subst, sym}
+use Rattle.std.proofs.Common.{Some, None, IfOk, Result, Ok, Err, refl, ap, subst, sym}
 use Rattle.std.proofs.Common.{◌∙◌}
 use Rattle.std.specs.List.{list_all}
 use Rattle.std.specs.Option.{ok_or}

@@ -9,7 +9,6 @@ use Rattle.std.proofs.lemmas.Bool.{false≢true, and_parts}
 use Rattle.std.proofs.lemmas.Slice.Eq.{bytes_eq-Decides}
 use Rattle.plan_files.specs.Folder.{Folder}
 use Rattle.plan_files.proofs.OtherFiles.{get_part, same_folder}
-use Rattle.giv_files.specs.declared.made.MadeFile.{MadeFile}
 use Rattle.stage_driver.specs.declared.outcome.Mode.{Mode}
 use Rattle.stage_driver.specs.Built.{built, files_of, made}
 use Rattle.stage_driver.specs.Hand.{hand_of, is_among, names_made_by}

@@ -1,6 +1,6 @@
 -- Why a chain ends early names a file that people write.
 use Rattle.std.proofs.Common.{◌≡◌, ℕ, ℤ, ltb, leb, Bool, true, false, cond, not, ◌&&◌, ◌||◌, List}
-use Rattle.std.proofs.Common.{[], ◌∷◌, ◌++◌, map, filter, Option, Some, None, IfSome, IfErr, Result}
+use Rattle.std.proofs.Common.{[], ◌∷◌, ◌++◌, map, filter, Option, Some, None, IfErr, Result}
 use Rattle.std.proofs.Common.{Ok, Err, refl, ap, subst, sym, ◌∙◌, append_assoc, append-nil, arith}
 use Rattle.std.proofs.Common.{⊎_elim}
 use Rattle.std.specs.List.{list_all, flat_map}
@@ -28,7 +28,7 @@ use Rattle.stage_driver.specs.declared.cause.Cause.{Cause}
 use Rattle.stage_driver.specs.declared.cause.Cause.TheVariants as cause
 use Rattle.stage_driver.specs.declared.origin.Origin.{Origin}
 use Rattle.stage_driver.specs.declared.origin.Origin.TheVariants as origin
-use Rattle.stage_driver.specs.Hand.{is_among, is_hand, is_hand_file, hand_of}
+use Rattle.stage_driver.specs.Hand.{is_among, is_hand, is_hand_file}
 use Rattle.stage_driver.specs.Chain.{Visit, Halt, origin_of, hand_text, made_text, input_text}
 use Rattle.stage_driver.specs.Chain.{chosen, with_text, texts_by, bundle_for, bundle_told}
 use Rattle.stage_driver.specs.Chain.{stage_place}

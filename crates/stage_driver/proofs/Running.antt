@@ -1,5 +1,5 @@
 -- A run is what its hand files and what is kept determine.
-use Rattle.std.proofs.Common.{◌≡◌, ℕ, ◌+◌, ◌≤◌, List, [], ◌∷◌, ◌++◌, Option, Some, None, IfSome}
+use Rattle.std.proofs.Common.{◌≡◌, ℕ, ◌+◌, ◌≤◌, List, [], ◌++◌, Option, Some, None, IfSome}
 use Rattle.std.proofs.Common.{IfOk, IfErr, OnOk, Result, Ok, Err, refl, ap, sym, append-nil, subst}
 use Rattle.std.proofs.Common.{◌∙◌, append_assoc, arith, inl}
 use Rattle.std.specs.Option.{option_map}

@@ -12,10 +12,10 @@ use Rattle.plan_files.specs.Changes.{after_write, folder_after, left_by, write_n
 use Rattle.plan_files.specs.Folder.{Folder}
 use Rattle.plan_files.specs.Others.{AreOutside}
 use Rattle.plan_files.proofs.OtherFiles.{same_folder}
-use Rattle.plan_files.proofs.Writes.{folder_after_both, get_written}
+use Rattle.plan_files.proofs.Writes.{get_written}
 use Rattle.stage_driver.specs.Hand.{is_among}
 use Rattle.stage_driver.specs.Runs.{IsOnce, is_met, same_bytes, unmet}
-use Rattle.stage_driver.proofs.Differing.{all_parts, differs_from, Differ, differing, not_among, same_way}
+use Rattle.stage_driver.proofs.Differing.{differs_from, Differ, differing, not_among, same_way}
 
 -- the names of some writes
 abbrev pub names_in : List Write → List (List ℕ)

@@ -1,6 +1,6 @@
 -- What a folder keeps of its stages, and the chain that takes what is kept in the place of making it.
 use Rattle.std.specs.Prelude.{ℕ, ◌≡◌, is_some, if◌then◌else◌, List, [], ◌∷◌, Option, Some, None}
-use Rattle.std.specs.Prelude.{Result, Ok, Err, ⊤}
+use Rattle.std.specs.Prelude.{Result, Ok, ⊤}
 use Rattle.std.specs.List.{flat_map}
 use Rattle.std.specs.FinMap as files
 use Rattle.plan_files.specs.declared.write.Write.{Write}

@@ -24,7 +24,7 @@ use plan_num::{Ledger, Steps};
 use std::alloc::Global;
 
 /// Runs the stages that are built over the files of a dataset, up to the last one that its settings
-/// name or to where the chain ends early. What is kept of what a stage is given is taken from there.
+/// name or to where the chain ends early. What is kept of what a stage is given is not made again.
 pub(crate) fn run_built<F: Files, L: Ledger>(
     alloc: Global,
     files: &mut F,
@@ -54,7 +54,8 @@ fn run_stages<F: Files, L: Ledger>(
 ) -> Result<(), ChainEnd>
     requires { progress.old ≡ nothing }
     ensures chain { IfSome (F.contents files.old) (λ folder.
-        ChainGives folder (chain_from (solve_over folder) config.now folder [] (to_run config.now built))
+        ChainGives folder
+        (chain_from (solve_over folder) config.now folder [] (to_run config.now built))
         progress.new steps.old steps.new result) }
     ensures only_reads { OnlyReads F.contents F.writes F.faults files.old files.new
         (is_broken result) }

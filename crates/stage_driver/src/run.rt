@@ -28,11 +28,11 @@ use plan_files::Files;
 use plan_num::{Ledger, Steps};
 use std::alloc::Global;
 
-/// Runs the stages that are built over the files of a dataset: a stage that was given the same before
-/// is taken from what is kept, and any other one is made. The folder then has the made files that
-/// were made and no others of these stages, and the entry of each of them. Where what is kept is
-/// honest, these are the files that its hand files alone determine. A fresh run first removes what
-/// is kept. Every other file is as before.
+/// Runs the stages that are built over the files of a dataset: a stage that was given the same
+/// before is taken from what is kept, and any other one is made. The folder then has the made files
+/// that were made and no others of these stages, and the entry of each of them. Where what is kept
+/// is honest, these are the files that its hand files alone determine. A fresh run first removes
+/// what is kept. Every other file is as before.
 pub fn run_chain<F: Files, L: Ledger>(
     alloc: Global,
     files: &mut F,
@@ -49,8 +49,8 @@ pub fn run_chain<F: Files, L: Ledger>(
         OnOk result (steps.new ≡ steps.old + (run_over (started mode folder)).work)) }
     ensures once { (folder : Folder) → IsOnce (writes_of folder) }
 
-    // Where what is kept is honest, and in a fresh run, that is what is made from scratch. It is right
-    // over the files in the folder that is left, and a refusal names files that people write.
+    // Where what is kept is honest, and in a fresh run, that is what is made from scratch. It is
+    // right over the files in the folder that is left, and a refusal names files that people write.
     ensures from_scratch { (folder : Folder) → Trusts mode folder
         → IsFromScratch (run_over (started mode folder)) (hand_of folder) }
     ensures made_files_are_right { (folder : Folder) → MadeFilesAreRight folder }

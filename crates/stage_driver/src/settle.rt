@@ -1,6 +1,6 @@
 // Writes that change something, made in order.
-ghost use Rattle.std.specs.Prelude.{◌≡◌, ◌++◌, ◌⊎◌, ◌∷◌, [], Bool, List, ℕ, IfErr, IfOk, IfSome, OnOk};
-ghost use Rattle.std.specs.Prelude.{None, Some};
+ghost use Rattle.std.specs.Prelude.{◌≡◌, ◌++◌, ◌⊎◌, ◌∷◌, [], Bool, List, ℕ, IfErr, IfOk, IfSome};
+ghost use Rattle.std.specs.Prelude.{None, OnOk, Some};
 ghost use Rattle.std.specs.FinMap as map;
 ghost use Rattle.plan_files.specs.Applied.{AreApplied};
 ghost use Rattle.plan_files.specs.Counts.{Counts};

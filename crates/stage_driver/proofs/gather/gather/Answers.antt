@@ -1,4 +1,4 @@
-use Rattle.std.proofs.Common.{◌≡◌, Err, ap, ◌∙◌, ◌++◌, ◌∷◌, [], ◌+◌, length, length-append}
+use Rattle.std.proofs.Common.{◌≡◌, Err, ap, ◌∙◌, ◌∷◌, [], ◌+◌, length, length-append}
 use Rattle.plan_files.proofs.Reading.{both_read}
 use Rattle.std.proofs.lemmas.Result.{err_from_is_err_and}
 use Rattle.giv_files.specs.declared.file_id.FileId.TheVariants.{Stop}
