@@ -1,4 +1,4 @@
-// Whole runs through all stages that are built, and checks of the last ones.
+// Whole runs through all stages, and checks of the last ones.
 use crate::answers::Status;
 use crate::cases::{ALL_CONFIG, Case, Last, Plan, run};
 use crate::check_tests::{made_under, tells};
