@@ -99,6 +99,7 @@ pub(crate) struct Case {
     pub(crate) day: Option<Day>,
     pub(crate) plan: Option<Plan>,
     pub(crate) last: Option<Last>,
+    pub(crate) statistic: Option<&'static [u8]>,
     pub(crate) report: &'static [u8],
     pub(crate) steps: u64,
 }
@@ -123,6 +124,7 @@ pub(crate) const MADE: Case = Case {
     day: None,
     plan: None,
     last: None,
+    statistic: None,
     report: b"load: 2 edges\ncost: 2 lines\nconcept: cost 27, optimal, 9 entries\n\
         ean: 12 events, 14 activities\ntimetable: 12 events, 10 entries\ndone\n",
     steps: 24,
@@ -170,6 +172,7 @@ pub(crate) fn run(rt: &(impl AllocGlobal + Abort), case: &Case) -> Result<(), Fa
             "delay-management/Timetable-disposition.cert",
             case.last.map(|last| last.reasons),
         ),
+        ("statistic/statistic.sta", case.statistic),
     ];
     let mut files = SteadyFiles::new(alloc);
     for (name, _) in &made {

@@ -128,7 +128,7 @@ impl Sink for SpySink {
 // The calls of a run over the dataset, whose keep file is no entry. It reads the hand files that its
 // settings and its stages need, and what is kept of each stage; then it compares the made files with
 // those that are there; and then it puts what differs, and its entries.
-const CALLS: [(Kind, &str); 60] = [
+const CALLS: [(Kind, &str); 64] = [
     (Kind::Get, "basis/Config.cnf"),
     (Kind::Get, "basis/Stop.giv"),
     (Kind::Get, "basis/Edge.giv"),
@@ -153,6 +153,7 @@ const CALLS: [(Kind, &str); 60] = [
     (Kind::Get, "delay-management/Event-delays.giv"),
     (Kind::Get, "delay-management/Activity-delays.giv"),
     (Kind::Get, "keep/disposition.keep"),
+    (Kind::Get, "keep/statistic.keep"),
     (Kind::Get, "line-planning/Load.giv"),
     (Kind::Get, "basis/Pool-Cost.giv"),
     (Kind::Get, "line-planning/Line-Concept.lin"),
@@ -167,6 +168,7 @@ const CALLS: [(Kind, &str); 60] = [
     (Kind::Get, "vehicle-scheduling/Vehicle_Schedules.cert"),
     (Kind::Get, "delay-management/Timetable-disposition.tim"),
     (Kind::Get, "delay-management/Timetable-disposition.cert"),
+    (Kind::Get, "statistic/statistic.sta"),
     (Kind::Put, "line-planning/Load.giv"),
     (Kind::Put, "basis/Pool-Cost.giv"),
     (Kind::Put, "line-planning/Line-Concept.lin"),
@@ -181,6 +183,7 @@ const CALLS: [(Kind, &str); 60] = [
     (Kind::Put, "vehicle-scheduling/Vehicle_Schedules.cert"),
     (Kind::Put, "delay-management/Timetable-disposition.tim"),
     (Kind::Put, "delay-management/Timetable-disposition.cert"),
+    (Kind::Put, "statistic/statistic.sta"),
     (Kind::Put, "keep/load.keep"),
     (Kind::Put, "keep/cost.keep"),
     (Kind::Put, "keep/concept.keep"),
@@ -189,6 +192,7 @@ const CALLS: [(Kind, &str); 60] = [
     (Kind::Put, "keep/rollout.keep"),
     (Kind::Put, "keep/vehicles.keep"),
     (Kind::Put, "keep/disposition.keep"),
+    (Kind::Put, "keep/statistic.keep"),
 ];
 
 // The first so many of these calls were made, and no other one.
@@ -211,7 +215,7 @@ fn run(
     Ok(lintim(rt.alloc(), &words, files, out, &mut steps))
 }
 
-// No file of a stage that is not built and no other file is read, written or removed, and neither is
+// No other file is read, written or removed, and neither is
 // the demand where loads are given. Each keep file is read once. The report is one write.
 #[test]
 fn a_run_names_its_files_alone(rt: HostRuntime) -> Result<(), Fail> {
@@ -219,15 +223,15 @@ fn a_run_names_its_files_alone(rt: HostRuntime) -> Result<(), Fail> {
     let mut out = SpySink::new(rt.alloc(), false);
     let status = run(&rt, "make", &mut files, &mut out)?;
     assert_eq!(rt; status, Status::Done);
-    are_first(&rt, &files, 60);
-    assert_eq!(rt; out.pieces.as_slice(), [256].as_slice());
+    are_first(&rt, &files, 64);
+    assert_eq!(rt; out.pieces.as_slice(), [277].as_slice());
     Ok(())
 }
 
 // After a call that fails no other one is made, and the line that tells of it is one write.
 #[test]
 fn nothing_is_called_after_a_fault(rt: HostRuntime) -> Result<(), Fail> {
-    for fails in 1..61 {
+    for fails in 1..65 {
         let mut files = SpyFiles::of_dataset(rt.alloc(), fails)?;
         let mut out = SpySink::new(rt.alloc(), false);
         let status = run(&rt, "make", &mut files, &mut out)?;
@@ -245,8 +249,8 @@ fn a_report_is_written_once(rt: HostRuntime) -> Result<(), Fail> {
     let mut out = SpySink::new(rt.alloc(), true);
     let status = run(&rt, "make", &mut files, &mut out)?;
     assert_eq!(rt; status, Status::SinkFault);
-    are_first(&rt, &files, 60);
-    assert_eq!(rt; out.pieces.as_slice(), [256].as_slice());
+    are_first(&rt, &files, 64);
+    assert_eq!(rt; out.pieces.as_slice(), [277].as_slice());
     Ok(())
 }
 
@@ -259,11 +263,11 @@ fn a_refused_run_removes_made_files_alone(rt: HostRuntime) -> Result<(), Fail> {
     let mut out = SpySink::new(rt.alloc(), false);
     let status = run(&rt, "make", &mut files, &mut out)?;
     assert_eq!(rt; status, Status::BadInput);
-    assert_eq!(rt; files.calls.len(), 17);
-    for call in files.calls.iter().skip(2).take(14) {
+    assert_eq!(rt; files.calls.len(), 18);
+    for call in files.calls.iter().skip(2).take(15) {
         assert_eq!(rt; call.kind, Kind::Get);
     }
-    for call in files.calls.iter().skip(16) {
+    for call in files.calls.iter().skip(17) {
         assert_eq!(rt; call.kind, Kind::Remove);
         assert_eq!(rt;
             call.name.as_bytes(),

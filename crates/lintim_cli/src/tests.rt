@@ -51,6 +51,7 @@ const SQUARE: Case = Case {
     day: None,
     plan: None,
     last: None,
+    statistic: None,
     report: b"load: 4 edges\ncost: 0 lines\nno solution: concept\n",
     steps: 4,
 };
@@ -75,6 +76,10 @@ const NO_LAST: Last = Last {
     disposed: b"# event-id; time\n",
     reasons: b"# event-id; reason; activity-id\n",
 };
+
+const NO_STATISTIC: &[u8] = b"# key; value\nlc_cost; 0\nlc_lines; 0\nean_events; 0\nean_activities; 0\n\
+    tim_drive_time; 0\ntim_wait_time; 0\ntim_change_time; 0\nro_trips; 0\nvs_vehicles; 0\n\
+    vs_empty_minutes; 0\nvs_cost; 0\ndm_total_delay; 0\ndm_max_delay; 0\ndm_missed_changes; 0\n";
 
 // A run over no edges and no lines.
 const NOTHING: Case = Case {
@@ -168,12 +173,13 @@ fn loads_come_of_demand(rt: HostRuntime) -> Result<(), Fail> {
             day: Some(NO_DAY),
             plan: Some(NO_PLAN),
             last: Some(NO_LAST),
+            statistic: Some(NO_STATISTIC),
             report: b"load: 0 edges\ncost: 0 lines\nconcept: cost 0, optimal, 1 entries\n\
                 ean: 0 events, 0 activities\ntimetable: 0 events, 1 entries\n\
                 rollout: 0 trips, 0 events, 0 activities\n\
                 vehicles: 0 vehicles, cost 0, optimal\n\
-                disposition: delay 0, 0 missed, optimal\ndone\n",
-            steps: 10,
+                disposition: delay 0, 0 missed, optimal\nstatistic: 14 values\ndone\n",
+            steps: 11,
             ..NOTHING
         },
     ];

@@ -1,4 +1,4 @@
-// Whole runs through all stages that are built, and checks of the last ones.
+// Whole runs through all stages, and checks of the last ones.
 use crate::answers::Status;
 use crate::cases::{ALL_CONFIG, Case, Last, Plan, run};
 use crate::check_tests::{made_under, tells};
@@ -16,6 +16,8 @@ const TIMES: &str = "delay-management/Timetable-disposition.tim";
 const REASONS: &str = "delay-management/Timetable-disposition.cert";
 
 const DELAYS: &str = "delay-management/Event-delays.giv";
+
+const VALUES: &str = "statistic/statistic.sta";
 
 // Four vehicles, each with a trip at 0 and one at 20.
 const PLAN: Plan = Plan {
@@ -49,17 +51,23 @@ const LAST: Last = Last {
         22; source; 0\n23; source; 0\n24; source; 0\n",
 };
 
+// What the plans cost, how long drives, waits and changes take, and that nothing is late.
+const STATISTIC: &[u8] = b"# key; value\nlc_cost; 27\nlc_lines; 2\nean_events; 12\nean_activities; 14\n\
+    tim_drive_time; 28\ntim_wait_time; 2\ntim_change_time; 79\nro_trips; 8\nvs_vehicles; 4\n\
+    vs_empty_minutes; 0\nvs_cost; 400\ndm_total_delay; 0\ndm_max_delay; 0\ndm_missed_changes; 0\n";
+
 // The dataset as it is, through all stages.
 const WHOLE: Case = Case {
     config: Some(ALL_CONFIG),
     plan: Some(PLAN),
     last: Some(LAST),
+    statistic: Some(STATISTIC),
     report: b"load: 2 edges\ncost: 2 lines\nconcept: cost 27, optimal, 9 entries\n\
         ean: 12 events, 14 activities\ntimetable: 12 events, 10 entries\n\
         rollout: 8 trips, 24 events, 23 activities\n\
         vehicles: 4 vehicles, cost 400, optimal\n\
-        disposition: delay 0, 0 missed, optimal\ndone\n",
-    steps: 27,
+        disposition: delay 0, 0 missed, optimal\nstatistic: 14 values\ndone\n",
+    steps: 28,
     ..TWO_TRIPS_A_RUN
 };
 
@@ -77,11 +85,13 @@ fn a_long_delay_is_refused(rt: HostRuntime) -> Result<(), Fail> {
             delays: Some(b"1; 1000001\n"),
             status: Status::BadInput,
             last: None,
+            statistic: None,
             report: b"load: 2 edges\ncost: 2 lines\nconcept: cost 27, optimal, 9 entries\n\
                 ean: 12 events, 14 activities\ntimetable: 12 events, 10 entries\n\
                 rollout: 8 trips, 24 events, 23 activities\n\
                 vehicles: 4 vehicles, cost 400, optimal\n\
                 refused: delay-management/Event-delays.giv row 1: column 2 is out of range\n",
+            steps: 27,
             ..WHOLE
         },
     )
@@ -156,5 +166,18 @@ fn a_disposition_is_judged(rt: HostRuntime) -> Result<(), Fail> {
         24; 25\n";
     let reason = b"uncertified: disposition: reason\n";
     put_tells(&rt, &mut files, TIMES, late, reason)?;
+    Ok(())
+}
+
+#[test]
+fn a_statistic_is_compared(rt: HostRuntime) -> Result<(), Fail> {
+    let mut files = made_under(rt.alloc(), ALL_CONFIG)?;
+    let content = b"uncertified: statistic: content\n";
+    put_tells(&rt, &mut files, VALUES, b"# key; value\n", content)?;
+    files.remove(VALUES)?;
+    let missing = b"uncertified: statistic: missing\n";
+    tells(&rt, &mut files, Status::Uncertified, missing)?;
+    files.put(VALUES, STATISTIC)?;
+    tells(&rt, &mut files, Status::Done, b"checked\n")?;
     Ok(())
 }

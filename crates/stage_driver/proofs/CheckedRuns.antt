@@ -171,7 +171,8 @@ module _ (folder : Folder) (values : List ℤ) where
   one_passes stage.Disposition visit given found right solved makes =
       none_by stage.Disposition visit.bundle given (disposition_there (map.get folder (file_name file.Disposed)) (map.get folder (file_name file.Reasons)) right.times_text right.reasons_text (found ∙ right.both))
       (ap (disposition_verdict visit.bundle) found ∙ disposition_none visit.bundle visit.made.files right)
-  one_passes _ visit given found right solved makes = absurd right
+  one_passes stage.Statistic visit given found right solved makes =
+      by_content stage.Statistic refl visit given found solved makes
 
   -- the first that is found of stages, all of which are to run
   abbrev first_judged : List Stage → Option Finding

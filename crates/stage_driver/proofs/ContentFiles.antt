@@ -100,6 +100,7 @@ is_content stage.Load = true
 is_content stage.Cost = true
 is_content stage.Ean = true
 is_content stage.Rollout = true
+is_content stage.Statistic = true
 is_content _ = false
 
 pub by_contents : (at : Stage) → is_content at ≡ true → GoesByContents at
@@ -123,6 +124,12 @@ by_contents stage.Ean is = record {
   model = λ bundle others right. right;
 }
 by_contents stage.Rollout is = record {
+  lists = refl;
+  needed = refl;
+  judged = λ bundle others. refl;
+  model = λ bundle others right. right;
+}
+by_contents stage.Statistic is = record {
   lists = refl;
   needed = refl;
   judged = λ bundle others. refl;

@@ -1,10 +1,8 @@
 -- What each stage that is built owes to the chain: one line a stage.
 use Rattle.std.proofs.Common.{◌≡◌, ℕ, ℤ, ltb, List, filter, Result, Ok, Err, refl}
-use Rattle.std.proofs.Common.{subst}
 use Rattle.giv_files.specs.declared.file_id.FileId.{FileId}
 use Rattle.giv_files.specs.declared.made.Made.{Made}
 use Rattle.giv_files.specs.declared.refusal.Refusal.{Refusal}
-use Rattle.giv_files.specs.declared.refusal.Refusal.TheVariants as refusal
 use Rattle.giv_files.specs.declared.stage.Stage.{Stage}
 use Rattle.giv_files.specs.declared.stage.Stage.TheVariants as stage
 use Rattle.giv_files.specs.MadeLists.{MakesAs, ids_of}
@@ -29,6 +27,8 @@ use Rattle.roll_out.proofs.RolloutReads.{rollout_is_right}
 use Rattle.delay_management.proofs.DispositionMakes.{disposition_names_delays}
 use Rattle.delay_management.proofs.DispositionMakes.{disposition_stage_makes}
 use Rattle.delay_management.proofs.DispositionReads.{disposition_is_right}
+use Rattle.evaluators.proofs.StatisticMakes.{statistic_names_none, statistic_stage_makes}
+use Rattle.evaluators.proofs.StatisticReads.{statistic_is_right}
 use Rattle.vehicle_flow.proofs.VehicleLaws.{vehicles_are_right}
 use Rattle.vehicle_flow.proofs.VehicleMakes.{vehicles_stage_makes, vehicles_stage_names}
 use Rattle.stage_driver.specs.Built.{built, stage_function, run_stage}
@@ -38,6 +38,7 @@ use Rattle.stage_driver.specs.Right.{IsRightAs}
 use Rattle.stage_driver.proofs.OneLook.{AreRightOver, bundle_over, loads_accepted, costs_accepted}
 use Rattle.stage_driver.proofs.OneLook.{concept_accepted, day_accepted, periodic_accepted}
 use Rattle.stage_driver.proofs.OneLook.{plans_accepted, trips_accepted}
+use Rattle.stage_driver.proofs.AllPlans.{all_accepted}
 
 -- the stages that are built and run before one
 abbrev pub earlier : Stage → List Stage
@@ -55,12 +56,6 @@ pub record StageLaws (stage : Stage) : Type 0 where
       → stage_function stage (bundle_over values look stage) ≡ Err reason
       → NamesOnly is_hand_file reason
 
--- a stage that is not built refuses everything, and names no row
-not_built : (told : Result Made Refusal) (reason : Refusal) → told ≡ Err refusal.NoSolution
-    → told ≡ Err reason → NamesOnly is_hand_file reason
-not_built told reason none is =
-    let same : refusal.NoSolution ≡ reason = cc in subst (NamesOnly is_hand_file) same tt
-
 pub stage_laws : (stage : Stage) → StageLaws stage
 unfolding stage_function is_hand
 stage_laws stage.Load = record { makes = load_stage_makes; right = loads_are_right; refuses = λ values look reason _. load_stage_names is_hand_file refl refl refl refl (bundle_over values look stage.Load) reason }
@@ -71,7 +66,7 @@ stage_laws stage.Timetable = record { makes = timetable_stage_makes; right = tim
 stage_laws stage.Rollout = record { makes = rollout_stage_makes; right = rollout_is_right; refuses = λ values look reason right. rollout_names_none is_hand_file (bundle_over values look stage.Rollout) reason (day_accepted values look right.1.1.1.0 right.1.1.1.1.0) }
 stage_laws stage.Vehicles = record { makes = vehicles_stage_makes; right = λ bundle made own fits is. vehicles_are_right bundle own fits made is; refuses = λ values look reason right. vehicles_stage_names is_hand_file refl refl (bundle_over values look stage.Vehicles) reason (trips_accepted values look right.1.1.1.0 right.1.1.1.1.1.0) }
 stage_laws stage.Disposition = record { makes = disposition_stage_makes; right = disposition_is_right; refuses = λ values look reason right. disposition_names_delays is_hand_file refl refl (bundle_over values look stage.Disposition) reason (plans_accepted values look right.1.1.1.1.1.0 right.1.1.1.1.1.1.0) }
-stage_laws _ = record { makes = λ bundle made is. absurd (cc); right = λ bundle made same fits is. absurd (cc); refuses = λ values look reason _ is. not_built _ reason refl is }
+stage_laws stage.Statistic = record { makes = statistic_stage_makes; right = statistic_is_right; refuses = λ values look reason right. statistic_names_none is_hand_file (bundle_over values look stage.Statistic) reason (all_accepted values look right.1.0 right.1.1.0 right.1.1.1.0 right.1.1.1.1.0 right.1.1.1.1.1.0 right.1.1.1.1.1.1.0 right.1.1.1.1.1.1.1.0) }
 
 -- the same of what is made of a bundle
 pub run_makes : (bundle : BundleParts) (made : Made) → run_stage bundle ≡ Ok made

@@ -1,3 +1,4 @@
+pub mod AllPlans
 pub mod BothModes
 pub mod CheckedRuns
 pub mod ContentFiles
@@ -27,6 +28,7 @@ pub mod Running
 pub mod SameTexts
 pub mod Settling
 pub mod Starting
+pub mod StatisticLines
 pub mod StopsThere
 pub mod Traces
 pub mod Visiting

@@ -66,7 +66,7 @@ AreRightOver values look (stage ∷ stages) =
     IsRightOver values look stage × AreRightOver values look stages
 
 -- the first of files with their texts there has its own
-first_own : (look : FileId → List ℕ) (file : FileId) (ids : List FileId) (text : List ℕ)
+pub first_own : (look : FileId → List ℕ) (file : FileId) (ids : List FileId) (text : List ℕ)
     (more : List MadeFile) → files_over look ids ≡ record { file = file; text = text } ∷ more
     → text ≡ look file
 first_own look file [] text more is =
@@ -84,7 +84,7 @@ behind_first [] = []
 behind_first (file ∷ files) = files
 
 -- both of two do
-both_own : (look : FileId → List ℕ) (first second : FileId) (ids : List FileId) (text other : List ℕ)
+pub both_own : (look : FileId → List ℕ) (first second : FileId) (ids : List FileId) (text other : List ℕ)
     → files_over look ids
     ≡ record { file = first; text = text } ∷ record { file = second; text = other } ∷ []
     → (text ≡ look first) × (other ≡ look second)
@@ -195,7 +195,7 @@ module _ (values : List ℤ) (look : FileId → List ℕ) where
       (rows_at_stops (events_in bundle) (λ event. event.row) (look file.Stop) fine right.network.at_stops))
 
   -- what the roll-out made is accepted
-  day_made : IsRightOver values look stage.Rollout
+  pub day_made : IsRightOver values look stage.Rollout
       → RolloutIsAccepted (events_of (look file.EventsP)) (look file.EventsX)
       (look file.ActivitiesX) (look file.Trips)
   day_made day =
@@ -211,7 +211,7 @@ module _ (values : List ℤ) (look : FileId → List ℕ) where
   trips_accepted ean day = (day_made day).trips_fine (Some (stops_of (look file.Stop))) (at_stops ean)
 
   -- the vehicle schedule that was made is accepted over the events of the day
-  schedule_accepted : IsRightOver values look stage.Rollout → IsRightOver values look stage.Vehicles
+  pub schedule_accepted : IsRightOver values look stage.Rollout → IsRightOver values look stage.Vehicles
       → input_faults (schedule_input (records_of expanded_event_input (look file.EventsX))) (look file.Schedule) ≡ []
   unfolding trips_in trips_of
   schedule_accepted day vehicles =

@@ -138,7 +138,8 @@ module _ (folder : Folder) (bundle : BundleParts) (found : Option Finding) where
       where_none (SatisfyModel stage.Vehicles bundle (standing folder stage.Vehicles)) found (schedule_stands bundle found (text file.Schedule) (text file.Potential) lacks is) right
   stands_right stage.Disposition lacks is right =
       where_none (SatisfyModel stage.Disposition bundle (standing folder stage.Disposition)) found (disposition_stands bundle found (text file.Disposed) (text file.Reasons) lacks is) right
-  stands_right _ lacks is right = rw is tt
+  stands_right stage.Statistic lacks is right =
+      right (content_stands stage.Statistic (by_contents stage.Statistic refl) folder lacks)
 
 -- ---- clauses
 

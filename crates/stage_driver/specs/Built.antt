@@ -6,7 +6,6 @@ use Rattle.plan_files.specs.Folder.{Folder}
 use Rattle.giv_files.specs.declared.made.Made.{Made}
 use Rattle.giv_files.specs.declared.made.MadeFile.{MadeFile}
 use Rattle.giv_files.specs.declared.refusal.Refusal.{Refusal}
-use Rattle.giv_files.specs.declared.refusal.Refusal.TheVariants as refusal
 use Rattle.giv_files.specs.declared.stage.Stage.{Stage}
 use Rattle.giv_files.specs.declared.stage.Stage.TheVariants as stage
 use Rattle.giv_files.specs.Settings.{BundleParts}
@@ -21,6 +20,7 @@ use Rattle.pesp_search.specs.TimetableStage.{timetable_stage, timetable_work}
 use Rattle.roll_out.specs.RolloutStage.{rollout_stage}
 use Rattle.vehicle_flow.specs.VehicleStage.{vehicles_stage}
 use Rattle.delay_management.specs.DispositionStage.{disposition_stage}
+use Rattle.evaluators.specs.StatisticStage.{statistic_stage}
 use Rattle.stage_driver.specs.declared.outcome.RunEnd.{RunEnd}
 use Rattle.stage_driver.specs.declared.cause.Cause.{Cause}
 use Rattle.stage_driver.specs.declared.cause.Cause.TheVariants as cause
@@ -31,10 +31,9 @@ use Rattle.stage_driver.specs.Reports.{stage_lines, last_line, end_of}
 abbrev pub built : List Stage
 built =
     stage.Load ∷ stage.Cost ∷ stage.Concept ∷ stage.Ean ∷ stage.Timetable
-    ∷ stage.Rollout ∷ stage.Vehicles ∷ stage.Disposition ∷ []
+    ∷ stage.Rollout ∷ stage.Vehicles ∷ stage.Disposition ∷ stage.Statistic ∷ []
 
--- what each stage makes of what it is given; one that is not built makes nothing, and no chain has
--- it
+-- what each stage makes of what it is given
 unfoldable pub stage_function : Stage → BundleParts → Result Made Refusal
 stage_function stage.Load bundle = load_stage bundle
 stage_function stage.Cost bundle = cost_stage bundle
@@ -44,7 +43,7 @@ stage_function stage.Timetable bundle = timetable_stage bundle
 stage_function stage.Rollout bundle = rollout_stage bundle
 stage_function stage.Vehicles bundle = vehicles_stage bundle
 stage_function stage.Disposition bundle = disposition_stage bundle
-stage_function _ bundle = Err refusal.NoSolution
+stage_function stage.Statistic bundle = statistic_stage bundle
 
 -- the same, by the stage of the bundle
 abbrev pub run_stage : BundleParts → Result Made Refusal

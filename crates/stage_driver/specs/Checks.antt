@@ -144,8 +144,7 @@ disposition_verdict bundle [] = None
 disposition_verdict bundle (times ∷ reasons) =
     disposition_found bundle times.text (first_text reasons)
 
--- what is found of the files of a stage over what it is given; a stage that is not built
--- never passes
+-- what is found of the files of a stage over what it is given
 unfoldable pub verdict : Stage → BundleParts → List MadeFile → Option Finding
 verdict stage.Load bundle others = content_found stage.Load (run_stage bundle) others
 verdict stage.Cost bundle others = content_found stage.Cost (run_stage bundle) others
@@ -155,7 +154,7 @@ verdict stage.Timetable bundle others = timetable_verdict bundle others
 verdict stage.Rollout bundle others = content_found stage.Rollout (run_stage bundle) others
 verdict stage.Vehicles bundle others = schedule_verdict bundle others
 verdict stage.Disposition bundle others = disposition_verdict bundle others
-verdict stage bundle others = Some (Broken stage rule.Content)
+verdict stage.Statistic bundle others = content_found stage.Statistic (run_stage bundle) others
 
 -- what is found of a stage: first of its inputs, then of the files that it makes
 abbrev pub found_over : Folder → Stage → Result BundleParts Cause → Option Finding

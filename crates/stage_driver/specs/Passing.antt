@@ -20,6 +20,7 @@ use Rattle.roll_out.specs.RightRollout.{RolloutFilesAreRight}
 use Rattle.vehicle_flow.specs.RightVehicles.{VehiclesAreRight}
 use Rattle.delay_management.specs.DispositionStage.{disposition_faults}
 use Rattle.delay_management.specs.Judged.{Passes as PassesBy}
+use Rattle.evaluators.specs.RightStatistic.{StatisticFilesAreRight}
 use Rattle.stage_driver.specs.declared.outcome.RunEnd.TheVariants as end
 use Rattle.stage_driver.specs.Built.{built}
 use Rattle.stage_driver.specs.Chain.{bundle_by, is_to_run}
@@ -67,7 +68,7 @@ SatisfyModel stage.Timetable bundle files = TimetablePasses bundle files
 SatisfyModel stage.Rollout bundle files = RolloutFilesAreRight bundle files
 SatisfyModel stage.Vehicles bundle files = VehiclesAreRight bundle files
 SatisfyModel stage.Disposition bundle files = DispositionPasses bundle files
-SatisfyModel _ bundle files = ⊥
+SatisfyModel stage.Statistic bundle files = StatisticFilesAreRight bundle files
 
 -- The files of a stage that stand in a folder satisfy its model over the files that stand there.
 pub record StageStands (folder : Folder) (values : List ℤ) (stage : Stage) : Type 0 where

@@ -23,6 +23,7 @@ use Rattle.pesp_search.specs.RightTimetables.{TimetableFilesAreRight}
 use Rattle.roll_out.specs.RightRollout.{RolloutFilesAreRight}
 use Rattle.vehicle_flow.specs.RightVehicles.{VehicleFilesAreRight}
 use Rattle.delay_management.specs.RightDispositions.{DispositionFilesAreRight}
+use Rattle.evaluators.specs.RightStatistic.{StatisticFilesAreRight}
 use Rattle.stage_driver.specs.declared.cause.Cause.{Cause}
 use Rattle.stage_driver.specs.declared.cause.Cause.TheVariants as cause
 use Rattle.stage_driver.specs.declared.origin.Origin.{Origin}
@@ -34,7 +35,7 @@ use Rattle.stage_driver.specs.Kept.{IsKeptHonest}
 use Rattle.stage_driver.specs.Runs.{after}
 
 -- The files of a stage are right over what it was given: its inputs have no fault, and the files,
--- read again, have none and satisfy its model. A stage that is not built makes nothing.
+-- read again, have none and satisfy its model.
 abbrev pub IsRightAs : Stage → BundleParts → List MadeFile → Type 0
 IsRightAs stage.Load bundle files = LoadFilesAreRight bundle files
 IsRightAs stage.Cost bundle files = CostFilesAreRight bundle files
@@ -44,7 +45,7 @@ IsRightAs stage.Timetable bundle files = TimetableFilesAreRight bundle files
 IsRightAs stage.Rollout bundle files = RolloutFilesAreRight bundle files
 IsRightAs stage.Vehicles bundle files = VehicleFilesAreRight bundle files
 IsRightAs stage.Disposition bundle files = DispositionFilesAreRight bundle files
-IsRightAs _ bundle files = ⊥
+IsRightAs stage.Statistic bundle files = StatisticFilesAreRight bundle files
 
 -- the text of a file that a stage makes, where it stands in a folder
 abbrev pub made_in : Folder → FileId → Result (List ℕ) Cause

@@ -114,7 +114,7 @@ fn verdict(
         Stage::Rollout => content_found(alloc, bundle, stage, there),
         Stage::Vehicles => schedule_verdict(alloc, bundle, there),
         Stage::Disposition => disposition_verdict(alloc, bundle, there),
-        Stage::Statistic => Ok(Some(Finding::Broken(stage, Rule::Content))),
+        Stage::Statistic => content_found(alloc, bundle, stage, there),
     }
 }
 

@@ -8,8 +8,9 @@ ghost use Rattle.stage_driver.specs.Built.{built, run_stage, stage_work};
 
 use delay_management::make_disposition;
 use demand_load::make_load;
+use evaluators::make_statistic;
 use event_activity::make_ean;
-use giv_files::{Bundle, Made, Refusal, Stage, StageFault};
+use giv_files::{Bundle, Made, Stage, StageFault};
 use line_pool::make_cost;
 use line_search::make_concept;
 use pesp_search::make_timetable;
@@ -31,6 +32,7 @@ pub(crate) fn built() -> &'static [Stage]
         Stage::Rollout,
         Stage::Vehicles,
         Stage::Disposition,
+        Stage::Statistic,
     ]
 }
 
@@ -54,10 +56,7 @@ pub(crate) fn make_stage<L: Ledger>(
         Stage::Rollout => make_rollout(alloc, bundle, steps),
         Stage::Vehicles => make_vehicles(alloc, bundle, steps),
         Stage::Disposition => make_disposition(alloc, bundle, steps),
-        Stage::Statistic => {
-            steps.tick();
-            Err(StageFault::Refused(Refusal::NoSolution))
-        }
+        Stage::Statistic => make_statistic(alloc, bundle, steps),
     }
 }
 

@@ -18,3 +18,7 @@ returns-in-Ean-clause-passes c =
 pub returns-in-Rollout-clause-passes : goal.returns-in-Rollout-clause-passes
 returns-in-Rollout-clause-passes c =
     content_clause c.args.bundle.now c.args.there.now c.args.stage _ c.requires.fits c.requires.stage (ap is_content c.in-Rollout.is) c.content_found-in-Rollout.ensures
+
+pub returns-in-Statistic-clause-passes : goal.returns-in-Statistic-clause-passes
+returns-in-Statistic-clause-passes c =
+    content_clause c.args.bundle.now c.args.there.now c.args.stage _ c.requires.fits c.requires.stage (ap is_content c.in-Statistic.is) c.content_found-in-Statistic.ensures

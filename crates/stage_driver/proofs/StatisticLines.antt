@@ -1,0 +1,351 @@
+-- The files of costs and of a line concept that were made have no fault as the statistic reads them.
+use Rattle.std.proofs.Common.{◌≡◌, ℕ, ℤ, pos, ◌≤◌, Bool, true, false, not, ◌||◌, cond, is_some, eqb, List}
+use Rattle.std.proofs.Common.{[], ◌∷◌, ◌++◌, length, map, filter, zip, get_or, unsigned_abs, Option}
+use Rattle.std.proofs.Common.{Some, None, refl, ap, subst, sym, ◌∙◌, arith}
+use Rattle.std.specs.List.{All, AllByRecursion, IsDistinct, enumerate_from, find, flat_map, list_any}
+use Rattle.std.specs.Ordering.{int_eq}
+use Rattle.std.specs.Set.{is_member}
+use Rattle.std.proofs.lemmas.Bool.{eq-eqb}
+use Rattle.std.proofs.lemmas.Bool.Decides.{Decides-int_eq}
+use Rattle.std.proofs.lemmas.Cmp.{int_eq_equiv}
+use Rattle.std.proofs.lemmas.List.{length-map, map_push}
+use Rattle.std.proofs.lemmas.List.Elements.{All-cons, All-contains, All-nil}
+use Rattle.std.proofs.lemmas.Map.Made.{is_member-Decides, length-le_from_is_member}
+use Rattle.giv_files.specs.declared.file_id.FileId.{FileId}
+use Rattle.giv_files.specs.declared.file_id.FileId.TheVariants as file
+use Rattle.giv_files.specs.declared.row_why.RowWhy.TheVariants as why
+use Rattle.giv_files.specs.Columns.{concept_columns, pool_cost_columns}
+use Rattle.giv_files.specs.Inputs.{Input, Numbered, RowRule, broken_whys, input_faults, own_id, row_faults}
+use Rattle.giv_files.specs.Reading.{table_of}
+use Rattle.giv_files.specs.Tables.{TableRow}
+use Rattle.giv_files.specs.Writing.{ReadsBack}
+use Rattle.giv_files.proofs.Accepted.{each_known}
+use Rattle.giv_files.proofs.Found.{any_mapped}
+use Rattle.giv_files.proofs.Inputs.{faults_of_table, limit_kept, no_faults, parts_sound, rule_kept}
+use Rattle.giv_files.proofs.Inputs.{rules_sound, table_sound, whole_rule_sound}
+use Rattle.giv_files.proofs.Ranges.{back_none, front_none, unmapped}
+use Rattle.ptn_network.specs.declared.edge.Edge.{Edge}
+use Rattle.ptn_network.specs.Ids.{known_edge}
+use Rattle.line_pool.specs.PoolCosts.{CostRow as PoolCost, cost_row_of, known_line as of_pool, pool_cost_input}
+use Rattle.line_pool.specs.Pools.{LineParts, differs as differs_first, first_frequency, joined_edges, line_limit as pool_limit, line_row as pool_row, line_rules, new_edge, next_place, one_frequency as same_frequency, rows_of}
+use Rattle.line_search.specs.ConceptTables.{concept_rows, line_rows, row_at}
+use Rattle.line_search.specs.GivenProblems.{costed_by, problem_of}
+use Rattle.evaluators.specs.declared.rows.CostRow.{CostRow}
+use Rattle.evaluators.specs.declared.rows.LineRow.{LineRow}
+use Rattle.evaluators.specs.FirstRows.{firsts}
+use Rattle.evaluators.specs.StatisticInputs.{concept_input, cost_input, cost_row, cost_with, differs, first_row, known_line, line_limit, line_row, lines_of, one_frequency}
+use Rattle.evaluators.specs.StatisticStage.{costs_of}
+
+-- what a function gives: a line with its cost, and a line problem
+abbrev given_by : {X Y : Type 0} → (X → Y) → Type 0
+given_by {Y = Y} f = Y
+
+abbrev pub CostedLine : Type 0
+CostedLine = given_by (λ (at : LineParts × ℤ). costed_by at.0 at.1)
+
+abbrev pub ProblemParts : Type 0
+ProblemParts = given_by problem_of
+
+-- what rows are that rules speak of: those of a file of lines
+abbrev ruled_by : {X : Type 0} → List (RowRule X) → Type 0
+ruled_by {X} rules = X
+
+abbrev pub PoolRow : Type 0
+PoolRow = ruled_by (line_rules [])
+
+-- a file of a line concept, as the stage of events reads it
+abbrev pub concept_lines : List Edge → Input PoolRow
+concept_lines edges = record {
+  file = file.Concept;
+  columns = concept_columns;
+  read = pool_row;
+  limits = pool_limit ∷ [];
+  row_rules = line_rules edges;
+  table_rules = [];
+}
+
+-- the cells of rows, and the first one of some cells
+abbrev cells_of : List TableRow → List (List ℤ)
+cells_of rows = map (λ row. row.cells) rows
+
+abbrev line_in : List ℤ → ℤ
+line_in cells = get_or cells 0 (pos 0)
+
+-- ---- rows that two kinds of files read
+
+module _ {X Y : Type 0} (file : FileId) (rules : List (RowRule X)) (others : List (RowRule Y))
+    (read : List ℤ → X) (other : List ℤ → Y) (Good : List ℤ → Type 0)
+    (keeps : (before : List TableRow) (row : TableRow) → Good row.cells
+    → broken_whys rules (map (λ row. read row.cells) before) (read row.cells) ≡ []
+    → broken_whys others (map (λ row. other row.cells) before) (other row.cells) ≡ []) where
+  abbrev with_numbers : {Z : Type 0} → (List ℤ → Z) → List TableRow → List (Numbered Z)
+  with_numbers read rows = map (λ row. record { number = row.number; row = read row.cells }) rows
+
+  -- where they keep the rules of the one kind, they keep those of the other one
+  rows_kept : (before rows : List TableRow) → AllByRecursion Good (cells_of rows)
+      → row_faults file rules (map (λ row. read row.cells) before) (with_numbers read rows) ≡ []
+      → row_faults file others (map (λ row. other row.cells) before) (with_numbers other rows) ≡ []
+  unfolding row_faults
+  rows_kept before [] good none = refl
+  rows_kept before (row ∷ rows) good none =
+      let first = unmapped _ (broken_whys rules (map (λ row. read row.cells) before) (read row.cells)) (front_none _ _ none) in
+      let later = subst (λ some. row_faults file rules some (with_numbers read rows) ≡ [])
+      (sym (map_push (λ (row : TableRow). read row.cells) before row)) (back_none _ _ none) in
+      let rest = subst (λ some. row_faults file others some (with_numbers other rows) ≡ [])
+      (map_push (λ (row : TableRow). other row.cells) before row) (rows_kept (before ++ row ∷ []) rows good.1 later) in
+      rw (keeps before row good.0 first) rest
+
+-- ---- the first row of each line
+
+module _ {X : Type 0} (key : X → ℤ) where
+  all_kept : (P : ℤ → Type 0) (test : X → Bool) (xs : List X) → AllByRecursion P (map key xs)
+      → AllByRecursion P (map key (filter test xs))
+  all_kept P test [] each = tt
+  all_kept P test (x ∷ xs) each = by (test x) (all_kept P test xs each.1)
+    where
+      by : (b : Bool) → AllByRecursion P (map key (filter test xs))
+          → AllByRecursion P (map key (cond b (x ∷ filter test xs) (filter test xs)))
+      by true rest = (each.0, rest)
+      by false rest = rest
+
+  others_apart : (id : ℤ) (xs : List X)
+      → AllByRecursion (λ other. int_eq id other ≡ false) (map key (filter (λ other. not (int_eq id (key other))) xs))
+  others_apart id [] = tt
+  others_apart id (x ∷ xs) = by (int_eq id (key x)) refl (others_apart id xs)
+    where
+      test : X → Bool
+      test other = not (int_eq id (key other))
+
+      by : (b : Bool) → int_eq id (key x) ≡ b
+          → AllByRecursion (λ other. int_eq id other ≡ false) (map key (filter test xs))
+          → AllByRecursion (λ other. int_eq id other ≡ false) (map key (cond (not b) (x ∷ filter test xs) (filter test xs)))
+      by true is rest = rest
+      by false is rest = (is, rest)
+
+  still_apart : (test : X → Bool) (xs : List X) → IsDistinct int_eq (map key xs)
+      → IsDistinct int_eq (map key (filter test xs))
+  unfolding IsDistinct
+  still_apart test [] apart = tt
+  still_apart test (x ∷ xs) apart =
+      by (test x) (all_kept (λ other. int_eq (key x) other ≡ false) test xs apart.0) (still_apart test xs apart.1)
+    where
+      by : (b : Bool) → AllByRecursion (λ other. int_eq (key x) other ≡ false) (map key (filter test xs))
+          → IsDistinct int_eq (map key (filter test xs))
+          → IsDistinct int_eq (map key (cond b (x ∷ filter test xs) (filter test xs)))
+      by true new rest = (new, rest)
+      by false new rest = rest
+
+  firsts_apart : (rows : List X) → IsDistinct int_eq (map key (firsts key rows))
+  unfolding firsts IsDistinct
+  firsts_apart [] = tt
+  firsts_apart (row ∷ rows) = (
+    others_apart (key row) (firsts key rows),
+    still_apart (λ other. not (int_eq (key row) (key other))) (firsts key rows) (firsts_apart rows),
+  )
+
+  firsts_kept : (P : ℤ → Type 0) (rows : List X) → AllByRecursion P (map key rows)
+      → AllByRecursion P (map key (firsts key rows))
+  unfolding firsts
+  firsts_kept P [] each = tt
+  firsts_kept P (row ∷ rows) each =
+      (each.0, all_kept P (λ other. not (int_eq (key row) (key other))) (firsts key rows) (firsts_kept P rows each.1))
+
+  each_of : (P : ℤ → Type 0) (ids : List ℤ) → AllByRecursion P ids → All P ids
+  each_of P [] each = All-nil P
+  each_of P (id ∷ ids) each = All-cons P id ids each.0 (each_of P ids each.1)
+
+  -- there are not more of them than ids that they have
+  few_firsts : (ids : List ℤ) (rows : List X)
+      → AllByRecursion (λ id. is_member int_eq ids id ≡ true) (map key rows)
+      → length (firsts key rows) ≤ length ids
+  few_firsts ids rows each =
+      let some = map key (firsts key rows) in
+      let few = length-le_from_is_member int_eq_equiv some ids (firsts_apart rows)
+      (λ id is. All-contains (λ id. is_member int_eq ids id ≡ true) some id
+      (each_of (λ id. is_member int_eq ids id ≡ true) some (firsts_kept (λ id. is_member int_eq ids id ≡ true) rows each))
+      ((is_member-Decides Decides-int_eq some id).0 is)) in
+      omega (arith, few, length-map (firsts key rows) key)
+
+-- ---- what holds of the ids of lines holds of the rows of a concept
+
+module _ (P : ℤ → Type 0) where
+  abbrev Good : List ℤ → Type 0
+  Good cells = P (line_in cells)
+
+  good_both : (rows more : List TableRow) → AllByRecursion Good (cells_of rows)
+      → AllByRecursion Good (cells_of more) → AllByRecursion Good (cells_of (rows ++ more))
+  good_both [] more first last = last
+  good_both (row ∷ rows) more first last = (first.0, good_both rows more first.1 last)
+
+  line_good : (problem : ProblemParts) (id : ℤ) (frequency : ℕ) (at : List (ℕ × ℕ)) → P id
+      → AllByRecursion Good (cells_of (map (row_at problem id frequency) at))
+  line_good problem id frequency [] good = tt
+  line_good problem id frequency (one ∷ at) good = (good, line_good problem id frequency at good)
+
+  lines_good : (problem : ProblemParts) (lines : List CostedLine) (frequencies : List ℕ)
+      → AllByRecursion P (map (λ line. line.id) lines)
+      → AllByRecursion Good (cells_of (flat_map (λ at. line_rows problem at.0 at.1) (zip lines frequencies)))
+  lines_good problem [] frequencies good = tt
+  lines_good problem (line ∷ lines) [] good = tt
+  lines_good problem (line ∷ lines) (frequency ∷ frequencies) good =
+      good_both (line_rows problem line frequency) _
+      (line_good problem line.id frequency (enumerate_from 1 line.edges) good.0)
+      (lines_good problem lines frequencies good.1)
+
+  costed_good : (lines : List LineParts) (costs : List ℤ) → AllByRecursion P (map (λ line. line.id) lines)
+      → AllByRecursion P (map (λ (line : CostedLine). line.id) (map (λ at. costed_by at.0 at.1) (zip lines costs)))
+  costed_good [] costs good = tt
+  costed_good (line ∷ lines) [] good = tt
+  costed_good (line ∷ lines) (cost ∷ costs) good = (good.0, costed_good lines costs good.1)
+
+  -- the same of rows that were read
+  each_row : (rows : List TableRow) → AllByRecursion Good (cells_of rows)
+      → AllByRecursion P (map (λ (row : LineRow). row.line) (map (λ row. line_row row.cells) rows))
+  each_row [] good = tt
+  each_row (row ∷ rows) good = (good.0, each_row rows good.1)
+
+  read_good : (problem : ProblemParts) (lines : List LineParts) (costs : List ℤ) (frequencies text : List ℕ)
+      → problem.lines ≡ map (λ at. costed_by at.0 at.1) (zip lines costs)
+      → ReadsBack concept_columns (concept_rows problem frequencies) text
+      → AllByRecursion P (map (λ line. line.id) lines)
+      → AllByRecursion Good (cells_of (table_of concept_columns text))
+  read_good problem lines costs frequencies text same reads good =
+      subst (AllByRecursion Good) (sym reads.1)
+      (lines_good problem problem.lines frequencies
+      (subst (λ (some : List CostedLine). AllByRecursion P (map (λ line. line.id) some)) (sym same) (costed_good lines costs good)))
+
+-- ---- rules of rows
+
+not_false : (b : Bool) → not b ≡ false → b ≡ true
+not_false true is = refl
+not_false false is = absurd (cc)
+
+-- a row has the frequency of the first row of its line, if its cells have
+same_first : (before : List TableRow) (line : ℤ) (cells : List ℤ)
+    → differs_first (get_or cells 3 (pos 0)) (first_frequency (rows_of line (map (λ row. pool_row row.cells) before))) ≡ false
+    → differs (line_row cells) (first_row (map (λ row. line_row row.cells) before) line) ≡ false
+same_first [] line cells is = refl
+same_first (row ∷ before) line cells is = by (int_eq line (line_in row.cells)) is (same_first before line cells)
+  where
+    by : (b : Bool)
+        → differs_first (get_or cells 3 (pos 0)) (first_frequency (cond b (pool_row row.cells ∷ rows_of line (map (λ row. pool_row row.cells) before)) (rows_of line (map (λ row. pool_row row.cells) before)))) ≡ false
+        → (differs_first (get_or cells 3 (pos 0)) (first_frequency (rows_of line (map (λ row. pool_row row.cells) before))) ≡ false
+        → differs (line_row cells) (first_row (map (λ row. line_row row.cells) before) line) ≡ false)
+        → differs (line_row cells) (cond b (Some (line_row row.cells)) (first_row (map (λ row. line_row row.cells) before) line)) ≡ false
+    by true is rest =
+        let same = (Decides-int_eq (get_or cells 3 (pos 0)) (get_or row.cells 3 (pos 0))).0 (not_false _ is) in
+        ap not (eq-eqb (unsigned_abs (get_or cells 3 (pos 0))) (unsigned_abs (get_or row.cells 3 (pos 0))) (ap unsigned_abs same))
+    by false is rest = rest is
+
+found_is : {X : Type 0} (p : X → Bool) (xs : List X) → is_some (find p xs) ≡ list_any p xs
+found_is p [] = refl
+found_is p (x ∷ xs) = by (p x) (found_is p xs)
+  where
+    by : (b : Bool) → is_some (find p xs) ≡ list_any p xs
+        → is_some (cond b (Some x) (find p xs)) ≡ (b || list_any p xs)
+    by true rest = refl
+    by false rest = rest
+
+none_lacks : (has : ℤ → Bool) (lines : List LineParts) → list_any (λ line. not (has line.id)) lines ≡ false
+    → AllByRecursion (λ id. has id ≡ true) (map (λ line. line.id) lines)
+none_lacks has [] none = tt
+none_lacks has (line ∷ lines) none = by (has line.id) refl none (none_lacks has lines)
+  where
+    by : (b : Bool) → has line.id ≡ b → (not b || list_any (λ line. not (has line.id)) lines) ≡ false
+        → (list_any (λ line. not (has line.id)) lines ≡ false
+        → AllByRecursion (λ id. has id ≡ true) (map (λ line. line.id) lines))
+        → (has line.id ≡ true) × AllByRecursion (λ id. has id ≡ true) (map (λ line. line.id) lines)
+    by true is none rest = (is, rest none)
+    by false is none rest = absurd (cc)
+
+-- ---- the two files
+
+module _ (lines : List LineParts) (costs : List ℕ)
+    (accepted : input_faults (pool_cost_input lines) costs ≡ []) where
+  abbrev table : List TableRow
+  table = table_of pool_cost_columns costs
+
+  costs_keep : (before : List TableRow) (row : TableRow) → Unit {0}
+      → broken_whys (pool_cost_input lines).row_rules (map (λ row. cost_row_of row.cells) before) (cost_row_of row.cells) ≡ []
+      → broken_whys cost_input.row_rules (map (λ row. cost_row row.cells) before) (cost_row row.cells) ≡ []
+  costs_keep before row good none =
+      let more = (rules_sound (of_pool lines) (own_id (λ (row : PoolCost). row.line) ∷ []) (map (λ row. cost_row_of row.cells) before) (cost_row_of row.cells) none).1 in
+      let new = (rules_sound (own_id (λ (row : PoolCost). row.line)) [] (map (λ row. cost_row_of row.cells) before) (cost_row_of row.cells) more).0 in
+      rule_kept (own_id (λ (row : CostRow). row.line)) [] (map (λ row. cost_row row.cells) before) (cost_row row.cells)
+      (any_mapped (λ (other : CostRow). int_eq (line_in row.cells) other.line) (λ (row : TableRow). cost_row row.cells) before
+      ∙ sym (any_mapped (λ (other : PoolCost). int_eq (line_in row.cells) other.line) (λ (row : TableRow). cost_row_of row.cells) before)
+      ∙ new)
+
+  each_unit : (rows : List (List ℤ)) → AllByRecursion (λ cells. Unit {0}) rows
+  each_unit [] = tt
+  each_unit (row ∷ rows) = (tt, each_unit rows)
+
+  pub costs_read : input_faults cost_input costs ≡ []
+  costs_read =
+      let parts = parts_sound (pool_cost_input lines) costs accepted in
+      let rows = (table_sound (pool_cost_input lines) table parts.1).1 in
+      sym (faults_of_table cost_input costs table parts.0 refl)
+      ∙ no_faults cost_input table refl
+      (rows_kept file.PoolCost (pool_cost_input lines).row_rules cost_input.row_rules cost_row_of cost_row (λ cells. Unit {0}) costs_keep [] table (each_unit (cells_of table)) rows)
+      refl
+
+  -- each line has a cost
+  abbrev HasCost : ℤ → Type 0
+  HasCost id = is_some (cost_with (costs_of costs) id) ≡ true
+
+  abbrev has_row : ℤ → Bool
+  has_row id = list_any (λ row. int_eq id row.line) (map (λ row. cost_row_of row.cells) table)
+
+  costs_there : (ids : List ℤ) → AllByRecursion (λ id. has_row id ≡ true) ids → AllByRecursion HasCost ids
+  costs_there [] each = tt
+  costs_there (id ∷ ids) each = (
+    found_is (λ (row : CostRow). int_eq id row.line) (costs_of costs)
+        ∙ any_mapped (λ (row : CostRow). int_eq id row.line) (λ (row : TableRow). cost_row row.cells) table
+        ∙ sym (any_mapped (λ (row : PoolCost). int_eq id row.line) (λ (row : TableRow). cost_row_of row.cells) table)
+        ∙ each.0,
+    costs_there ids each.1,
+  )
+
+  all_cost : AllByRecursion HasCost (map (λ line. line.id) lines)
+  all_cost =
+      let parts = parts_sound (pool_cost_input lines) costs accepted in
+      let whole = (table_sound (pool_cost_input lines) table parts.1).2 in
+      let none = (whole_rule_sound (pool_cost_input lines) table
+      (λ (rows : List PoolCost). list_any (λ line. not (list_any (λ row. int_eq line.id row.line) rows)) lines)
+      why.MissingLine [] whole).0 in
+      costs_there (map (λ line. line.id) lines) (none_lacks has_row lines none)
+
+  module _ (edges : List Edge) (few : length lines ≤ 200) where
+    concept_keep : (before : List TableRow) (row : TableRow) → HasCost (line_in row.cells)
+        → broken_whys (line_rules edges) (map (λ row. pool_row row.cells) before) (pool_row row.cells) ≡ []
+        → broken_whys (concept_input (costs_of costs)).row_rules (map (λ row. line_row row.cells) before) (line_row row.cells) ≡ []
+    concept_keep before row good none =
+        let given : List PoolRow = map (λ row. pool_row row.cells) before in
+        let own : PoolRow = pool_row row.cells in
+        let one = (rules_sound (known_edge (λ (row : PoolRow). row.edge) edges) (next_place ∷ new_edge ∷ joined_edges edges ∷ same_frequency ∷ []) given own none).1 in
+        let two = (rules_sound next_place (new_edge ∷ joined_edges edges ∷ same_frequency ∷ []) given own one).1 in
+        let three = (rules_sound new_edge (joined_edges edges ∷ same_frequency ∷ []) given own two).1 in
+        let four = (rules_sound (joined_edges edges) (same_frequency ∷ []) given own three).1 in
+        let same = (rules_sound same_frequency [] given own four).0 in
+        let read : List LineRow = map (λ row. line_row row.cells) before in
+        rule_kept (known_line (costs_of costs)) (one_frequency ∷ []) read (line_row row.cells) (ap not good)
+        ∙ rule_kept one_frequency [] read (line_row row.cells) (same_first before (line_in row.cells) row.cells same)
+
+    pub concept_read : (problem : ProblemParts) (given : List ℤ) (frequencies text : List ℕ)
+        → problem.lines ≡ map (λ at. costed_by at.0 at.1) (zip lines given)
+        → ReadsBack concept_columns (concept_rows problem frequencies) text
+        → input_faults (concept_lines edges) text ≡ []
+        → input_faults (concept_input (costs_of costs)) text ≡ []
+    concept_read problem given frequencies text is reads fine =
+        let rows = table_of concept_columns text in
+        let parts = parts_sound (concept_lines edges) text fine in
+        let kept = (table_sound (concept_lines edges) rows parts.1).1 in
+        let ids = map (λ (line : LineParts). line.id) lines in
+        let known = read_good (λ id. is_member int_eq ids id ≡ true) problem lines given frequencies text is reads (each_known ids ids (λ p h. h)) in
+        let some = few_firsts (λ (row : LineRow). row.line) ids (map (λ row. line_row row.cells) rows) (each_row (λ id. is_member int_eq ids id ≡ true) rows known) in
+        sym (faults_of_table (concept_input (costs_of costs)) text rows parts.0 refl)
+        ∙ no_faults (concept_input (costs_of costs)) rows
+        (limit_kept line_limit [] (map (λ row. line_row row.cells) rows) (omega (arith, some, few, length-map lines (λ (line : LineParts). line.id))) refl)
+        (rows_kept file.Concept (line_rules edges) (concept_input (costs_of costs)).row_rules pool_row line_row (λ cells. HasCost (line_in cells)) concept_keep [] rows
+        (read_good HasCost problem lines given frequencies text is reads all_cost) kept)
+        refl
