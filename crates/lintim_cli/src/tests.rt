@@ -77,7 +77,8 @@ const NO_LAST: Last = Last {
     reasons: b"# event-id; reason; activity-id\n",
 };
 
-const NO_STATISTIC: &[u8] = b"# key; value\nlc_cost; 0\nlc_lines; 0\nean_events; 0\nean_activities; 0\n\
+const NO_STATISTIC: &[u8] =
+    b"# key; value\nlc_cost; 0\nlc_lines; 0\nean_events; 0\nean_activities; 0\n\
     tim_drive_time; 0\ntim_wait_time; 0\ntim_change_time; 0\nro_trips; 0\nvs_vehicles; 0\n\
     vs_empty_minutes; 0\nvs_cost; 0\ndm_total_delay; 0\ndm_max_delay; 0\ndm_missed_changes; 0\n";
 

@@ -52,7 +52,8 @@ const LAST: Last = Last {
 };
 
 // What the plans cost, how long drives, waits and changes take, and that nothing is late.
-const STATISTIC: &[u8] = b"# key; value\nlc_cost; 27\nlc_lines; 2\nean_events; 12\nean_activities; 14\n\
+const STATISTIC: &[u8] =
+    b"# key; value\nlc_cost; 27\nlc_lines; 2\nean_events; 12\nean_activities; 14\n\
     tim_drive_time; 28\ntim_wait_time; 2\ntim_change_time; 79\nro_trips; 8\nvs_vehicles; 4\n\
     vs_empty_minutes; 0\nvs_cost; 400\ndm_total_delay; 0\ndm_max_delay; 0\ndm_missed_changes; 0\n";
 
