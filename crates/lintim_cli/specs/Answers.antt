@@ -4,6 +4,8 @@ use Rattle.stage_driver.specs.declared.checked.CheckEnd.{CheckEnd}
 use Rattle.stage_driver.specs.declared.checked.CheckEnd.TheVariants as check
 use Rattle.stage_driver.specs.declared.outcome.RunEnd.{RunEnd}
 use Rattle.stage_driver.specs.declared.outcome.RunEnd.TheVariants as end
+use Rattle.stage_driver.specs.declared.state.StatesEnd.{StatesEnd}
+use Rattle.stage_driver.specs.declared.state.StatesEnd.TheVariants as states
 use Rattle.lintim_cli.specs.declared.answers.Status.{Status}
 use Rattle.lintim_cli.specs.declared.command.Command.{Command}
 use Rattle.lintim_cli.specs.declared.command.Command.TheVariants as command
@@ -36,6 +38,11 @@ status_of_check check.Passed = Done
 status_of_check check.BadInput = BadInput
 status_of_check (check.Failed stage rule) = Uncertified
 
+-- the answer where the states of stages are asked for
+abbrev pub status_of_states : StatesEnd → Status
+status_of_states states.Told = Done
+status_of_states states.BadInput = BadInput
+
 -- the answers that a command has, by which one the words ask for, if they ask for one
 abbrev pub AnswersTo : Option Command → Status → Type 0
 AnswersTo (Some (command.Run by)) Done = Unit {0}
@@ -53,6 +60,19 @@ AnswersTo (Some command.Check) FileFault = Unit {0}
 AnswersTo (Some command.Check) SinkFault = Unit {0}
 AnswersTo (Some command.Check) NoMemory = Unit {0}
 AnswersTo (Some command.Check) _ = ⊥
+AnswersTo (Some command.Status) Done = Unit {0}
+AnswersTo (Some command.Status) BadInput = Unit {0}
+AnswersTo (Some command.Status) FileFault = Unit {0}
+AnswersTo (Some command.Status) SinkFault = Unit {0}
+AnswersTo (Some command.Status) NoMemory = Unit {0}
+AnswersTo (Some command.Status) _ = ⊥
+AnswersTo (Some (command.Demo number)) Done = Unit {0}
+AnswersTo (Some (command.Demo number)) BadInput = Unit {0}
+AnswersTo (Some (command.Demo number)) NoSolution = Unit {0}
+AnswersTo (Some (command.Demo number)) Spent = Unit {0}
+AnswersTo (Some (command.Demo number)) SinkFault = Unit {0}
+AnswersTo (Some (command.Demo number)) NoMemory = Unit {0}
+AnswersTo (Some (command.Demo number)) _ = ⊥
 AnswersTo None Usage = Unit {0}
 AnswersTo None SinkFault = Unit {0}
 AnswersTo None NoMemory = Unit {0}

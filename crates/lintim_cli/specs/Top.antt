@@ -1,5 +1,5 @@
 -- What the top call answers and leaves.
-use Rattle.std.specs.Prelude.{ℕ, ◌≡◌, ◌⊎◌, ◌+◌, if◌then◌else◌, List, [], ◌∷◌, ◌++◌, codes, Option}
+use Rattle.std.specs.Prelude.{ℕ, ◌≡◌, ◌≤◌, ◌×◌, ◌⊎◌, ◌+◌, ◌-◌, ◌&&◌, nat_le, if◌then◌else◌, List, [], ◌∷◌, ◌++◌, codes, Option}
 use Rattle.std.specs.Prelude.{Some, None, IfSome, string_bytes, take, ⊤}
 use Rattle.std.specs.Str.{bytes_eq}
 use Rattle.std.specs.Option.{option_map}
@@ -12,18 +12,20 @@ use Rattle.std.specs.FinMap as files
 use Rattle.stage_driver.specs.declared.outcome.ChainFault.TheVariants as faults
 use Rattle.stage_driver.specs.declared.outcome.Mode.{Mode}
 use Rattle.stage_driver.specs.declared.outcome.Mode.TheVariants as mode
-use Rattle.stage_driver.specs.Built.{made}
+use Rattle.demo_dataset.specs.Demo.{demo_folder}
+use Rattle.stage_driver.specs.Built.{RunParts, made}
 use Rattle.stage_driver.specs.Checks.{check_end, check_of, check_report}
 use Rattle.stage_driver.specs.Hand.{hand_of}
 use Rattle.stage_driver.specs.Right.{IsLeftRight}
 use Rattle.stage_driver.specs.Kept.{IsKeptHonest}
 use Rattle.stage_driver.specs.Runs.{IsLeft, IsUnfinished, Trusts, made_part, run_over, started}
 use Rattle.stage_driver.specs.Runs.{with_files, writes_of}
+use Rattle.stage_driver.specs.States.{states_end, states_of}
 use Rattle.lintim_cli.specs.declared.answers.Status.{Status}
 use Rattle.lintim_cli.specs.declared.answers.Status.TheVariants.{FileFault, SinkFault, NoMemory}
 use Rattle.lintim_cli.specs.declared.command.Command.{Command}
 use Rattle.lintim_cli.specs.declared.command.Command.TheVariants as command
-use Rattle.lintim_cli.specs.Answers.{status_of, status_of_check}
+use Rattle.lintim_cli.specs.Answers.{status_of, status_of_check, status_of_states}
 use Rattle.lintim_cli.specs.Reports.{Whole, Broken, fault_report}
 
 -- the command of a word
@@ -31,12 +33,30 @@ abbrev pub command_word : List ℕ → Option Command
 command_word word =
     if bytes_eq word (codes "make") then Some (command.Run mode.Make)
     else (if bytes_eq word (codes "fresh") then Some (command.Run mode.Fresh)
-    else (if bytes_eq word (codes "check") then Some command.Check else None))
+    else (if bytes_eq word (codes "check") then Some command.Check
+    else (if bytes_eq word (codes "status") then Some command.Status else None)))
 
--- the command that words ask for: they are one word, which is a command's
+-- the number of a demo dataset: one digit from 1 to 8
+abbrev pub demo_number : List ℕ → Option ℕ
+demo_number (digit ∷ []) = if nat_le 49 digit && nat_le digit 56 then Some (digit - 48) else None
+demo_number _ = None
+
+-- the command of two words: the first one is that of the demo
+abbrev pub command_words : List ℕ → List ℕ → Option Command
+command_words word number =
+    if bytes_eq word (codes "demo") then option_map command.Demo (demo_number number) else None
+
+-- the command that words ask for: they are one word, which is a command's, or that of the demo with
+-- its number
 abbrev pub command_of : List (String Global) → Option Command
 command_of (word ∷ []) = command_word (string_bytes word)
+command_of (word ∷ number ∷ []) = command_words (string_bytes word) (string_bytes number)
 command_of _ = None
+
+-- a demo has a number from 1 to 8
+abbrev pub HasDemo : Command → Type 0
+HasDemo (command.Demo number) = (1 ≤ number) × (number ≤ 8)
+HasDemo _ = ⊤
 
 abbrev pub Asks : Command → List (String Global) → Type 0
 Asks command words = command_of words ≡ Some command
@@ -123,3 +143,33 @@ pub record ChangesNothing (contents left : Option Folder) (written noted : Optio
   pub files : left ≡ contents
   pub writes : noted ≡ written
   pub steps : now ≡ before
+
+-- the report of the states of stages, or a front part of it, is out
+abbrev pub StatesOut : Folder → Option (List ℕ) → Option (List ℕ) → Type 0
+StatesOut folder old new = new ≡ option_map (λ bytes. bytes ++ states_of folder) old
+
+abbrev pub StatesPartOut : Folder → Option (List ℕ) → Option (List ℕ) → Type 0
+StatesPartOut folder old new =
+    (kept : ℕ) × (new ≡ option_map (λ bytes. bytes ++ take kept (states_of folder)) old)
+
+-- What is told of the states of a folder's stages, by the answer. Without a fault answer and report are
+-- those of what is kept there; after a fault of the sink only a front part of the report is out.
+abbrev pub StatusTells : Folder → Option (List ℕ) → Option (List ℕ) → Status → Type 0
+StatusTells folder old new SinkFault = StatesPartOut folder old new
+StatusTells folder old new FileFault = ⊤
+StatusTells folder old new NoMemory = ⊤
+StatusTells folder old new result =
+    (result ≡ status_of_states (states_end folder)) × StatesOut folder old new
+
+-- what the stages make of the demo dataset of a number
+abbrev pub demo_run : ℕ → RunParts
+demo_run number = made (hand_of (demo_folder number))
+
+-- What a demo tells, by its answer: report, answer and steps are those of the stages from scratch over
+-- the demo dataset. After a fault of the sink only a front part of the report is out. Where memory was
+-- refused, the count of steps rose by at most the work.
+abbrev pub DemoTells : ℕ → Option (List ℕ) → Option (List ℕ) → ℕ → ℕ → Status → Type 0
+DemoTells number old new before now SinkFault = ((kept : ℕ) × (new ≡ option_map (λ bytes. bytes ++ take kept (demo_run number).report) old)) × (now ≡ before + (demo_run number).work)
+DemoTells number old new before now FileFault = ⊥
+DemoTells number old new before now NoMemory = now ≤ before + (demo_run number).work
+DemoTells number old new before now result = (result ≡ status_of (demo_run number).end) × (new ≡ option_map (λ bytes. bytes ++ (demo_run number).report) old) × (now ≡ before + (demo_run number).work)

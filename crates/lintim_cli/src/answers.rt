@@ -1,8 +1,8 @@
 // What a run ends with.
 ghost use Rattle.std.specs.Prelude.{◌≡◌};
-ghost use Rattle.lintim_cli.specs.Answers.{number_of, status_of, status_of_check};
+ghost use Rattle.lintim_cli.specs.Answers.{number_of, status_of, status_of_check, status_of_states};
 
-use stage_driver::{CheckEnd, RunEnd};
+use stage_driver::{CheckEnd, RunEnd, StatesEnd};
 
 /// How a run of the program ended.
 #[derive(Clone, Copy, Debug, PartialEq, Eq)]
@@ -67,6 +67,17 @@ impl From<CheckEnd> for Status {
             CheckEnd::Passed => Status::Done,
             CheckEnd::BadInput => Status::BadInput,
             CheckEnd::Failed { .. } => Status::Uncertified,
+        }
+    }
+}
+
+impl From<StatesEnd> for Status {
+    ghost from_gives = { λ end status. status ≡ status_of_states end };
+
+    fn from(end: StatesEnd) -> Status {
+        match end {
+            StatesEnd::Told => Status::Done,
+            StatesEnd::BadInput => Status::BadInput,
         }
     }
 }

@@ -1,6 +1,8 @@
 // The commands of the program.
-ghost use Rattle.std.specs.Prelude.{◌≡◌};
-ghost use Rattle.lintim_cli.specs.Top.{command_of};
+ghost use Rattle.std.specs.Prelude.{◌≡◌, IfSome};
+ghost use Rattle.std.specs.Option.{option_map};
+ghost use Rattle.lintim_cli.specs.declared.command.Command.TheVariants as commands;
+ghost use Rattle.lintim_cli.specs.Top.{HasDemo, command_of, demo_number};
 
 use stage_driver::Mode;
 
@@ -11,16 +13,34 @@ pub(crate) enum Command {
     Run(Mode),
     /// To judge the files that stand there.
     Check,
+    /// To tell what is kept of the stages.
+    Status,
+    /// To run the planning stages over a dataset that is made from a number.
+    Demo(u8),
 }
 
 /// The command that words ask for.
 pub(crate) fn command_of(words: &[String]) -> Option<Command>
-    ensures { result ≡ command_of words.now }
+    ensures command { result ≡ command_of words.now }
+    ensures demo { IfSome result HasDemo }
 {
     match words {
         [word] if word.as_str() == "make" => Some(Command::Run(Mode::Make)),
         [word] if word.as_str() == "fresh" => Some(Command::Run(Mode::Fresh)),
         [word] if word.as_str() == "check" => Some(Command::Check),
+        [word] if word.as_str() == "status" => Some(Command::Status),
+        [word, number] if word.as_str() == "demo" => demo_of(number.as_str()),
+        _ => None,
+    }
+}
+
+// The demo of a number that is spelled by one digit from 1 to 8.
+fn demo_of(number: &str) -> Option<Command>
+    ensures command { result ≡ option_map commands.Demo (demo_number number.now) }
+    ensures demo { IfSome result HasDemo }
+{
+    match number.as_bytes() {
+        [digit @ b'1'..=b'8'] => Some(Command::Demo(*digit - b'0')),
         _ => None,
     }
 }

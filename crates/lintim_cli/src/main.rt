@@ -4,11 +4,14 @@
 mod answers;
 mod check;
 mod command;
+mod demo;
 mod report;
 mod run;
+mod status;
 mod top;
 
 pub use answers::Status;
+pub use demo_dataset::demo_files;
 use plan_files::{FolderFiles, StdSink};
 use plan_num::{NoMemory, Silent, Steps};
 use std::env;

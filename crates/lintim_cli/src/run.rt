@@ -4,9 +4,11 @@ ghost use Rattle.plan_files.specs.Counts.{Rose};
 ghost use Rattle.plan_files.specs.Folder.{Folder};
 ghost use Rattle.plan_files.specs.Others.{AreOutside};
 ghost use Rattle.stage_driver.specs.Hand.{hand_of, is_hand};
+ghost use Rattle.stage_driver.specs.Kept.{IsKeptHonest};
 ghost use Rattle.stage_driver.specs.Right.{MadeFilesAreRight, RefusesHand};
 ghost use Rattle.stage_driver.specs.Runs.{AddsNoHandFile, IsOnce, SameHand, Trusts, run_over};
 ghost use Rattle.stage_driver.specs.Runs.{started, writes_of};
+ghost use Rattle.stage_driver.specs.Stopped.{StopsSafely};
 ghost use Rattle.lintim_cli.specs.declared.command.Command.TheVariants as commands;
 ghost use Rattle.lintim_cli.specs.Answers.{AnswersTo};
 ghost use Rattle.lintim_cli.specs.Top.{FileBroke, Headline, Leaves};
@@ -33,6 +35,10 @@ pub(crate) fn run<F: Files, K: Sink, L: Ledger>(
         (K.written out.old) (K.written out.new) steps.old steps.new result) }
     ensures headline { IfSome (F.contents files.old) (λ folder. Trusts mode folder →
         Headline folder (F.contents files.new) (K.written out.old) (K.written out.new) result) }
+    ensures keeps_honest { IfSome (F.contents files.old) (λ folder.
+        IsKeptHonest folder → IfSome (F.contents files.new) IsKeptHonest) }
+    ensures stops { IfSome (F.contents files.old) (λ folder.
+        StopsSafely mode folder (F.writes files.old) (F.writes files.new)) }
     ensures made_files_are_right { (folder : Folder) → MadeFilesAreRight folder }
     ensures refusal { (folder : Folder) → RefusesHand (hand_of folder) }
     ensures once { (folder : Folder) → IsOnce (writes_of folder) }

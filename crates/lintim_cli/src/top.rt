@@ -1,25 +1,29 @@
 // The top call.
-ghost use Rattle.std.specs.Prelude.{◌≡◌, ◌≤◌, ◌<◌, ◌+◌, ◌⊎◌, IfSome, None};
+ghost use Rattle.std.specs.Prelude.{ℕ, ◌≡◌, ◌≤◌, ◌<◌, ◌+◌, ◌⊎◌, IfSome, None};
 ghost use Rattle.plan_files.specs.Counts.{Rose};
 ghost use Rattle.plan_files.specs.Folder.{Folder};
 ghost use Rattle.plan_files.specs.Others.{AreOutside};
 ghost use Rattle.stage_driver.specs.declared.outcome.Mode.{Mode};
 ghost use Rattle.stage_driver.specs.Hand.{hand_of, is_hand};
+ghost use Rattle.stage_driver.specs.Kept.{IsKeptHonest};
 ghost use Rattle.stage_driver.specs.Passing.{PassesIn, RunsPass};
 ghost use Rattle.stage_driver.specs.Right.{MadeFilesAreRight, RefusesHand};
 ghost use Rattle.stage_driver.specs.Runs.{AddsNoHandFile, IsOnce, SameHand, Trusts, run_over};
 ghost use Rattle.stage_driver.specs.Runs.{started, writes_of};
+ghost use Rattle.stage_driver.specs.Stopped.{StopsSafely};
 ghost use Rattle.lintim_cli.specs.declared.command.Command.TheVariants as commands;
 ghost use Rattle.lintim_cli.specs.Answers.{AnswersTo};
 ghost use Rattle.lintim_cli.specs.Reports.{Reported, usage_report};
-ghost use Rattle.lintim_cli.specs.Top.{Asks, ChangesNothing, CheckTells, FileBroke, Headline};
-ghost use Rattle.lintim_cli.specs.Top.{Leaves, command_of};
+ghost use Rattle.lintim_cli.specs.Top.{Asks, ChangesNothing, CheckTells, DemoTells, FileBroke};
+ghost use Rattle.lintim_cli.specs.Top.{Headline, Leaves, StatusTells, command_of};
 
 use crate::answers::Status;
 use crate::check::check;
 use crate::command::{Command, command_of};
+use crate::demo::demo;
 use crate::report;
 use crate::run::run;
+use crate::status::status;
 use plan_files::{Files, Sink};
 use plan_num::{Ledger, Steps};
 use std::alloc::Global;
@@ -29,7 +33,9 @@ use std::alloc::Global;
 /// `make` runs the planning stages over the files that people write, puts the files that the stages
 /// make and removes others of theirs. A stage that was given the same before is taken from the
 /// folder `keep`. `fresh` first removes what is kept there, and then does the same. `check` judges
-/// the files that stand there, whoever made them, and changes none. Each writes its report by one
+/// the files that stand there, whoever made them, and changes none. `status` tells of each stage
+/// whether its files are those that are kept, and changes none. `demo` with a number from 1 to 8 runs
+/// the stages over a dataset in memory that is made from the number. Each writes its report by one
 /// call.
 #[tactic(auto, using(stage_driver::proofs::CheckedRuns::runs_pass, stage_driver::proofs::LeftRight::left_right, stage_driver::proofs::Refusing::refuses_hand, stage_driver::proofs::HandKept::writes_outside, stage_driver::proofs::HandKept::writes_once))]
 pub fn lintim<F: Files, K: Sink, L: Ledger>(
@@ -58,7 +64,8 @@ pub fn lintim<F: Files, K: Sink, L: Ledger>(
     // Whatever edits and runs went before: a run that meets no fault, over an honest keep or a fresh
     // one over any, leaves the made files, the report and the answer which the hand files alone
     // determine. Each made file, read again, satisfies its model over the files from which it was
-    // made, and a concept with a tree beside it costs no more than any feasible one.
+    // made; a concept with a tree beside it and each vehicle schedule cost no more than any feasible
+    // one, and no event of a disposition can be earlier.
     ensures headline { (mode : Mode) → Asks (commands.Run mode) words.now →
         IfSome (F.contents files.old) (λ folder. Trusts mode folder →
         Headline folder (F.contents files.new) (K.written out.old) (K.written out.new) result) }
@@ -79,6 +86,31 @@ pub fn lintim<F: Files, K: Sink, L: Ledger>(
         ChangesNothing (F.contents files.old) (F.contents files.new)
         (F.writes files.old) (F.writes files.new) steps.old steps.new }
     ensures runs_pass { (folder : Folder) → RunsPass folder }
+
+    // What is told of the states of a told folder's stages. Nothing is changed.
+    ensures status_tells { Asks commands.Status words.now →
+        IfSome (F.contents files.old) (λ folder.
+        StatusTells folder (K.written out.old) (K.written out.new) result) }
+    ensures status_changes_nothing { Asks commands.Status words.now →
+        ChangesNothing (F.contents files.old) (F.contents files.new)
+        (F.writes files.old) (F.writes files.new) steps.old steps.new }
+
+    // A demo tells what the stages make of its own dataset from scratch, and does not touch the files.
+    ensures demo_tells { (number : ℕ) → Asks (commands.Demo number) words.now →
+        DemoTells number (K.written out.old) (K.written out.new) steps.old steps.new result }
+    ensures demo_calls_nothing { (number : ℕ) → Asks (commands.Demo number) words.now →
+        files.new ≡ files.old }
+
+    // Whatever a run answers, what is kept stays honest. Wherever the writes are stopped that it
+    // added, the last of them perhaps made in part, the files that people write are as before, and
+    // what is kept is honest: from an honest keep, and for a fresh run from any keep once all of it is
+    // removed. So the next run that meets no fault leaves what the hand files alone determine.
+    ensures keeps_honest { (mode : Mode) → Asks (commands.Run mode) words.now →
+        IfSome (F.contents files.old) (λ folder.
+        IsKeptHonest folder → IfSome (F.contents files.new) IsKeptHonest) }
+    ensures stops { (mode : Mode) → Asks (commands.Run mode) words.now →
+        IfSome (F.contents files.old) (λ folder.
+        StopsSafely mode folder (F.writes files.old) (F.writes files.new)) }
 
     // The files that people write, and all others that no stage makes or keeps, are as before,
     // whatever the answer. No write names one, also where the contents are not told.
@@ -107,12 +139,18 @@ pub fn lintim<F: Files, K: Sink, L: Ledger>(
     ensures no_more_steps { (mode : Mode) → Asks (commands.Run mode) words.now →
         IfSome (F.contents files.old) (λ folder.
         steps.new ≤ steps.old + (run_over (started mode folder)).work) }
-    ensures no_steps { (command_of words.now ≡ None) ⊎ Asks commands.Check words.now →
-        steps.new ≡ steps.old }
+    ensures no_steps { (command_of words.now ≡ None) ⊎ Asks commands.Check words.now
+        ⊎ Asks commands.Status words.now → steps.new ≡ steps.old }
 {
     match command_of(words) {
         Some(Command::Run(mode)) => run(alloc, mode, files, out, steps),
         Some(Command::Check) => check(alloc, files, out),
-        None => report::tell(out, b"usage: lintim make | fresh | check\n", Status::Usage),
+        Some(Command::Status) => status(alloc, files, out),
+        Some(Command::Demo(number)) => demo(alloc, number, out, steps),
+        None => report::tell(
+            out,
+            b"usage: lintim make | fresh | check | status | demo N\n",
+            Status::Usage,
+        ),
     }
 }

@@ -14,7 +14,7 @@ use Rattle.stage_driver.specs.declared.outcome.Mode.{Mode}
 use Rattle.stage_driver.specs.declared.outcome.Mode.TheVariants as mode
 use Rattle.stage_driver.specs.declared.outcome.Outcome.{Outcome}
 use Rattle.stage_driver.specs.Hand.{hand_of, is_among, is_hand, keep_names}
-use Rattle.stage_driver.specs.Kept.{AreReadBack, IsKeptHonest, trace_over}
+use Rattle.stage_driver.specs.Kept.{HaveEntries, IsKeptHonest, trace_over}
 use Rattle.stage_driver.specs.Built.{trace_of}
 use Rattle.stage_driver.specs.Right.{IsLeftRight, StandRightIn}
 use Rattle.stage_driver.specs.Runs.{AreNotAll, IsFromScratch, IsLeft, IsOutcome, IsUnfinished, Trusts}
@@ -116,12 +116,12 @@ pub most_both : (by : Mode) (contents mid : Option Folder) (before noted : Optio
 most_both by contents mid before noted first last cleared h =
     joined by contents mid before noted (λ folder. last ≤ first + (run_over folder).work) cleared h
 
-pub back_both : (by : Mode) (contents mid : Option Folder) (before noted : Option (List Write))
+pub entries_both : (by : Mode) (contents mid : Option Folder) (before noted : Option (List Write))
     (result : Result Outcome ChainFault) → IsCleared by contents mid before noted
-    → IfSome mid (λ folder. OnOk result (AreReadBack folder (trace_over folder folder).visits))
-    → IfSome contents (λ folder. OnOk result (AreReadBack (started by folder) (trace_over (started by folder) (started by folder)).visits))
-back_both by contents mid before noted result cleared h =
-    joined by contents mid before noted (λ folder. OnOk result (AreReadBack folder (trace_over folder folder).visits)) cleared h
+    → IfSome mid (λ folder. OnOk result (HaveEntries folder (trace_over folder folder).visits))
+    → IfSome contents (λ folder. OnOk result (HaveEntries (started by folder) (trace_over (started by folder) (started by folder)).visits))
+entries_both by contents mid before noted result cleared h =
+    joined by contents mid before noted (λ folder. OnOk result (HaveEntries folder (trace_over folder folder).visits)) cleared h
 
 pub left_both : (by : Mode) (contents mid new : Option Folder) (before noted now : Option (List Write))
     (result : Result Outcome ChainFault) → IsCleared by contents mid before noted
@@ -188,27 +188,27 @@ module _ (by : Mode) (contents new : Option Folder) (before now : Option (List W
       each (Some folder) (Ok outcome) left = λ trusts.
           subst (λ hand. IfSome new (λ after. StandRightIn after (trace_of hand).visits)) (started_hand by folder) (left_in (started by folder) new (honest_start by folder trusts) left.folder)
 
-  module _ (back : IfSome contents (λ folder. OnOk result (AreReadBack (started by folder) (trace_over (started by folder) (started by folder)).visits))) where
+  module _ (back : IfSome contents (λ folder. OnOk result (HaveEntries (started by folder) (trace_over (started by folder) (started by folder)).visits))) where
     pub keep_left : IfSome contents (λ folder. OnOk result (Trusts by folder → IfSome new IsKeptHonest))
     keep_left = each contents result left back
       where
         each : (contents : Option Folder) (result : Result Outcome ChainFault)
             → IfSome contents (λ folder. OnOk result (IsLeft by folder new before now))
-            → IfSome contents (λ folder. OnOk result (AreReadBack (started by folder) (trace_over (started by folder) (started by folder)).visits))
+            → IfSome contents (λ folder. OnOk result (HaveEntries (started by folder) (trace_over (started by folder) (started by folder)).visits))
             → IfSome contents (λ folder. OnOk result (Trusts by folder → IfSome new IsKeptHonest))
         each None result left back = tt
         each (Some folder) (Err fault) left back = tt
         each (Some folder) (Ok outcome) left back = λ trusts. subst (λ new. IfSome new IsKeptHonest) (sym left.folder)
-            (honest_after (started by folder) (subst (λ trace. AreReadBack (started by folder) trace.visits) (sym (over_alone (started by folder) (started by folder))) back) (honest_start by folder trusts))
+            (honest_after (started by folder) (subst (λ trace. HaveEntries (started by folder) trace.visits) (sym (over_alone (started by folder) (started by folder))) back) (honest_start by folder trusts))
 
     pub again_left : IfSome contents (λ folder. OnOk result (IfSome new (λ left. writes_of left ≡ [])))
     again_left = each contents result left back
       where
         each : (contents : Option Folder) (result : Result Outcome ChainFault)
             → IfSome contents (λ folder. OnOk result (IsLeft by folder new before now))
-            → IfSome contents (λ folder. OnOk result (AreReadBack (started by folder) (trace_over (started by folder) (started by folder)).visits))
+            → IfSome contents (λ folder. OnOk result (HaveEntries (started by folder) (trace_over (started by folder) (started by folder)).visits))
             → IfSome contents (λ folder. OnOk result (IfSome new (λ left. writes_of left ≡ [])))
         each None result left back = tt
         each (Some folder) (Err fault) left back = tt
         each (Some folder) (Ok outcome) left back = subst (λ new. IfSome new (λ left. writes_of left ≡ [])) (sym left.folder)
-            (none_again (started by folder) (subst (λ trace. AreReadBack (started by folder) trace.visits) (sym (over_alone (started by folder) (started by folder))) back))
+            (none_again (started by folder) (subst (λ trace. HaveEntries (started by folder) trace.visits) (sym (over_alone (started by folder) (started by folder))) back))

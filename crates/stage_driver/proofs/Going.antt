@@ -18,7 +18,7 @@ use Rattle.stage_driver.specs.Chain.{Visit, Halt, Trace, go_on, handed, handed_o
 use Rattle.stage_driver.specs.Chain.{chain_from, to_run, stage_place}
 use Rattle.stage_driver.specs.Built.{files_of, cause_of}
 use Rattle.stage_driver.specs.Reports.{stage_lines, line_of}
-use Rattle.stage_driver.specs.Kept.{IsReadBack, kept_in, new_entries, new_entry, work_over}
+use Rattle.stage_driver.specs.Kept.{HasEntry, kept_in, new_entries, new_entry, work_over}
 use Rattle.stage_driver.specs.Progress.{SoFar, nothing, with_visit, IsRest, VisitGives, visit_work}
 use Rattle.stage_driver.specs.Progress.{IsAll, ChainGives, trace_work}
 
@@ -37,12 +37,12 @@ module _ (keep : Folder) where
 
   -- before the first stage
   pub rest_first : (whole : Trace) (before : ℕ) → IsRest keep whole whole nothing before before
-  rest_first whole before = record { files = refl; report = refl; entries = refl; back = λ h. h; steps = refl; halt = refl }
+  rest_first whole before = record { files = refl; report = refl; entries = refl; have = λ h. h; steps = refl; halt = refl }
 
   -- behind a stage that was made
   pub rest_more : (whole rest : Trace) (visit : Visit) (so_far : SoFar) (before mid now : ℕ)
       → now ≡ mid + visit_work keep (Ok visit)
-      → (kept_in keep visit.bundle ≡ None → IsReadBack visit)
+      → (kept_in keep visit.bundle ≡ None → HasEntry visit)
       → IsRest keep whole (go_on (Ok visit) (λ _. rest)) so_far before mid
       → IsRest keep whole rest (with_visit keep so_far visit) before now
   rest_more whole rest visit so_far before mid now e own h =
@@ -52,7 +52,7 @@ module _ (keep : Folder) where
         files = h.files ∙ sym (append_assoc so_far.files visit.made.files (files_of rest.visits));
         report = h.report ∙ sym (append_assoc so_far.report (line_of visit.made.report) (stage_lines rest.visits));
         entries = h.entries ∙ sym (append_assoc so_far.entries (new_entry keep visit) (new_entries keep rest.visits));
-        back = λ more. h.back (own, more);
+        have = λ more. h.have (own, more);
         steps = omega (arith, h.steps, more, here, e);
         halt = h.halt;
       }
@@ -61,7 +61,7 @@ module _ (keep : Folder) where
   pub rest_none : (whole : Trace) (so_far : SoFar) (before now : ℕ) → IsRest keep whole (record { visits = []; halt = None }) so_far before now → (cause_of whole.halt ≡ None) × IsAll keep whole so_far × (now ≡ before + trace_work keep whole)
   rest_none whole so_far before now h =
       let none : sum_by work (handed (record { visits = []; halt = None })) ≡ 0 = refl in
-      (ap cause_of h.halt, record { files = h.files ∙ append-nil so_far.files; report = h.report ∙ append-nil so_far.report; entries = h.entries ∙ append-nil so_far.entries; back = h.back tt }, omega (arith, h.steps, none))
+      (ap cause_of h.halt, record { files = h.files ∙ append-nil so_far.files; report = h.report ∙ append-nil so_far.report; entries = h.entries ∙ append-nil so_far.entries; have = h.have tt }, omega (arith, h.steps, none))
 
   -- where a stage ends the chain
   pub rest_stops : (whole : Trace) (halt : Halt) (so_far : SoFar) (before mid now : ℕ)
@@ -69,7 +69,7 @@ module _ (keep : Folder) where
       → now ≡ mid + visit_work keep (Err halt)
       → (cause_of whole.halt ≡ Some halt.cause) × IsAll keep whole so_far × (now ≡ before + trace_work keep whole)
   rest_stops whole halt so_far before mid now h e =
-      (ap cause_of h.halt, record { files = h.files ∙ append-nil so_far.files; report = h.report ∙ append-nil so_far.report; entries = h.entries ∙ append-nil so_far.entries; back = h.back tt }, omega (arith, h.steps, e))
+      (ap cause_of h.halt, record { files = h.files ∙ append-nil so_far.files; report = h.report ∙ append-nil so_far.report; entries = h.entries ∙ append-nil so_far.entries; have = h.have tt }, omega (arith, h.steps, e))
 
   -- a stage that is not finished takes at most its work
   pub rest_bounds : (whole : Trace) (told : Result Visit Halt) (rest : Visit → Trace)

@@ -1,5 +1,5 @@
 -- What a chain over a keep makes: files of its stages, and over an honest keep what is made from scratch.
-use Rattle.std.proofs.Common.{◌≡◌, ℤ, List, [], ◌∷◌, ◌++◌, Option, Some, None, Result, Ok, Err}
+use Rattle.std.proofs.Common.{◌≡◌, ℕ, ℤ, cond, is_some, List, [], ◌∷◌, ◌++◌, Option, Some, None, Result, Ok, Err}
 use Rattle.std.proofs.Common.{refl, ap, sym, ◌∙◌}
 use Rattle.std.specs.FinMap as files
 use Rattle.plan_files.specs.Folder.{Folder}
@@ -15,13 +15,15 @@ use Rattle.config_keys.specs.Items.{look_in}
 use Rattle.config_keys.specs.Values.{effective}
 use Rattle.config_keys.proofs.Settling.{effective_settings}
 use Rattle.stage_keep.specs.Entries.{keep_name}
+use Rattle.stage_keep.specs.Honest.{kept_for}
 use Rattle.stage_keep.proofs.Honesty.{honest_is_made, kept_makes}
 use Rattle.stage_driver.specs.declared.cause.Cause.{Cause}
-use Rattle.stage_driver.specs.Built.{built, chain_under, files_of, cause_of, made, run_stage, trace_of}
+use Rattle.stage_driver.specs.Built.{built, chain_under, files_of, cause_of, made, run_stage, stage_work}
+use Rattle.stage_driver.specs.Built.{told_by, trace_of}
 use Rattle.stage_driver.specs.Chain.{Trace, bundle_told, chain_from, go_on, input_text, texts_of, to_run}
 use Rattle.stage_driver.specs.Chain.{tried, visit_of}
 use Rattle.stage_driver.specs.Hand.{hand_of}
-use Rattle.stage_driver.specs.Kept.{IsKeptHonest, kept_in, kept_or, made_over, solve_over, trace_over}
+use Rattle.stage_driver.specs.Kept.{IsKeptHonest, kept_in, kept_or, made_over, solve_over, trace_over, work_over}
 use Rattle.stage_driver.specs.Reports.{end_of, last_line, stage_lines}
 use Rattle.stage_driver.specs.Runs.{IsFromScratch, run_over}
 use Rattle.stage_driver.proofs.Laws.{run_makes}
@@ -94,3 +96,23 @@ from_scratch folder honest =
       report = ap (λ (trace : Trace). stage_lines trace.visits ++ last_line (cause_of trace.halt)) same;
       end = ap (λ (trace : Trace). end_of (cause_of trace.halt)) same;
     }
+
+-- ---- where nothing is kept
+
+module _ (folder : Folder) (none : (stage : Stage) → files.get folder (keep_name stage) ≡ None) where
+  none_kept : (bundle : BundleParts) → kept_in folder bundle ≡ None
+  none_kept bundle = ap (kept_for bundle) (none bundle.stage)
+
+  all_work : (bundle : BundleParts) → work_over folder bundle ≡ stage_work bundle
+  unfolding work_over
+  all_work bundle = ap (λ kept. cond (is_some kept) 0 (stage_work bundle)) (none_kept bundle)
+
+  -- a run makes what is made from scratch, by the same work
+  pub nothing_kept : run_over folder ≡ made (hand_of folder)
+  unfolding made made_over
+  nothing_kept =
+      ap (told_by (work_over folder)) (honest_trace folder (λ stage bytes there. absurd (never bytes (sym (none stage) ∙ there))) (hand_of folder))
+      ∙ ap (λ work. told_by work (trace_of (hand_of folder))) (λ i bundle. all_work bundle i)
+    where
+      never : (bytes : List ℕ) → None ≡ Some bytes → ⊥
+      never bytes is = cc

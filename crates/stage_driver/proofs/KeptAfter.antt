@@ -22,14 +22,16 @@ use Rattle.config_keys.specs.Config.{AreSettings}
 use Rattle.config_keys.specs.Items.{look_in}
 use Rattle.config_keys.specs.Values.{effective}
 use Rattle.config_keys.proofs.Settling.{effective_settings}
-use Rattle.stage_keep.specs.Entries.{keep_name}
+use Rattle.stage_keep.specs.Entries.{entry_for, keep_name}
+use Rattle.stage_keep.specs.EntryReading.{read_entry}
 use Rattle.stage_keep.specs.Honest.{IsHonest, kept_for}
+use Rattle.stage_keep.proofs.EntriesRead.{entries_are_read_back}
 use Rattle.stage_keep.proofs.Honesty.{own_kept, read_is_honest}
 use Rattle.stage_driver.specs.Built.{built, chain_under, files_of, run_stage}
 use Rattle.stage_driver.specs.Chain.{Halt, Visit, chain_from, go_on, input_text, solved}
 use Rattle.stage_driver.specs.Chain.{tried, visit_of}
 use Rattle.stage_driver.specs.Hand.{hand_of, is_among, names_made_by}
-use Rattle.stage_driver.specs.Kept.{AreReadBack, IsKeptHonest, IsReadBack, bytes_for, entry_put, kept_in}
+use Rattle.stage_driver.specs.Kept.{HaveEntries, IsKeptHonest, HasEntry, bytes_for, entry_put, kept_in}
 use Rattle.stage_driver.specs.Kept.{kept_or, made_over, new_entries, new_entry, solve_over, trace_over}
 use Rattle.stage_driver.specs.Runs.{after, entries_over, name_of, unmet, with_files}
 use Rattle.stage_driver.specs.Runs.{without_made, writes_for, writes_of}
@@ -63,14 +65,14 @@ stage_named stage.Vehicles = refl
 stage_named stage.Disposition = refl
 stage_named stage.Statistic = refl
 
-same_stage : (at other : Stage) → keep_name at ≡ keep_name other → at ≡ other
+pub same_stage : (at other : Stage) → keep_name at ≡ keep_name other → at ≡ other
 same_stage at other same =
     sym (stage_named at) ∙ ap (λ name. named_stage name all_stages) same ∙ stage_named other
 
 -- ---- what is kept is where it was, apart from new entries
 
 -- no stage keeps under the name of a made file
-built_apart_of : (at : Stage) → differs_from (names_made_by built) (keep_name at) ≡ true
+pub built_apart_of : (at : Stage) → differs_from (names_made_by built) (keep_name at) ≡ true
 built_apart_of stage.Load = refl
 built_apart_of stage.Cost = refl
 built_apart_of stage.Concept = refl
@@ -103,16 +105,22 @@ module _ (folder : Folder) where
 -- ---- what is kept stays honest
 
 -- a stage that was made and not kept makes what its entry says
-not_kept : (keep : Folder) (visit : Visit) → kept_in keep visit.bundle ≡ None
+pub not_kept : (keep : Folder) (visit : Visit) → kept_in keep visit.bundle ≡ None
     → solve_over keep visit.bundle ≡ Ok visit.made → run_stage visit.bundle ≡ Ok visit.made
 unfolding solve_over
 not_kept keep visit none is =
     ap (λ kept. kept_or kept (run_stage visit.bundle)) (sym none) ∙ is
 
-put_honest : (base : Folder) (visit : Visit) → Fits visit.bundle → IsReadBack visit
+-- an entry is read back
+read_back : (visit : Visit) → HasEntry visit
+    → read_entry visit.bundle.stage (bytes_for visit) ≡ Some (entry_for visit.bundle visit.made)
+read_back visit entry =
+    entries_are_read_back visit.bundle.stage (entry_for visit.bundle visit.made) entry
+
+put_honest : (base : Folder) (visit : Visit) → Fits visit.bundle → HasEntry visit
     → run_stage visit.bundle ≡ Ok visit.made → IsKeptHonest base
     → IsKeptHonest (after_write (entry_put visit.bundle visit.made) base)
-put_honest base visit fits back is honest = λ at bytes there. by at bytes (bytes_eq (keep_name at) (keep_name visit.bundle.stage)) refl
+put_honest base visit fits entry is honest = λ at bytes there. by at bytes (bytes_eq (keep_name at) (keep_name visit.bundle.stage)) refl
     (sym (get_written (entry_put visit.bundle visit.made) base (keep_name at)) ∙ there)
   where
     by : (at : Stage) (bytes : List ℕ) (here : Bool)
@@ -123,13 +131,13 @@ put_honest base visit fits back is honest = λ at bytes there. by at bytes (byte
         let own : visit.bundle.stage ≡ at = sym (same_stage at visit.bundle.stage ((bytes_eq-Decides (keep_name at) (keep_name visit.bundle.stage)).0 same)) in
         let text : bytes_for visit ≡ bytes = cc in
         subst (λ at. IsHonest run_stage at bytes) own (subst (λ bytes. IsHonest run_stage visit.bundle.stage bytes) text
-        (read_is_honest run_stage visit.bundle visit.made (bytes_for visit) fits back is))
+        (read_is_honest run_stage visit.bundle visit.made (bytes_for visit) fits (read_back visit entry) is))
     by at bytes false same there = honest at bytes there
 
 module _ (keep : Folder) (values : List ℤ) (are : AreSettings values) (hand : Folder) where
   entries_honest : (before : List MadeFile) (stages : List Stage) (visits : List Visit)
       (halt : Option Halt) (base : Folder)
-      → AreVisits (solve_over keep) values hand before stages visits halt → AreReadBack keep visits
+      → AreVisits (solve_over keep) values hand before stages visits halt → HaveEntries keep visits
       → IsKeptHonest base → IsKeptHonest (folder_after (new_entries keep visits) base)
   entries_honest before stages [] halt base visited back honest = honest
   entries_honest before [] (visit ∷ visits) halt base visited back honest = absurd visited
@@ -143,11 +151,11 @@ module _ (keep : Folder) (values : List ℤ) (are : AreSettings values) (hand : 
       by None is = put_honest base visit (given_fits (input_text hand before) values at visit.bundle are visited.0.given) (back.0 is) (not_kept keep visit is visited.0.solved) honest
 
 -- What a run keeps that started from an honest keep is honest.
-pub honest_after : (folder : Folder) → AreReadBack folder (trace_over folder (hand_of folder)).visits
+pub honest_after : (folder : Folder) → HaveEntries folder (trace_over folder (hand_of folder)).visits
     → IsKeptHonest folder → IsKeptHonest (after folder)
 unfolding after entries_over made_over
 honest_after folder back honest =
-    traced_over folder (hand_of folder) (λ trace. AreReadBack folder trace.visits → IsKeptHonest (folder_after (new_entries folder trace.visits) (made_base folder)))
+    traced_over folder (hand_of folder) (λ trace. HaveEntries folder trace.visits → IsKeptHonest (folder_after (new_entries folder trace.visits) (made_base folder)))
     (λ reason is _. start)
     (λ values is back. entries_honest folder values (effective_settings (look_in (hand_of folder)) values is) (hand_of folder) [] (stages_run values) _ _ (made_base folder) (by_visits (solve_over folder) (solve_makes folder) values (hand_of folder)) back start)
     back
@@ -218,7 +226,7 @@ module _ (keep : Folder) (values : List ℤ) (hand : Folder) where
     -- what is kept of a stage that was made is what was made
     kept_on : (at : Stage) (before : List MadeFile) (visit : Visit)
         → IsVisit (solve_over keep) values hand before at visit
-        → (kept_in keep visit.bundle ≡ None → IsReadBack visit)
+        → (kept_in keep visit.bundle ≡ None → HasEntry visit)
         → files.get left (keep_name at) ≡ cond (is_some (kept_in keep visit.bundle)) (files.get keep (keep_name at)) (Some (bytes_for visit))
         → kept_in left visit.bundle ≡ Some visit.made
     unfolding solve_over
@@ -237,7 +245,7 @@ module _ (keep : Folder) (values : List ℤ) (hand : Folder) where
             ∙ kept ∙ ap Some same
         by None kept gives there =
             ap (kept_for visit.bundle) (there ∙ ap (λ kept. cond (is_some kept) (files.get keep (keep_name visit.bundle.stage)) (Some (bytes_for visit))) kept)
-            ∙ own_kept visit.bundle visit.made (bytes_for visit) (back kept)
+            ∙ own_kept visit.bundle visit.made (bytes_for visit) (read_back visit (back kept))
 
     kept_gives : (visit : Visit) → kept_in left visit.bundle ≡ Some visit.made
         → solve_over left visit.bundle ≡ Ok visit.made
@@ -267,7 +275,7 @@ module _ (keep : Folder) (values : List ℤ) (hand : Folder) where
     -- so the same stages are made
     still_visits : (before : List MadeFile) (stages : List Stage) (visits : List Visit)
         (halt : Option Halt) → AreVisits (solve_over keep) values hand before stages visits halt
-        → AreReadBack keep visits → KeepsOn left keep stages visits
+        → HaveEntries keep visits → KeepsOn left keep stages visits
         → AreVisits (solve_over left) values hand before stages visits halt × AreKept left visits
     still_visits before [] [] None visited back on = (tt, tt)
     still_visits before [] [] (Some halt) visited back on = absurd visited
@@ -318,14 +326,14 @@ unfolding trace_over
 made_by folder hand values is =
     ap (λ settings. (chain_under (solve_over folder) settings hand).visits) is
 
-still_under : (folder : Folder) → AreReadBack folder (trace_over folder (hand_of folder)).visits
+still_under : (folder : Folder) → HaveEntries folder (trace_over folder (hand_of folder)).visits
     → IsStill (after folder) (trace_over folder (hand_of folder)).visits
 unfolding after entries_over made_over
 still_under folder back =
     let hand = hand_of folder in
     let there = ap (λ hand. (trace_over (after folder) hand).visits) (hand_after folder) in
     traced_over folder hand
-    (λ trace. (trace_over folder hand).visits ≡ trace.visits → AreReadBack folder trace.visits → IsStill (after folder) trace.visits)
+    (λ trace. (trace_over folder hand).visits ≡ trace.visits → HaveEntries folder trace.visits → IsStill (after folder) trace.visits)
     (λ reason is same back. record { same = there ∙ none_made (after folder) hand reason is; kept = tt })
     (λ values is same back.
     let stages = stages_run values in
@@ -350,7 +358,7 @@ met_left folder =
     (subst (λ left. AreMet left (writes_for made)) (writes_leave made folder) (met_after (writes_for made) folder (files_differ made apart.differ)))
 
 -- A further run over what a run left writes nothing.
-pub none_again : (folder : Folder) → AreReadBack folder (trace_over folder (hand_of folder)).visits
+pub none_again : (folder : Folder) → HaveEntries folder (trace_over folder (hand_of folder)).visits
     → writes_of (after folder) ≡ []
 unfolding writes_of made_over entries_over
 none_again folder back =

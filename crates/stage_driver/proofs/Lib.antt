@@ -28,7 +28,10 @@ pub mod Running
 pub mod SameTexts
 pub mod Settling
 pub mod Starting
+pub mod Stating
 pub mod StatisticLines
+pub mod StoppedRuns
+pub mod Stopping
 pub mod StopsThere
 pub mod Traces
 pub mod Visiting

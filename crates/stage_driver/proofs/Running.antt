@@ -13,7 +13,7 @@ use Rattle.stage_driver.specs.declared.cause.Cause.{Cause}
 use Rattle.stage_driver.specs.Built.{RunParts, cause_of, told_by}
 use Rattle.stage_driver.specs.Chain.{Trace}
 use Rattle.stage_driver.specs.Hand.{hand_of, is_hand}
-use Rattle.stage_driver.specs.Kept.{AreReadBack, made_over, new_entries, trace_over, work_over}
+use Rattle.stage_driver.specs.Kept.{HaveEntries, made_over, new_entries, trace_over, work_over}
 use Rattle.stage_driver.specs.Progress.{SoFar, IsAll, EndGives, trace_work}
 use Rattle.stage_driver.specs.Reports.{last_line, end_of, stage_lines}
 use Rattle.stage_driver.specs.Runs.{AddsNoHandFile, AreNotAll, IsOutcome, SameHand, entries_over}
@@ -84,14 +84,14 @@ left_is (Some folder) told new noted_old noted now so_far why before count (Ok o
     let here : AreApplied (writes_told folder so_far) (Some folder) new noted now = subst (λ told. IfSome told (λ folder. AreApplied (writes_told folder so_far) (Some folder) new noted now)) same h in
     subst (λ noted. AreApplied (writes_of folder) (Some folder) new noted now) kept (subst (λ writes. AreApplied writes (Some folder) new noted now) (writes_are folder so_far ends.1) here)
 
--- new entries are read back
-pub back_is : (contents : Option Folder) (so_far : SoFar) (why : Option Cause) (before count : ℕ)
+-- what is written of the stages that were made are entries
+pub have_is : (contents : Option Folder) (so_far : SoFar) (why : Option Cause) (before count : ℕ)
     (result : Result Outcome ChainFault)
     → IfSome contents (λ folder. EndGives folder (trace_over folder folder) so_far before count (Ok why))
-    → IfSome contents (λ folder. OnOk result (AreReadBack folder (trace_over folder folder).visits))
-back_is None so_far why before count result ends = tt
-back_is (Some folder) so_far why before count (Err fault) ends = tt
-back_is (Some folder) so_far why before count (Ok outcome) ends = ends.1.back
+    → IfSome contents (λ folder. OnOk result (HaveEntries folder (trace_over folder folder).visits))
+have_is None so_far why before count result ends = tt
+have_is (Some folder) so_far why before count (Err fault) ends = tt
+have_is (Some folder) so_far why before count (Ok outcome) ends = ends.1.have
 
 -- what is left where the run did not finish
 pub unfinished_is : (contents told new : Option Folder) (noted_old noted now : Option (List Write))

@@ -11,8 +11,7 @@ use Rattle.giv_files.specs.declared.refusal.Refusal.{Refusal}
 use Rattle.giv_files.specs.Settings.{BundleParts}
 use Rattle.config_keys.specs.Items.{look_in}
 use Rattle.config_keys.specs.Values.{effective}
-use Rattle.stage_keep.specs.Entries.{entry_bytes, entry_for, keep_name}
-use Rattle.stage_keep.specs.EntryReading.{read_entry}
+use Rattle.stage_keep.specs.Entries.{IsEntryOf, entry_bytes, entry_for, keep_name}
 use Rattle.stage_keep.specs.Honest.{IsHonestKeep, kept_for}
 use Rattle.stage_driver.specs.Chain.{Visit, Trace}
 use Rattle.stage_driver.specs.Built.{RunParts, chain_under, run_stage, stage_work, told_by}
@@ -62,16 +61,15 @@ new_entry keep visit =
 abbrev pub new_entries : Folder → List Visit → List Write
 new_entries keep visits = flat_map (new_entry keep) visits
 
--- the entry of a stage that was made is read back
-abbrev pub IsReadBack : Visit → Type 0
-IsReadBack visit =
-    read_entry visit.bundle.stage (bytes_for visit) ≡ Some (entry_for visit.bundle visit.made)
+-- what is written of a stage that was made is an entry of that stage, and so it is read back
+abbrev pub HasEntry : Visit → Type 0
+HasEntry visit = IsEntryOf visit.bundle.stage (entry_for visit.bundle visit.made)
 
--- each one that was not kept is
-abbrev pub AreReadBack : Folder → List Visit → Type 0
-AreReadBack keep [] = ⊤
-AreReadBack keep (visit ∷ visits) =
-    (kept_in keep visit.bundle ≡ None → IsReadBack visit) × AreReadBack keep visits
+-- that is so of each one that was not kept
+abbrev pub HaveEntries : Folder → List Visit → Type 0
+HaveEntries keep [] = ⊤
+HaveEntries keep (visit ∷ visits) =
+    (kept_in keep visit.bundle ≡ None → HasEntry visit) × HaveEntries keep visits
 
 -- What a folder keeps is honest: where an entry has the settings and the inputs of what a stage is
 -- given, the stage makes what the entry says.

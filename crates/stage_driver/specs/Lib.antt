@@ -11,3 +11,5 @@ pub mod Progress
 pub mod Reports
 pub mod Right
 pub mod Runs
+pub mod States
+pub mod Stopped

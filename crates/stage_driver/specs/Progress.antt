@@ -18,7 +18,7 @@ use Rattle.stage_driver.specs.Hand.{AreNoHandFiles, is_hand}
 use Rattle.stage_driver.specs.Reports.{stage_lines, line_of}
 use Rattle.stage_driver.specs.declared.cause.Cause.TheVariants as cause
 use Rattle.stage_driver.specs.Built.{files_of, cause_of, run_stage, stage_work}
-use Rattle.stage_driver.specs.Kept.{AreReadBack, IsReadBack, entry_put, kept_in, new_entries, new_entry, work_over}
+use Rattle.stage_driver.specs.Kept.{HaveEntries, HasEntry, entry_put, kept_in, new_entries, new_entry, work_over}
 
 -- the files that were made so far, the report so far, and the writes of new entries
 pub record SoFar : Type 0 where
@@ -50,10 +50,10 @@ HasNoHandFile so_far (Err (end.Stopped why)) = NamesNoHand so_far
 HasNoHandFile so_far (Err end.FileFault) = ⊤
 HasNoHandFile so_far (Err end.NoMemory) = ⊤
 
--- what making a stage gives that is not kept: it is made, and its entry is new and read back, or it
+-- what making a stage gives that is not kept: it is made, and its entry is new, or it
 -- refuses what it is given; after a fault the count rose by at most its work
 abbrev pub MakingGives : BundleParts → SoFar → SoFar → ℕ → ℕ → Result (Unit {0}) ChainEnd → Type 0
-MakingGives bundle old new before now (Ok _) = (made : Made) × (run_stage bundle ≡ Ok made) × (new ≡ with_made old made (entry_put bundle made ∷ [])) × IsReadBack (record { bundle = bundle; made = made }) × (now ≡ before + stage_work bundle)
+MakingGives bundle old new before now (Ok _) = (made : Made) × (run_stage bundle ≡ Ok made) × (new ≡ with_made old made (entry_put bundle made ∷ [])) × HasEntry (record { bundle = bundle; made = made }) × (now ≡ before + stage_work bundle)
 MakingGives bundle old new before now (Err (end.Stopped why)) = (reason : Refusal) × (run_stage bundle ≡ Err reason) × (why ≡ cause.Refused bundle.stage reason) × (new ≡ old) × (now ≡ before + stage_work bundle)
 MakingGives bundle old new before now (Err end.FileFault) =
     (before ≤ now) × (now ≤ before + stage_work bundle)
@@ -65,12 +65,12 @@ module _ (keep : Folder) where
   abbrev pub with_visit : SoFar → Visit → SoFar
   with_visit so_far visit = with_made so_far visit.made (new_entry keep visit)
 
-  -- all that a chain made, and new entries are read back
+  -- all that a chain made, and what is written of it are entries
   pub record IsAll (trace : Trace) (so_far : SoFar) : Type 0 where
     pub files : files_of trace.visits ≡ so_far.files
     pub report : stage_lines trace.visits ≡ so_far.report
     pub entries : new_entries keep trace.visits ≡ so_far.entries
-    pub back : AreReadBack keep trace.visits
+    pub have : HaveEntries keep trace.visits
 
   -- A chain is what was made so far, and then the rest of it. The count of steps rose from one
   -- value to another by the work so far.
@@ -78,7 +78,7 @@ module _ (keep : Folder) where
     pub files : files_of whole.visits ≡ so_far.files ++ files_of rest.visits
     pub report : stage_lines whole.visits ≡ so_far.report ++ stage_lines rest.visits
     pub entries : new_entries keep whole.visits ≡ so_far.entries ++ new_entries keep rest.visits
-    pub back : AreReadBack keep rest.visits → AreReadBack keep whole.visits
+    pub have : HaveEntries keep rest.visits → HaveEntries keep whole.visits
     pub steps : before + sum_by (work_over keep) (handed whole)
         ≡ now + sum_by (work_over keep) (handed rest)
     pub halt : whole.halt ≡ rest.halt
@@ -94,7 +94,7 @@ module _ (keep : Folder) where
   -- most its work
   abbrev pub VisitGives : Result Visit Halt → SoFar → SoFar → ℕ → ℕ → Result (Unit {0}) ChainEnd
       → Type 0
-  VisitGives told old new before now (Ok _) = (visit : Visit) × (told ≡ Ok visit) × (new ≡ with_visit old visit) × (kept_in keep visit.bundle ≡ None → IsReadBack visit) × (now ≡ before + visit_work told)
+  VisitGives told old new before now (Ok _) = (visit : Visit) × (told ≡ Ok visit) × (new ≡ with_visit old visit) × (kept_in keep visit.bundle ≡ None → HasEntry visit) × (now ≡ before + visit_work told)
   VisitGives told old new before now (Err (end.Stopped why)) = (halt : Halt) × (told ≡ Err halt) × (halt.cause ≡ why) × (new ≡ old) × (now ≡ before + visit_work told)
   VisitGives told old new before now (Err end.FileFault) =
       (before ≤ now) × (now ≤ before + visit_work told)

@@ -5,8 +5,7 @@ ghost use Rattle.plan_files.specs.Folder.{has_failed};
 ghost use Rattle.plan_files.specs.Reads.{OnlyReads};
 ghost use Rattle.giv_files.specs.MadeLists.{MakesAs, ids_of};
 ghost use Rattle.giv_files.specs.Settings.{Fits};
-ghost use Rattle.stage_keep.specs.Entries.{entry_bytes, entry_for, keep_name};
-ghost use Rattle.stage_keep.specs.EntryReading.{read_entry};
+ghost use Rattle.stage_keep.specs.Entries.{IsEntryOf, entry_bytes, entry_for, keep_name};
 ghost use Rattle.stage_keep.specs.Honest.{kept_for};
 ghost use Rattle.stage_driver.specs.Kept.{kept_in};
 
@@ -76,9 +75,8 @@ pub(crate) fn new_entry(alloc: Global, bundle: &Bundle, made: &Made) -> Result<W
     requires made { MakesAs bundle.now.stage (ids_of made.now.files) }
     ensures put { IfOk result (λ write. write ≡ Put (keep_name bundle.now.stage)
         (entry_bytes bundle.now.stage (entry_for bundle.now made.now))) }
-    ensures read_back { IfOk result (λ _.
-        read_entry bundle.now.stage (entry_bytes bundle.now.stage (entry_for bundle.now made.now))
-        ≡ Some (entry_for bundle.now made.now)) }
+    ensures entry { IfOk result (λ _.
+        IsEntryOf bundle.now.stage (entry_for bundle.now made.now)) }
 {
     let text = write_keep(alloc, bundle, made)?;
     let name = Name::copy(alloc, keep_name(bundle.stage()))?;

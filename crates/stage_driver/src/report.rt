@@ -4,13 +4,18 @@ ghost use Rattle.std.specs.Option.{option_copied};
 ghost use Rattle.stage_driver.specs.Reports.{row_text, missing_text, too_long_text, config_text};
 ghost use Rattle.stage_driver.specs.Reports.{refusal_text, cause_text, last_line, end_of};
 ghost use Rattle.stage_driver.specs.Reports.{end_of_refusal};
+ghost use Rattle.stage_driver.specs.declared.cause.Cause.TheVariants as causes;
+ghost use Rattle.stage_driver.specs.declared.state.StatesEnd.TheVariants as states_ends;
 ghost use Rattle.stage_driver.specs.Checks.{broken_text, check_end, check_report};
+ghost use Rattle.stage_driver.specs.Reports.{line_of};
+ghost use Rattle.stage_driver.specs.States.{state_line};
 
 use crate::cause::Cause;
 use crate::checked::{CheckEnd, CheckOutcome};
 use crate::finding::Finding;
 use crate::outcome::{Outcome, RunEnd};
 use crate::rule::Rule;
+use crate::state::{StageState, StatesEnd, StatesOutcome};
 use config_keys::ConfigFault;
 use giv_files::{Refusal, Stage};
 use plan_num::{NoMemory, Text};
@@ -70,6 +75,38 @@ pub(crate) fn check_outcome(
         end,
         report: Text::from_vec(report),
     })
+}
+
+/// What is told of the states where the settings are refused.
+pub(crate) fn refused_states(alloc: Global, reason: ConfigFault) -> Result<StatesOutcome, NoMemory>
+    ensures end { IfOk result (λ outcome. outcome.end ≡ states_ends.BadInput) }
+    ensures report { IfOk result (λ outcome.
+        outcome.report ≡ line_of (cause_text (causes.BadConfig reason))) }
+{
+    let mut report = Vec::new(alloc);
+    push_cause(alloc, &mut report, &Cause::BadConfig(reason))?;
+    report.push(b'\n')?;
+    Ok(StatesOutcome {
+        end: StatesEnd::BadInput,
+        report: Text::from_vec(report),
+    })
+}
+
+/// The line of the state of a stage.
+#[tactic(auto, using(std::proofs::lemmas::List::append_assoc))]
+pub(crate) fn push_state(
+    alloc: Global,
+    report: &mut Vec<u8>,
+    stage: Stage,
+    state: StageState,
+) -> Result<(), NoMemory>
+    ensures { OnOk result (report.new.items ≡ report.old.items ++ state_line stage state) }
+{
+    let stage = stage.name();
+    let state = state.name();
+    let text = format!(in alloc; "{stage}: {state}\n")?;
+    report.extend_from_slice(text.as_bytes())?;
+    Ok(())
 }
 
 // The files of a stage break a rule.

@@ -7,13 +7,14 @@ ghost use Rattle.plan_files.specs.Reads.{OnlyReads};
 ghost use Rattle.plan_files.specs.Others.{AreOutside};
 ghost use Rattle.stage_driver.specs.Ends.{has_failed};
 ghost use Rattle.stage_driver.specs.Hand.{hand_of, is_hand};
-ghost use Rattle.stage_driver.specs.Kept.{AreReadBack, IsKeptHonest, trace_over};
+ghost use Rattle.stage_driver.specs.Kept.{HaveEntries, IsKeptHonest, trace_over};
 ghost use Rattle.stage_driver.specs.Progress.{EndGives, NamesNoHand, nothing};
 ghost use Rattle.stage_driver.specs.Reports.{last_line, end_of};
 ghost use Rattle.stage_driver.specs.Right.{IsLeftRight, MadeFilesAreRight, RefusesHand};
 ghost use Rattle.stage_driver.specs.Runs.{AddsNoHandFile, AreNotAll, IsFromScratch, IsLeft};
 ghost use Rattle.stage_driver.specs.Runs.{IsOnce, IsOutcome, IsUnfinished, SameHand, run_over};
 ghost use Rattle.stage_driver.specs.Runs.{Trusts, started, unmet, writes_for, writes_of};
+ghost use Rattle.stage_driver.specs.Stopped.{AddsHarmless, StopsSafely};
 
 use crate::cause::Cause;
 use crate::chain::run_built;
@@ -62,6 +63,13 @@ pub fn run_chain<F: Files, L: Ledger>(
     ensures keep { IfSome (F.contents files.old) (λ folder.
         OnOk result (Trusts mode folder → IfSome (F.contents files.new) IsKeptHonest)) }
 
+    ensures keeps_honest { IfSome (F.contents files.old) (λ folder.
+        IsKeptHonest folder → IfSome (F.contents files.new) IsKeptHonest) }
+
+    // Wherever the writes that it added are stopped, the next one perhaps in part, that is so.
+    ensures stops { IfSome (F.contents files.old) (λ folder.
+        StopsSafely mode folder (F.writes files.old) (F.writes files.new)) }
+
     // A further run over what is left writes nothing.
     ensures again { IfSome (F.contents files.old) (λ folder.
         OnOk result (IfSome (F.contents files.new) (λ left. writes_of left ≡ []))) }
@@ -93,8 +101,10 @@ fn run_kept<F: Files, L: Ledger>(
     ensures left { IfSome (F.contents files.old) (λ folder. OnOk result (AreApplied
         (writes_of folder) (Some folder)
         (F.contents files.new) (F.writes files.old) (F.writes files.new))) }
-    ensures back { IfSome (F.contents files.old) (λ folder.
-        OnOk result (AreReadBack folder (trace_over folder folder).visits)) }
+    ensures entries { IfSome (F.contents files.old) (λ folder.
+        OnOk result (HaveEntries folder (trace_over folder folder).visits)) }
+    ensures harmless { IfSome (F.contents files.old) (λ folder. AddsHarmless folder
+        (F.contents files.new) (F.writes files.old) (F.writes files.new)) }
     ensures work { IfSome (F.contents files.old) (λ folder.
         OnOk result (steps.new ≡ steps.old + (run_over folder).work)) }
     ensures unfinished { IfSome (F.contents files.old) (λ folder.

@@ -105,8 +105,8 @@ fn is_met<F: Files>(alloc: Global, files: &mut F, write: &Write) -> Result<bool,
     }
 }
 
-// Whether a file is there and has these bytes.
-fn has_bytes<F: Files>(
+/// Whether a file is there and has these bytes.
+pub(crate) fn has_bytes<F: Files>(
     alloc: Global,
     files: &mut F,
     name: &str,
@@ -123,8 +123,12 @@ fn has_bytes<F: Files>(
     }
 }
 
-// Whether a file is not there. It is not read.
-fn is_absent<F: Files>(alloc: Global, files: &mut F, name: &str) -> Result<bool, FileFault>
+/// Whether a file is not there. It is not read.
+pub(crate) fn is_absent<F: Files>(
+    alloc: Global,
+    files: &mut F,
+    name: &str,
+) -> Result<bool, FileFault>
     ensures absent { IfSome (F.contents files.old) (λ folder. IfOk result (λ absent.
         absent ≡ same_bytes (map.get folder name.now) None)) }
     ensures only_reads { OnlyReads F.contents F.writes F.faults files.old files.new

@@ -282,11 +282,18 @@ pub entry_fits : (bundle : BundleParts) (made : Made) → Fits bundle
     → IsEntryOf bundle.stage (entry_for bundle made)
 entry_fits bundle made fits makes short = record { inputs = fits.inputs; made = makes; short = short }
 
-pub back_of : (bundle : BundleParts) (made : Made) (text : List ℕ) → Fits bundle
+-- a text that is that short and has the bytes of an entry
+pub entry_of_text : (bundle : BundleParts) (made : Made) (text : List ℕ) → Fits bundle
     → MakesAs bundle.stage (ids_of made.files) → length text < 2 ^ 64
     → text ≡ entry_bytes bundle.stage (entry_for bundle made)
+    → IsEntryOf bundle.stage (entry_for bundle made)
+entry_of_text bundle made text fits makes short is =
+    entry_fits bundle made fits makes (subst (λ (l : List ℕ). length l < 2 ^ 64) is short)
+
+pub back_of : (bundle : BundleParts) (made : Made) (text : List ℕ)
+    → IsEntryOf bundle.stage (entry_for bundle made)
+    → text ≡ entry_bytes bundle.stage (entry_for bundle made)
     → read_entry bundle.stage text ≡ Some (entry_for bundle made)
-back_of bundle made text fits makes short is =
+back_of bundle made text entry is =
     ap (read_entry bundle.stage) is
-    ∙ entries_are_read_back bundle.stage (entry_for bundle made)
-    (entry_fits bundle made fits makes (subst (λ (l : List ℕ). length l < 2 ^ 64) is short))
+    ∙ entries_are_read_back bundle.stage (entry_for bundle made) entry

@@ -3,7 +3,7 @@ ghost use Rattle.std.specs.Prelude.{◌≡◌, ◌++◌, IfOk, OnOk, Some, flat_
 ghost use Rattle.giv_files.specs.MadeLists.{MakesAs, ids_of};
 ghost use Rattle.giv_files.specs.Settings.{Fits};
 ghost use Rattle.stage_keep.specs.Entries.{block_bytes, entry_blocks, entry_bytes, entry_for};
-ghost use Rattle.stage_keep.specs.Entries.{input_block, made_block};
+ghost use Rattle.stage_keep.specs.Entries.{IsEntryOf, input_block, made_block};
 ghost use Rattle.stage_keep.specs.EntryReading.{read_entry};
 
 use crate::block::push_block;
@@ -21,6 +21,8 @@ pub fn write_keep(alloc: Global, bundle: &Bundle, made: &Made) -> Result<Text, N
         ≡ entry_bytes bundle.now.stage (entry_for bundle.now made.now)) }
     ensures read_back { IfOk result (λ text. read_entry bundle.now.stage text
         ≡ Some (entry_for bundle.now made.now)) }
+    ensures entry { IfOk result (λ _.
+        IsEntryOf bundle.now.stage (entry_for bundle.now made.now)) }
 {
     let mut bytes = Vec::new(alloc);
     bytes.extend_from_slice(first_line(alloc, bundle.stage())?.as_bytes())?;

@@ -1,13 +1,14 @@
 use Rattle.std.proofs.Common.{Err, ap, ◌∙◌}
 use Rattle.std.proofs.lemmas.Result.{err_from_is_err_and}
 use Rattle.stage_driver.specs.Hand.{hand_of}
-use Rattle.stage_driver.proofs.BothModes.{again_left, back_both, both_scratch, cleared_not, keep_left}
+use Rattle.stage_driver.proofs.BothModes.{again_left, entries_both, both_scratch, cleared_not, keep_left}
 use Rattle.stage_driver.proofs.BothModes.{left_both, most_both, outcome_both, right_left}
 use Rattle.stage_driver.proofs.BothModes.{unfinished_both, work_both}
 use Rattle.stage_driver.proofs.HandKept.{writes_once, writes_outside}
 use Rattle.stage_driver.proofs.LeftRight.{left_right}
 use Rattle.stage_driver.proofs.Refusing.{refuses_hand}
 use Rattle.stage_driver.proofs.Running.{adds_both}
+use Rattle.stage_driver.proofs.StoppedRuns.{both_add, cleared_adds, keeps_honest, stops_safely}
 use Rattle.stage_driver.proofs.run.run_chain.Goals as goal
 
 pub returns-in_err-clear-clause-once : goal.returns-in_err-clear-clause-once
@@ -62,11 +63,11 @@ returns-clause-left_is_right g c = right_left c.args.mode _ _ _ _ _ (returns-cla
 
 pub returns-clause-keep : goal.returns-clause-keep
 returns-clause-keep g c =
-    keep_left c.args.mode _ _ _ _ _ (returns-clause-left g c) (back_both c.args.mode _ _ _ _ _ c.in_ok-clear.ensures.ok c.run_kept.ensures.back)
+    keep_left c.args.mode _ _ _ _ _ (returns-clause-left g c) (entries_both c.args.mode _ _ _ _ _ c.in_ok-clear.ensures.ok c.run_kept.ensures.entries)
 
 pub returns-clause-again : goal.returns-clause-again
 returns-clause-again g c =
-    again_left c.args.mode _ _ _ _ _ (returns-clause-left g c) (back_both c.args.mode _ _ _ _ _ c.in_ok-clear.ensures.ok c.run_kept.ensures.back)
+    again_left c.args.mode _ _ _ _ _ (returns-clause-left g c) (entries_both c.args.mode _ _ _ _ _ c.in_ok-clear.ensures.ok c.run_kept.ensures.entries)
 
 pub returns-clause-unfinished : goal.returns-clause-unfinished
 returns-clause-unfinished g c =
@@ -79,3 +80,19 @@ returns-clause-no_more g c =
 pub returns-clause-writes_no_hand_file : goal.returns-clause-writes_no_hand_file
 returns-clause-writes_no_hand_file g c =
     adds_both _ _ _ c.clear.ensures.writes_no_hand_file c.run_kept.ensures.writes_no_hand_file
+
+pub returns-in_err-clear-clause-stops : goal.returns-in_err-clear-clause-stops
+returns-in_err-clear-clause-stops g c =
+    stops_safely _ _ _ _ (cleared_adds c.args.mode _ _ _ _ c.in_err-clear.field-0.0 c.in_err-clear.ensures.err) c.args.mode
+
+pub returns-in_err-clear-clause-keeps_honest : goal.returns-in_err-clear-clause-keeps_honest
+returns-in_err-clear-clause-keeps_honest g c =
+    keeps_honest _ _ _ _ (cleared_adds c.args.mode _ _ _ _ c.in_err-clear.field-0.0 c.in_err-clear.ensures.err)
+
+pub returns-clause-stops : goal.returns-clause-stops
+returns-clause-stops g c =
+    stops_safely _ _ _ _ (both_add c.args.mode _ _ _ _ _ _ c.in_ok-clear.ensures.ok c.run_kept.ensures.harmless) c.args.mode
+
+pub returns-clause-keeps_honest : goal.returns-clause-keeps_honest
+returns-clause-keeps_honest g c =
+    keeps_honest _ _ _ _ (both_add c.args.mode _ _ _ _ _ _ c.in_ok-clear.ensures.ok c.run_kept.ensures.harmless)

@@ -1,4 +1,5 @@
 use Rattle.stage_driver.proofs.Running.{left_is, outcome_is, unfinished_is, work_bound, work_told}
+use Rattle.stage_driver.proofs.StoppedRuns.{read_adds, run_adds}
 use Rattle.stage_driver.proofs.run.run_kept.Goals as goal
 
 pub returns-in_err-cause-clause-no_more : goal.returns-in_err-cause-clause-no_more
@@ -18,3 +19,9 @@ returns-clause-unfinished g c = unfinished_is _ _ _ _ _ _ c.run_to_end.new.progr
 
 pub returns-clause-no_more : goal.returns-clause-no_more
 returns-clause-no_more g c = work_bound _ c.run_to_end.new.progress c.args.steps.now c.run_to_end.new.steps c.run_to_end.result c.run_to_end.ensures.end
+
+pub returns-in_err-cause-clause-harmless : goal.returns-in_err-cause-clause-harmless
+returns-in_err-cause-clause-harmless g c = read_adds _ _ _ _ c.in_err-cause.ensures.only_reads.contents c.in_err-cause.ensures.only_reads.writes
+
+pub returns-clause-harmless : goal.returns-clause-harmless
+returns-clause-harmless g c = run_adds _ _ _ _ c.run_to_end.new.progress c.in_ok-cause.cause c.args.steps.now c.run_to_end.new.steps _ c.in_ok-cause.ensures.end (returns-clause-left g c) (returns-clause-unfinished g c)

@@ -1,0 +1,335 @@
+-- The writes of a run are harmless, and so it may be stopped anywhere.
+use Rattle.std.proofs.Common.{◌≡◌, ℕ, ℤ, Bool, true, false, cond, not, is_some, List, [], ◌∷◌, ◌++◌, map, filter}
+use Rattle.std.proofs.Common.{take, drop, suc, Option, Some, None, IfSome, IfErr, OnOk, Result, Ok, Err, refl, ap, sym, subst, ◌∙◌}
+use Rattle.std.proofs.Common.{◌⊎◌, inl, inr, ⊎_elim, append-nil}
+use Rattle.std.specs.Option.{option_map}
+use Rattle.std.specs.Str.{bytes_eq}
+use Rattle.std.proofs.lemmas.Bool.{and_parts, false≢true}
+use Rattle.std.proofs.lemmas.Option.{same_Some}
+use Rattle.std.proofs.lemmas.Slice.Eq.{bytes_eq-Decides}
+use Rattle.plan_files.specs.declared.file_fault.FileFault.TheVariants.{Failed}
+use Rattle.plan_files.specs.declared.write.Write.{Write}
+use Rattle.plan_files.specs.declared.write.Write.TheVariants.{Removal}
+use Rattle.plan_files.specs.Applied.{AreApplied, AreCutShort, LeftBy}
+use Rattle.plan_files.specs.Changes.{folder_after}
+use Rattle.plan_files.specs.Folder.{Folder}
+use Rattle.plan_files.specs.Others.{AreOutside}
+use Rattle.plan_files.proofs.OtherFiles.{outside_both, outside_front}
+use Rattle.giv_files.specs.declared.made.Made.{Made}
+use Rattle.giv_files.specs.declared.made.MadeFile.{MadeFile}
+use Rattle.giv_files.specs.declared.stage.Stage.{Stage}
+use Rattle.giv_files.specs.Settings.{Fits}
+use Rattle.config_keys.specs.Config.{AreSettings}
+use Rattle.config_keys.specs.Items.{look_in}
+use Rattle.config_keys.proofs.Settling.{effective_settings}
+use Rattle.stage_keep.specs.Entries.{entry_bytes, entry_for, keep_name}
+use Rattle.stage_keep.specs.EntryReading.{read_entry}
+use Rattle.stage_keep.specs.Honest.{IsHonest}
+use Rattle.stage_keep.proofs.EntriesRead.{entries_are_read_back}
+use Rattle.stage_keep.proofs.Honesty.{fronts_are_honest, read_is_honest}
+use Rattle.stage_driver.specs.declared.cause.Cause.{Cause}
+use Rattle.stage_driver.specs.declared.outcome.ChainFault.{ChainFault}
+use Rattle.stage_driver.specs.declared.outcome.ChainFault.TheVariants as fault
+use Rattle.stage_driver.specs.declared.outcome.Mode.{Mode}
+use Rattle.stage_driver.specs.declared.outcome.Mode.TheVariants as mode
+use Rattle.stage_driver.specs.declared.outcome.Outcome.{Outcome}
+use Rattle.stage_driver.specs.Built.{built, files_of, run_stage}
+use Rattle.stage_driver.specs.Chain.{Halt, Visit, input_text}
+use Rattle.stage_driver.specs.Ends.{file_fault_of}
+use Rattle.stage_driver.specs.Hand.{hand_of, is_hand, keep_names, names_made_by}
+use Rattle.stage_driver.specs.Kept.{HasEntry, HaveEntries, IsKeptHonest, bytes_for, entry_put, kept_in}
+use Rattle.stage_driver.specs.Kept.{made_over, new_entries, new_entry, solve_over, trace_over}
+use Rattle.stage_driver.specs.Progress.{EndGives, SoFar}
+use Rattle.stage_driver.specs.Runs.{AreNotAll, entries_over, is_met, name_of, names_besides, put_of}
+use Rattle.stage_driver.specs.Runs.{removed, unmet, writes_for, writes_of}
+use Rattle.stage_driver.specs.Stopped.{AddsHarmless, AreHarmless, IsFirstTorn, IsHarmless, IsSafeFrom}
+use Rattle.stage_driver.specs.Stopped.{IsStopped, StopsSafely}
+use Rattle.stage_driver.proofs.BothModes.{IsCleared}
+use Rattle.stage_driver.proofs.Differing.{differs_from}
+use Rattle.stage_driver.proofs.HandAlone.{over_alone}
+use Rattle.stage_driver.proofs.HandKept.{applied_hand, cut_hand, writes_outside}
+use Rattle.stage_driver.proofs.KeptAfter.{built_apart_of, not_kept, same_stage}
+use Rattle.stage_driver.proofs.Keeping.{solve_makes}
+use Rattle.stage_driver.proofs.MadeRight.{given_fits}
+use Rattle.stage_driver.proofs.Running.{noted_both}
+use Rattle.stage_driver.proofs.Settling.{removals_told}
+use Rattle.stage_driver.proofs.Stopping.{IsHonestAt, harmless_both, harmless_parts, made_honest}
+use Rattle.stage_driver.proofs.Stopping.{stopped_honest, stopped_removed, torn_honest}
+use Rattle.stage_driver.proofs.Traces.{by_visits, stages_run, traced_over}
+use Rattle.stage_driver.proofs.Visits.{AreVisits}
+use Rattle.stage_driver.proofs.Wishes.{outside_some}
+use Rattle.stage_driver.proofs.WrittenNames.{are_apart}
+
+-- ---- an entry and its front parts
+
+take_drop : (n : ℕ) (xs : List ℕ) → xs ≡ take n xs ++ drop n xs
+take_drop 0 xs = refl
+take_drop (suc n) [] = refl
+take_drop (suc n) (x ∷ xs) = λ i. x ∷ take_drop n xs i
+
+some_behind : (byte : ℕ) (behind : List ℕ) → byte ∷ behind ≡ [] → ⊥
+some_behind byte behind none = cc
+
+entry_harmless : (visit : Visit) → Fits visit.bundle → HasEntry visit
+    → run_stage visit.bundle ≡ Ok visit.made → IsHarmless (entry_put visit.bundle visit.made)
+entry_harmless visit fits entry is = λ at kept same.
+    subst (λ at. IsHonest run_stage at (take kept (bytes_for visit))) (sym (same_stage at visit.bundle.stage same))
+    (by (take kept (bytes_for visit)) (drop kept (bytes_for visit)) (take_drop kept (bytes_for visit)))
+  where
+    by : (front behind : List ℕ) → bytes_for visit ≡ front ++ behind
+        → IsHonest run_stage visit.bundle.stage front
+    by front [] whole =
+        let same : bytes_for visit ≡ front = whole ∙ append-nil front in
+        read_is_honest run_stage visit.bundle visit.made front fits
+        (ap (read_entry visit.bundle.stage) (sym same) ∙ entries_are_read_back visit.bundle.stage (entry_for visit.bundle visit.made) entry) is
+    by front (byte ∷ behind) whole =
+        fronts_are_honest run_stage visit.bundle.stage (entry_for visit.bundle visit.made) front (byte ∷ behind) entry whole (some_behind byte behind)
+
+-- ---- the writes of made files
+
+removals_harmless : (names : List (List ℕ)) → AreHarmless (map Removal names)
+removals_harmless [] = tt
+removals_harmless (name ∷ names) = (tt, removals_harmless names)
+
+puts_harmless : (files : List MadeFile)
+    → ((at : Stage) → differs_from (map name_of files) (keep_name at) ≡ true)
+    → AreHarmless (map put_of files)
+puts_harmless [] apart = tt
+puts_harmless (file ∷ files) apart = (
+  λ at kept same. absurd (never (keep_name at) (name_of file) same (and_parts _ _ (apart at)).0),
+  puts_harmless files (λ at. (and_parts _ _ (apart at)).1),
+)
+  where
+    never : (name other : List ℕ) → name ≡ other → not (bytes_eq name other) ≡ true → ⊥
+    never name other same h =
+        false≢true (sym (ap not ((bytes_eq-Decides name other).1 same)) ∙ h)
+
+some_harmless : (p : Write → Bool) (writes : List Write) → AreHarmless writes
+    → AreHarmless (filter p writes)
+some_harmless p [] h = tt
+some_harmless p (write ∷ writes) h = by (p write) (some_harmless p writes h.1)
+  where
+    by : (b : Bool) → AreHarmless (filter p writes)
+        → AreHarmless (cond b (write ∷ filter p writes) (filter p writes))
+    by true rest = (h.0, rest)
+    by false rest = rest
+
+wishes_harmless : (folder : Folder) (made : List MadeFile)
+    → ((at : Stage) → differs_from (map name_of made) (keep_name at) ≡ true)
+    → AreHarmless (unmet folder (writes_for made))
+unfolding writes_for
+wishes_harmless folder made apart =
+    some_harmless (λ write. not (is_met folder write)) (map put_of made ++ map Removal (names_besides made (names_made_by built)))
+    (harmless_both (map put_of made) (map Removal (names_besides made (names_made_by built))) (puts_harmless made apart) (removals_harmless (names_besides made (names_made_by built))))
+
+-- ---- the writes of a run
+
+module _ (keep : Folder) (values : List ℤ) (are : AreSettings values) (hand : Folder) where
+  entries_harmless : (before : List MadeFile) (stages : List Stage) (visits : List Visit)
+      (halt : Option Halt) → AreVisits (solve_over keep) values hand before stages visits halt
+      → HaveEntries keep visits → AreHarmless (new_entries keep visits)
+  entries_harmless before stages [] halt visited have = tt
+  entries_harmless before [] (visit ∷ visits) halt visited have = absurd visited
+  entries_harmless before (at ∷ stages) (visit ∷ visits) halt visited have =
+      harmless_both (new_entry keep visit) (new_entries keep visits) (by (kept_in keep visit.bundle) refl)
+      (entries_harmless (before ++ visit.made.files) stages visits halt visited.1 have.1)
+    where
+      by : (kept : Option Made) → kept_in keep visit.bundle ≡ kept
+          → AreHarmless (cond (is_some kept) [] (entry_put visit.bundle visit.made ∷ []))
+      by (Some made) is = tt
+      by None is = (
+        entry_harmless visit (given_fits (input_text hand before) values at visit.bundle are visited.0.given) (have.0 is) (not_kept keep visit is visited.0.solved),
+        tt,
+      )
+
+run_harmless : (folder : Folder) → HaveEntries folder (trace_over folder (hand_of folder)).visits
+    → AreHarmless (writes_of folder)
+unfolding writes_of entries_over made_over
+run_harmless folder have =
+    let visits = (trace_over folder (hand_of folder)).visits in
+    let apart = are_apart folder (hand_of folder) in
+    harmless_both (unmet folder (writes_for (files_of visits))) (new_entries folder visits)
+    (wishes_harmless folder (files_of visits) (λ at. apart.within (λ name. not (bytes_eq (keep_name at) name)) (built_apart_of at)))
+    (traced_over folder (hand_of folder) (λ trace. HaveEntries folder trace.visits → AreHarmless (new_entries folder trace.visits))
+    (λ reason is _. tt)
+    (λ values is have. entries_harmless folder values (effective_settings (look_in (hand_of folder)) values is) (hand_of folder) [] (stages_run values) _ _ (by_visits (solve_over folder) (solve_makes folder) values (hand_of folder)) have)
+    have)
+
+-- ---- what a call adds
+
+no_more : (before : Option (List Write)) → before ≡ option_map (λ writes. writes ++ []) before
+no_more None = refl
+no_more (Some writes) = ap Some (sym (append-nil writes))
+
+adds_none : (folder : Folder) (left : Option Folder) (before now : Option (List Write))
+    → left ≡ Some folder → now ≡ before → AddsHarmless folder left before now
+adds_none folder left before now same kept = record {
+  added = [];
+  noted = kept ∙ no_more before;
+  harmless = tt;
+  apart = tt;
+  keep = λ honest. subst (λ left. IfSome left IsKeptHonest) (sym same) honest;
+}
+
+kept_all : (left : Option Folder) → ((at : Stage) → IfSome left (IsHonestAt at))
+    → IfSome left IsKeptHonest
+kept_all None honest = tt
+kept_all (Some left) honest = honest
+
+module _ (writes : List Write) (folder : Folder) (left : Option Folder) (before now : Option (List Write)) (harmless : AreHarmless writes) (apart : AreOutside is_hand writes) where
+  adds_all : AreApplied writes (Some folder) left before now → AddsHarmless folder left before now
+  adds_all all = record {
+    added = writes;
+    noted = all.noted;
+    harmless = harmless;
+    apart = apart;
+    keep = λ honest. subst (λ left. IfSome left IsKeptHonest) (sym all.folder) (λ at. made_honest at writes folder harmless (inl (honest at)));
+  }
+
+  adds_cut : (fault : ChainFault)
+      → AreCutShort (file_fault_of fault) writes (Some folder) left before now
+      → AddsHarmless folder left before now
+  adds_cut fault cut =
+      let parts = harmless_parts cut.made (cut.next ∷ cut.rest) (subst AreHarmless cut.split harmless) in
+      record {
+        added = cut.made;
+        noted = cut.noted;
+        harmless = parts.0;
+        apart = outside_front is_hand cut.made (cut.next ∷ cut.rest) (subst (AreOutside is_hand) cut.split apart);
+        keep = λ honest. kept_all left (λ at. by fault at parts.1.0 cut.folder (made_honest at cut.made folder parts.0 (inl (honest at))));
+      }
+    where
+      by : (fault : ChainFault) (at : Stage) → IsHarmless cut.next
+          → LeftBy (file_fault_of fault) cut.next (Some (folder_after cut.made folder)) left
+          → IsHonestAt at (folder_after cut.made folder) → IfSome left (IsHonestAt at)
+      by fault.FileFault at next torn honest =
+          torn_honest at cut.next (folder_after cut.made folder) left next torn honest
+      by fault.NoMemory at next same honest =
+          subst (λ left. IfSome left (IsHonestAt at)) (sym same) honest
+
+  adds_some : (fault : ChainFault) → AreNotAll fault writes (Some folder) left before now
+      → AddsHarmless folder left before now
+  adds_some fault h =
+      ⊎_elim (λ same. adds_none folder left before now same.0 same.1) (adds_cut fault) h
+
+-- a call that only read
+pub read_adds : (contents left : Option Folder) (before now : Option (List Write)) → left ≡ contents
+    → now ≡ before → IfSome contents (λ folder. AddsHarmless folder left before now)
+read_adds None left before now same kept = tt
+read_adds (Some folder) left before now same kept = adds_none folder left before now same kept
+
+-- a run over what is kept, whether it finished or not
+pub run_adds : (contents left : Option Folder) (before now : Option (List Write)) (so_far : SoFar)
+    (why : Option Cause) (first last : ℕ) (result : Result Outcome ChainFault)
+    → IfSome contents (λ folder. EndGives folder (trace_over folder folder) so_far first last (Ok why))
+    → IfSome contents (λ folder. OnOk result (AreApplied (writes_of folder) (Some folder) left before now))
+    → IfSome contents (λ folder. IfErr result (λ fault. AreNotAll fault (writes_of folder) (Some folder) left before now))
+    → IfSome contents (λ folder. AddsHarmless folder left before now)
+run_adds None left before now so_far why first last result ends all some = tt
+run_adds (Some folder) left before now so_far why first last result ends all some = by result all some
+  where
+    harmless : AreHarmless (writes_of folder)
+    harmless = run_harmless folder (subst (λ trace. HaveEntries folder trace.visits) (sym (over_alone folder folder)) ends.1.have)
+
+    by : (result : Result Outcome ChainFault)
+        → OnOk result (AreApplied (writes_of folder) (Some folder) left before now)
+        → IfErr result (λ fault. AreNotAll fault (writes_of folder) (Some folder) left before now)
+        → AddsHarmless folder left before now
+    by (Ok outcome) all some =
+        adds_all (writes_of folder) folder left before now harmless (writes_outside folder) all
+    by (Err fault) all some =
+        adds_some (writes_of folder) folder left before now harmless (writes_outside folder) fault some
+
+-- ---- the removals, and then the run
+
+removed_harmless : (by : Mode) (folder : Folder) → AreHarmless (removed by folder)
+removed_harmless mode.Make folder = tt
+removed_harmless mode.Fresh folder =
+    some_harmless (λ write. not (is_met folder write)) (map Removal keep_names) (removals_harmless keep_names)
+
+removed_outside : (by : Mode) (folder : Folder) → AreOutside is_hand (removed by folder)
+removed_outside mode.Make folder = tt
+removed_outside mode.Fresh folder =
+    outside_some (λ write. not (is_met folder write)) is_hand (map Removal keep_names) (removals_told (map Removal keep_names) refl)
+
+module _ (by : Mode) (contents left : Option Folder) (before now : Option (List Write)) where
+  pub cleared_adds : (fault : ChainFault)
+      → IfSome contents (λ folder. AreNotAll fault (removed by folder) (Some folder) left before now)
+      → IfSome contents (λ folder. AddsHarmless folder left before now)
+  cleared_adds fault h = each contents h
+    where
+      each : (contents : Option Folder)
+          → IfSome contents (λ folder. AreNotAll fault (removed by folder) (Some folder) left before now)
+          → IfSome contents (λ folder. AddsHarmless folder left before now)
+      each None h = tt
+      each (Some folder) h =
+          adds_some (removed by folder) folder left before now (removed_harmless by folder) (removed_outside by folder) fault h
+
+  pub both_add : (mid : Option Folder) (noted : Option (List Write)) → IsCleared by contents mid before noted
+      → IfSome mid (λ folder. AddsHarmless folder left noted now)
+      → IfSome contents (λ folder. AddsHarmless folder left before now)
+  both_add mid noted cleared h = each contents cleared
+    where
+      both : (folder : Folder) → AreApplied (removed by folder) (Some folder) mid before noted
+          → AddsHarmless (folder_after (removed by folder) folder) left noted now
+          → AddsHarmless folder left before now
+      both folder first more = record {
+        added = removed by folder ++ more.added;
+        noted = more.noted ∙ ap (option_map (λ writes. writes ++ more.added)) first.noted ∙ noted_both before (removed by folder) more.added;
+        harmless = harmless_both (removed by folder) more.added (removed_harmless by folder) more.harmless;
+        apart = outside_both is_hand (removed by folder) more.added (removed_outside by folder) more.apart;
+        keep = λ honest. more.keep (λ at. made_honest at (removed by folder) folder (removed_harmless by folder) (inl (honest at)));
+      }
+
+      each : (contents : Option Folder) → IsCleared by contents mid before noted
+          → IfSome contents (λ folder. AddsHarmless folder left before now)
+      each None cleared = tt
+      each (Some folder) cleared = both folder cleared
+          (subst (λ mid. IfSome mid (λ folder. AddsHarmless folder left noted now)) cleared.folder h)
+
+-- ---- a run that is stopped
+
+stopped_hand : (writes : List Write) (read left : Folder) → AreOutside is_hand writes
+    → IsStopped writes read left → hand_of left ≡ hand_of read
+stopped_hand writes read left apart stopped =
+    by stopped.rest stopped.folder (subst (AreOutside is_hand) stopped.split apart)
+  where
+    by : (rest : List Write) → IsFirstTorn rest (folder_after stopped.made read) left
+        → AreOutside is_hand (stopped.made ++ rest) → hand_of left ≡ hand_of read
+    by [] same apart =
+        same_Some (hand_of left) (hand_of read) (applied_hand stopped.made (Some read) (Some left) None None (outside_front is_hand stopped.made [] apart) (record { folder = ap Some same; noted = refl }))
+    by (next ∷ rest) torn apart =
+        same_Some (hand_of left) (hand_of read) (cut_hand Failed (stopped.made ++ next ∷ rest) (Some read) (Some left) None None apart (record { made = stopped.made; next = next; rest = rest; split = refl; noted = refl; folder = torn }))
+
+stops : (by : Mode) (folder : Folder) (left : Option Folder) (before now : Option (List Write))
+    → AddsHarmless folder left before now → StopsSafely by folder before now
+stops by folder left before now h = record {
+  added = h.added;
+  noted = h.noted;
+  hand = λ stands stopped. stopped_hand h.added folder stands h.apart stopped;
+  keep = λ stands stopped from. each by stands stopped from;
+}
+  where
+    each : (by : Mode) (stands : Folder) (stopped : IsStopped h.added folder stands)
+        → IsSafeFrom by folder stopped.made → IsKeptHonest stands
+    each mode.Make stands stopped honest =
+        stopped_honest h.added folder stands h.harmless stopped honest
+    each mode.Fresh stands stopped from =
+        ⊎_elim (stopped_honest h.added folder stands h.harmless stopped) (stopped_removed h.added folder stands h.harmless stopped) from
+
+module _ (contents left : Option Folder) (before now : Option (List Write)) (h : IfSome contents (λ folder. AddsHarmless folder left before now)) where
+  pub stops_safely : (by : Mode) → IfSome contents (λ folder. StopsSafely by folder before now)
+  stops_safely by = each contents h
+    where
+      each : (contents : Option Folder) → IfSome contents (λ folder. AddsHarmless folder left before now)
+          → IfSome contents (λ folder. StopsSafely by folder before now)
+      each None h = tt
+      each (Some folder) h = stops by folder left before now h
+
+  pub keeps_honest : IfSome contents (λ folder. IsKeptHonest folder → IfSome left IsKeptHonest)
+  keeps_honest = each contents h
+    where
+      each : (contents : Option Folder) → IfSome contents (λ folder. AddsHarmless folder left before now)
+          → IfSome contents (λ folder. IsKeptHonest folder → IfSome left IsKeptHonest)
+      each None h = tt
+      each (Some folder) h = h.keep
