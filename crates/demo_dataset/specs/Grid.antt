@@ -70,5 +70,5 @@ abbrev pub lines_of : (size : ℕ) → List LineWalk
 lines_of size =
     if nat_le 2 size
     then map (row_line size) (one_to size) ++ map (column_line size) (one_to size)
-        ++ right_first_line size ∷ down_first_line size ∷ []
+    ++ right_first_line size ∷ down_first_line size ∷ []
     else []

@@ -38,7 +38,14 @@ demand_rows edge = demand_row edge.left edge.right (customers edge.id)
 abbrev pub pool_row : (line order edge : ℕ) → List ℕ
 pool_row line order edge = row_of (decimal line) (decimal order ∷ decimal edge ∷ [])
 
--- the edges of a line
+-- an edge of a line, behind its place
+abbrev pub placed_row : (line : ℕ) → ℕ × Edge → List ℕ
+placed_row line (order, edge) = pool_row line order edge.id
+
+-- edges that a line runs over
+abbrev pub walk_rows : (line : ℕ) → List Edge → List ℕ
+walk_rows line edges = flat_map (placed_row line) (enumerate_from 1 edges)
+
+-- a line, edge by edge
 abbrev pub line_rows : LineWalk → List ℕ
-line_rows line =
-    flat_map (λ (order, edge). pool_row line.id order edge.id) (enumerate_from 1 line.edges)
+line_rows line = walk_rows line.id line.edges

@@ -1,6 +1,8 @@
 // Edges of a square grid of stops.
 ghost use Rattle.std.specs.Prelude.{◌≡◌, ◌≤◌, ◌<◌, ◌++◌, IfOk, OnOk};
-ghost use Rattle.demo_dataset.specs.Grid.{stop_id, edge_right, edge_down, row_edges, column_edges, edges_of};
+ghost use Rattle.std.specs.List.{flat_map};
+ghost use Rattle.demo_dataset.specs.Grid.{one_to, stop_id, edge_right, edge_down};
+ghost use Rattle.demo_dataset.specs.Grid.{row_edges, column_edges, edges_of};
 
 use plan_num::NoMemory;
 use std::alloc::Global;
@@ -83,15 +85,38 @@ pub(crate) fn push_column(edges: &mut Vec<Edge>, size: u32, column: u32) -> Resu
 
 /// All edges, in the order of their ids.
 pub(crate) fn all_edges(alloc: Global, size: u32) -> Result<Vec<Edge>, NoMemory>
-    requires { size ≤ 8 }
+    requires some { 1 ≤ size }
+    requires few { size ≤ 8 }
     ensures { IfOk result (λ edges. edges.items ≡ edges_of size) }
 {
     let mut edges = Vec::new(alloc);
-    for row in 1..=size {
-        push_row(&mut edges, size, row)?;
-    }
-    for column in 1..=size {
-        push_column(&mut edges, size, column)?;
-    }
+    push_rows(&mut edges, size)?;
+    push_columns(&mut edges, size)?;
     Ok(edges)
+}
+
+// Appends the edges along each row.
+fn push_rows(edges: &mut Vec<Edge>, size: u32) -> Result<(), NoMemory>
+    requires some { 1 ≤ size }
+    requires few { size ≤ 8 }
+    ensures { OnOk result (edges.new.items
+        ≡ edges.old.items ++ flat_map (row_edges size) (one_to size)) }
+{
+    for row in 1..=size {
+        push_row(edges, size, row)?;
+    }
+    Ok(())
+}
+
+// Appends the edges down each column.
+fn push_columns(edges: &mut Vec<Edge>, size: u32) -> Result<(), NoMemory>
+    requires some { 1 ≤ size }
+    requires few { size ≤ 8 }
+    ensures { OnOk result (edges.new.items
+        ≡ edges.old.items ++ flat_map (column_edges size) (one_to size)) }
+{
+    for column in 1..=size {
+        push_column(edges, size, column)?;
+    }
+    Ok(())
 }

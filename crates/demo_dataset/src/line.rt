@@ -32,31 +32,63 @@ pub(crate) fn all_lines(alloc: Global, size: u32) -> Result<Vec<Line>, NoMemory>
     if size < 2 {
         return Ok(lines);
     }
-    push_straight_lines(alloc, &mut lines, size)?;
+    push_row_lines(alloc, &mut lines, size)?;
+    push_column_lines(alloc, &mut lines, size)?;
     push_bent_lines(alloc, &mut lines, size)?;
     Ok(lines)
 }
 
-// Appends the lines along the rows, and those down the columns.
-fn push_straight_lines(alloc: Global, lines: &mut Vec<Line>, size: u32) -> Result<(), NoMemory>
-    requires { size ≤ 8 }
-    ensures { OnOk result (lines.new.items ≡ lines.old.items
-        ++ map (row_line size) (one_to size) ++ map (column_line size) (one_to size)) }
+// Appends the lines along the rows.
+fn push_row_lines(alloc: Global, lines: &mut Vec<Line>, size: u32) -> Result<(), NoMemory>
+    requires some { 1 ≤ size }
+    requires few { size ≤ 8 }
+    ensures { OnOk result (lines.new.items
+        ≡ lines.old.items ++ map (row_line size) (one_to size)) }
 {
     for row in 1..=size {
-        let mut edges = Vec::new(alloc);
-        push_row(&mut edges, size, row)?;
-        lines.push(Line { id: row, edges })?;
-    }
-    for column in 1..=size {
-        let mut edges = Vec::new(alloc);
-        push_column(&mut edges, size, column)?;
-        lines.push(Line {
-            id: size + column,
-            edges,
-        })?;
+        lines.push(row_line(alloc, size, row)?)?;
     }
     Ok(())
+}
+
+// Appends the lines down the columns.
+fn push_column_lines(alloc: Global, lines: &mut Vec<Line>, size: u32) -> Result<(), NoMemory>
+    requires some { 1 ≤ size }
+    requires few { size ≤ 8 }
+    ensures { OnOk result (lines.new.items
+        ≡ lines.old.items ++ map (column_line size) (one_to size)) }
+{
+    for column in 1..=size {
+        lines.push(column_line(alloc, size, column)?)?;
+    }
+    Ok(())
+}
+
+// The line along a row.
+fn row_line(alloc: Global, size: u32, row: u32) -> Result<Line, NoMemory>
+    requires size { size ≤ 8 }
+    requires first { 1 ≤ row }
+    requires row { row ≤ size }
+    ensures { IfOk result (λ line. line ≡ row_line size row) }
+{
+    let mut edges = Vec::new(alloc);
+    push_row(&mut edges, size, row)?;
+    Ok(Line { id: row, edges })
+}
+
+// The line down a column.
+fn column_line(alloc: Global, size: u32, column: u32) -> Result<Line, NoMemory>
+    requires size { size ≤ 8 }
+    requires first { 1 ≤ column }
+    requires column { column ≤ size }
+    ensures { IfOk result (λ line. line ≡ column_line size column) }
+{
+    let mut edges = Vec::new(alloc);
+    push_column(&mut edges, size, column)?;
+    Ok(Line {
+        id: size + column,
+        edges,
+    })
 }
 
 // Appends the two lines with a corner.

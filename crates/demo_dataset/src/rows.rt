@@ -1,8 +1,8 @@
 // The texts of the files of a demo dataset.
-ghost use Rattle.std.specs.Prelude.{◌≡◌, ◌≤◌, ◌++◌, ◌<◌, ◌^◌, ◌∷◌, [], IfOk, OnOk, ℕ, length};
+ghost use Rattle.std.specs.Prelude.{◌≡◌, ◌≤◌, ◌++◌, ◌<◌, ◌^◌, ◌∷◌, [], ◌+◌, IfOk, OnOk};
 ghost use Rattle.std.specs.List.{flat_map};
 ghost use Rattle.demo_dataset.specs.Demo.{stop_text, stops_in};
-ghost use Rattle.demo_dataset.specs.Rows.{stop_row, edge_row, demand_row, demand_rows, pool_row, line_rows, customers};
+ghost use Rattle.demo_dataset.specs.Rows.{stop_row, edge_row, demand_row, demand_rows, pool_row, line_rows, walk_rows, customers};
 
 use crate::edge::{Edge, stop_id};
 use crate::line::Line;
@@ -11,7 +11,8 @@ use std::alloc::Global;
 
 /// The text of all stops, row by row.
 pub(crate) fn stop_text(alloc: Global, size: u32) -> Result<Vec<u8>, NoMemory>
-    requires { size ≤ 8 }
+    requires some { 1 ≤ size }
+    requires few { size ≤ 8 }
     ensures { IfOk result (λ text. text.items ≡ stop_text size) }
 {
     let mut text = Vec::new(alloc);
@@ -23,7 +24,8 @@ pub(crate) fn stop_text(alloc: Global, size: u32) -> Result<Vec<u8>, NoMemory>
 
 // Appends the stops of one row.
 fn push_stops(alloc: Global, text: &mut Vec<u8>, size: u32, row: u32) -> Result<(), NoMemory>
-    requires size { size ≤ 8 }
+    requires some { 1 ≤ size }
+    requires few { size ≤ 8 }
     requires row { row ≤ size }
     ensures { OnOk result (text.new.items ≡ text.old.items ++ stops_in size row) }
 {
@@ -122,8 +124,15 @@ pub(crate) fn pool_text(alloc: Global, lines: &[Line]) -> Result<Vec<u8>, NoMemo
 fn push_line(alloc: Global, text: &mut Vec<u8>, line: &Line) -> Result<(), NoMemory>
     ensures { OnOk result (text.new.items ≡ text.old.items ++ line_rows line.now) }
 {
-    for (index, edge) in line.edges.iter().enumerate() {
-        push_line_edge(alloc, text, line.id, index, edge.id)?;
+    push_walk(alloc, text, line.id, &line.edges)
+}
+
+// Appends the edges of a line by its id.
+fn push_walk(alloc: Global, text: &mut Vec<u8>, line: u32, edges: &[Edge]) -> Result<(), NoMemory>
+    ensures { OnOk result (text.new.items ≡ text.old.items ++ walk_rows line edges.now) }
+{
+    for (index, edge) in edges.iter().enumerate() {
+        push_line_edge(alloc, text, line, index, *edge)?;
     }
     Ok(())
 }
@@ -134,14 +143,15 @@ fn push_line_edge(
     text: &mut Vec<u8>,
     line: u32,
     index: usize,
-    edge: u32,
+    edge: Edge,
 ) -> Result<(), NoMemory>
     requires { index < 2 ^ 62 }
     ensures { OnOk result (text.new.items ≡ text.old.items
-        ++ pool_row line (index + 1) edge) }
+        ++ pool_row line (index + 1) edge.id) }
 {
     let order = index + 1;
-    let row = format!(in alloc; "{line}; {order}; {edge}\n")?;
+    let Edge { id, .. } = edge;
+    let row = format!(in alloc; "{line}; {order}; {id}\n")?;
     text.extend_from_slice(row.as_bytes())?;
     Ok(())
 }

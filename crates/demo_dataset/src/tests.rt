@@ -4,8 +4,11 @@ use plan_files::SteadyFiles;
 use std::test::Fail;
 
 const STOP: &str = "basis/Stop.giv";
+
 const EDGE: &str = "basis/Edge.giv";
+
 const POOL: &str = "basis/Pool.giv";
+
 const DEMAND: &str = "basis/OD.giv";
 
 // The rows of a file.
