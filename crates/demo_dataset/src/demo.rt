@@ -3,6 +3,7 @@ ghost use Rattle.std.specs.Prelude.{◌≡◌, ◌≤◌, ◌++◌, ◌∷◌, [
 ghost use Rattle.plan_files.specs.declared.write.Write.TheVariants.{Put};
 ghost use Rattle.plan_files.specs.Changes.{folder_of};
 ghost use Rattle.demo_dataset.specs.Demo.{demo_folder, demo_writes};
+ghost use Rattle.demo_dataset.specs.Square.{IsNumbered};
 
 use crate::edge::all_edges;
 use crate::line::all_lines;
@@ -18,6 +19,7 @@ pub fn demo_files(alloc: Global, n: u8) -> Result<SteadyFiles, NoMemory>
     requires few { n ≤ 8 }
     ensures contents { IfOk result (λ files. folder_of files ≡ demo_folder n) }
     ensures writes { IfOk result (λ files. files ≡ demo_writes n) }
+    ensures numbered { OnOk result (IsNumbered n) }
 {
     let size = u32::from(n);
     let edges = all_edges(alloc, size)?;
