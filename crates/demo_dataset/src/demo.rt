@@ -33,7 +33,7 @@ pub fn demo_files(alloc: Global, n: u8) -> Result<SteadyFiles, NoMemory>
     Ok(files)
 }
 
-// Puts a text under a name.
+// Puts a text under a name. These files want memory, and nothing else.
 fn put(files: &mut SteadyFiles, name: &str, text: &[u8]) -> Result<(), NoMemory>
     ensures { OnOk result (files.new ≡ files.old ++ Put name.now text.now ∷ []) }
 {

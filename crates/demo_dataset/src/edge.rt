@@ -18,11 +18,12 @@ pub(crate) struct Edge {
 /// The id of the stop in a row and a column, from 1 on, of a square of this size.
 pub(crate) fn stop_id(size: u32, row: u32, column: u32) -> u32
     requires size { size ≤ 8 }
-    requires row { row ≤ 9 }
-    requires column { column ≤ 9 }
+    requires first { 1 ≤ row }
+    requires row { row ≤ 8 }
+    requires column { column ≤ 8 }
     ensures { result ≡ stop_id size row column }
 {
-    row.saturating_sub(1) * size + column
+    (row - 1) * size + column
 }
 
 /// The edge from a stop to the next one in its row.
@@ -47,6 +48,7 @@ fn edge_down(size: u32, column: u32, row: u32) -> Edge
     requires size { size ≤ 8 }
     requires first { 1 ≤ column }
     requires column { column ≤ size }
+    requires top { 1 ≤ row }
     requires row { row < size }
     ensures { result ≡ edge_down size column row }
 {

@@ -26,6 +26,7 @@ pub(crate) fn stop_text(alloc: Global, size: u32) -> Result<Vec<u8>, NoMemory>
 fn push_stops(alloc: Global, text: &mut Vec<u8>, size: u32, row: u32) -> Result<(), NoMemory>
     requires some { 1 ≤ size }
     requires few { size ≤ 8 }
+    requires first { 1 ≤ row }
     requires row { row ≤ size }
     ensures { OnOk result (text.new.items ≡ text.old.items ++ stops_in size row) }
 {
