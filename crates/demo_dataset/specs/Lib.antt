@@ -1,0 +1,4 @@
+pub mod Demo
+pub mod Grid
+pub mod Rows
+pub mod Square

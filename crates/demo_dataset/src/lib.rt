@@ -1,0 +1,12 @@
+//! A demo dataset made from a number: stops in the rows and columns of a square, edges between
+//! neighbours, lines along them, and demand along each edge.
+#![tactic(auto)]
+
+mod demo;
+mod edge;
+mod line;
+mod rows;
+#[cfg(test)]
+mod tests;
+
+pub use demo::demo_files;

@@ -1,0 +1,64 @@
+// Two small datasets written out, and the largest one counted.
+use crate::demo_files;
+use plan_files::SteadyFiles;
+use std::test::Fail;
+
+const STOP: &str = "basis/Stop.giv";
+
+const EDGE: &str = "basis/Edge.giv";
+
+const POOL: &str = "basis/Pool.giv";
+
+const DEMAND: &str = "basis/OD.giv";
+
+// The rows of a file.
+fn rows_of<'a>(files: &'a SteadyFiles, name: &str) -> Result<&'a str, Fail> {
+    let text = files.file(name).ok_or("no file")?;
+    Ok(str::from_utf8(text.as_bytes()).ok().ok_or("no text")?)
+}
+
+#[test]
+fn one_stop_has_no_edges(rt: HostRuntime) -> Result<(), Fail> {
+    let files = demo_files(rt.alloc(), 1)?;
+    let names = ["basis/Config.cnf", STOP, EDGE, POOL, DEMAND];
+    let texts = ["", "1; s; s; 0; 0\n", "", "", ""];
+    assert_eq!(rt; files.write_count(), 5);
+    for (name, text) in names.iter().zip(&texts) {
+        assert_eq!(rt; rows_of(&files, name)?, *text, "{name}");
+    }
+    Ok(())
+}
+
+#[test]
+fn four_stops_have_six_lines(rt: HostRuntime) -> Result<(), Fail> {
+    let files = demo_files(rt.alloc(), 2)?;
+    let stops = "1; s; s; 0; 0\n2; s; s; 0; 0\n3; s; s; 0; 0\n4; s; s; 0; 0\n";
+    let edges = "1; 1; 2; 1; 4; 5\n2; 3; 4; 1; 5; 6\n3; 1; 3; 1; 3; 4\n4; 2; 4; 1; 4; 5\n";
+    let lines = "1; 1; 1\n2; 1; 2\n3; 1; 3\n4; 1; 4\n5; 1; 1\n5; 2; 4\n6; 1; 3\n6; 2; 2\n";
+    let demand = "1; 2; 67\n2; 1; 67\n3; 4; 63\n4; 3; 63\n1; 3; 59\n3; 1; 59\n2; 4; 55\n4; 2; 55\n";
+    assert_eq!(rt; files.write_count(), 5);
+    assert_eq!(rt; rows_of(&files, "basis/Config.cnf")?, "");
+    assert_eq!(rt; rows_of(&files, STOP)?, stops);
+    assert_eq!(rt; rows_of(&files, EDGE)?, edges);
+    assert_eq!(rt; rows_of(&files, POOL)?, lines);
+    assert_eq!(rt; rows_of(&files, DEMAND)?, demand);
+    Ok(())
+}
+
+#[test]
+fn the_largest_has_eighteen_lines(rt: HostRuntime) -> Result<(), Fail> {
+    let files = demo_files(rt.alloc(), 8)?;
+    let files_rows = [
+        (STOP, 64, "1; s; s; 0; 0", "64; s; s; 0; 0"),
+        (EDGE, 112, "1; 1; 2; 1; 4; 5", "112; 56; 64; 1; 4; 5"),
+        (POOL, 140, "1; 1; 1", "18; 14; 56"),
+        (DEMAND, 224, "1; 2; 67", "64; 56; 33"),
+    ];
+    for (name, count, first, last) in files_rows {
+        let rows = rows_of(&files, name)?;
+        assert_eq!(rt; rows.lines().count(), count, "{name}");
+        assert_eq!(rt; rows.lines().next(), Some(first), "{name}");
+        assert_eq!(rt; rows.lines().last(), Some(last), "{name}");
+    }
+    Ok(())
+}
