@@ -55,6 +55,8 @@ mod check_tests;
 #[cfg(test)]
 mod concept_tests;
 #[cfg(test)]
+mod demo_tests;
+#[cfg(test)]
 mod ean_tests;
 #[cfg(test)]
 mod forged_tests;
@@ -66,6 +68,8 @@ mod refused_tests;
 mod rollout_tests;
 #[cfg(test)]
 mod spies;
+#[cfg(test)]
+mod status_tests;
 #[cfg(test)]
 mod tests;
 #[cfg(test)]

@@ -209,7 +209,7 @@ fn other_words_are_usage(rt: HostRuntime) -> Result<(), Fail> {
         assert_eq!(rt; status.number(), 2);
         assert_eq!(rt;
             out.bytes(),
-            b"usage: lintim make | fresh | check\n".as_slice()
+            b"usage: lintim make | fresh | check | status | demo N\n".as_slice()
         );
         assert_eq!(rt; steps.ledger().seen(), 0);
     }
