@@ -1,6 +1,6 @@
 // Files in memory, of which listed calls fail.
 ghost use Rattle.std.specs.Prelude.{◌≡◌, ◌≤◌, ◌<◌, length, Some, None, is_some, take, IfOk, OnErr};
-ghost use Rattle.std.specs.Prelude.{OnOk};
+ghost use Rattle.std.specs.Prelude.{OnOk, false};
 ghost use Rattle.std.specs.List.{slice_get};
 ghost use Rattle.std.specs.Option.{option_copied, option_map};
 ghost use Rattle.std.specs.FinMap as map;
@@ -41,7 +41,7 @@ impl Model for MemoryFiles {
     ghost Value = { Stored };
 
     ghost view = { λ files. record {
-        folder = folder_of files.left;
+        changes = files.left;
         writes = files.told;
         plan = files.plan;
     } };
@@ -87,7 +87,7 @@ impl MemoryFiles {
 
     /// The bytes under a name.
     pub fn file(&self, name: &str) -> Option<&Text>
-        ensures { option_copied result ≡ map.get self.now.folder name.now }
+        ensures { option_copied result ≡ map.get (folder_of self.now.changes) name.now }
     {
         self.left.file(name)
     }
@@ -118,7 +118,7 @@ impl MemoryFiles {
 
     // Makes a write and notes it. On an error all is as before.
     fn make(&mut self, write: &Write) -> Result<(), FileFault>
-        ensures contents { Leaves write.now (Some self.old.folder) (Some self.new.folder) result }
+        ensures contents { Leaves write.now (Some (folder_of self.old.changes)) (Some (folder_of self.new.changes)) result }
         ensures writes { Notes write.now (Some self.old.writes) (Some self.new.writes) result }
         ensures steady { has_failed result ≡ false }
         ensures plan { self.new.plan ≡ self.old.plan }
@@ -134,9 +134,9 @@ impl MemoryFiles {
 
     // Leaves what a failed put keeps, or counts that memory for it was refused.
     fn keep_front(&mut self, name: &str, bytes: &[u8], kept: Option<u64>)
-        ensures left { LeavesFront (λ count. map.insert self.old.folder name.now
+        ensures left { LeavesFront (λ count. map.insert (folder_of self.old.changes) name.now
             (take count bytes.now)) kept
-            self.old.folder self.new.folder self.old.plan self.new.plan }
+            (folder_of self.old.changes) (folder_of self.new.changes) self.old.plan self.new.plan }
         ensures writes { self.new.writes ≡ self.old.writes }
     {
         if let Some(kept) = kept {
@@ -148,14 +148,14 @@ impl MemoryFiles {
 }
 
 impl Files for MemoryFiles {
-    ghost contents = { λ files. Some files.folder };
+    ghost contents = { λ files. Some (folder_of files.changes) };
 
     ghost writes = { λ files. Some files.writes };
 
     ghost faults = { λ files. files.plan.failed };
 
     fn get(&mut self, alloc: Global, name: &str, limit: u64) -> Result<Got, FileFault>
-        ensures got { IfOk result (λ got. got ≡ got_of self.old.folder name.now limit) }
+        ensures got { IfOk result (λ got. got ≡ got_of (folder_of self.old.changes) name.now limit) }
         ensures within { IfOk result (KeepsLimit limit) }
         ensures faults { Counts (has_failed result) self.old.plan.failed self.new.plan.failed }
         ensures capped { self.new.plan.failed ≤ last_count }
@@ -172,7 +172,7 @@ impl Files for MemoryFiles {
 
     fn put(&mut self, name: &str, bytes: &[u8]) -> Result<(), FileFault>
         ensures contents { Leaves (Put name.now bytes.now)
-            (Some self.old.folder) (Some self.new.folder) result }
+            (Some (folder_of self.old.changes)) (Some (folder_of self.new.changes)) result }
         ensures writes { Notes (Put name.now bytes.now)
             (Some self.old.writes) (Some self.new.writes) result }
         ensures faults { Counts (has_failed result) self.old.plan.failed self.new.plan.failed }
@@ -180,9 +180,9 @@ impl Files for MemoryFiles {
 
         // It fails exactly where a fault is due, which says what is left then.
         ensures fails { has_failed result ≡ is_some (due self.old.plan) }
-        ensures left { FaultLeaves (λ kept. map.insert self.old.folder name.now
+        ensures left { FaultLeaves (λ kept. map.insert (folder_of self.old.changes) name.now
             (take kept bytes.now)) (due self.old.plan)
-            self.old.folder self.new.folder self.old.plan self.new.plan }
+            (folder_of self.old.changes) (folder_of self.new.changes) self.old.plan self.new.plan }
     {
         match self.plan.next_call() {
             None => {
@@ -199,17 +199,17 @@ impl Files for MemoryFiles {
 
     fn remove(&mut self, name: &str) -> Result<(), FileFault>
         ensures contents { Leaves (Removal name.now)
-            (Some self.old.folder) (Some self.new.folder) result }
+            (Some (folder_of self.old.changes)) (Some (folder_of self.new.changes)) result }
         ensures writes { Notes (Removal name.now)
             (Some self.old.writes) (Some self.new.writes) result }
         ensures faults { Counts (has_failed result) self.old.plan.failed self.new.plan.failed }
         ensures capped { self.new.plan.failed ≤ last_count }
-        ensures absent { map.get self.old.folder name.now ≡ None
-            → self.new.folder ≡ self.old.folder }
+        ensures absent { map.get (folder_of self.old.changes) name.now ≡ None
+            → (folder_of self.new.changes) ≡ (folder_of self.old.changes) }
 
         // It fails exactly where a fault is due, and then the file stays.
         ensures fails { has_failed result ≡ is_some (due self.old.plan) }
-        ensures stays { OnErr result (self.new.folder ≡ self.old.folder) }
+        ensures stays { OnErr result ((folder_of self.new.changes) ≡ (folder_of self.old.changes)) }
         ensures plan { self.new.plan ≡ after_call self.old.plan }
     {
         match self.plan.next_call() {
