@@ -33,10 +33,10 @@ impl Model for FaultPlan {
     ghost Value = { Planned };
 
     ghost view = { λ plan. record {
-        calls = plan.calls;
-        listed = plan.listed.items;
-        failed = plan.failed;
-        unkept = plan.unkept;
+      calls = plan.calls;
+      listed = plan.listed.items;
+      failed = plan.failed;
+      unkept = plan.unkept;
     } };
 }
 

@@ -23,8 +23,11 @@ use plan_num::{NoMemory, Text};
 use std::alloc::Global;
 use std::marker::Model;
 
-/// Files in memory. Of the calls of `get`, `put` and `remove`, which count from 1, those that are
+/// Files in memory. The calls of `get`, `put` and `remove` are numbered from 1, and those that are
 /// listed fail, and no others.
+///
+/// A put that is listed fails also where memory for the bytes that it is to keep is refused. Then
+/// the old file stays, and `unkept` counts it.
 #[derive(Debug, Drop)]
 pub struct MemoryFiles {
     alloc: Global,
@@ -41,9 +44,9 @@ impl Model for MemoryFiles {
     ghost Value = { Stored };
 
     ghost view = { λ files. record {
-        changes = files.left;
-        writes = files.told;
-        plan = files.plan;
+      changes = files.left;
+      writes = files.told;
+      plan = files.plan;
     } };
 }
 
@@ -60,9 +63,10 @@ impl MemoryFiles {
         }
     }
 
-    /// The call with this number is to fail. A put leaves the first `kept` bytes then, or all where
-    /// there are fewer, or the old file for None. Where a call is listed twice the last time
-    /// counts; one that has passed is not made again. On an error all is as before.
+    /// Lists a call, which then fails. A put leaves the first `kept` bytes, or all where there are
+    /// fewer, or the old file for None; another call leaves all as it was. Where a call is listed
+    /// twice the last time counts, and to list one that has passed does nothing. On an error
+    /// nothing more is listed.
     pub fn fail_at(&mut self, call: u64, kept: Option<u64>) -> Result<(), NoMemory>
         ensures ok { OnOk result
             (self.new ≡ record self.old { plan = with_fault self.old.plan call kept }) }
@@ -118,7 +122,8 @@ impl MemoryFiles {
 
     // Makes a write and notes it. On an error all is as before.
     fn make(&mut self, write: &Write) -> Result<(), FileFault>
-        ensures contents { Leaves write.now (Some (folder_of self.old.changes)) (Some (folder_of self.new.changes)) result }
+        ensures contents { Leaves write.now
+            (Some (folder_of self.old.changes)) (Some (folder_of self.new.changes)) result }
         ensures writes { Notes write.now (Some self.old.writes) (Some self.new.writes) result }
         ensures steady { has_failed result ≡ false }
         ensures plan { self.new.plan ≡ self.old.plan }
@@ -205,11 +210,11 @@ impl Files for MemoryFiles {
         ensures faults { Counts (has_failed result) self.old.plan.failed self.new.plan.failed }
         ensures capped { self.new.plan.failed ≤ last_count }
         ensures absent { map.get (folder_of self.old.changes) name.now ≡ None
-            → (folder_of self.new.changes) ≡ (folder_of self.old.changes) }
+            → folder_of self.new.changes ≡ folder_of self.old.changes }
 
         // It fails exactly where a fault is due, and then the file stays.
         ensures fails { has_failed result ≡ is_some (due self.old.plan) }
-        ensures stays { OnErr result ((folder_of self.new.changes) ≡ (folder_of self.old.changes)) }
+        ensures stays { OnErr result (folder_of self.new.changes ≡ folder_of self.old.changes) }
         ensures plan { self.new.plan ≡ after_call self.old.plan }
     {
         match self.plan.next_call() {
@@ -219,5 +224,103 @@ impl Files for MemoryFiles {
             }
             Some(_) => Err(FileFault::Failed),
         }
+    }
+}
+
+#[cfg(test)]
+mod tests {
+    use super::*;
+    use crate::drive::{Call, drive};
+    use std::process::Abort;
+    use std::test::Fail;
+
+    // The writes that are listed are these puts and removals, in order.
+    fn wrote(rt: &impl Abort, files: &MemoryFiles, writes: &[(&str, bool)]) {
+        assert_eq!(rt; files.write_count(), writes.len());
+        for (index, (name, is_put)) in writes.iter().enumerate() {
+            assert_eq!(rt; files.write_name(index), *name, "write {index}");
+            assert_eq!(rt; files.write_is_put(index), *is_put, "write {index}");
+        }
+    }
+
+    #[test]
+    fn failed_puts_leave_a_front_part(rt: HostRuntime) -> Result<(), Fail> {
+        for (kept, left) in [
+            (None, "old"),
+            (Some(0), ""),
+            (Some(1), "n"),
+            (Some(9), "new"),
+        ] {
+            let mut files = MemoryFiles::new(rt.alloc());
+            files.fail_at(2, kept)?;
+            let rows = [
+                (Call::Put("Report", "old"), "done"),
+                (Call::Put("Report", "new"), "file fault"),
+                (Call::Get("Report", 9), left),
+                (Call::Put("Report", "next"), "done"),
+                (Call::Get("Report", 9), "next"),
+            ];
+            drive(&rt, rt.alloc(), &mut files, &rows)?;
+            assert_eq!(rt; files.calls(), 5, "{kept:?}");
+            wrote(&rt, &files, &[("Report", true), ("Report", true)]);
+            assert_eq!(rt; files.unkept(), 0, "{kept:?}");
+        }
+        Ok(())
+    }
+
+    #[test]
+    fn other_failed_calls_change_nothing(rt: HostRuntime) -> Result<(), Fail> {
+        let mut files = MemoryFiles::new(rt.alloc());
+        for (call, kept) in [
+            (2, Some(1)),
+            (3, None),
+            (5, Some(0)),
+            (7, Some(9)),
+            (7, Some(2)),
+        ] {
+            files.fail_at(call, kept)?;
+        }
+        let rows = [
+            (Call::Put("basis/Stop.giv", "1; A"), "done"),
+            (Call::Get("basis/Stop.giv", 9), "file fault"),
+            (Call::Remove("basis/Stop.giv"), "file fault"),
+            (Call::Get("basis/Stop.giv", 9), "1; A"),
+            (Call::Remove("basis/Edge.giv"), "file fault"),
+            (Call::Remove("basis/Stop.giv"), "done"),
+            // listed twice, and the last time counts
+            (Call::Put("basis/Edge.giv", "2; B"), "file fault"),
+            (Call::Get("basis/Stop.giv", 9), "absent"),
+        ];
+        drive(&rt, rt.alloc(), &mut files, &rows)?;
+        let edges = files.file("basis/Edge.giv").ok_or("no file")?;
+        assert_eq!(rt; edges.as_bytes(), b"2;".as_slice());
+        assert!(rt; files.file("basis/Stop.giv").is_none());
+        assert_eq!(rt; files.calls(), 8);
+        wrote(
+            &rt,
+            &files,
+            &[("basis/Stop.giv", true), ("basis/Stop.giv", false)],
+        );
+        Ok(())
+    }
+
+    #[test]
+    fn a_call_that_has_passed_does_not_fail(rt: HostRuntime) -> Result<(), Fail> {
+        let mut files = MemoryFiles::new(rt.alloc());
+        let first = [
+            (Call::Put("Report", "1"), "done"),
+            (Call::Get("Report", 1), "1"),
+        ];
+        drive(&rt, rt.alloc(), &mut files, &first)?;
+        for call in [0, 1, 2] {
+            files.fail_at(call, None)?;
+        }
+        let later = [
+            (Call::Put("Report", "2"), "done"),
+            (Call::Get("Report", 1), "2"),
+        ];
+        drive(&rt, rt.alloc(), &mut files, &later)?;
+        assert_eq!(rt; files.calls(), 4);
+        Ok(())
     }
 }

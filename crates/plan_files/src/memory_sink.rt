@@ -1,5 +1,5 @@
 // A sink in memory.
-ghost use Rattle.std.specs.Prelude.{◌≡◌, ◌++◌, ◌≤◌, [], Some, is_some, take, OnErr, OnOk};
+ghost use Rattle.std.specs.Prelude.{◌≡◌, ◌++◌, ◌≤◌, [], false, Some, is_some, take, OnErr, OnOk};
 ghost use Rattle.plan_files.specs.Counts.{Counts, last_count};
 ghost use Rattle.plan_files.specs.Planned.{due, no_plan, with_fault, FaultLeaves, LeavesFront};
 ghost use Rattle.plan_files.specs.Sinks.{WriteLeaves, is_broken};
@@ -11,7 +11,11 @@ use plan_num::NoMemory;
 use std::alloc::Global;
 use std::marker::Model;
 
-/// A sink that keeps the pieces in memory. It fails at the calls that are listed, and at no others.
+/// A sink that keeps the pieces in memory. Its writes are numbered from 1, and those that are listed
+/// fail, and no others.
+///
+/// A write that is listed fails also where memory for the bytes that it is to append is refused.
+/// Then it appends nothing, and `unkept` counts it.
 #[derive(Debug, Drop)]
 pub struct MemorySink {
     bytes: Vec<u8>,
@@ -45,9 +49,9 @@ impl MemorySink {
         self.bytes.as_slice()
     }
 
-    /// The write with this number, where they count from 1, is to fail. It appends the first
-    /// `kept` bytes of its piece, or all where there are fewer. Where a call is listed twice the
-    /// last time counts; one that has passed is not made again. On an error all is as before.
+    /// Lists a write, which then fails: it appends the first `kept` bytes of its piece, or all where
+    /// there are fewer. Where a write is listed twice the last time counts, and to list one that
+    /// has passed does nothing. On an error nothing more is listed.
     pub fn fail_at(&mut self, call: u64, kept: u64) -> Result<(), NoMemory>
         ensures bytes { self.new.bytes ≡ self.old.bytes }
         ensures ok { OnOk result (self.new.plan ≡ with_fault self.old.plan call (Some kept)) }
@@ -116,12 +120,44 @@ mod tests {
         Ok(())
     }
 
+    // Where no write is listed none fails, so a caller knows.
+    fn write_steadily(sink: &mut MemorySink, piece: &[u8]) -> Result<(), SinkFault>
+        requires { sink.old.plan.listed ≡ [] }
+        ensures steady { is_broken result ≡ false }
+        ensures listed { sink.new.plan.listed ≡ [] }
+    {
+        sink.write(piece)
+    }
+
     #[test]
     fn keeps_pieces(rt: HostRuntime) -> Result<(), Fail> {
         let mut sink = MemorySink::new(rt.alloc());
         assert_eq!(rt; sink.bytes(), b"".as_slice());
-        write_all(&mut sink, &["cost: 2 lines\n", "", "done\n"])?;
+        write_steadily(&mut sink, b"cost: 2 lines\n")?;
+        write_all(&mut sink, &["", "done\n"])?;
         assert_eq!(rt; sink.bytes(), b"cost: 2 lines\ndone\n".as_slice());
+        Ok(())
+    }
+
+    #[test]
+    fn listed_writes_fail(rt: HostRuntime) -> Result<(), Fail> {
+        let mut sink = MemorySink::new(rt.alloc());
+        for (call, kept) in [(2, 5), (4, 9), (5, 9), (5, 0)] {
+            sink.fail_at(call, kept)?;
+        }
+        let rows = [
+            ("cost\n", Ok(()), "cost\n"),
+            ("2 lines\n", Err(SinkFault::Failed), "cost\n2 lin"),
+            ("es\n", Ok(()), "cost\n2 lines\n"),
+            ("done\n", Err(SinkFault::Failed), "cost\n2 lines\ndone\n"),
+            ("more", Err(SinkFault::Failed), "cost\n2 lines\ndone\n"),
+            ("", Ok(()), "cost\n2 lines\ndone\n"),
+        ];
+        for (piece, answer, written) in rows {
+            assert_eq!(rt; write_all(&mut sink, &[piece]), answer, "{piece:?}");
+            assert_eq!(rt; sink.bytes(), written.as_bytes(), "{piece:?}");
+        }
+        assert_eq!(rt; sink.unkept(), 0);
         Ok(())
     }
 }
