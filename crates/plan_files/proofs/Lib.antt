@@ -1,4 +1,5 @@
 pub mod Applying
+pub mod Failing
 pub mod OtherFiles
 pub mod Reading
 pub mod Writes

@@ -1,6 +1,7 @@
 -- A call on a file leaves every other one as it was.
 use Rattle.std.proofs.Common.{◌≡◌, ◌≢◌, ℕ, Bool, true, false, List, [], ◌∷◌, ◌++◌, Option, Some}
 use Rattle.std.proofs.Common.{None, refl, ap, sym, subst, ◌∙◌, cond, take, nat_cmp, ⊎_elim}
+use Rattle.std.proofs.Common.{Result, Ok, Err, unwrap_or}
 use Rattle.std.specs.Str.{bytes_eq}
 use Rattle.std.specs.Ordering.{eq_by_cmp}
 use Rattle.std.specs.Option.{option_map}
@@ -14,9 +15,9 @@ use Rattle.plan_files.specs.declared.file_fault.FileFault.{FileFault}
 use Rattle.plan_files.specs.declared.file_fault.FileFault.TheVariants.{Failed, NoMemory}
 use Rattle.plan_files.specs.declared.write.Write.{Write}
 use Rattle.plan_files.specs.declared.write.Write.TheVariants.{Put, Removal}
-use Rattle.plan_files.specs.Applied.{AreApplied, AreCutShort, IsTorn, LeftBy}
+use Rattle.plan_files.specs.Applied.{AreApplied, AreCutShort, IsTorn, LeftBy, Leaves}
 use Rattle.plan_files.specs.Changes.{after_write, folder_after, folder_of, write_name}
-use Rattle.plan_files.specs.Folder.{Folder}
+use Rattle.plan_files.specs.Folder.{Folder, has_failed}
 use Rattle.plan_files.specs.Others.{SameBut, AreOutside}
 use Rattle.plan_files.proofs.Writes.{folder_after_push, get_written}
 
@@ -70,14 +71,27 @@ absent_stays folder name other true same absent = sym (ap (map.get folder) (same
 absent_stays folder name other false same absent = refl
 
 -- a folder without a name stays as it is where the name is removed
+absent_removed : (folder : Folder) (name : List ℕ) → map.get folder name ≡ None
+    → map.remove folder name ≡ folder
+absent_removed folder name absent =
+    same_folder (map.remove folder name) folder (λ other. get_written (Removal name) folder other
+    ∙ absent_stays folder name other (bytes_eq other name) (bytes_eq-Decides other name).0 absent)
+
 pub remove_absent : (writes : List Write) (name : List ℕ) → map.get (folder_of writes) name ≡ None
     → folder_of (writes ++ Removal name ∷ []) ≡ folder_of writes
 remove_absent writes name absent =
-    let before = folder_of writes in
     folder_after_push writes (Removal name) map.empty
-    ∙ same_folder (map.remove before name) before (λ other.
-    get_written (Removal name) before other
-    ∙ absent_stays before name other (bytes_eq other name) (bytes_eq-Decides other name).0 absent)
+    ∙ absent_removed (folder_of writes) name absent
+
+-- so it does after a call that removes the name and does not fail
+pub absent_left : (result : Result Unit FileFault) (folder new : Folder) (name : List ℕ)
+    → has_failed result ≡ false → Leaves (Removal name) (Some folder) (Some new) result
+    → map.get folder name ≡ None → new ≡ folder
+absent_left (Ok _) folder new name steady left absent =
+    ap (λ told. unwrap_or told folder) left ∙ absent_removed folder name absent
+absent_left (Err Failed) folder new name steady left absent = absurd (false≢true (sym steady))
+absent_left (Err NoMemory) folder new name steady left absent =
+    ap (λ told. unwrap_or told folder) left
 
 part_kept : (test : List ℕ → Bool) (name : List ℕ) (old new : Folder) → test name ≡ false
     → SameBut name old new → (b : Bool) (other : List ℕ) → test other ≡ b

@@ -4,5 +4,7 @@ pub mod Counts
 pub mod Folder
 pub mod Kinds
 pub mod Others
+pub mod Planned
 pub mod Reads
 pub mod Sinks
+pub mod Stored

@@ -24,7 +24,7 @@ pub fn apply_all<F: Files>(files: &mut F, writes: &[Write]) -> Result<(), FileFa
 }
 
 // Makes one write.
-fn apply<F: Files>(files: &mut F, write: &Write) -> Result<(), FileFault>
+pub(crate) fn apply<F: Files>(files: &mut F, write: &Write) -> Result<(), FileFault>
     ensures contents { Leaves write.now (F.contents files.old) (F.contents files.new) result }
     ensures writes { Notes write.now (F.writes files.old) (F.writes files.new) result }
     ensures faults { Counts (has_failed result) (F.faults files.old) (F.faults files.new) }

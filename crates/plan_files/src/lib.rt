@@ -5,11 +5,13 @@
 mod apply;
 #[cfg(test)]
 mod drive;
+mod fault_plan;
 mod faults;
 mod file_fault;
 mod folder_files;
 #[cfg(test)]
 mod folder_tests;
+mod memory_files;
 mod memory_sink;
 mod name;
 mod place;
@@ -25,6 +27,7 @@ mod write;
 pub use apply::apply_all;
 pub use file_fault::FileFault;
 pub use folder_files::FolderFiles;
+pub use memory_files::MemoryFiles;
 pub use memory_sink::MemorySink;
 pub use name::Name;
 pub use sink::Sink;

@@ -1,5 +1,5 @@
 // Files in memory, of which no call fails.
-ghost use Rattle.std.specs.Prelude.{◌≡◌, ◌<◌, [], length, Some, is_some};
+ghost use Rattle.std.specs.Prelude.{◌≡◌, ◌<◌, [], length, take, Some, is_some};
 ghost use Rattle.std.specs.List.{slice_get};
 ghost use Rattle.std.specs.Option.{option_copied, option_map};
 ghost use Rattle.std.specs.FinMap as map;
@@ -76,6 +76,13 @@ impl SteadyFiles {
             ≡ option_map (λ write. is_some (left_by write)) (slice_get self.now index) }
     {
         self.writes[index].is_put()
+    }
+
+    // Takes writes back, but for the first ones.
+    pub(crate) fn truncate(&mut self, count: usize)
+        ensures { self.new ≡ take count self.old }
+    {
+        self.writes.truncate(count);
     }
 }
 
