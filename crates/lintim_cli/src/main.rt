@@ -59,7 +59,11 @@ mod demo_tests;
 #[cfg(test)]
 mod ean_tests;
 #[cfg(test)]
+mod failing_tests;
+#[cfg(test)]
 mod forged_tests;
+#[cfg(test)]
+mod hostile_tests;
 #[cfg(test)]
 mod keep_tests;
 #[cfg(test)]

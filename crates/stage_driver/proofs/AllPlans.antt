@@ -14,7 +14,7 @@ use Rattle.config_keys.specs.Config.{part_of}
 use Rattle.ptn_network.specs.Networks.{NetworkParts, network_faults, network_of}
 use Rattle.ptn_network.proofs.Sound.{network_sound}
 use Rattle.line_pool.specs.GivenCosts.{costs_of as pool_costs}
-use Rattle.line_pool.specs.Pools.{concept_faults, line_faults, pool_faults, pool_of}
+use Rattle.line_pool.specs.Pools.{line_faults, pool_faults, pool_of}
 use Rattle.line_pool.specs.RightCosts.{CostFilesAreRight}
 use Rattle.line_pool.proofs.WholeLines.{whole_lines}
 use Rattle.line_search.specs.ConceptTables.{concept_rows}

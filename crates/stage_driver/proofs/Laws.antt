@@ -1,5 +1,5 @@
 -- What each stage that is built owes to the chain: one line a stage.
-use Rattle.std.proofs.Common.{◌≡◌, ℕ, ℤ, ltb, List, filter, Result, Ok, Err, refl}
+use Rattle.std.proofs.Common.{◌≡◌, ℕ, ℤ, ltb, List, filter, Ok, Err, refl}
 use Rattle.giv_files.specs.declared.file_id.FileId.{FileId}
 use Rattle.giv_files.specs.declared.made.Made.{Made}
 use Rattle.giv_files.specs.declared.refusal.Refusal.{Refusal}

@@ -16,7 +16,7 @@ use Rattle.giv_files.proofs.Ranges.{front_none}
 use Rattle.config_keys.specs.Config.{part_of}
 use Rattle.demand_load.specs.RightLoads.{LoadFilesAreRight}
 use Rattle.ptn_network.specs.Loads.{load_input}
-use Rattle.ptn_network.specs.Inputs.{edge_input, stop_input}
+use Rattle.ptn_network.specs.Inputs.{stop_input}
 use Rattle.ptn_network.specs.Networks.{NetworkParts, network_faults, network_of, stops_of}
 use Rattle.line_pool.specs.PoolCosts.{pool_cost_input}
 use Rattle.line_pool.specs.Pools.{concept_faults, pool_of}
@@ -28,12 +28,12 @@ use Rattle.event_tables.specs.declared.trip.Trip.{Trip}
 use Rattle.event_tables.specs.ExpandedFiles.{expanded_event_input}
 use Rattle.event_tables.specs.Schedules.{schedule_input}
 use Rattle.event_tables.specs.Trips.{trip_input}
-use Rattle.event_activity.specs.EanStage.{ean_faults, events_in, rows_of}
+use Rattle.event_activity.specs.EanStage.{events_in}
 use Rattle.event_activity.specs.RightEan.{EanFilesAreRight, EanIsAccepted}
 use Rattle.pesp_model.specs.PespTexts.{activities_of, events_of, problem_faults}
 use Rattle.pesp_search.specs.RightTimetables.{TimetableFilesAreRight}
 use Rattle.pesp_search.specs.TimetableStage.{timetable_faults}
-use Rattle.roll_out.specs.RightRollout.{AtStops, IsEndAt, IsTripOver, RolloutFilesAreRight, RolloutIsAccepted}
+use Rattle.roll_out.specs.RightRollout.{AtStops, IsTripOver, RolloutFilesAreRight, RolloutIsAccepted}
 use Rattle.roll_out.specs.RolloutStage.{rollout_faults, times_in}
 use Rattle.vehicle_flow.specs.AcceptedSchedules.{IsRolledOut}
 use Rattle.vehicle_flow.specs.RightVehicles.{VehicleFilesAreRight}

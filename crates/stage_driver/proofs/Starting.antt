@@ -21,7 +21,7 @@ unfolding trace_over
 refused_in folder (config.Refused reason) count told =
     subst (λ settings. ChainGives folder (chain_under (solve_over folder) settings folder) nothing count count (Err (end_of_config (config.Refused reason)))) (sym told) (
       refl,
-      record { files = refl; report = refl; entries = refl; back = tt },
+      record { files = refl; report = refl; entries = refl; have = tt },
       omega arith,
     )
 refused_in folder config.FileFault count told = (omega arith, omega arith)

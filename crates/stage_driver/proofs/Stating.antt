@@ -1,8 +1,12 @@
 -- The states of the stages, one after the other.
-use Rattle.std.proofs.Common.{◌≡◌, ℕ, ℤ, ◌+◌, ◌<◌, ◌≤◌, List, [], ◌++◌, length, get_or, drop, Option, Some, None}
+use Rattle.std.proofs.Common.{◌≡◌, ℕ, ℤ, ◌+◌, ◌<◌, ◌≤◌, cond, List, ◌∷◌, ◌++◌, length, slice_get, get_or, drop, Option, Some, None}
 use Rattle.std.proofs.Common.{IfSome, IfOk, Result, Ok, Err, refl, ap, sym, subst, ◌∙◌, append-nil, append_assoc}
+use Rattle.std.specs.List.{list_all}
 use Rattle.std.proofs.lemmas.List.{at_drop_more, at_drop_all}
+use Rattle.std.proofs.lemmas.Option.{get_or_from_slice_get, slice_get_within}
 use Rattle.plan_files.specs.Folder.{Folder}
+use Rattle.giv_files.specs.declared.file_id.FileId.{FileId}
+use Rattle.giv_files.specs.declared.made.MadeFile.{MadeFile}
 use Rattle.giv_files.specs.declared.stage.Stage.{Stage}
 use Rattle.config_keys.specs.declared.config_end.ConfigEnd.{ConfigEnd}
 use Rattle.config_keys.specs.declared.config_end.ConfigEnd.TheVariants as config
@@ -15,8 +19,26 @@ use Rattle.stage_driver.specs.declared.outcome.ChainFault.{ChainFault}
 use Rattle.stage_driver.specs.declared.state.StatesEnd.TheVariants as end
 use Rattle.stage_driver.specs.declared.state.StatesOutcome.{StatesOutcome}
 use Rattle.stage_driver.specs.Built.{built}
+use Rattle.stage_driver.specs.Chain.{is_file}
 use Rattle.stage_driver.specs.Ends.{has_failed}
-use Rattle.stage_driver.specs.States.{KnownFiles, TellsStates, UntoldAs, holding_at, known_with, nothing_known, state_by, state_line, state_lines, states_end, states_end_under, states_of, states_under}
+use Rattle.stage_driver.specs.States.{KnownFiles, TellsStates, UntoldAs, holding_at, known_with, nothing_known, stands_as, state_by, state_line, state_lines, states_end, states_end_under, states_of, states_under, text_among}
+
+-- ---- the files of a stage that are kept
+
+-- the text of a file among those from a place on
+pub text_next : (made : List MadeFile) (i : ℕ) (other : MadeFile) (file : FileId)
+    → slice_get made i ≡ Some other
+    → text_among (drop i made) file
+    ≡ cond (is_file other.file file) (Some other.text) (text_among (drop (i + 1) made) file)
+text_next made i other file there =
+    at_drop_more (λ rest. text_among rest file) made i other (slice_get_within made i other there)
+    ∙ ap (λ (first : MadeFile). text_among (first ∷ drop (i + 1) made) file) (get_or_from_slice_get made i other other there)
+
+module _ (made : List MadeFile) where
+  -- those before the rest stand as they were made
+  abbrev pub AllLeft : List FileId → List FileId → Folder → Type 0
+  AllLeft files rest folder =
+      list_all (stands_as folder made) rest ≡ list_all (stands_as folder made) files
 
 -- ---- stages one after the other
 
@@ -52,12 +74,12 @@ module _ (values : List ℤ) where
 
   -- all lines
   pub lines_all : (contents : Option Folder) (stages : List Stage) (i : ℕ) (known : KnownFiles)
-      (lines : List ℕ) → length stages ≤ i → stages ≡ built
+      (lines text : List ℕ) → length stages ≤ i → stages ≡ built → text ≡ lines
       → IfSome contents (LinesLeft stages (drop i stages) known lines)
-      → IfSome contents (λ folder. lines ≡ state_lines folder values nothing_known built)
-  lines_all None stages i known lines past own so_far = tt
-  lines_all (Some folder) stages i known lines past own so_far =
-      sym (append-nil lines)
+      → IfSome contents (λ folder. text ≡ state_lines folder values nothing_known built)
+  lines_all None stages i known lines text past own is so_far = tt
+  lines_all (Some folder) stages i known lines text past own is so_far =
+      is ∙ sym (append-nil lines)
       ∙ sym (at_drop_all (λ rest. lines ++ state_lines folder values known rest) stages i past)
       ∙ so_far ∙ ap (state_lines folder values nothing_known) own
 

@@ -1,7 +1,7 @@
 -- The files of costs and of a line concept that were made have no fault as the statistic reads them.
-use Rattle.std.proofs.Common.{◌≡◌, ℕ, ℤ, pos, ◌≤◌, Bool, true, false, not, ◌||◌, cond, is_some, eqb, List}
-use Rattle.std.proofs.Common.{[], ◌∷◌, ◌++◌, length, map, filter, zip, get_or, unsigned_abs, Option}
-use Rattle.std.proofs.Common.{Some, None, refl, ap, subst, sym, ◌∙◌, arith}
+use Rattle.std.proofs.Common.{◌≡◌, ℕ, ℤ, pos, ◌≤◌, Bool, true, false, not, ◌||◌, cond, is_some, List}
+use Rattle.std.proofs.Common.{[], ◌∷◌, ◌++◌, length, map, filter, zip, get_or, unsigned_abs}
+use Rattle.std.proofs.Common.{Some, refl, ap, subst, sym, ◌∙◌, arith}
 use Rattle.std.specs.List.{All, AllByRecursion, IsDistinct, enumerate_from, find, flat_map, list_any}
 use Rattle.std.specs.Ordering.{int_eq}
 use Rattle.std.specs.Set.{is_member}
@@ -33,7 +33,7 @@ use Rattle.line_search.specs.GivenProblems.{costed_by, problem_of}
 use Rattle.evaluators.specs.declared.rows.CostRow.{CostRow}
 use Rattle.evaluators.specs.declared.rows.LineRow.{LineRow}
 use Rattle.evaluators.specs.FirstRows.{firsts}
-use Rattle.evaluators.specs.StatisticInputs.{concept_input, cost_input, cost_row, cost_with, differs, first_row, known_line, line_limit, line_row, lines_of, one_frequency}
+use Rattle.evaluators.specs.StatisticInputs.{concept_input, cost_input, cost_row, cost_with, differs, first_row, known_line, line_limit, line_row, one_frequency}
 use Rattle.evaluators.specs.StatisticStage.{costs_of}
 
 -- what a function gives: a line with its cost, and a line problem

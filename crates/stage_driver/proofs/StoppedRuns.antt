@@ -1,10 +1,11 @@
 -- The writes of a run are harmless, and so it may be stopped anywhere.
 use Rattle.std.proofs.Common.{◌≡◌, ℕ, ℤ, Bool, true, false, cond, not, is_some, List, [], ◌∷◌, ◌++◌, map, filter}
-use Rattle.std.proofs.Common.{take, drop, suc, Option, Some, None, IfSome, IfErr, OnOk, Result, Ok, Err, refl, ap, sym, subst, ◌∙◌}
-use Rattle.std.proofs.Common.{◌⊎◌, inl, inr, ⊎_elim, append-nil}
+use Rattle.std.proofs.Common.{take, drop, Option, Some, None, IfSome, IfErr, OnOk, Result, Ok, Err, refl, ap, sym, subst, ◌∙◌}
+use Rattle.std.proofs.Common.{inl, ⊎_elim, append-nil}
 use Rattle.std.specs.Option.{option_map}
 use Rattle.std.specs.Str.{bytes_eq}
 use Rattle.std.proofs.lemmas.Bool.{and_parts, false≢true}
+use Rattle.std.proofs.lemmas.List.{take-append-drop}
 use Rattle.std.proofs.lemmas.Option.{same_Some}
 use Rattle.std.proofs.lemmas.Slice.Eq.{bytes_eq-Decides}
 use Rattle.plan_files.specs.declared.file_fault.FileFault.TheVariants.{Failed}
@@ -22,7 +23,7 @@ use Rattle.giv_files.specs.Settings.{Fits}
 use Rattle.config_keys.specs.Config.{AreSettings}
 use Rattle.config_keys.specs.Items.{look_in}
 use Rattle.config_keys.proofs.Settling.{effective_settings}
-use Rattle.stage_keep.specs.Entries.{entry_bytes, entry_for, keep_name}
+use Rattle.stage_keep.specs.Entries.{entry_for, keep_name}
 use Rattle.stage_keep.specs.EntryReading.{read_entry}
 use Rattle.stage_keep.specs.Honest.{IsHonest}
 use Rattle.stage_keep.proofs.EntriesRead.{entries_are_read_back}
@@ -62,11 +63,6 @@ use Rattle.stage_driver.proofs.WrittenNames.{are_apart}
 
 -- ---- an entry and its front parts
 
-take_drop : (n : ℕ) (xs : List ℕ) → xs ≡ take n xs ++ drop n xs
-take_drop 0 xs = refl
-take_drop (suc n) [] = refl
-take_drop (suc n) (x ∷ xs) = λ i. x ∷ take_drop n xs i
-
 some_behind : (byte : ℕ) (behind : List ℕ) → byte ∷ behind ≡ [] → ⊥
 some_behind byte behind none = cc
 
@@ -74,7 +70,7 @@ entry_harmless : (visit : Visit) → Fits visit.bundle → HasEntry visit
     → run_stage visit.bundle ≡ Ok visit.made → IsHarmless (entry_put visit.bundle visit.made)
 entry_harmless visit fits entry is = λ at kept same.
     subst (λ at. IsHonest run_stage at (take kept (bytes_for visit))) (sym (same_stage at visit.bundle.stage same))
-    (by (take kept (bytes_for visit)) (drop kept (bytes_for visit)) (take_drop kept (bytes_for visit)))
+    (by (take kept (bytes_for visit)) (drop kept (bytes_for visit)) (sym (take-append-drop kept (bytes_for visit))))
   where
     by : (front behind : List ℕ) → bytes_for visit ≡ front ++ behind
         → IsHonest run_stage visit.bundle.stage front
@@ -186,21 +182,21 @@ module _ (writes : List Write) (folder : Folder) (left : Option Folder) (before 
     keep = λ honest. subst (λ left. IfSome left IsKeptHonest) (sym all.folder) (λ at. made_honest at writes folder harmless (inl (honest at)));
   }
 
-  adds_cut : (fault : ChainFault)
-      → AreCutShort (file_fault_of fault) writes (Some folder) left before now
+  adds_cut : (failed : ChainFault)
+      → AreCutShort (file_fault_of failed) writes (Some folder) left before now
       → AddsHarmless folder left before now
-  adds_cut fault cut =
+  adds_cut failed cut =
       let parts = harmless_parts cut.made (cut.next ∷ cut.rest) (subst AreHarmless cut.split harmless) in
       record {
         added = cut.made;
         noted = cut.noted;
         harmless = parts.0;
         apart = outside_front is_hand cut.made (cut.next ∷ cut.rest) (subst (AreOutside is_hand) cut.split apart);
-        keep = λ honest. kept_all left (λ at. by fault at parts.1.0 cut.folder (made_honest at cut.made folder parts.0 (inl (honest at))));
+        keep = λ honest. kept_all left (λ at. by failed at parts.1.0 cut.folder (made_honest at cut.made folder parts.0 (inl (honest at))));
       }
     where
-      by : (fault : ChainFault) (at : Stage) → IsHarmless cut.next
-          → LeftBy (file_fault_of fault) cut.next (Some (folder_after cut.made folder)) left
+      by : (failed : ChainFault) (at : Stage) → IsHarmless cut.next
+          → LeftBy (file_fault_of failed) cut.next (Some (folder_after cut.made folder)) left
           → IsHonestAt at (folder_after cut.made folder) → IfSome left (IsHonestAt at)
       by fault.FileFault at next torn honest =
           torn_honest at cut.next (folder_after cut.made folder) left next torn honest

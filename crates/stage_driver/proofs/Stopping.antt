@@ -1,29 +1,25 @@
 -- Wherever the writes of a run are stopped, what is kept is honest.
-use Rattle.std.proofs.Common.{◌≡◌, ◌≢◌, ℕ, ℤ, Bool, true, false, cond, not, ◌||◌, is_some, List, [], ◌∷◌, ◌++◌, map, filter}
-use Rattle.std.proofs.Common.{take, drop, length, Option, Some, None, IfSome, Result, Ok, Err, refl, ap, sym, subst, ◌∙◌}
-use Rattle.std.proofs.Common.{◌⊎◌, inl, inr, ⊎_elim, append-nil}
-use Rattle.std.specs.Prelude.{⊤}
-use Rattle.std.specs.List.{list_all, list_any}
-use Rattle.std.specs.Option.{option_map}
+use Rattle.std.proofs.Common.{◌≡◌, ℕ, Bool, true, false, cond, ◌||◌, List, [], ◌∷◌, ◌++◌}
+use Rattle.std.proofs.Common.{take, length, Option, Some, None, IfSome, refl, ap, sym, subst, ◌∙◌}
+use Rattle.std.proofs.Common.{◌⊎◌, inl, inr, ⊎_elim}
+use Rattle.std.specs.List.{list_any}
 use Rattle.std.specs.Str.{bytes_eq}
 use Rattle.std.specs.FinMap as files
-use Rattle.std.proofs.lemmas.Bool.{and_parts, false≢true}
+use Rattle.std.proofs.Math.Seq.{take-length}
+use Rattle.std.proofs.lemmas.Bool.{false≢true}
 use Rattle.std.proofs.lemmas.Slice.Eq.{bytes_eq-Decides}
 use Rattle.plan_files.specs.declared.write.Write.{Write}
 use Rattle.plan_files.specs.declared.write.Write.TheVariants.{Put, Removal}
-use Rattle.plan_files.specs.Applied.{AreApplied, AreCutShort, IsTorn}
+use Rattle.plan_files.specs.Applied.{IsTorn}
 use Rattle.plan_files.specs.Changes.{after_write, folder_after, left_by, write_name}
 use Rattle.plan_files.specs.Folder.{Folder}
-use Rattle.plan_files.specs.Others.{AreOutside}
 use Rattle.plan_files.proofs.Writes.{get_written}
-use Rattle.giv_files.specs.declared.made.MadeFile.{MadeFile}
 use Rattle.giv_files.specs.declared.stage.Stage.{Stage}
 use Rattle.stage_keep.specs.Entries.{keep_name}
 use Rattle.stage_keep.specs.Honest.{IsHonest}
 use Rattle.stage_driver.specs.Built.{run_stage}
-use Rattle.stage_driver.specs.Hand.{hand_of, is_hand}
 use Rattle.stage_driver.specs.Kept.{IsKeptHonest}
-use Rattle.stage_driver.specs.Stopped.{AreHarmless, IsFirstTorn, IsHarmless, IsSafeFrom, IsStopped, RemovesKept, removes_kept}
+use Rattle.stage_driver.specs.Stopped.{AreHarmless, IsFirstTorn, IsHarmless, IsStopped, RemovesKept, removes_kept}
 
 -- ---- what is kept of one stage
 
@@ -47,10 +43,6 @@ after_honest at write base put honest = λ bytes there.
     left_honest at (write_name write) (bytes_eq (keep_name at) (write_name write)) (files.get base (keep_name at)) (left_by write) refl put honest bytes
     (sym (get_written write base (keep_name at)) ∙ there)
 
-take_all : (xs : List ℕ) → take (length xs) xs ≡ xs
-take_all [] = refl
-take_all (x ∷ xs) = λ i. x ∷ take_all xs i
-
 some_same : (xs ys : List ℕ) → Some xs ≡ Some ys → xs ≡ ys
 some_same xs ys same = cc
 
@@ -66,7 +58,7 @@ front_honest at name bytes kept base harmless honest =
 whole_honest : (at : Stage) (write : Write) (base : Folder) → IsHarmless write → IsHonestAt at base
     → IsHonestAt at (after_write write base)
 whole_honest at (Put name bytes) base harmless honest =
-    subst (λ text. IsHonestAt at (after_write (Put name text) base)) (take_all bytes) (front_honest at name bytes (length bytes) base harmless honest)
+    subst (λ text. IsHonestAt at (after_write (Put name text) base)) (take-length bytes) (front_honest at name bytes (length bytes) base harmless honest)
 whole_honest at (Removal name) base harmless honest =
     after_honest at (Removal name) base (λ same bytes is. absurd (none_some bytes is)) honest
 

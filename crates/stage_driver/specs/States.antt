@@ -1,7 +1,7 @@
 -- What is told of each stage by what a folder keeps of it. In what a stage is given each made file is the
 -- one that is kept.
-use Rattle.std.specs.Prelude.{ℕ, ℤ, ◌≡◌, not, if◌then◌else◌, Bool, false, List, [], ◌∷◌, ◌++◌, codes}
-use Rattle.std.specs.Prelude.{Option, Some, None, Result, Ok, Err, ◌×◌, IfOk}
+use Rattle.std.specs.Prelude.{ℕ, ℤ, ◌≡◌, if◌then◌else◌, Bool, false, List, [], ◌∷◌, ◌++◌, codes}
+use Rattle.std.specs.Prelude.{Option, Some, None, Result, Ok, Err, IfOk}
 use Rattle.std.specs.List.{list_all, list_any}
 use Rattle.std.specs.FinMap as files
 use Rattle.plan_files.specs.Folder.{Folder}

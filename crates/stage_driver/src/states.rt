@@ -1,5 +1,5 @@
 // The states of the stages of a dataset.
-ghost use Rattle.std.specs.Prelude.{◌≡◌, ◌++◌, ◌×◌, IfSome, IfOk, OnOk};
+ghost use Rattle.std.specs.Prelude.{◌≡◌, ◌++◌, IfSome, IfOk, OnOk};
 ghost use Rattle.std.specs.List.{list_all};
 ghost use Rattle.std.specs.Option.{option_copied};
 ghost use Rattle.plan_files.specs.Folder.{has_failed};

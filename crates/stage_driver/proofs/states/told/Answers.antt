@@ -11,4 +11,4 @@ loop-stage-preserved g c = record {
 
 pub returns-clause-report : goal.returns-clause-report
 returns-clause-report g c =
-    lines_all c.args.config.now _ c.built-stage-items.result.now c.loop-stage.stage-index _ _ c.loop-stage-test.false c.built-stage-items.ensures c.loop-stage.invariant.lines
+    lines_all c.args.config.now _ c.built-stage-items.result.now c.loop-stage.stage-index _ _ c.from_vec.result c.loop-stage-test.false c.built-stage-items.ensures c.from_vec.ensures c.loop-stage.invariant.lines
