@@ -128,7 +128,7 @@ impl MemoryFiles {
         ensures steady { has_failed result ≡ false }
         ensures plan { self.new.plan ≡ self.old.plan }
     {
-        let count = self.told.write_count();
+        let count = self.write_count();
         apply(&mut self.told, write)?;
         let made = apply(&mut self.left, write);
         if made.is_err() {
