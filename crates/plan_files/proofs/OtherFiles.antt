@@ -122,8 +122,8 @@ pub outside_both : (test : List ℕ → Bool) (writes more : List Write) → Are
 outside_both test [] more h k = k
 outside_both test (write ∷ writes) more h k = (h.0, outside_both test writes more h.1 k)
 
-pub outside_front : (test : List ℕ → Bool) (writes more : List Write) → AreOutside test (writes ++ more)
-    → AreOutside test writes
+pub outside_front : (test : List ℕ → Bool) (writes more : List Write)
+    → AreOutside test (writes ++ more) → AreOutside test writes
 outside_front test [] more h = tt
 outside_front test (write ∷ writes) more h = (h.0, outside_front test writes more h.1)
 

@@ -1,5 +1,5 @@
 -- Calls that only read, one after the other.
-use Rattle.std.proofs.Common.{◌≡◌, ℕ, Bool, true, false, List, Option, refl, subst, sym, ◌∙◌}
+use Rattle.std.proofs.Common.{ℕ, Bool, false, List, Option, refl, subst, ◌∙◌}
 use Rattle.plan_files.specs.declared.write.Write.{Write}
 use Rattle.plan_files.specs.Counts.{Counts}
 use Rattle.plan_files.specs.Folder.{Folder}

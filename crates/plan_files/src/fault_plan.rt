@@ -1,7 +1,8 @@
 // Calls that are listed to fail.
 ghost use Rattle.std.specs.Prelude.{◌≡◌, ◌≤◌, IfOk, is_some, take, OnErr, OnOk};
 ghost use Rattle.plan_files.specs.Counts.{Counts, last_count, next_count};
-ghost use Rattle.plan_files.specs.Planned.{due, fault_of, after_call, no_plan, with_fault, with_unkept};
+ghost use Rattle.plan_files.specs.Planned.{after_call, due, fault_of, no_plan, with_fault};
+ghost use Rattle.plan_files.specs.Planned.{with_unkept};
 
 use plan_num::NoMemory;
 use std::alloc::Global;

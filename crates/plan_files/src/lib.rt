@@ -5,6 +5,8 @@
 mod apply;
 #[cfg(test)]
 mod drive;
+#[cfg(test)]
+mod failing_tests;
 mod fault_plan;
 mod faults;
 mod file_fault;

@@ -11,8 +11,8 @@ use plan_num::NoMemory;
 use std::alloc::Global;
 use std::marker::Model;
 
-/// A sink that keeps the pieces in memory. Its writes are numbered from 1, and those that are listed
-/// fail, and no others.
+/// A sink that keeps the pieces in memory. Its writes are numbered from 1, and those that are
+/// listed fail, and no others.
 ///
 /// A write that is listed fails also where memory for the bytes that it is to append is refused.
 /// Then it appends nothing, and `unkept` counts it.
@@ -49,9 +49,9 @@ impl MemorySink {
         self.bytes.as_slice()
     }
 
-    /// Lists a write, which then fails: it appends the first `kept` bytes of its piece, or all where
-    /// there are fewer. Where a write is listed twice the last time counts, and to list one that
-    /// has passed does nothing. On an error nothing more is listed.
+    /// Lists a write, which then fails: it appends the first `kept` bytes of its piece, or all
+    /// where there are fewer. Where a write is listed twice the last time counts, and to list one
+    /// that has passed does nothing. On an error nothing more is listed.
     pub fn fail_at(&mut self, call: u64, kept: u64) -> Result<(), NoMemory>
         ensures bytes { self.new.bytes ≡ self.old.bytes }
         ensures ok { OnOk result (self.new.plan ≡ with_fault self.old.plan call (Some kept)) }
