@@ -1,6 +1,6 @@
 -- Loops that count from 1, or go over a list, and append what each number or each item gives.
 use Rattle.std.proofs.Common.{◌≡◌, ℕ, zero, suc, ◌+◌, ◌-◌, ◌≤◌, ◌<◌, List, [], ◌∷◌, ◌++◌, map, take}
-use Rattle.std.proofs.Common.{length, get_or, refl, sym, ◌∙◌, ap, append_assoc, arith, length-take-le}
+use Rattle.std.proofs.Common.{length, get_or, sym, ◌∙◌, ap, append_assoc, arith, length-take-le}
 use Rattle.std.specs.List.{flat_map, range_with_len, enumerate_from}
 use Rattle.std.proofs.lemmas.List.{take_more, flat_map_more, map-append}
 use Rattle.demo_dataset.specs.Grid.{one_to}

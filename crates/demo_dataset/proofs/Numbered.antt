@@ -20,4 +20,5 @@ numbered_network (suc (suc (suc (suc (suc (suc (suc zero))))))) _ _ =
     record { stops = refl; edges = refl; lines = refl; ends = refl; walks = refl }
 numbered_network (suc (suc (suc (suc (suc (suc (suc (suc zero)))))))) _ _ =
     record { stops = refl; edges = refl; lines = refl; ends = refl; walks = refl }
-numbered_network (suc (suc (suc (suc (suc (suc (suc (suc (suc rest))))))))) some few = absurd (omega arith)
+numbered_network (suc (suc (suc (suc (suc (suc (suc (suc (suc rest))))))))) some few =
+    absurd (omega arith)

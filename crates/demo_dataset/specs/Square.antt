@@ -3,7 +3,7 @@ use Rattle.std.specs.Prelude.{ℕ, ◌+◌, ◌-◌, ◌*◌, ◌≡◌, ◌==�
 use Rattle.std.specs.Prelude.{Bool, true, List, [], ◌∷◌, map}
 use Rattle.std.specs.List.{flat_map, list_all}
 use Rattle.demo_dataset.specs.declared.edge.Edge.{Edge}
-use Rattle.demo_dataset.specs.Grid.{LineWalk, one_to, stop_id, edges_of, lines_of}
+use Rattle.demo_dataset.specs.Grid.{one_to, stop_id, edges_of, lines_of}
 
 -- an edge leads from a stop to a later one of so many
 abbrev pub leads_on : (stops : ℕ) → Edge → Bool

@@ -8,7 +8,7 @@ ghost use Rattle.demo_dataset.specs.Square.{IsNumbered};
 use crate::edge::all_edges;
 use crate::line::all_lines;
 use crate::rows::{demand_text, edge_text, pool_text, stop_text};
-use plan_files::{FileFault, Files, SteadyFiles};
+use plan_files::{Files, SteadyFiles};
 use plan_num::NoMemory;
 use std::alloc::Global;
 
@@ -19,9 +19,17 @@ pub fn demo_files(alloc: Global, n: u8) -> Result<SteadyFiles, NoMemory>
     requires few { n ≤ 8 }
     ensures contents { IfOk result (λ files. folder_of files ≡ demo_folder n) }
     ensures writes { IfOk result (λ files. files ≡ demo_writes n) }
-    ensures numbered { OnOk result (IsNumbered n) }
+    ensures numbered { IsNumbered n }
 {
-    let size = u32::from(n);
+    all_files(alloc, u32::from(n))
+}
+
+// The files of a square of this size.
+fn all_files(alloc: Global, size: u32) -> Result<SteadyFiles, NoMemory>
+    requires some { 1 ≤ size }
+    requires few { size ≤ 8 }
+    ensures { IfOk result (λ files. files ≡ demo_writes size) }
+{
     let edges = all_edges(alloc, size)?;
     let lines = all_lines(alloc, size)?;
     let mut files = SteadyFiles::new(alloc);

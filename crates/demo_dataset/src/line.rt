@@ -1,6 +1,7 @@
 // Lines along the rows and columns of a square grid of stops.
 ghost use Rattle.std.specs.Prelude.{◌≡◌, ◌≤◌, ◌++◌, ◌∷◌, [], map, IfOk, OnOk};
-ghost use Rattle.demo_dataset.specs.Grid.{row_line, column_line, right_first_line, down_first_line, lines_of, one_to};
+ghost use Rattle.demo_dataset.specs.Grid.{one_to, row_line, column_line};
+ghost use Rattle.demo_dataset.specs.Grid.{right_first_line, down_first_line, lines_of};
 
 use crate::edge::{Edge, push_column, push_row};
 use plan_num::NoMemory;

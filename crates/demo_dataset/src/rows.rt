@@ -2,7 +2,9 @@
 ghost use Rattle.std.specs.Prelude.{◌≡◌, ◌≤◌, ◌++◌, ◌<◌, ◌^◌, ◌∷◌, [], ◌+◌, IfOk, OnOk};
 ghost use Rattle.std.specs.List.{flat_map};
 ghost use Rattle.demo_dataset.specs.Demo.{stop_text, stops_in};
-ghost use Rattle.demo_dataset.specs.Rows.{stop_row, edge_row, demand_row, demand_rows, pool_row, line_rows, walk_rows, customers};
+ghost use Rattle.demo_dataset.specs.Grid.{one_to};
+ghost use Rattle.demo_dataset.specs.Rows.{stop_row, edge_row, demand_row, demand_rows, customers};
+ghost use Rattle.demo_dataset.specs.Rows.{pool_row, line_rows, walk_rows};
 
 use crate::edge::{Edge, stop_id};
 use crate::line::Line;
@@ -16,10 +18,21 @@ pub(crate) fn stop_text(alloc: Global, size: u32) -> Result<Vec<u8>, NoMemory>
     ensures { IfOk result (λ text. text.items ≡ stop_text size) }
 {
     let mut text = Vec::new(alloc);
-    for row in 1..=size {
-        push_stops(alloc, &mut text, size, row)?;
-    }
+    push_rows(alloc, &mut text, size)?;
     Ok(text)
+}
+
+// Appends all stops.
+fn push_rows(alloc: Global, text: &mut Vec<u8>, size: u32) -> Result<(), NoMemory>
+    requires some { 1 ≤ size }
+    requires few { size ≤ 8 }
+    ensures { OnOk result (text.new.items
+        ≡ text.old.items ++ flat_map (stops_in size) (one_to size)) }
+{
+    for row in 1..=size {
+        push_stops(alloc, text, size, row)?;
+    }
+    Ok(())
 }
 
 // Appends the stops of one row.

@@ -1,9 +1,0 @@
-use Rattle.std.proofs.Common.{◌≡◌, ◌-◌}
-use Rattle.std.specs.List.{flat_map}
-use Rattle.demo_dataset.specs.Demo.{stops_in}
-use Rattle.demo_dataset.specs.Grid.{one_to}
-use Rattle.demo_dataset.proofs.rows.stop_text.Given as goal
-
--- the stops of the rows so far
-abbrev pub invariant-loop-row : goal.invariant-loop-row
-invariant-loop-row l = l.text.items ≡ flat_map (stops_in l.size) (one_to (l.row - 1))
