@@ -1,11 +1,12 @@
 -- A demo makes what is made of its dataset from scratch.
-use Rattle.std.proofs.Common.{◌≡◌, ℕ, ◌+◌, ◌≤◌, false, List, ◌++◌, take, Option, Some, None, refl, ap, sym}
+use Rattle.std.proofs.Common.{◌≡◌, ℕ, ◌+◌, ◌≤◌, false, List, ◌++◌, take, Option, Some, None, refl, ap}
 use Rattle.std.proofs.Common.{◌∙◌, arith, inl, inr}
+use Rattle.std.specs.Cmp.Lexicographic.{slice_cmp}
 use Rattle.std.specs.Option.{option_map}
+use Rattle.std.specs.Ordering.{nat_cmp}
 use Rattle.std.specs.FinMap as files
 use Rattle.plan_files.specs.declared.write.Write.{Write}
-use Rattle.plan_files.specs.Changes.{folder_of}
-use Rattle.plan_files.specs.Counts.{Raised, Rose}
+use Rattle.plan_files.specs.Counts.{Rose}
 use Rattle.plan_files.specs.Folder.{Folder}
 use Rattle.giv_files.specs.declared.stage.Stage.{Stage}
 use Rattle.giv_files.specs.declared.stage.Stage.TheVariants as stage
@@ -41,6 +42,7 @@ kept_apart number stage.Statistic = refl
 no_keep : (number : ℕ) (at : Stage) → files.get (demo_folder number) (keep_name at) ≡ None
 no_keep number at =
     get_behind (demo_writes number) files.empty (keep_name at) (kept_apart number at)
+    ∙ files.get-empty (slice_cmp nat_cmp) (keep_name at)
 
 -- files in memory that never fail answer no fault
 pub no_fault : (old new : Option (List ℕ)) (out_before out_now : ℕ)

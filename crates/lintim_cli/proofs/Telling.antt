@@ -1,6 +1,6 @@
 -- What a run tells is what is made from scratch.
-use Rattle.std.proofs.Common.{◌≡◌, ℕ, ◌+◌, List, [], ◌++◌, take, Option, Some, None, IfSome, refl, ap}
-use Rattle.std.proofs.Common.{sym, subst, ◌∙◌, inr}
+use Rattle.std.proofs.Common.{◌≡◌, ℕ, ◌+◌, List, [], ◌++◌, take, Option, Some, None, IfSome, ap}
+use Rattle.std.proofs.Common.{subst, ◌∙◌, inr}
 use Rattle.std.specs.Option.{option_map}
 use Rattle.plan_files.specs.declared.write.Write.{Write}
 use Rattle.plan_files.specs.Folder.{Folder}
