@@ -8,10 +8,10 @@ use std::test::Fail;
 
 const TWO_STOPS: &[u8] = b"1; A; A; 0; 0\n2; B; B; 0; 0\n";
 
-// A line over the one edge, for each of so many.
-fn lines(alloc: Global, count: u32) -> Result<Vec<u8>, AllocError> {
+// Two hundred lines over the one edge.
+fn lines(alloc: Global) -> Result<Vec<u8>, AllocError> {
     let mut text = Vec::new(alloc);
-    for line in 1..count + 1 {
+    for line in 1..201u32 {
         let row = format!(in alloc; "{line}; 1; 1\n")?;
         text.extend_from_slice(row.as_bytes())?;
     }
@@ -42,7 +42,7 @@ fn a_deep_tree_is_judged(rt: HostRuntime) -> Result<(), Fail> {
     )?;
     files.put("basis/Stop.giv", TWO_STOPS)?;
     files.put("basis/Edge.giv", b"1; 1; 2; 1; 3; 4\n")?;
-    files.put("basis/Pool.giv", &lines(alloc, 200)?)?;
+    files.put("basis/Pool.giv", &lines(alloc)?)?;
     files.put("basis/Load.giv", b"1; 0; 0; 1000\n")?;
     let report = b"load: 1 edges\ncost: 200 lines\nconcept: cost 0, optimal, 4001 entries\ndone\n";
     runs(&rt, &mut files, "make", Status::Done, report, 4004)?;

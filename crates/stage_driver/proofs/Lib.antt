@@ -30,6 +30,7 @@ pub mod Settling
 pub mod Starting
 pub mod Stating
 pub mod StatisticLines
+pub mod StoppedAnywhere
 pub mod StoppedRuns
 pub mod Stopping
 pub mod StopsThere

@@ -8,7 +8,8 @@ use Rattle.stage_driver.proofs.HandKept.{writes_once, writes_outside}
 use Rattle.stage_driver.proofs.LeftRight.{left_right}
 use Rattle.stage_driver.proofs.Refusing.{refuses_hand}
 use Rattle.stage_driver.proofs.Running.{adds_both}
-use Rattle.stage_driver.proofs.StoppedRuns.{both_add, cleared_adds, keeps_honest, stops_safely}
+use Rattle.stage_driver.proofs.StoppedAnywhere.{keeps_honest, stops_safely}
+use Rattle.stage_driver.proofs.StoppedRuns.{both_add, cleared_adds}
 use Rattle.stage_driver.proofs.run.run_chain.Goals as goal
 
 pub returns-in_err-clear-clause-once : goal.returns-in_err-clear-clause-once
