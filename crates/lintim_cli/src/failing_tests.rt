@@ -1,6 +1,7 @@
 // Runs in which one call on a file fails, or a write to the report.
 use crate::answers::Status;
 use crate::cases::{ALL_CONFIG, EDGES, GIVEN, POOL, STOPS, words};
+use crate::keep_tests::{MADE, REPORT};
 use crate::top::lintim;
 use plan_files::{FileFault, Files, MemoryFiles, MemorySink, Sink};
 use plan_num::{Silent, Steps};
@@ -8,35 +9,12 @@ use std::alloc::Global;
 use std::process::Abort;
 use std::test::Fail;
 
-const REPORT: &[u8] = b"load: 2 edges\ncost: 2 lines\nconcept: cost 27, optimal, 9 entries\n\
-    ean: 12 events, 14 activities\ntimetable: 12 events, 10 entries\n\
-    rollout: 8 trips, 24 events, 23 activities\nvehicles: 4 vehicles, cost 400, optimal\n\
-    disposition: delay 0, 0 missed, optimal\nstatistic: 14 values\ndone\n";
-
 const HAND: [(&str, &[u8]); 5] = [
     ("basis/Config.cnf", ALL_CONFIG),
     ("basis/Stop.giv", STOPS),
     ("basis/Edge.giv", EDGES),
     ("basis/Pool.giv", POOL),
     ("basis/Load.giv", GIVEN),
-];
-
-const MADE: [&str; 15] = [
-    "line-planning/Load.giv",
-    "basis/Pool-Cost.giv",
-    "line-planning/Line-Concept.lin",
-    "line-planning/Line-Concept.cert",
-    "timetabling/Events-periodic.giv",
-    "timetabling/Activities-periodic.giv",
-    "timetabling/Timetable-periodic.tim",
-    "delay-management/Events-expanded.giv",
-    "delay-management/Activities-expanded.giv",
-    "delay-management/Trips.giv",
-    "vehicle-scheduling/Vehicle_Schedules.vs",
-    "vehicle-scheduling/Vehicle_Schedules.cert",
-    "delay-management/Timetable-disposition.tim",
-    "delay-management/Timetable-disposition.cert",
-    "statistic/statistic.sta",
 ];
 
 // The files that people write.

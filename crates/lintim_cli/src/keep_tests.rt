@@ -1,6 +1,6 @@
 // Runs over what earlier runs kept.
 use crate::answers::Status;
-use crate::cases::{EDGES, GIVEN, POOL, STOPS, words};
+use crate::cases::{ALL_CONFIG, EDGES, GIVEN, POOL, STOPS, words};
 use crate::top::lintim;
 use plan_files::{Files, MemorySink, SteadyFiles};
 use plan_num::{Steps, Tally};
@@ -8,24 +8,27 @@ use std::alloc::Global;
 use std::process::Abort;
 use std::test::Fail;
 
-const DAY: &[u8] = b"load_source; file\nperiod_length; 20\nean_default_minimal_change_time; 2\n\
-    DM_earliest_time; 0\nDM_latest_time; 20\nlast_stage; rollout\n";
+const DAY: &[u8] = ALL_CONFIG;
 
 pub(crate) const REPORT: &[u8] =
     b"load: 2 edges\ncost: 2 lines\nconcept: cost 27, optimal, 9 entries\n\
     ean: 12 events, 14 activities\ntimetable: 12 events, 10 entries\n\
-    rollout: 8 trips, 24 events, 23 activities\ndone\n";
+    rollout: 8 trips, 24 events, 23 activities\nvehicles: 4 vehicles, cost 400, optimal\n\
+    disposition: delay 0, 0 missed, optimal\nstatistic: 14 values\ndone\n";
 
-pub(crate) const KEPT: [&str; 6] = [
+pub(crate) const KEPT: [&str; 9] = [
     "keep/load.keep",
     "keep/cost.keep",
     "keep/concept.keep",
     "keep/ean.keep",
     "keep/timetable.keep",
     "keep/rollout.keep",
+    "keep/vehicles.keep",
+    "keep/disposition.keep",
+    "keep/statistic.keep",
 ];
 
-pub(crate) const MADE: [&str; 10] = [
+pub(crate) const MADE: [&str; 15] = [
     "line-planning/Load.giv",
     "basis/Pool-Cost.giv",
     "line-planning/Line-Concept.lin",
@@ -36,9 +39,14 @@ pub(crate) const MADE: [&str; 10] = [
     "delay-management/Events-expanded.giv",
     "delay-management/Activities-expanded.giv",
     "delay-management/Trips.giv",
+    "vehicle-scheduling/Vehicle_Schedules.vs",
+    "vehicle-scheduling/Vehicle_Schedules.cert",
+    "delay-management/Timetable-disposition.tim",
+    "delay-management/Timetable-disposition.cert",
+    "statistic/statistic.sta",
 ];
 
-// The dataset after a first run, which takes 25 steps.
+// The dataset after a first run, which takes 28 steps.
 pub(crate) fn day(rt: &(impl AllocGlobal + Abort)) -> Result<SteadyFiles, Fail> {
     let mut files = SteadyFiles::new(rt.alloc());
     files.put("basis/Config.cnf", DAY)?;
@@ -47,7 +55,7 @@ pub(crate) fn day(rt: &(impl AllocGlobal + Abort)) -> Result<SteadyFiles, Fail> 
     files.put("basis/Pool.giv", POOL)?;
     files.put("basis/Load.giv", GIVEN)?;
     files.put("other.txt", b"other")?;
-    runs(rt, &mut files, "make", Status::Done, REPORT, 25)?;
+    runs(rt, &mut files, "make", Status::Done, REPORT, 28)?;
     wrote(rt, &files, 6, &[(true, &MADE), (true, &KEPT)]);
     Ok(files)
 }
@@ -134,14 +142,19 @@ fn edits_are_followed(rt: HostRuntime) -> Result<(), Fail> {
     let mut files = day(&rt)?;
     append(rt.alloc(), &mut files, "basis/Stop.giv", STOPS, b"# more\n")?;
     let before = files.write_count();
-    runs(&rt, &mut files, "make", Status::Done, REPORT, 13)?;
-    wrote(&rt, &files, before, &[(true, &KEPT[..4])]);
+    runs(&rt, &mut files, "make", Status::Done, REPORT, 14)?;
+    wrote(
+        &rt,
+        &files,
+        before,
+        &[(true, &KEPT[..4]), (true, &[KEPT[6]])],
+    );
     files.put(
         "basis/Edge.giv",
         b"# edges\n1; 1; 2; 2; 4; 6\n2; 2; 3; 3; 6; 6\n",
     )?;
     let before = files.write_count();
-    runs(&rt, &mut files, "make", Status::Done, REPORT, 25)?;
+    runs(&rt, &mut files, "make", Status::Done, REPORT, 28)?;
     wrote(
         &rt,
         &files,
@@ -150,7 +163,7 @@ fn edits_are_followed(rt: HostRuntime) -> Result<(), Fail> {
     );
     files.put("basis/Stop.giv", STOPS)?;
     files.put("basis/Edge.giv", EDGES)?;
-    runs(&rt, &mut files, "make", Status::Done, REPORT, 25)?;
+    runs(&rt, &mut files, "make", Status::Done, REPORT, 28)?;
     same(&rt, &files, &first, &MADE);
     same(&rt, &files, &first, &KEPT);
     let before = files.write_count();
@@ -201,7 +214,9 @@ fn an_unmarked_concept_has_no_old_tree(rt: HostRuntime) -> Result<(), Fail> {
     )?;
     let report = b"load: 2 edges\ncost: 2 lines\n\
         concept: cost 27, not proved optimal, 8 entries\nean: 12 events, 14 activities\n\
-        timetable: 12 events, 10 entries\nrollout: 8 trips, 24 events, 23 activities\ndone\n";
+        timetable: 12 events, 10 entries\nrollout: 8 trips, 24 events, 23 activities\n\
+        vehicles: 4 vehicles, cost 400, optimal\ndisposition: delay 0, 0 missed, optimal\n\
+        statistic: 14 values\ndone\n";
     let before = files.write_count();
     runs(&rt, &mut files, "make", Status::Done, report, 9)?;
     let expected: [(bool, &[&str]); 2] = [(false, &[MADE[3]]), (true, &["keep/concept.keep"])];
@@ -232,7 +247,7 @@ fn a_fresh_run_removes_what_is_kept_first(rt: HostRuntime) -> Result<(), Fail> {
     let first = day(&rt)?;
     let mut files = day(&rt)?;
     let before = files.write_count();
-    runs(&rt, &mut files, "fresh", Status::Done, REPORT, 25)?;
+    runs(&rt, &mut files, "fresh", Status::Done, REPORT, 28)?;
     wrote(&rt, &files, before, &[(false, &KEPT), (true, &KEPT)]);
     same(&rt, &files, &first, &MADE);
     same(&rt, &files, &first, &KEPT);
@@ -244,8 +259,12 @@ fn a_fresh_run_removes_what_is_kept_first(rt: HostRuntime) -> Result<(), Fail> {
     let before = files.write_count();
     let report = b"refused: basis/Stop.giv row 1: wrong number of fields\n";
     runs(&rt, &mut files, "fresh", Status::BadInput, report, 1)?;
-    let removed = [KEPT[0], KEPT[2], KEPT[4], KEPT[5], "keep/statistic.keep"];
-    wrote(&rt, &files, before, &[(false, &removed), (false, &MADE)]);
+    let removed: [(bool, &[&str]); 3] = [
+        (false, &[KEPT[0], KEPT[2]]),
+        (false, &KEPT[4..]),
+        (false, &MADE),
+    ];
+    wrote(&rt, &files, before, &removed);
     Ok(())
 }
 

@@ -2,8 +2,10 @@
 use crate::answers::Status;
 use crate::cases::{ALL_CONFIG, GIVEN, STOPS};
 use crate::check_tests::made_under;
-use crate::keep_tests::runs;
+use crate::keep_tests::{KEPT as KEPT_NAMES, runs};
+use giv_files::Stage;
 use plan_files::Files;
+use stage_keep::read_keep;
 use std::test::Fail;
 
 const CONCEPT: &str = "line-planning/Line-Concept.lin";
@@ -77,5 +79,26 @@ fn settings_are_followed(rt: HostRuntime) -> Result<(), Fail> {
     files.put("basis/Stop.giv", STOPS)?;
     let report = b"refused: value of period_length\n";
     runs(&rt, &mut files, "status", Status::BadInput, report, 0)?;
+    Ok(())
+}
+
+// Each keep file of a whole run is an entry of its stage. What is cut off from its end is none, and
+// neither is what is longer.
+#[test]
+fn each_keep_file_is_an_entry(rt: HostRuntime) -> Result<(), Fail> {
+    let alloc = rt.alloc();
+    let files = made_under(alloc, ALL_CONFIG)?;
+    for (stage, name) in Stage::all().iter().zip(KEPT_NAMES.iter()) {
+        let mut bytes = Vec::new(alloc);
+        if let Some(text) = files.file(name) {
+            bytes.extend_from_slice(text.as_bytes())?;
+        }
+        assert!(&rt; read_keep(alloc, *stage, &bytes)?.is_some());
+        for length in 0..bytes.len() {
+            assert!(&rt; read_keep(alloc, *stage, &bytes[..length])?.is_none());
+        }
+        bytes.push(b'\n')?;
+        assert!(&rt; read_keep(alloc, *stage, &bytes)?.is_none());
+    }
     Ok(())
 }
