@@ -1,11 +1,15 @@
+mod AnyBelow
 mod Changes
 mod Crowded
 mod Entries
 mod Families
 mod FirstMarks
+mod FirstWords
 mod FoundTimes
 mod JudgedTimes
 mod ListedTimes
+mod MarkBits
+mod MarkCounts
 mod NextSets
 mod NextTimes
 mod Partners
@@ -25,6 +29,8 @@ mod Turns
 mod Unrolled
 mod Waiting
 mod WindowSums
+mod WordBits
+mod WordTurns
 pub mod ListingRight
 pub mod TimetableEnds
 pub mod TimetableMakes

@@ -1,22 +1,22 @@
 -- Inner words: sets of times by a test of events and times, and what revising them by activities
 -- does.
-use Rattle.std.specs.Prelude.{nat_le, slice_index, ◌≡◌, ◌⊎◌, ℕ, zero, suc, ◌+◌, ◌-◌, ◌%◌, ◌<◌, ◌≤◌}
-use Rattle.std.specs.Prelude.{min, ◌==◌, not, Bool, true, false, ◌||◌}
+use Rattle.std.specs.Prelude.{nat_lt, ◌≡◌, ◌⊎◌, ℕ, zero, suc, ◌+◌, ◌-◌, ◌%◌, ◌<◌, ◌≤◌}
+use Rattle.std.specs.Prelude.{min, ◌==◌, not, Bool, true, false, ◌||◌, ◌&&◌}
 use Rattle.std.specs.Prelude.{if◌then◌else◌, ⊤, [], ◌∷◌, List, length, filter, get_or, slice_get}
 use Rattle.std.specs.Prelude.{slice_set, Some, All, unsigned_abs, ◌-ℤ◌}
 use Rattle.std.specs.List.{list_any, range_with_len}
 use Rattle.pesp_model.specs.declared.activity.PespActivity.{PespActivity}
 use Rattle.pesp_model.specs.Timetables.{Problem, keeps}
-use Rattle.pesp_search.specs.Marks.{Saved, Tracked, is_left, marks_left, sets_of}
+use Rattle.pesp_search.specs.Marks.{Saved, Tracked, is_left, marked, marks_left, sets_of}
 use Rattle.pesp_search.specs.TimeSets.{reduced}
 
 -- which times are left to which events
 abbrev pub Left : Type 0
 Left = ℕ → ℕ → Bool
 
--- the times of one event for which a flag is set stay, and those of all others
-abbrev pub stays : ℕ → List Bool → Left
-stays kept flags event time = not (event == kept) || get_or flags time false
+-- the times of one event that have a bit stay, and those of all others
+abbrev pub stays : ℕ → List ℕ → Left
+stays kept keep event time = not (event == kept) || marked keep time
 
 -- a test holds for a number below another one
 unfoldable pub any_below : (ℕ → Bool) → ℕ → Bool
@@ -28,11 +28,13 @@ unfoldable pub count_below : (ℕ → Bool) → ℕ → ℕ
 count_below test zero = 0
 count_below test (suc n) = count_below test n + (if test n then 1 else 0)
 
--- the sum before a time of two periods, by the sums before the times of one and before its end
-abbrev pub sum_before : List ℕ → ℕ → ℕ → ℕ
-sum_before sums period time =
-    if nat_le time period then slice_index sums time
-    else slice_index sums period + slice_index sums (time - period)
+-- no bit behind a period is set
+abbrev pub IsClear : ℕ → List ℕ → Type 0
+IsClear period times = (time : ℕ) → period ≤ time → marked times time ≡ false
+
+-- a time of a period has a bit so many minutes behind it
+abbrev pub turned_to : ℕ → List ℕ → ℕ → ℕ → Bool
+turned_to period times by time = nat_lt time period && marked times ((time + by) % period)
 
 -- a time is left in a window of a period that opens so many minutes behind another time
 abbrev pub reaches : ℕ → (ℕ → Bool) → ℕ → ℕ → ℕ → Bool

@@ -16,6 +16,7 @@ mod stage;
 mod standing;
 mod time_sets;
 mod windows;
+mod words;
 
 pub use check::check_timetable;
 pub use fault::TimetableFault;

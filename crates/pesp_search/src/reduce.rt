@@ -49,7 +49,7 @@ fn sweep(
 {
     let mut next = flags(alloc, false, pesp.event_count())?;
     for index in 0..pesp.activity_count() {
-        revise(alloc, pesp.activity(index), sets, changed, &mut next)?;
+        revise(pesp.activity(index), sets, changed, &mut next)?;
     }
     Ok(next)
 }

@@ -1,8 +1,7 @@
 // Sets of times that are revised by an activity.
-ghost use Rattle.std.specs.Prelude.{◌≡◌, ◌-◌, ◌<◌, ◌≤◌, ◌≤ℤ◌, nat_le, pos, length, map, IfOk, OnOk};
-ghost use Rattle.std.specs.List.{range_with_len};
+ghost use Rattle.std.specs.Prelude.{◌≡◌, ◌-◌, ◌<◌, ◌≤◌, ◌≤ℤ◌, ℕ, nat_le, pos, length, IfOk, OnOk};
 ghost use Rattle.pesp_model.specs.Timetables.{IsActivity};
-ghost use Rattle.pesp_search.specs.Marks.{AreMarks, Prunes, is_left, times_from};
+ghost use Rattle.pesp_search.specs.Marks.{AreMarks, Prunes, is_left, marked, times_from};
 ghost use Rattle.pesp_search.specs.Revising.{ahead, behind, first_left, second_left, width_of};
 ghost use Rattle.pesp_search.specs.Revising.{Revises, RevisesFirsts, RevisesSeconds};
 ghost use Rattle.pesp_search.specs.Revising.{keeps_firsts, keeps_seconds, noted};
@@ -11,14 +10,13 @@ use crate::marks::TimeMarks;
 use crate::prune::prune;
 use crate::time_sets::TimeSets;
 use crate::windows::reached;
+use crate::words::WORDS;
 use pesp_model::PespActivity;
 use plan_num::NoMemory;
-use std::alloc::Global;
 
 /// Takes the times that have no partner out of the sets of both events of an activity, where the
 /// set of the other event has a flag, and sets the flags of those whose set has changed.
 pub(crate) fn revise(
-    alloc: Global,
     activity: PespActivity,
     sets: &mut TimeSets,
     changed: &[bool],
@@ -30,13 +28,12 @@ pub(crate) fn revise(
     ensures { OnOk result
         (Revises activity changed.now sets.old sets.new next.old next.new) }
 {
-    revise_seconds(alloc, activity, sets, changed, next)?;
-    revise_firsts(alloc, activity, sets, changed, next)
+    revise_seconds(activity, sets, changed, next)?;
+    revise_firsts(activity, sets, changed, next)
 }
 
 // Does so for the first event.
 fn revise_seconds(
-    alloc: Global,
     activity: PespActivity,
     sets: &mut TimeSets,
     changed: &[bool],
@@ -51,14 +48,13 @@ fn revise_seconds(
     if !changed[activity.to] && !next[activity.to] {
         return Ok(());
     }
-    let is_changed = keep_seconds(alloc, activity, sets)?;
+    let is_changed = keep_seconds(activity, sets)?;
     note(next, activity.from, is_changed);
     Ok(())
 }
 
 // Does so for the second event.
 fn revise_firsts(
-    alloc: Global,
     activity: PespActivity,
     sets: &mut TimeSets,
     changed: &[bool],
@@ -73,7 +69,7 @@ fn revise_firsts(
     if !changed[activity.from] && !next[activity.from] {
         return Ok(());
     }
-    let is_changed = keep_firsts(alloc, activity, sets)?;
+    let is_changed = keep_firsts(activity, sets)?;
     note(next, activity.to, is_changed);
     Ok(())
 }
@@ -88,11 +84,7 @@ fn note(changed: &mut [bool], event: usize, is_changed: bool)
 
 // Takes the times that have no second one out of the set of an activity's first event, and tells
 // whether there were any.
-fn keep_seconds(
-    alloc: Global,
-    activity: PespActivity,
-    sets: &mut TimeSets,
-) -> Result<bool, NoMemory>
+fn keep_seconds(activity: PespActivity, sets: &mut TimeSets) -> Result<bool, NoMemory>
     requires { IsActivity sets.old.sets.events activity }
     ensures { IfOk result (Prunes sets.old sets.new
         (keeps_seconds sets.old.sets.period (is_left sets.old.sets) activity)) }
@@ -100,13 +92,13 @@ fn keep_seconds(
     if is_crowded(sets.sets(), activity.to, activity) {
         return Ok(false);
     }
-    let flags = with_second(alloc, activity, sets.sets())?;
-    prune(sets, activity.from, &flags)
+    let times = with_second(activity, sets.sets());
+    prune(sets, activity.from, &times)
 }
 
 // Takes the times that have no first one out of the set of an activity's second event, and tells
 // whether there were any.
-fn keep_firsts(alloc: Global, activity: PespActivity, sets: &mut TimeSets) -> Result<bool, NoMemory>
+fn keep_firsts(activity: PespActivity, sets: &mut TimeSets) -> Result<bool, NoMemory>
     requires { IsActivity sets.old.sets.events activity }
     ensures { IfOk result (Prunes sets.old sets.new
         (keeps_firsts sets.old.sets.period (is_left sets.old.sets) activity)) }
@@ -114,8 +106,8 @@ fn keep_firsts(alloc: Global, activity: PespActivity, sets: &mut TimeSets) -> Re
     if is_crowded(sets.sets(), activity.from, activity) {
         return Ok(false);
     }
-    let flags = with_first(alloc, activity, sets.sets())?;
-    prune(sets, activity.to, &flags)
+    let times = with_first(activity, sets.sets());
+    prune(sets, activity.to, &times)
 }
 
 // Whether more times are left to an event than lie outside of each window of an activity, so that
@@ -131,42 +123,28 @@ fn is_crowded(sets: &TimeMarks, event: usize, activity: PespActivity) -> bool
     period - width_of(activity, period) <= sets.count(event)
 }
 
-// For each time of the period whether it is the first one of two that keep an activity.
-fn with_second(
-    alloc: Global,
-    activity: PespActivity,
-    sets: &TimeMarks,
-) -> Result<Vec<bool>, NoMemory>
+// The times of the period that are the first one of two that keep an activity.
+fn with_second(activity: PespActivity, sets: &TimeMarks) -> [u64; WORDS]
     requires { IsActivity sets.now.events activity }
-    ensures { IfOk result (λ flags. flags.items
-        ≡ map (second_left sets.now.period (is_left sets.now) activity)
-        (range_with_len 0 sets.now.period)) }
+    ensures long { length result ≡ 13 }
+    ensures each { (time : ℕ) → time < sets.now.period → marked result time
+        ≡ second_left sets.now.period (is_left sets.now) activity time }
 {
     let period = sets.period();
     let width = width_of(activity, period);
-    reached(alloc, sets, activity.to, ahead(activity, period), width)
+    reached(sets, activity.to, ahead(activity, period), width)
 }
 
-// For each time of the period whether it is the second one of two that keep an activity.
-fn with_first(
-    alloc: Global,
-    activity: PespActivity,
-    sets: &TimeMarks,
-) -> Result<Vec<bool>, NoMemory>
+// The times of the period that are the second one of two that keep an activity.
+fn with_first(activity: PespActivity, sets: &TimeMarks) -> [u64; WORDS]
     requires { IsActivity sets.now.events activity }
-    ensures { IfOk result (λ flags. flags.items
-        ≡ map (first_left sets.now.period (is_left sets.now) activity)
-        (range_with_len 0 sets.now.period)) }
+    ensures long { length result ≡ 13 }
+    ensures each { (time : ℕ) → time < sets.now.period → marked result time
+        ≡ first_left sets.now.period (is_left sets.now) activity time }
 {
     let period = sets.period();
     let width = width_of(activity, period);
-    reached(
-        alloc,
-        sets,
-        activity.from,
-        behind(activity, period, width),
-        width,
-    )
+    reached(sets, activity.from, behind(activity, period, width), width)
 }
 
 // By how much an activity may take longer than its lower bound, up to a whole period.

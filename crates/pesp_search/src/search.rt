@@ -87,7 +87,7 @@ fn take_entry(
     if let Some(times) = branch(alloc, sets)? {
         return Ok(Entry::Found(times));
     }
-    match next_child(alloc, sets)? {
+    match next_child(sets)? {
         Some(event) => Ok(Entry::Next(one_flag(alloc, event, pesp.event_count())?)),
         None => Ok(Entry::Last),
     }
