@@ -19,10 +19,12 @@ use Rattle.pesp_search.specs.Listings.{has_several, in_turn, is_empty}
 use Rattle.pesp_search.specs.Listings.{listing, listing_of, one_more, result_within, unless_found}
 use Rattle.pesp_search.specs.Listings.{whole_result, with_time}
 use Rattle.pesp_search.specs.Marks.{IsNextChild, Marks, Tracked, sets_of, times_from, waiting}
-use Rattle.pesp_search.specs.Revising.{AreRevised, IsReady, Reduces, has_changed}
+use Rattle.pesp_search.specs.Flags.{Flags, has_changed}
+use Rattle.pesp_search.specs.Revising.{AllFrom, AreRevised, IsReady, IsRevised, Reduces, Stands}
 use Rattle.pesp_search.specs.Searches.{Branches, IsSearched, SavesOnce, behind, entry_here}
 use Rattle.pesp_search.specs.Searches.{listed_on}
 use Rattle.pesp_search.specs.TimeSets.{left_to, reduced}
+use Rattle.pesp_search.specs.TimeSets.{reduced as all_reduced}
 use Rattle.pesp_search.proofs.Revised.{carried_firsts, carried_seconds}
 use Rattle.pesp_search.proofs.Turns.{first_turn, listed, no_turn, none_behind, turns_append, turns_map, unless_one}
 use Rattle.pesp_search.proofs.Unrolled.{unrolls}
@@ -70,7 +72,7 @@ branched before after event none is same = (
       ∙ turns_append visit children (waiting before.saved)
       ∙ ap (λ (tracked : Tracked). in_turn visit (waiting tracked.saved)) (sym same))),
   ap (λ (tracked : Tracked). tracked.sets) same,
-  inr (record { event = event; from = 0 }, ap (λ (tracked : Tracked). tracked.saved) same),
+  inr (record { event = event; from = 0 }, none, ap (λ (tracked : Tracked). tracked.saved) same),
 )
 
 -- ---- an entry
@@ -82,10 +84,25 @@ module _ (problem : Problem) (before reduced : Tracked) (so : Reduces problem be
   abbrev children_of : List (List ℕ) → Listing
   children_of sets = entry sets (λ event time. listing_of problem (with_time sets event time))
 
+  dead : (sets : List (List ℕ)) → list_any is_empty sets ≡ true
+      → children_of sets ≡ record { entries = 1; found = None }
+  dead sets none =
+      ap (λ b. elim b as (λ _. Listing) [
+        | true ↦ record { entries = 1; found = None }
+        | false ↦ branches sets (λ event time. listing_of problem (with_time sets event time)) (position has_several sets)
+      ]) none
+
+  -- an entry of sets in which some event has no time left is that of the reduced sets
+  same_entry : Stands problem before reduced
+      → children_of (all_reduced problem (sets_of before.sets)) ≡ children_of (sets_of reduced.sets)
+  same_entry (inr stands) = ap children_of (sym stands.0)
+  same_entry (inl stands) =
+      dead (all_reduced problem (sets_of before.sets)) stands.1 ∙ sym (dead (sets_of reduced.sets) stands.0)
+
   entry_is : listed_on problem before ≡ entry_here (listing_of problem) reduced
   entry_is =
       first_turn (listing_of problem) (sets_of before.sets) (waiting before.saved)
-      ∙ (λ i. unless_found ((unrolls problem (sets_of before.sets) ∙ ap children_of (sym so.sets)) i)
+      ∙ (λ i. unless_found ((unrolls problem (sets_of before.sets) ∙ same_entry so.stands) i)
       (in_turn (listing_of problem) (waiting (sym so.saved i))))
 
   pub entry_found : (after : Tracked) (times : Vec ℕ Global) → Branches reduced after (Some times)
@@ -99,23 +116,28 @@ module _ (problem : Problem) (before reduced : Tracked) (so : Reduces problem be
       ∙ ap (λ sets. one_more (in_turn (listing_of problem) sets)) none
       ∙ ap one_more (no_turn (listing_of problem))
 
+  all_revised : Stands problem before reduced → list_any is_empty (sets_of reduced.sets) ≡ false
+      → AllFrom problem.activities (IsRevised problem.period (is_left reduced.sets)) 0
+  all_revised (inr stands) none = stands.1
+  all_revised (inl stands) none = absurd (false≢true (sym none ∙ stands.0))
+
   -- what was saved before is still revised, and so is what an entry saves
   saved_revised : (after : Tracked) → AreRevised problem before.saved → SavesOnce reduced after
       → AreRevised problem after.saved
   saved_revised after was (inl same) = subst (AreRevised problem) (sym (same ∙ so.saved)) was
-  saved_revised after was (inr (branch, is)) =
-      subst (AreRevised problem) (sym is) (so.revised, subst (AreRevised problem) (sym so.saved) was)
+  saved_revised after was (inr (branch, none, is)) =
+      subst (AreRevised problem) (sym is) (all_revised so.stands none, subst (AreRevised problem) (sym so.saved) was)
 
   -- and the sets of a child are ready where its event has a flag
-  child_ready : (after next : Tracked) (event : ℕ) (flags : List Bool)
-      → AreRevised problem after.saved → next.sets.events ≡ problem.events → IsChildOf after next event
-      → flags ≡ map (λ other. other == event) (range_with_len 0 problem.events)
+  child_ready : (after next : Tracked) (event : ℕ) (flags : Flags)
+      → AreRevised problem after.saved → IsChildOf after next event → flags.events ≡ problem.events
+      → ((other : ℕ) → has_changed flags other ≡ (other == event))
       → IsReady problem next flags
-  child_ready after next event flags was events child are =
+  child_ready after next event flags was child each are =
       let parts = rest_revised child.passed (record { sets = child.branched; branch = child.from }
       ∷ child.earlier) (subst (AreRevised problem) child.was was) in
       record {
-        each = ap length are ∙ length-map-range_with_len (λ other. other == event) 0 problem.events;
+        each = each;
         revised = λ i activity at low.
             let is = parts.0 i activity at low in (
               carried_seconds problem.period (is_left child.branched) (is_left next.sets) (λ _. false)
@@ -132,11 +154,7 @@ module _ (problem : Problem) (before reduced : Tracked) (so : Reduces problem be
       rest_revised (saved ∷ passed) rest all = rest_revised passed rest all.1
 
       set_there : has_changed flags event ≡ true
-      set_there =
-          ap (λ flags. get_or flags event false) are
-          ∙ get_or-map-range_with_len (λ other. other == event) 0 problem.events event event false
-          (omega (arith, child.inside, events)) (omega arith)
-          ∙ eq-eqb event event refl
+      set_there = are event ∙ eq-eqb event event refl
 
       untouched : (e : ℕ) → has_changed flags e ≡ false
           → (false ≡ false) × (is_left next.sets e ≡ is_left child.branched e)
@@ -145,21 +163,21 @@ module _ (problem : Problem) (before reduced : Tracked) (so : Reduces problem be
         | inr other ↦ (refl, child.others e other)
       ]
 
-  pub entry_next : (after : Tracked) (next : Tracked) (event : ℕ) (flags : List Bool)
+  pub entry_next : (after : Tracked) (next : Tracked) (event : ℕ) (flags : Flags)
       → Branches reduced after None → IsNextChild after next (Some event)
-      → before.sets.events ≡ problem.events → AreRevised problem before.saved
-      → flags ≡ map (λ other. other == event) (range_with_len 0 problem.events)
+      → AreRevised problem before.saved → flags.events ≡ problem.events
+      → ((other : ℕ) → has_changed flags other ≡ (other == event))
       → (listed_on problem before ≡ one_more (listed_on problem next))
       × (next.sets.period ≡ before.sets.period)
       × (next.sets.events ≡ before.sets.events)
       × IsReady problem next flags
-  entry_next after next event flags branch child there was are =
+  entry_next after next event flags branch child was each are =
       let events = child.2 ∙ ap (λ (sets : Marks). sets.events) branch.1 ∙ so.events in (
         entry_is ∙ branch.0 (listing_of problem)
             ∙ ap (λ sets. one_more (in_turn (listing_of problem) sets)) child.0,
         child.1 ∙ ap (λ (sets : Marks). sets.period) branch.1 ∙ so.period,
         events,
-        child_ready after next event flags (saved_revised after was branch.2) (events ∙ there) child.3 are,
+        child_ready after next event flags (saved_revised after was branch.2) child.3 each are,
       )
 
 -- ---- the first entry, and one more

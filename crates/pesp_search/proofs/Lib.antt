@@ -1,12 +1,15 @@
 mod AnyBelow
 mod Changes
 mod Crowded
+mod EmptySets
 mod Entries
 mod Families
 mod FirstMarks
 mod FirstWords
+mod FlagBits
 mod FoundTimes
 mod JudgedTimes
+mod Linked
 mod ListedTimes
 mod MarkBits
 mod MarkCounts
@@ -27,6 +30,7 @@ mod Tried
 mod TurnedTimes
 mod Turns
 mod Unrolled
+mod Visiting
 mod Waiting
 mod WindowSums
 mod WordBits

@@ -10,11 +10,14 @@ use Rattle.std.proofs.lemmas.List.Elements.{All-from_get_or}
 use Rattle.std.proofs.lemmas.Option.{none-some, slice_get-get_or}
 use Rattle.pesp_model.specs.declared.activity.PespActivity.{PespActivity}
 use Rattle.pesp_model.specs.Timetables.{IsActivity, IsProblem, Problem, keeps}
-use Rattle.pesp_search.specs.Marks.{Tracked, family, is_left}
-use Rattle.pesp_search.specs.Revising.{AllFrom, IsRevised, IsWithin, Left, Propagates, Reduces}
-use Rattle.pesp_search.specs.Revising.{first_left, second_left}
+use Rattle.pesp_search.specs.Listings.{is_empty}
+use Rattle.pesp_search.specs.Marks.{AreMarks, Tracked, family, is_left, sets_of}
+use Rattle.pesp_search.specs.Revising.{AllFrom, HasEmpty, IsRevised, IsWithin, Left, Propagates, Reduces}
+use Rattle.pesp_search.specs.Revising.{first_left, is_free, second_left}
 use Rattle.pesp_search.specs.TimeSets.{has_partner, has_partners, reduced, round, rounds}
 use Rattle.pesp_search.specs.TimeSets.{times_left}
+use Rattle.pesp_search.proofs.Crowded.{free_revised}
+use Rattle.pesp_search.proofs.EmptySets.{empty_within, some_left}
 use Rattle.pesp_search.proofs.Families.{all_times, both_of, fewer_times, left_to_family}
 use Rattle.pesp_search.proofs.Families.{round_family, same_family, sets_family}
 use Rattle.pesp_search.proofs.Partners.{holds_in_range, range_holds, same_tests}
@@ -218,20 +221,105 @@ module _ (problem : Problem) (sound : IsProblem problem) where
     family_reduced low =
         all_rounds (times_left (sets first)) first (omega arith) low (λ e t is. is)
 
+  -- ---- sets in which none is left to some event
+
+  stable_of : (left : Left) → times_left (sets left) ≤ times_left (round problem (sets left))
+      → All (IsRevised period (inside left)) problem.activities
+  stable_of left as_many = stable_revised left (all_times period events left (partners left)
+      (subst (λ next. times_left (sets left) ≤ times_left next) (round_family period problem events left) as_many))
+
+  -- what rounds leave are sets in which all activities are revised
+  rounds_family : (n : ℕ) (left : Left) → times_left (sets left) ≤ n
+      → (last : Left) × (rounds n problem (sets left) ≡ sets last) × IsWithin last left
+      × All (IsRevised period (inside last)) problem.activities
+  rounds_family zero left few =
+      (left, rounds_none (sets left), λ e t is. is, stable_of left (omega (arith, few)))
+  rounds_family (suc n) left few =
+      let next = round_family period problem events left in
+      elim (cases_Bool (nat_eq (times_left (round problem (sets left))) (times_left (sets left)))) [
+        | inl same ↦
+            (left, rounds_stop n (sets left) same, λ e t is. is,
+            stable_of left (omega (arith, eqb-true _ _ same)))
+        | inr other ↦
+            let apart = eqb-false _ _ other in
+            let fewer = fewer_times period events left (partners left) in
+            let less = ap times_left next in
+            let rest = rounds_family n (both_of left (partners left)) (omega (arith, few, fewer, less, apart)) in
+            (rest.0, rounds_on n (sets left) other ∙ ap (rounds n problem) next ∙ rest.1,
+            λ e t is. (and_parts (left e t) _ (rest.2 e t is)).0, rest.3)
+      ]
+
   -- ---- marks
 
-  pub sets_reduced : (before after : Tracked) → before.sets.period ≡ period → before.sets.events ≡ events
-      → Propagates problem before after
-      → AllFrom problem.activities (IsRevised period (is_left after.sets)) 0
-      → Reduces problem before after
-  sets_reduced before after period_is events_is so revised = record {
-    period = so.period;
-    events = so.events;
-    saved = so.saved;
-    revised = revised;
-    sets = sets_family after.sets
+  module _ (before after : Tracked) (period_is : before.sets.period ≡ period)
+      (events_is : before.sets.events ≡ events) (so : Propagates problem before after) where
+    before_is : sets_of before.sets ≡ sets (is_left before.sets)
+    before_is = sets_family before.sets ∙ (λ i. family (period_is i) (events_is i) (is_left before.sets))
+
+    after_is : sets_of after.sets ≡ sets (is_left after.sets)
+    after_is = sets_family after.sets
         ∙ (λ i. family ((so.period ∙ period_is) i) ((so.events ∙ events_is) i) (is_left after.sets))
-        ∙ sym (family_reduced (is_left before.sets) (is_left after.sets) revised so.keeps so.within)
-        ∙ sym (ap (reduced problem) (sets_family before.sets
-        ∙ (λ i. family (period_is i) (events_is i) (is_left before.sets))));
-  }
+
+    sets_reduced : AllFrom problem.activities (IsRevised period (is_left after.sets)) 0
+        → sets_of after.sets ≡ reduced problem (sets_of before.sets)
+    sets_reduced revised =
+        after_is ∙ sym (family_reduced (is_left before.sets) (is_left after.sets) revised so.keeps so.within)
+        ∙ sym (ap (reduced problem) before_is)
+
+    -- where some event has no time left, it has none in the reduced sets
+    none_reduced : HasEmpty after.sets → list_any is_empty (reduced problem (sets_of before.sets)) ≡ true
+    unfolding reduced
+    none_reduced empty =
+        let found = rounds_family (times_left (sets (is_left before.sets))) (is_left before.sets) (omega arith) in
+        let inner = so.keeps (inside found.0) found.3
+        (λ e t is. found.2 e t (inside_parts found.0 e t is).2) in
+        let same = same_family period events found.0 (inside found.0) (λ e t within small.
+        same_tests (found.0 e t) (inside found.0 e t)
+        (λ is. inside_from found.0 e t within small is) (λ is. (inside_parts found.0 e t is).2)) in
+        ap (list_any is_empty) (ap (reduced problem) before_is ∙ found.1 ∙ same)
+        ∙ empty_within period (inside found.0) (is_left after.sets) inner events
+        (sym (ap (list_any is_empty) after_is) ∙ empty)
+
+    pub dead_stands : HasEmpty after.sets → Reduces problem before after
+    dead_stands empty = record {
+      period = so.period;
+      events = so.events;
+      saved = so.saved;
+      stands = inl (empty, none_reduced empty);
+    }
+
+    -- all activities are revised that are not free, and where times are left to all events the others too
+    pub bound_stands : AreMarks after.sets
+        → AllFrom problem.activities (λ activity. is_free period activity ≡ false
+        → IsRevised period (is_left after.sets) activity) 0
+        → Reduces problem before after
+    bound_stands are bound = elim (cases_Bool (list_any is_empty (sets_of after.sets))) [
+      | inl empty ↦ dead_stands empty
+      | inr none ↦
+          let all = all_revised none in
+          record {
+            period = so.period;
+            events = so.events;
+            saved = so.saved;
+            stands = inr (sets_reduced all, all);
+          }
+    ]
+      where
+        own_period : after.sets.period ≡ period
+        own_period = so.period ∙ period_is
+
+        own_events : after.sets.events ≡ events
+        own_events = so.events ∙ events_is
+
+        all_revised : list_any is_empty (sets_of after.sets) ≡ false
+            → AllFrom problem.activities (IsRevised period (is_left after.sets)) 0
+        all_revised none i activity at low = elim (cases_Bool (is_free period activity)) [
+          | inr not_free ↦ bound i activity at low not_free
+          | inl free ↦
+              let is = activity_at i activity at in
+              subst (λ period. IsRevised period (is_left after.sets) activity) own_period
+              (free_revised activity after (subst (λ events. IsActivity events activity) (sym own_events) is) are
+              (ap (λ (period : ℕ). is_free period activity) own_period ∙ free)
+              (some_left after.sets activity.from (subst (λ events. activity.from < events) (sym own_events) is.from) none)
+              (some_left after.sets activity.to (subst (λ events. activity.to < events) (sym own_events) is.to) none))
+        ]

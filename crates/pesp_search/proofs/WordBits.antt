@@ -242,6 +242,13 @@ first_is word from rest low fits is some small =
       | inr high ↦ absurd (false≢true (sym (high_bit word bit fits high) ∙ set))
     ]
 
+-- a word that is not 0 has a bit
+pub none_at_zero : (word : ℕ) → word < 2 ^ 64 → (word ≡ 0 → ⊥)
+    → (bit : ℕ) × (bit < 64) × (has_bit word bit ≡ true)
+none_at_zero word fits some =
+    let lowest = bit_at-trailing_zeros w64 word (omega (arith, some)) fits in
+    (trailing_zeros w64 word, lowest.0, set_from word (trailing_zeros w64 word) lowest.1)
+
 -- ---- the bits from a place on
 
 or_false : (x y : Bool) → y ≡ false → (x || y) ≡ x

@@ -1,13 +1,11 @@
 // The children of branches, one after the other.
-ghost use Rattle.std.specs.Prelude.{◌≡◌, ℕ, ◌<◌, ◌==◌, length, map, true, IfOk, OnOk};
-ghost use Rattle.std.specs.List.{range_with_len};
+ghost use Rattle.std.specs.Prelude.{◌≡◌, ℕ, ◌<◌, ◌==◌, length, true, IfOk, OnOk};
 ghost use Rattle.pesp_search.specs.Marks.{IsNextChild, KeepsTime, is_left, marked};
 
 use crate::prune::prune;
 use crate::time_sets::{Branch, TimeSets};
 use crate::words::WORDS;
 use plan_num::NoMemory;
-use std::alloc::Global;
 
 /// Goes to the sets of the next child that waits, and tells the event of its branch; none where no
 /// child waits.
@@ -48,16 +46,4 @@ fn one_time(time: usize) -> [u64; WORDS]
     let mut times = [0; WORDS];
     times[time / 64] = 1 << (time % 64);
     times
-}
-
-/// So many flags, of which one is set.
-pub(crate) fn one_flag(alloc: Global, one: usize, count: usize) -> Result<Vec<bool>, NoMemory>
-    ensures { IfOk result
-        (λ flags. flags.items ≡ map (λ other. other == one) (range_with_len 0 count)) }
-{
-    let mut flags = Vec::new(alloc);
-    for other in 0..count {
-        flags.push(other == one)?;
-    }
-    Ok(flags)
 }

@@ -1,11 +1,12 @@
 // Sets of times that are revised by an activity.
-ghost use Rattle.std.specs.Prelude.{◌≡◌, ◌-◌, ◌<◌, ◌≤◌, ◌≤ℤ◌, ℕ, nat_le, pos, length, IfOk, OnOk};
+ghost use Rattle.std.specs.Prelude.{◌≡◌, ◌-◌, ◌/◌, ◌||◌, ◌<◌, ◌≤◌, ◌≤ℤ◌, ℕ, true, nat_le, pos, length, IfOk, OnOk};
 ghost use Rattle.pesp_model.specs.Timetables.{IsActivity};
 ghost use Rattle.pesp_search.specs.Marks.{AreMarks, Prunes, is_left, marked, times_from};
 ghost use Rattle.pesp_search.specs.Revising.{ahead, behind, first_left, second_left, width_of};
-ghost use Rattle.pesp_search.specs.Revising.{Revises, RevisesFirsts, RevisesSeconds};
+ghost use Rattle.pesp_search.specs.Revising.{HasEmpty, Revises, RevisesFirsts, RevisesSeconds};
 ghost use Rattle.pesp_search.specs.Revising.{keeps_firsts, keeps_seconds, noted};
 
+use crate::flags::EventFlags;
 use crate::marks::TimeMarks;
 use crate::prune::prune;
 use crate::time_sets::TimeSets;
@@ -14,72 +15,93 @@ use crate::words::WORDS;
 use pesp_model::PespActivity;
 use plan_num::NoMemory;
 
-/// Takes the times that have no partner out of the sets of both events of an activity, where the
-/// set of the other event has a flag, and sets the flags of those whose set has changed.
+/// Takes the times that have no partner out of the set of an activity's other event where the set
+/// of one of its events has changed, and sets the flags of the events whose set has changed. Tells
+/// whether some set has no time left for that.
 pub(crate) fn revise(
     activity: PespActivity,
+    at: usize,
     sets: &mut TimeSets,
-    changed: &[bool],
-    next: &mut [bool],
-) -> Result<(), NoMemory>
+    changed: &mut EventFlags,
+) -> Result<bool, NoMemory>
     requires activity { IsActivity sets.old.sets.events activity }
-    requires each { length changed.now ≡ sets.old.sets.events }
-    requires next { length next.old ≡ sets.old.sets.events }
-    ensures { OnOk result
-        (Revises activity changed.now sets.old sets.new next.old next.new) }
+    requires each { changed.old.events ≡ sets.old.sets.events }
+    ensures revises { OnOk result
+        (Revises activity at sets.old sets.new changed.old changed.new) }
+    ensures empty { IfOk result (λ is_empty. is_empty ≡ true → HasEmpty sets.new.sets) }
 {
-    revise_seconds(activity, sets, changed, next)?;
-    revise_firsts(activity, sets, changed, next)
+    let first = revise_seconds(activity, at, sets, changed)?;
+    let second = revise_firsts(activity, at, sets, changed)?;
+    Ok(any_of(first, second))
 }
 
 // Does so for the first event.
 fn revise_seconds(
     activity: PespActivity,
+    at: usize,
     sets: &mut TimeSets,
-    changed: &[bool],
-    next: &mut [bool],
-) -> Result<(), NoMemory>
+    changed: &mut EventFlags,
+) -> Result<bool, NoMemory>
     requires activity { IsActivity sets.old.sets.events activity }
-    requires each { length changed.now ≡ sets.old.sets.events }
-    requires next { length next.old ≡ sets.old.sets.events }
-    ensures { OnOk result
-        (RevisesSeconds activity changed.now sets.old sets.new next.old next.new) }
+    requires each { changed.old.events ≡ sets.old.sets.events }
+    ensures revises { OnOk result
+        (RevisesSeconds activity at sets.old sets.new changed.old changed.new) }
+    ensures empty { IfOk result (λ is_empty. is_empty ≡ true → HasEmpty sets.new.sets) }
 {
-    if !changed[activity.to] && !next[activity.to] {
-        return Ok(());
+    if activity.to != at {
+        return Ok(false);
     }
     let is_changed = keep_seconds(activity, sets)?;
-    note(next, activity.from, is_changed);
-    Ok(())
+    note(changed, activity.from, is_changed);
+    Ok(is_emptied(sets.sets(), activity.from, is_changed))
 }
 
 // Does so for the second event.
 fn revise_firsts(
     activity: PespActivity,
+    at: usize,
     sets: &mut TimeSets,
-    changed: &[bool],
-    next: &mut [bool],
-) -> Result<(), NoMemory>
+    changed: &mut EventFlags,
+) -> Result<bool, NoMemory>
     requires activity { IsActivity sets.old.sets.events activity }
-    requires each { length changed.now ≡ sets.old.sets.events }
-    requires next { length next.old ≡ sets.old.sets.events }
-    ensures { OnOk result
-        (RevisesFirsts activity changed.now sets.old sets.new next.old next.new) }
+    requires each { changed.old.events ≡ sets.old.sets.events }
+    ensures revises { OnOk result
+        (RevisesFirsts activity at sets.old sets.new changed.old changed.new) }
+    ensures empty { IfOk result (λ is_empty. is_empty ≡ true → HasEmpty sets.new.sets) }
 {
-    if !changed[activity.from] && !next[activity.from] {
-        return Ok(());
+    if activity.from != at {
+        return Ok(false);
     }
     let is_changed = keep_firsts(activity, sets)?;
-    note(next, activity.to, is_changed);
-    Ok(())
+    note(changed, activity.to, is_changed);
+    Ok(is_emptied(sets.sets(), activity.to, is_changed))
+}
+
+// Whether one of two tests holds.
+fn any_of(first: bool, second: bool) -> bool
+    ensures { result ≡ (first || second) }
+{
+    first || second
+}
+
+// Whether no time is left to an event whose set has changed.
+fn is_emptied(sets: &TimeMarks, event: usize, is_changed: bool) -> bool
+    requires { event < sets.now.events }
+    ensures { result ≡ true → HasEmpty sets.now }
+{
+    is_changed && sets.count(event) == 0
 }
 
 // Sets the flag of an event if its set has changed.
-fn note(changed: &mut [bool], event: usize, is_changed: bool)
-    requires { event < length changed.old }
-    ensures { changed.new ≡ noted changed.old event is_changed }
+fn note(changed: &mut EventFlags, event: usize, is_changed: bool)
+    requires { event < changed.old.events }
+    ensures noted { changed.new ≡ noted changed.old event is_changed }
+    ensures within { event / 64 < length changed.old.words }
 {
-    changed[event] = changed[event] || is_changed;
+    let _ = changed.events();
+    if is_changed {
+        changed.put(event, true);
+    }
 }
 
 // Takes the times that have no second one out of the set of an activity's first event, and tells
@@ -147,8 +169,8 @@ fn with_first(activity: PespActivity, sets: &TimeMarks) -> [u64; WORDS]
     reached(sets, activity.from, behind(activity, period, width), width)
 }
 
-// By how much an activity may take longer than its lower bound, up to a whole period.
-fn width_of(activity: PespActivity, period: usize) -> usize
+/// By how much an activity may take longer than its lower bound, up to a whole period.
+pub(crate) fn width_of(activity: PespActivity, period: usize) -> usize
     requires some { 1 ≤ period }
     requires low { pos 0 ≤ℤ activity.lower }
     requires in_order { activity.lower ≤ℤ activity.upper }

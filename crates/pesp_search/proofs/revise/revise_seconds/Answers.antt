@@ -1,12 +1,12 @@
-use Rattle.std.proofs.Common.{Bool, List, arith, subst, sym}
+use Rattle.std.proofs.Common.{subst, sym}
+use Rattle.pesp_search.specs.Flags.{Flags}
 use Rattle.pesp_search.specs.Revising.{RevisesSeconds}
-use Rattle.pesp_search.proofs.Revised.{seconds_revised}
+use Rattle.pesp_search.proofs.Revised.{seconds_kept, seconds_revised}
 use Rattle.pesp_search.proofs.revise.revise_seconds.Goals as goal
 
-pub returns : goal.returns
-returns c =
-    subst (λ (more : List Bool). RevisesSeconds c.args.activity c.args.changed.now c.args.sets.now
-    c.keep_seconds.new.sets c.args.next.now more) (sym c.note.ensures)
+pub returns-clause-revises : goal.returns-clause-revises
+returns-clause-revises c =
+    subst (λ (more : Flags). RevisesSeconds c.args.activity c.args.at c.args.sets.now
+    c.keep_seconds.new.sets c.args.changed.now more) (sym c.note.ensures.noted)
     (seconds_revised c.args.activity c.args.sets.now c.keep_seconds.new.sets c.in_ok-is_changed.is_changed
-    c.args.changed.now c.args.next.now (omega (arith, c.requires.activity.from, c.requires.next))
-    c.in_ok-is_changed.ensures)
+    c.args.at c.args.changed.now c.note.ensures.within c.in_ok-is_changed.ensures)

@@ -65,9 +65,10 @@ returns-clause-steps g c =
 pub loop-entry-init : goal.loop-entry-init
 loop-entry-init g c = record {
   searched = c.in_ok-sets.ensures.searched;
-  ready = all_ready c.args.pesp.now c.in_ok-sets.sets c.in_ok-changed.changed.items
-      c.event_count.ensures.problem (c.in_ok-changed.ensures.each ∙ c.event_count.ensures.count)
-      c.in_ok-changed.ensures.all c.in_ok-sets.ensures.saved;
+  ready = all_ready c.args.pesp.now c.in_ok-sets.sets c.in_ok-changed.changed
+      c.event_count.ensures.problem (c.in_ok-changed.ensures.events ∙ c.event_count.ensures.count)
+      (λ event low. c.in_ok-changed.ensures.all event (omega (arith, low, c.event_count.ensures.count)))
+      c.in_ok-sets.ensures.saved;
   steps = omega arith;
 }
 

@@ -11,16 +11,14 @@ returns-in-Some c =
     c.branch-alloc.new.sets c.in-Some.times
     (subst (Branches c.reduce.new.sets c.branch-alloc.new.sets) c.in-Some.is c.in_ok-times.ensures)
 
-pub returns-in_ok-one_flag-in-Some-2 : goal.returns-in_ok-one_flag-in-Some-2
-returns-in_ok-one_flag-in-Some-2 c =
+pub returns-in_ok-one-in-Some-2 : goal.returns-in_ok-one-in-Some-2
+returns-in_ok-one-in-Some-2 c =
     entry_next c.args.pesp.now c.args.sets.now c.reduce.new.sets c.in_ok-reduce.ensures
-    c.branch-alloc.new.sets c.next_child.new.sets c.in-Some-2.event
-    c.in_ok-one_flag-in-Some-2.field-0.items
+    c.branch-alloc.new.sets c.next_child.new.sets c.in-Some-2.event c.in_ok-one-in-Some-2.field-0
     (subst (Branches c.reduce.new.sets c.branch-alloc.new.sets) c.in_default.is c.in_ok-times.ensures)
     (subst (IsNextChild c.branch-alloc.new.sets c.next_child.new.sets) c.in-Some-2.is c.in_ok-event.ensures)
-    c.requires.events c.requires.ready.saved
-    (c.in_ok-one_flag-in-Some-2.ensures ∙ ap (λ (n : ℕ). map (λ (other : ℕ). other == c.in-Some-2.event)
-    (range_with_len 0 n)) c.event_count.ensures.count)
+    c.requires.ready.saved (c.in_ok-one-in-Some-2.ensures.events ∙ c.event_count.ensures.count)
+    c.in_ok-one-in-Some-2.ensures.one
 
 pub returns-in-None : goal.returns-in-None
 returns-in-None c =
