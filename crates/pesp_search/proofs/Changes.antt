@@ -1,7 +1,7 @@
 -- Changes of sets of times, and what they say of the sets before them.
-use Rattle.std.proofs.Common.{◌≡◌, ◌∙◌, ℕ, zero, suc, ◌<◌, Bool, true, false, ◌&&◌, nat_lt, List}
+use Rattle.std.proofs.Common.{◌≡◌, ◌∙◌, ℕ, ◌<◌, true, false, List}
 use Rattle.std.proofs.Common.{[], ◌∷◌, ◌++◌}
-use Rattle.std.proofs.Common.{get_or, slice_set, length, reverse, refl, ap, sym, subst, arith, All}
+use Rattle.std.proofs.Common.{length, reverse, refl, ap, sym, subst, arith, All}
 use Rattle.std.proofs.Math.Seq.{get_or-append_seam}
 use Rattle.std.proofs.lemmas.List.{get_or_append_left, length_push, reverse-append}
 use Rattle.pesp_search.specs.declared.time_sets.Branch.{Branch}

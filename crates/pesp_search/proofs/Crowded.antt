@@ -2,10 +2,10 @@
 use Rattle.std.proofs.Common.{◌≡◌, ◌∙◌, inl, inr, ℕ, ◌+◌, ◌-◌, ◌<◌, ◌≤◌, ◌==◌, nat_le, nat_lt, Bool, true, false}
 use Rattle.std.proofs.Common.{not, ◌&&◌, ◌||◌, filter, length, refl, ap, sym, arith}
 use Rattle.std.specs.List.{range_with_len}
-use Rattle.std.proofs.lemmas.Bool.{and_parts, cases_Bool, eqb-true, false≢true, le-leb, leb-true, ltb-true}
+use Rattle.std.proofs.lemmas.Bool.{and_parts, cases_Bool, false≢true, le-leb, leb-true, ltb-true}
 use Rattle.pesp_model.specs.declared.activity.PespActivity.{PespActivity}
 use Rattle.pesp_model.specs.Timetables.{IsActivity}
-use Rattle.pesp_search.specs.Marks.{AreMarks, Marks, Prunes, Tracked, is_left, times_from}
+use Rattle.pesp_search.specs.Marks.{AreMarks, Prunes, Tracked, is_left, times_from}
 use Rattle.pesp_search.specs.Revising.{IsRevised, Left, ahead, behind, is_free, keeps_firsts, keeps_seconds, width_of}
 use Rattle.pesp_search.proofs.Partners.{first_reached, second_reached}
 use Rattle.pesp_search.proofs.WindowSums.{crowded}

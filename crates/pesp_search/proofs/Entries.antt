@@ -1,8 +1,7 @@
 -- A search entry by entry, and what it comes to.
-use Rattle.std.specs.List.{range_with_len}
 use Rattle.pesp_search.specs.Marks.{IsChildOf, Saved, is_left}
 use Rattle.std.proofs.Common.{◌==◌}
-use Rattle.std.proofs.Common.{Bool, inl, inr, get_or, length}
+use Rattle.std.proofs.Common.{inl, inr}
 use Rattle.std.proofs.Common.{◌≡◌, ◌∙◌, ℕ, ◌+◌, ◌<◌, ◌≤◌, true, false, if◌then◌else◌}
 use Rattle.std.proofs.Common.{List, [], ◌∷◌, ◌++◌, map, position, Option, Some, None, is_some, Vec}
 use Rattle.std.proofs.Common.{Global}

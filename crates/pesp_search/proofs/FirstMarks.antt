@@ -1,13 +1,10 @@
 -- The marks at first, and marks of which one time of an event is left.
-use Rattle.std.proofs.Common.{◌≡◌, ◌∙◌, inl, inr, ℕ, zero, suc, ◌+◌, ◌*◌, ◌<◌, ◌≤◌, ◌==◌, nat_le}
+use Rattle.std.proofs.Common.{◌≡◌, ◌∙◌, inl, inr, ℕ, zero, suc, ◌+◌, ◌*◌, ◌<◌, ◌≤◌, ◌==◌}
 use Rattle.std.proofs.Common.{Bool, true, false, not, ◌&&◌, ◌||◌, if◌then◌else◌, List, [], ◌∷◌}
-use Rattle.std.proofs.Common.{length, map, filter, get_or, slice_set}
+use Rattle.std.proofs.Common.{map, filter, slice_set}
 use Rattle.std.proofs.Common.{refl, ap, sym, arith, Ok}
 use Rattle.std.specs.List.{range_with_len}
-use Rattle.std.proofs.Math.Nat.{mul-le-mul_right}
-use Rattle.std.proofs.lemmas.Bool.{and_from, and_parts, cases_eq, eq-eqb, ne_eqb, le-leb, lt-leb}
-use Rattle.std.proofs.lemmas.Bool.{lt-ltb, or_right}
-use Rattle.std.proofs.lemmas.List.FromFn.{get_or-map-range_with_len, length-map-range_with_len}
+use Rattle.std.proofs.lemmas.Bool.{and_from, and_parts, cases_eq, eq-eqb, ne_eqb}
 use Rattle.pesp_search.specs.Listings.{times_at_first, with_time}
 use Rattle.pesp_search.specs.Marks.{KeepsTime, Marks, Prunes, Tracked, family, is_left, marked}
 use Rattle.pesp_search.specs.Marks.{sets_of, words_of}

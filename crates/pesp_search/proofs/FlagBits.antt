@@ -1,6 +1,6 @@
 -- Flags of events as bits.
-use Rattle.std.proofs.Common.{◌≡◌, ◌∙◌, ◌⊎◌, inl, inr, ℕ, zero, suc, ◌+◌, ◌-◌, ◌*◌, ◌/◌, ◌%◌, ◌^◌, ◌<◌, ◌≤◌, ◌==◌}
-use Rattle.std.proofs.Common.{Bool, true, false, not, ◌||◌, max, List, [], ◌∷◌, ◌++◌, length, get_or, slice_set, All}
+use Rattle.std.proofs.Common.{◌≡◌, ◌∙◌, inl, inr, ℕ, zero, suc, ◌+◌, ◌-◌, ◌*◌, ◌/◌, ◌%◌, ◌^◌, ◌<◌, ◌≤◌, ◌==◌}
+use Rattle.std.proofs.Common.{Bool, true, false, not, ◌||◌, max, List, [], ◌∷◌, length, get_or, slice_set, All}
 use Rattle.std.proofs.Common.{Some, None, refl, ap, sym, subst, arith}
 use Rattle.std.specs.List.{list_any}
 use Rattle.std.proofs.lemmas.Bool.{cases_Bool, cases_eq, cases_lt, eq-eqb, eqb-true, false≢true, ne_eqb, or_parts}
@@ -56,8 +56,12 @@ flags_written flags event word flag are low new =
     })) (record {
       few = are.few;
       each = length-set flags.words (event / 64) _ ∙ are.each;
-      fit = λ k d h. fits there k d (omega (arith, h, length-set flags.words (event / 64)
-          (with_bit (get_or flags.words (event / 64) 0) (event % 64) flag)));
+      fit = λ k d h. fits there k d (omega (
+        arith,
+        h,
+        length-set flags.words (event / 64)
+            (with_bit (get_or flags.words (event / 64) 0) (event % 64) flag),
+      ));
       clear = λ other high.
           other_flag flags event flag there other (λ same. absurd (omega (arith, same, low, high)))
           ∙ are.clear other high;

@@ -1,6 +1,6 @@
 -- The activities at each event, noted one after the other.
-use Rattle.std.proofs.Common.{◌≡◌, ◌≢◌, ◌∙◌, ◌⊎◌, inl, inr, ℕ, ◌+◌, ◌<◌, ◌≤◌, Bool, true, false, List, [], ◌∷◌, ◌++◌}
-use Rattle.std.proofs.Common.{length, get_or, slice_get, Some, Contains, All, refl, ap, sym, subst, arith}
+use Rattle.std.proofs.Common.{◌≡◌, ◌≢◌, ◌∙◌, ◌⊎◌, inl, inr, ℕ, ◌+◌, ◌<◌, true, List, [], ◌∷◌, ◌++◌}
+use Rattle.std.proofs.Common.{length, get_or, slice_get, Some, Contains, All, ap, sym, subst, arith}
 use Rattle.std.proofs.lemmas.Bool.{cases_eq, cases_lt, false≢true}
 use Rattle.std.proofs.lemmas.List.{length-set, get_or-set_same, get_or-set_other, get_or_past}
 use Rattle.std.proofs.lemmas.List.Elements.{Contains-append_left, Contains-get_or, Contains-push, Contains-push_cases}
@@ -129,10 +129,11 @@ module _ (problem : Problem) (count : ℕ) (activity : PespActivity) (rows new :
             subst (λ index. Contains (get_or new other.from []) index × Contains (get_or new other.to []) index)
             (sym here)
             (subst (λ (other : PespActivity). Contains (get_or new other.from []) count
-            × Contains (get_or new other.to []) count) same
-            (noted_keeps first new activity.to count two to_in activity.from count
-            (noted_there rows first activity.from count one from_in),
-            noted_there first new activity.to count two to_in))
+            × Contains (get_or new other.to []) count) same (
+              noted_keeps first new activity.to count two to_in activity.from count
+                  (noted_there rows first activity.from count one from_in),
+              noted_there first new activity.to count two to_in,
+            ))
       ];
     }
 

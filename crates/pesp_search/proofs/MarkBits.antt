@@ -1,9 +1,9 @@
 -- Marks of times as bits, and one mark that is set or taken away.
-use Rattle.std.proofs.Common.{◌≡◌, ◌∙◌, ◌⊎◌, inl, inr, ℕ, zero, suc, ◌+◌, ◌-◌, ◌*◌, ◌/◌, ◌%◌, ◌^◌, ◌<◌, ◌≤◌}
-use Rattle.std.proofs.Common.{nat_lt, Bool, true, false, not, ◌&&◌, List, [], ◌∷◌, length, get_or, slice_set, sum, All}
+use Rattle.std.proofs.Common.{◌≡◌, ◌∙◌, inl, inr, ℕ, zero, suc, ◌+◌, ◌-◌, ◌*◌, ◌/◌, ◌%◌, ◌^◌, ◌<◌, ◌≤◌}
+use Rattle.std.proofs.Common.{nat_lt, Bool, true, false, not, ◌&&◌, List, [], ◌∷◌, length, get_or, slice_set, sum}
 use Rattle.std.proofs.Common.{max, Option, Some, None, refl, ap, sym, subst, arith}
 use Rattle.std.proofs.Math.Nat.{mul-le-mul_right}
-use Rattle.std.proofs.lemmas.Bool.{and_from, and_parts, cases_Bool, cases_eq, cases_lt, false≢true, lt-ltb, le-ltb, ltb-true}
+use Rattle.std.proofs.lemmas.Bool.{and_from, and_parts, cases_Bool, cases_eq, cases_lt, false≢true, lt-ltb, ltb-true}
 use Rattle.std.proofs.lemmas.List.{get_or-set_other, get_or-set_same, get_or_past, length-set, set-get_or}
 use Rattle.std.proofs.lemmas.List.Sums.{sum_by-set}
 use Rattle.std.proofs.lemmas.Nat.{div-mul-add}
@@ -89,8 +89,12 @@ marks_kept sets event time is are inside low =
       each = length-set sets.words (place_of sets.period event time) _ ∙ are.each;
       some = are.some;
       few = are.few;
-      fit = λ k d h. fits there k d (omega (arith, h, length-set sets.words (place_of sets.period event time)
-          (with_bit (word_of sets event time) (time % 64) is)));
+      fit = λ k d h. fits there k d (omega (
+        arith,
+        h,
+        length-set sets.words (place_of sets.period event time)
+            (with_bit (word_of sets event time) (time % 64) is),
+      ));
       clear = λ e t within high few.
           other_bit sets event time is there small e t few (λ _ same. absurd (omega (arith, same, low, high)))
           ∙ are.clear e t within high few;

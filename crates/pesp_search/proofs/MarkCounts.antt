@@ -2,7 +2,7 @@
 use Rattle.std.proofs.Common.{get_or, slice_set, ◌⊎◌}
 use Rattle.std.proofs.Common.{◌≡◌, ◌∙◌, inl, inr, ℕ, zero, suc, ◌+◌, ◌-◌, ◌*◌, ◌/◌, ◌%◌, ◌^◌, ◌<◌, ◌≤◌}
 use Rattle.std.proofs.Common.{cond, nat_lt, count_ones, Bool, true, false, ◌&&◌, List, ◌∷◌, length, filter}
-use Rattle.std.proofs.Common.{refl, ap, sym, subst, arith}
+use Rattle.std.proofs.Common.{refl, ap, sym, arith}
 use Rattle.std.specs.Int.{bit_at}
 use Rattle.std.specs.Int.Count.{ones}
 use Rattle.std.specs.List.{range_with_len}
@@ -10,7 +10,6 @@ use Rattle.std.proofs.Math.Nat.{mod-eq_of_lt, mod-lt}
 use Rattle.std.proofs.lemmas.Bool.{cases_Bool, cases_eq, cases_lt, lt-ltb, le-ltb}
 use Rattle.std.proofs.lemmas.List.{get_or-set_other, get_or-set_same}
 use Rattle.std.proofs.lemmas.Nat.{mod-pow-add, ones-le, ones_cat, pow_pos}
-use Rattle.std.proofs.lemmas.Nat.Bits.{bit_at-lt}
 use Rattle.pesp_search.specs.Marks.{AreMarks, Marks, has_bit, is_left, marked, times_from, word_of, words_of}
 use Rattle.pesp_search.specs.Revising.{count_below}
 use Rattle.pesp_search.proofs.MarkBits.{bit_there}
@@ -136,11 +135,6 @@ all_counted sets event index count are inside all is =
     let none_before : sets.period - 0 ≡ sets.period = omega arith in
     let times = ap (λ n. length (filter (is_left sets event) (range_with_len 0 n))) none_before in
     omega (arith, is, same, none, left, start, ends, times)
-
--- each word has so many bits at most
-pub few_counted : (count more word : ℕ) (index : ℕ) → count ≤ 64 * index → more ≡ count + word → word ≤ 64
-    → more ≤ 64 * (index + 1)
-few_counted count more word index few is low = omega (arith, few, is, low)
 
 pub none_counted : (sets : Marks) (event : ℕ) → 0 ≡ count_below (bit_there sets event) (64 * 0)
 none_counted sets event = sym (count_start (bit_there sets event))

@@ -1,15 +1,10 @@
 -- Times that are taken out of the set of an event, one after the other.
-use Rattle.std.proofs.Common.{◌≡◌, ◌∙◌, ◌⊎◌, inl, inr, ℕ, zero, suc, ◌+◌, ◌/◌, ◌%◌, ◌<◌, ◌≤◌, ◌==◌}
+use Rattle.std.proofs.Common.{◌≡◌, ◌∙◌, ◌⊎◌, inl, inr, ℕ, zero, suc, ◌+◌, ◌<◌, ◌≤◌, ◌==◌}
 use Rattle.std.proofs.Common.{nat_lt}
-use Rattle.std.proofs.Common.{Bool, true, false, not, ◌&&◌, ◌||◌, List, [], ◌∷◌, length, filter}
-use Rattle.std.proofs.Common.{get_or}
-use Rattle.std.proofs.Common.{slice_set, map, refl, ap, sym, subst, arith, IfOk, Result, Ok, Err, Option, Some, None, ◌-◌}
-use Rattle.std.specs.List.{range_with_len}
-use Rattle.std.proofs.lemmas.List.FromFn.{get_or-map-range_with_len}
+use Rattle.std.proofs.Common.{Bool, true, false, not, ◌&&◌, ◌||◌, List}
+use Rattle.std.proofs.Common.{refl, ap, sym, subst, arith, IfOk, Result, Ok, Err, Some, None, ◌-◌}
 use Rattle.std.proofs.lemmas.Bool.{cases_Bool, cases_eq, cases_lt, cases_order, eq-eqb, ne_eqb, lt-ltb}
 use Rattle.std.proofs.lemmas.Bool.{le-ltb, ltb-true, false≢true}
-use Rattle.std.proofs.lemmas.List.{get_or-set_other}
-use Rattle.std.proofs.lemmas.Nat.{div-mul-add, mod-mul-add}
 use Rattle.pesp_search.specs.Marks.{AreMarks, IsNextBesides, Marks, Prunes, Tracked, is_left, marked}
 use Rattle.pesp_search.specs.Marks.{marks_left, with_mark}
 use Rattle.pesp_search.proofs.MarkBits.{one_less, other_bit, place_within, this_bit}

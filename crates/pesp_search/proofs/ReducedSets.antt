@@ -237,16 +237,22 @@ module _ (problem : Problem) (sound : IsProblem problem) where
   rounds_family (suc n) left few =
       let next = round_family period problem events left in
       elim (cases_Bool (nat_eq (times_left (round problem (sets left))) (times_left (sets left)))) [
-        | inl same ↦
-            (left, rounds_stop n (sets left) same, λ e t is. is,
-            stable_of left (omega (arith, eqb-true _ _ same)))
+        | inl same ↦ (
+          left,
+          rounds_stop n (sets left) same,
+          λ e t is. is,
+          stable_of left (omega (arith, eqb-true _ _ same)),
+        )
         | inr other ↦
             let apart = eqb-false _ _ other in
             let fewer = fewer_times period events left (partners left) in
             let less = ap times_left next in
-            let rest = rounds_family n (both_of left (partners left)) (omega (arith, few, fewer, less, apart)) in
-            (rest.0, rounds_on n (sets left) other ∙ ap (rounds n problem) next ∙ rest.1,
-            λ e t is. (and_parts (left e t) _ (rest.2 e t is)).0, rest.3)
+            let rest = rounds_family n (both_of left (partners left)) (omega (arith, few, fewer, less, apart)) in (
+              rest.0,
+              rounds_on n (sets left) other ∙ ap (rounds n problem) next ∙ rest.1,
+              λ e t is. (and_parts (left e t) _ (rest.2 e t is)).0,
+              rest.3,
+            )
       ]
 
   -- ---- marks

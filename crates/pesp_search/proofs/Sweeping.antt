@@ -1,8 +1,8 @@
 -- Sweeps over the events whose sets have changed, and what they leave.
-use Rattle.std.proofs.Common.{◌≡◌, ◌∙◌, ◌⊎◌, inl, inr, ℕ, zero, suc, ◌+◌, ◌<◌, ◌≤◌, ◌==◌, Bool, true}
-use Rattle.std.proofs.Common.{false, List, [], ◌∷◌, length}
-use Rattle.std.proofs.Common.{MatchBool, cond, slice_get, Some, None, All, refl, ap, sym, subst, arith}
-use Rattle.std.proofs.lemmas.Bool.{cases_Bool, cases_eq, cases_lt, false≢true, or_from, or_parts}
+use Rattle.std.proofs.Common.{◌≡◌, ◌∙◌, ◌⊎◌, inl, inr, ℕ, ◌+◌, ◌<◌, ◌≤◌, Bool, true}
+use Rattle.std.proofs.Common.{false, List, []}
+use Rattle.std.proofs.Common.{MatchBool, cond, slice_get, Some, None, All, refl, sym, subst, arith}
+use Rattle.std.proofs.lemmas.Bool.{cases_lt, false≢true}
 use Rattle.std.proofs.lemmas.Option.{get_or_from_slice_get, slice_get_within}
 use Rattle.pesp_model.specs.declared.activity.PespActivity.{PespActivity}
 use Rattle.pesp_model.specs.Timetables.{IsActivity, IsProblem, Problem}
@@ -43,11 +43,6 @@ when_false P Q false so told = told
 pub held : {X : Type 0} (P : X → Type 0) (xs : List X) (i : ℕ) (x : X) → All P xs
     → slice_get xs i ≡ Some x → P x
 held P xs i x all is = subst P (get_or_from_slice_get xs i x x is) (all i x (slice_get_within xs i x is))
-
-same_at : {X : Type 0} (xs : List X) (i : ℕ) (x y : X) → slice_get xs i ≡ Some x
-    → slice_get xs i ≡ Some y → x ≡ y
-same_at xs i x y is other =
-    sym (get_or_from_slice_get xs i x x is) ∙ get_or_from_slice_get xs i y x other
 
 -- what is revised stays so where sets have not changed
 pub carried : (period : ℕ) (old new : Left) (flags more : ℕ → Bool) (other : PespActivity) → IsWithin new old
@@ -183,20 +178,6 @@ reducing_turn problem before now after flags next so swept = record {
 -- how much is still to be done: a sweep takes times out, or is the last one
 abbrev pub to_be_done : Tracked → Flags → ℕ
 to_be_done sets flags = marks_left sets.sets + cond (some_changed flags) 1 0
-
-pub less_to_do : (problem : Problem) (now after : Tracked) (flags next : Flags)
-    → some_changed flags ≡ true → Sweeps problem now after next
-    → to_be_done after next < to_be_done now flags
-less_to_do problem now after flags next some swept =
-    let one : cond {A = ℕ} (some_changed flags) 1 0 ≡ 1 = ap (λ b. cond {A = ℕ} b 1 0) some in
-    elim (cases_Bool (some_changed next)) [
-      | inl more ↦
-          let same : cond {A = ℕ} (some_changed next) 1 0 ≡ 1 = ap (λ b. cond {A = ℕ} b 1 0) more in
-          omega (arith, one, same, swept.fewer more)
-      | inr none ↦
-          let last : cond {A = ℕ} (some_changed next) 1 0 ≡ 0 = ap (λ b. cond {A = ℕ} b 1 0) none in
-          omega (arith, one, last, swept.no_more)
-    ]
 
 -- at the end all activities are revised that are not free
 pub all_bound : (problem : Problem) (before now : Tracked) (flags : Flags)

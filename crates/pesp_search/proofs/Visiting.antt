@@ -1,15 +1,15 @@
 -- The activities at an event, one after the other, and what they leave.
-use Rattle.std.proofs.Common.{◌≡◌, ◌∙◌, ◌⊎◌, inl, inr, ℕ, ◌+◌, ◌<◌, ◌≤◌, ◌==◌, Bool, true, false, List, length, get_or}
+use Rattle.std.proofs.Common.{◌≡◌, ◌∙◌, ◌⊎◌, inl, inr, ℕ, ◌+◌, ◌<◌, ◌≤◌, ◌==◌, true, false, List, length, get_or}
 use Rattle.std.proofs.Common.{slice_get, Some, Contains, refl, ap, sym, subst, arith}
-use Rattle.std.proofs.lemmas.Bool.{cases_eq, eq-eqb, false≢true, ne_eqb, or_from, or_parts}
+use Rattle.std.proofs.lemmas.Bool.{cases_eq, eq-eqb, false≢true, or_from, or_parts}
 use Rattle.std.proofs.lemmas.Grind.{get_or_default_zero}
-use Rattle.std.proofs.lemmas.Option.{get_or_from_slice_get, same_Some}
+use Rattle.std.proofs.lemmas.Option.{same_Some}
 use Rattle.pesp_model.specs.declared.activity.PespActivity.{PespActivity}
 use Rattle.pesp_model.specs.Timetables.{Problem}
 use Rattle.pesp_search.specs.Flags.{AreFlags, Flags, has_changed, with_flag}
 use Rattle.pesp_search.specs.Marks.{Tracked, is_left, marks_left}
-use Rattle.pesp_search.specs.Revising.{AllFrom, AreLinksAt, BoundUnless, Dies, HasEmpty, IsRevised, Left, Propagates}
-use Rattle.pesp_search.specs.Revising.{RevisedUnless, Revises, Touches, Visits, either, is_free}
+use Rattle.pesp_search.specs.Revising.{AllFrom, AreLinksAt, BoundUnless, Dies, HasEmpty, IsRevised, Propagates}
+use Rattle.pesp_search.specs.Revising.{RevisedUnless, Revises, Visits, either, is_free}
 use Rattle.pesp_search.proofs.FlagBits.{flag_within, other_flag, this_flag}
 use Rattle.pesp_search.proofs.Sweeping.{carried, held, none_yet}
 

@@ -1,15 +1,11 @@
 -- Sums over a period that is gone through twice, and the windows in which they differ.
-use Rattle.std.proofs.Common.{All, subst}
-use Rattle.std.proofs.lemmas.List.Elements.{All-nil, All-push}
-use Rattle.std.proofs.Common.{◌≡◌, ◌∙◌, inl, inr, ℕ, zero, suc, ◌+◌, ◌-◌, ◌*◌, ◌%◌, ◌<◌, ◌≤◌, ◌==◌}
+use Rattle.std.proofs.Common.{◌≡◌, ◌∙◌, inl, inr, ℕ, zero, suc, ◌+◌, ◌-◌, ◌%◌, ◌<◌, ◌≤◌, ◌==◌}
 use Rattle.std.proofs.Common.{cond}
-use Rattle.std.proofs.Common.{Bool, true, false, not, ◌||◌, List, ◌++◌, ◌∷◌, [], filter, length, map}
-use Rattle.std.proofs.Common.{slice_index, refl, ap, sym, arith}
+use Rattle.std.proofs.Common.{Bool, true, false, not, ◌||◌, ◌∷◌, filter, length}
+use Rattle.std.proofs.Common.{refl, ap, sym, arith}
 use Rattle.std.specs.List.{range_with_len}
 use Rattle.std.proofs.Math.Nat.{add-mod_left, mod-add-mod, mod-eq_of_lt, mod-lt}
-use Rattle.std.proofs.lemmas.Bool.{cases_Bool, cases_lt, eq-eqb, le-leb, lt-leb, ne_eqb}
-use Rattle.std.proofs.lemmas.List.FromFn.{get_or-map-range_with_len, length-map-range_with_len}
-use Rattle.std.proofs.lemmas.List.FromFn.{map-range_with_len_more}
+use Rattle.std.proofs.lemmas.Bool.{cases_Bool, eq-eqb, ne_eqb}
 use Rattle.pesp_search.specs.Revising.{any_below, count_below, reaches}
 
 -- ---- sums
@@ -169,9 +165,3 @@ module _ (period : ℕ) (left : ℕ → Bool) where
     where
       shift : (k : ℕ) → ((time + offset) % period + k) % period ≡ (time + offset + k) % period
       shift k = mod-add-mod (time + offset) period k
-
-pub one_flag_more : (test : ℕ → Bool) (n : ℕ) (flags more : List Bool) (flag : Bool)
-    → flags ≡ map test (range_with_len 0 n) → flag ≡ test n → more ≡ flags ++ flag ∷ []
-    → more ≡ map test (range_with_len 0 (n + 1))
-one_flag_more test n flags more flag so last is =
-    is ∙ (λ i. so i ++ last i ∷ []) ∙ sym (map-range_with_len_more test 0 n n (omega arith))

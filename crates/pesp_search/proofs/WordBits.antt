@@ -1,22 +1,18 @@
 -- Bits of words, and of lists of words.
-use Rattle.std.proofs.Common.{◌≡◌, ◌∙◌, ◌⊎◌, inl, inr, ℕ, zero, suc, ◌+◌, ◌-◌, ◌*◌, ◌/◌, ◌%◌, ◌^◌, ◌<◌, ◌≤◌, ◌==◌}
-use Rattle.std.proofs.Common.{if◌then◌else◌, nat_lt, min, max, bit_and, bit_or, w64}
-use Rattle.std.proofs.Common.{Bool, true, false, not, ◌&&◌, ◌||◌, List, [], ◌∷◌, length, get_or, slice_set, sum}
-use Rattle.std.proofs.Common.{Option, Some, None, refl, ap, sym, subst, arith}
+use Rattle.std.proofs.Common.{◌≡◌, ◌∙◌, ◌⊎◌, inl, inr, ℕ, ◌+◌, ◌-◌, ◌*◌, ◌/◌, ◌%◌, ◌^◌, ◌<◌, ◌≤◌, ◌==◌}
+use Rattle.std.proofs.Common.{if◌then◌else◌, nat_lt, bit_and, bit_or, w64}
+use Rattle.std.proofs.Common.{Bool, true, false, not, ◌&&◌, ◌||◌, List, get_or}
+use Rattle.std.proofs.Common.{Some, None, refl, ap, sym, subst, arith}
 use Rattle.std.specs.Int.{bit_at, bit_not, trailing_zeros}
 use Rattle.std.proofs.lemmas.Bool.{cases_Bool, cases_eq, cases_lt, eq-eqb, eqb-true, ne_eqb, false≢true, lt-ltb, le-ltb}
-use Rattle.std.proofs.lemmas.List.{get_or-set_other, get_or-set_same}
 use Rattle.std.proofs.lemmas.Nat.{and_le_l, or_lt, one_shl, pow_below, pow_pos, shr-shr}
 use Rattle.std.proofs.lemmas.Nat.Bits.{bit_at-lt, bit_at-zero, bit_at_above, bit_at_and, bit_at_cat_high}
 use Rattle.std.proofs.lemmas.Nat.Bits.{bit_at_cat_low, bit_at_clear_other, bit_at_clear_same, bit_at_not}
 use Rattle.std.proofs.lemmas.Nat.Bits.{bit_at-pow_other, bit_at-pow_same, bit_at_ones, bit_at_ones_above, bit_at_or, bit_at_set_other}
-use Rattle.std.proofs.lemmas.Nat.Bits.{bit_at_set_same, bit_at-trailing_zeros, same_from_bits_below, shr_and_one}
+use Rattle.std.proofs.lemmas.Nat.Bits.{bit_at_set_same, bit_at-trailing_zeros, same_from_bits_below}
 use Rattle.pesp_search.specs.Marks.{IsFirstBit, has_bit, marked, one_bit, with_bit}
 
 -- ---- a bit as a number
-
-abbrev Fits64 : ℕ → Type 0
-Fits64 word = word < 2 ^ 64
 
 same_bit : (a i b j : ℕ) → bit_at a i ≡ bit_at b j → has_bit a i ≡ has_bit b j
 unfolding has_bit
@@ -45,10 +41,6 @@ unset_is word bit is = elim (one_or_none word bit) [
   | inl none ↦ none
   | inr one ↦ absurd (false≢true (sym is ∙ set_from word bit one))
 ]
-
-pub test_bit : (word bit : ℕ) → (bit_and (word / 2 ^ bit) 1 == 1) ≡ has_bit word bit
-unfolding has_bit
-test_bit word bit = ap (λ n. n == 1) (shr_and_one word bit)
 
 -- ---- operations
 

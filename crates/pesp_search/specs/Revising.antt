@@ -2,7 +2,7 @@
 -- does.
 use Rattle.std.specs.Prelude.{nat_le, nat_lt, slice_index_or, Contains, ◌++◌, ◌≡◌, ◌⊎◌, ℕ, zero, suc, ◌+◌, ◌-◌, ◌%◌, ◌<◌, ◌≤◌}
 use Rattle.std.specs.Prelude.{min, ◌==◌, not, Bool, true, false, ◌||◌, ◌&&◌}
-use Rattle.std.specs.Prelude.{if◌then◌else◌, ⊤, [], ◌∷◌, List, length, filter, get_or, slice_get}
+use Rattle.std.specs.Prelude.{if◌then◌else◌, ⊤, [], ◌∷◌, List, length, filter, slice_get}
 use Rattle.std.specs.Prelude.{slice_set, Some, All, unsigned_abs, ◌-ℤ◌}
 use Rattle.std.specs.List.{list_any, range_with_len}
 use Rattle.pesp_model.specs.declared.activity.PespActivity.{PespActivity}

@@ -27,14 +27,6 @@ pub(crate) fn with_bit(word: u64, bit: usize, is: bool) -> u64
     }
 }
 
-/// Whether a bit of a word is set.
-pub(crate) fn has_bit(word: u64, bit: usize) -> bool
-    requires { bit < 64 }
-    ensures { result ≡ has_bit word bit }
-{
-    (word >> bit) & 1 == 1
-}
-
 /// The first bit of a word from one on that is set.
 pub(crate) fn first_bit(word: u64, from: usize) -> Option<usize>
     requires { from < 64 }

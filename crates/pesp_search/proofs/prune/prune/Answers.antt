@@ -1,6 +1,5 @@
-use Rattle.std.proofs.Common.{◌≡◌, ◌<◌, ap, arith, subst, sym}
-use Rattle.pesp_search.specs.Marks.{Marks}
-use Rattle.pesp_search.proofs.Pruned.{prune_begun, prune_over, prune_turn}
+use Rattle.std.proofs.Common.{◌<◌, subst, sym}
+use Rattle.pesp_search.proofs.Pruned.{prune_over, prune_turn}
 use Rattle.pesp_search.proofs.prune.prune.Goals as goal
 
 pub loop-time-preserved : goal.loop-time-preserved

@@ -1,4 +1,4 @@
-use Rattle.std.proofs.Common.{◌≡◌, ◌∙◌, subst, sym}
+use Rattle.std.proofs.Common.{◌∙◌, subst, sym}
 use Rattle.pesp_search.specs.Marks.{AreMarks}
 use Rattle.pesp_search.specs.Revising.{Dies, Sweeps}
 use Rattle.pesp_search.proofs.ReducedSets.{bound_stands, dead_stands}

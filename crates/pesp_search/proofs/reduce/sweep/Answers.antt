@@ -1,4 +1,4 @@
-use Rattle.std.proofs.Common.{◌≡◌, ◌∙◌, arith, subst, sym}
+use Rattle.std.proofs.Common.{arith}
 use Rattle.pesp_search.specs.Revising.{Dies, Visits}
 use Rattle.pesp_search.proofs.Linked.{links_at}
 use Rattle.pesp_search.proofs.Sweeping.{sweep_begun, sweep_died, sweep_ended, sweep_turn, when_false}

@@ -1,4 +1,4 @@
-use Rattle.std.proofs.Common.{◌≡◌, ◌∙◌, ◌<◌, arith, get_or, refl, subst, sym}
+use Rattle.std.proofs.Common.{◌∙◌, arith, get_or, refl, subst, sym}
 use Rattle.pesp_search.specs.Flags.{Flags}
 use Rattle.pesp_search.proofs.Visiting.{IsVisited, visit_begun, visit_died, visit_ended, visit_turn}
 use Rattle.pesp_search.proofs.reduce.visit.Goals as goal

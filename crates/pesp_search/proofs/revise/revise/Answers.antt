@@ -1,4 +1,4 @@
-use Rattle.std.proofs.Common.{◌≡◌, ◌∙◌, inl, inr, sym, true}
+use Rattle.std.proofs.Common.{◌∙◌, inl, inr, sym}
 use Rattle.std.proofs.lemmas.Bool.{or_cases}
 use Rattle.pesp_search.proofs.EmptySets.{empty_marks}
 use Rattle.pesp_search.proofs.Revised.{both_revised}

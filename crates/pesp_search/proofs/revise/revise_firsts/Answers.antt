@@ -1,7 +1,7 @@
 use Rattle.std.proofs.Common.{subst, sym}
 use Rattle.pesp_search.specs.Flags.{Flags}
 use Rattle.pesp_search.specs.Revising.{RevisesFirsts}
-use Rattle.pesp_search.proofs.Revised.{firsts_kept, firsts_revised}
+use Rattle.pesp_search.proofs.Revised.{firsts_revised}
 use Rattle.pesp_search.proofs.revise.revise_firsts.Goals as goal
 
 pub returns-clause-revises : goal.returns-clause-revises

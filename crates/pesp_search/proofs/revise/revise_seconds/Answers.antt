@@ -1,7 +1,7 @@
 use Rattle.std.proofs.Common.{subst, sym}
 use Rattle.pesp_search.specs.Flags.{Flags}
 use Rattle.pesp_search.specs.Revising.{RevisesSeconds}
-use Rattle.pesp_search.proofs.Revised.{seconds_kept, seconds_revised}
+use Rattle.pesp_search.proofs.Revised.{seconds_revised}
 use Rattle.pesp_search.proofs.revise.revise_seconds.Goals as goal
 
 pub returns-clause-revises : goal.returns-clause-revises

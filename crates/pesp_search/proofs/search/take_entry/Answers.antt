@@ -1,5 +1,4 @@
-use Rattle.std.proofs.Common.{◌∙◌, ◌==◌, ℕ, ap, map, subst}
-use Rattle.std.specs.List.{range_with_len}
+use Rattle.std.proofs.Common.{◌∙◌, subst}
 use Rattle.pesp_search.specs.Marks.{IsNextChild}
 use Rattle.pesp_search.specs.Searches.{Branches}
 use Rattle.pesp_search.proofs.Entries.{entry_found, entry_last, entry_next}

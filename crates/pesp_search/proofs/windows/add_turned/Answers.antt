@@ -1,4 +1,4 @@
-use Rattle.std.proofs.Common.{◌≡◌, ◌∙◌, ◌<◌, arith}
+use Rattle.std.proofs.Common.{◌∙◌, arith}
 use Rattle.std.proofs.lemmas.List.{length-set}
 use Rattle.pesp_search.proofs.WordTurns.{all_added, and_under, none_added, one_added}
 use Rattle.pesp_search.proofs.windows.add_turned.Goals as goal

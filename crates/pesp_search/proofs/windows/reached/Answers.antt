@@ -1,6 +1,6 @@
-use Rattle.std.proofs.Common.{◌≡◌, ◌∙◌, ◌≤◌, ◌+◌, ◌||◌, ℕ, ap, arith, refl, subst, sym}
+use Rattle.std.proofs.Common.{◌≡◌, ◌∙◌, ◌||◌, ℕ, arith, refl, subst}
 use Rattle.pesp_search.specs.Marks.{is_left, marked}
-use Rattle.pesp_search.specs.Revising.{IsClear, turned_to}
+use Rattle.pesp_search.specs.Revising.{turned_to}
 use Rattle.pesp_search.proofs.WordTurns.{clear_at, left_twice, only_turned, wide_begun, wide_clear, wide_ended}
 use Rattle.pesp_search.proofs.WordTurns.{wide_turn}
 use Rattle.pesp_search.proofs.windows.reached.Goals as goal

@@ -1,4 +1,3 @@
-use Rattle.std.proofs.Common.{arith}
 use Rattle.pesp_search.proofs.WordTurns.{round_bit, round_whole}
 use Rattle.pesp_search.proofs.windows.word_round.Goals as goal
 

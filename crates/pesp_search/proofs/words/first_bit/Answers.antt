@@ -1,4 +1,4 @@
-use Rattle.std.proofs.Common.{◌≡◌, ◌<◌, ◌^◌, arith, refl}
+use Rattle.std.proofs.Common.{arith, refl}
 use Rattle.pesp_search.proofs.WordBits.{first_is, no_first}
 use Rattle.pesp_search.proofs.words.first_bit.Goals as goal
 

@@ -1,6 +1,6 @@
 use Rattle.std.proofs.Common.{◌∙◌, ◌==◌, List, ℕ, ap, not}
 use Rattle.std.specs.List.{list_any}
-use Rattle.pesp_search.specs.Flags.{Flags, some_changed}
+use Rattle.pesp_search.specs.Flags.{some_changed}
 use Rattle.pesp_search.proofs.flags.EventFlags.has_some.Goals as goal
 
 pub returns : goal.returns

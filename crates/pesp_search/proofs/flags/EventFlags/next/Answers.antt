@@ -1,4 +1,4 @@
-use Rattle.std.proofs.Common.{◌∙◌, ◌*◌, ◌-◌, ◌≤◌, ℕ, Some, None, arith, subst}
+use Rattle.std.proofs.Common.{◌*◌, ◌-◌, ℕ, Some, None, arith, subst}
 use Rattle.pesp_search.specs.Marks.{IsFirstBit}
 use Rattle.pesp_search.proofs.FlagBits.{next_flag, no_next_flag, none_left}
 use Rattle.pesp_search.proofs.flags.EventFlags.next.Goals as goal

@@ -1,6 +1,6 @@
-use Rattle.std.proofs.Common.{◌≡◌, ◌∙◌, ℕ, List, Vec, Global, arith, map, subst, sym}
+use Rattle.std.proofs.Common.{ℕ, List, Vec, Global, arith, map, subst, sym}
 use Rattle.pesp_search.specs.Revising.{AreLinks, NotesActivity}
-use Rattle.pesp_search.proofs.Linked.{links_begun, links_more}
+use Rattle.pesp_search.proofs.Linked.{links_more}
 use Rattle.pesp_search.proofs.links.Links.new.Goals as goal
 
 pub loop-index-preserved : goal.loop-index-preserved

@@ -1,5 +1,4 @@
-use Rattle.std.proofs.Common.{◌∙◌, ◌≡◌, ◌*◌, ◌<◌, ℕ, arith, ap, subst}
-use Rattle.std.proofs.lemmas.List.Elements.{All-nil}
+use Rattle.std.proofs.Common.{◌∙◌, ◌≡◌, ◌*◌, arith, ap, subst}
 use Rattle.pesp_search.specs.Marks.{words_of}
 use Rattle.pesp_search.proofs.FirstMarks.{first_sets_are}
 use Rattle.pesp_search.proofs.FirstWords.{AreFirst, are_marks, one_word_more}

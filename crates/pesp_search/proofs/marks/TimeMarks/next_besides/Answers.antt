@@ -1,5 +1,5 @@
-use Rattle.std.proofs.Common.{◌∙◌, ap, arith, sym}
-use Rattle.pesp_search.proofs.MarkBits.{next_found, none_besides, none_found}
+use Rattle.std.proofs.Common.{arith}
+use Rattle.pesp_search.proofs.MarkBits.{next_found, none_found}
 use Rattle.pesp_search.proofs.marks.TimeMarks.next_besides.Goals as goal
 
 pub returns-in-Some : goal.returns-in-Some

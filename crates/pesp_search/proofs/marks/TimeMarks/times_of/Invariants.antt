@@ -1,5 +1,5 @@
 -- The words so far.
-use Rattle.std.proofs.Common.{◌≡◌, ◌*◌, ◌<◌, ◌&&◌, ℕ, length, nat_lt}
+use Rattle.std.proofs.Common.{◌≡◌, ◌*◌, ◌&&◌, ℕ, length, nat_lt}
 use Rattle.pesp_search.specs.Marks.{marked}
 use Rattle.pesp_search.proofs.MarkBits.{bit_there}
 use Rattle.pesp_search.proofs.marks.TimeMarks.times_of.Given as goal
