@@ -1,5 +1,6 @@
 -- Tests of the numbers below a number.
-use Rattle.std.proofs.Common.{◌≡◌, ◌∙◌, inl, inr, ℕ, zero, suc, ◌+◌, ◌-◌, ◌<◌, ◌≤◌, Bool, true, false, ◌||◌}
+use Rattle.std.proofs.Common.{◌≡◌, ◌∙◌, inl, inr, ℕ, zero, suc, ◌+◌, ◌-◌, ◌<◌, ◌≤◌, Bool, true}
+use Rattle.std.proofs.Common.{false, ◌||◌}
 use Rattle.std.proofs.Common.{refl, ap, sym, arith}
 use Rattle.std.proofs.lemmas.Bool.{cases_Bool, cases_eq, cases_lt, false≢true, or_parts}
 use Rattle.pesp_search.specs.Revising.{any_below}
@@ -32,7 +33,8 @@ none_below test (suc n) k none low =
       | inr other ↦ none_below test n k parts.0 (omega (arith, low, other))
     ]
 
-pub fails_below : (test : ℕ → Bool) (n : ℕ) → ((k : ℕ) → k < n → test k ≡ false) → any_below test n ≡ false
+pub fails_below : (test : ℕ → Bool) (n : ℕ) → ((k : ℕ) → k < n → test k ≡ false)
+    → any_below test n ≡ false
 unfolding any_below
 fails_below test zero none = refl
 fails_below test (suc n) none =
@@ -54,18 +56,25 @@ joined_below test n by few = elim (cases_Bool (any_below test (n + by))) [
             elim (cases_Bool (any_below (λ k. test (by + k)) n)) [
               | inl later ↦ or_true_right (any_below test n) _ later ∙ sym some
               | inr not_later ↦
-                  absurd (false≢true (sym (fails_below test (n + by) (λ k low. neither not_first not_later k low)) ∙ some))
+                  absurd (false≢true (sym (fails_below test (n + by) (λ k low. neither not_first
+                  not_later k low)) ∙ some))
             ]
       ]
 ]
   where
-    neither : any_below test n ≡ false → any_below (λ k. test (by + k)) n ≡ false → (k : ℕ) → k < n + by
+    neither : any_below test n ≡ false → any_below (λ k. test (by + k)) n ≡ false → (k : ℕ)
+        → k < n + by
         → test k ≡ false
     neither first later k low = elim (cases_lt k n) [
       | inl near ↦ none_below test n k first near
       | inr far ↦
           let at : by + (k - by) ≡ k = omega (arith, far, few) in
-          ap test (sym at) ∙ none_below (λ k. test (by + k)) n (k - by) later (omega (arith, low, far, few))
+          ap test (sym at) ∙ none_below (λ k. test (by + k)) n (k - by) later (omega (
+            arith,
+            low,
+            far,
+            few,
+          ))
     ]
 
 pub any_same : (test other : ℕ → Bool) (n : ℕ) → ((k : ℕ) → test k ≡ other k)

@@ -15,7 +15,8 @@ last_first xs x = reverse-append xs (x ∷ [])
 
 pub saved_removed : (sets : Marks) (changes : List Change) (event time : ℕ)
     → AreMarks sets → event < sets.events → is_left sets event time ≡ true
-    → saved_by (with_mark sets event time false) (reverse (changes ++ change.Removed event time ∷ []))
+    → saved_by (with_mark sets event time false) (reverse (changes ++ change.Removed event time ∷
+    []))
     ≡ saved_by sets (reverse changes)
 unfolding saved_by
 saved_removed sets changes event time are inside left =
@@ -55,7 +56,8 @@ popped_branched sets all rest last branch is branched =
     ∙ ap (λ last. saved_by sets (last ∷ reverse rest)) branched
 
 -- where nothing is left, nothing was saved
-pub none_left : (sets : Marks) (all : List Change) → length all ≡ 0 → saved_by sets (reverse all) ≡ []
+pub none_left : (sets : Marks) (all : List Change) → length all ≡ 0
+    → saved_by sets (reverse all) ≡ []
 unfolding saved_by
 none_left sets [] none = refl
 none_left sets (change ∷ all) none = absurd (omega (arith, none))

@@ -1,8 +1,10 @@
 -- Sets of times of which one is empty.
-use Rattle.std.proofs.Common.{◌≡◌, ◌∙◌, inl, inr, ℕ, zero, suc, ◌+◌, ◌<◌, ◌≤◌, ◌||◌, Bool, true, false}
+use Rattle.std.proofs.Common.{◌≡◌, ◌∙◌, inl, inr, ℕ, zero, suc, ◌+◌, ◌<◌, ◌≤◌, ◌||◌, Bool, true}
+use Rattle.std.proofs.Common.{false}
 use Rattle.std.proofs.Common.{List, [], ◌∷◌, length, map, filter, ap, sym, arith}
 use Rattle.std.specs.List.{list_any, range_with_len}
-use Rattle.std.proofs.lemmas.Bool.{cases_Bool, cases_eq, eq-eqb, eqb-true, false≢true, or_left, or_parts, or_right}
+use Rattle.std.proofs.lemmas.Bool.{cases_Bool, cases_eq, eq-eqb, eqb-true, false≢true, or_left}
+use Rattle.std.proofs.lemmas.Bool.{or_parts, or_right}
 use Rattle.pesp_search.specs.Listings.{is_empty}
 use Rattle.pesp_search.specs.Marks.{Marks, family, is_left, sets_of, times_from}
 use Rattle.pesp_search.specs.Revising.{HasEmpty, IsWithin, Left}
@@ -32,9 +34,11 @@ fewer_pass test other more (x ∷ xs) =
           ]
     ]
 
-none_more : (few many : List ℕ) → length few ≤ length many → is_empty many ≡ true → is_empty few ≡ true
+none_more : (few many : List ℕ) → length few ≤ length many → is_empty many ≡ true
+    → is_empty few ≡ true
 none_more few many less none =
-    let zero_is = eqb-true (length many) 0 none in eq-eqb (length few) 0 (omega (arith, less, zero_is))
+    let zero_is = eqb-true (length many) 0 none in
+    eq-eqb (length few) 0 (omega (arith, less, zero_is))
 
 module _ (period : ℕ) (left others : Left) (within : IsWithin left others) where
   abbrev times : Left → ℕ → List ℕ
@@ -77,7 +81,10 @@ times_at sets from (suc n) event low high none =
     let parts = or_parts (is_empty (times_from sets from 0)) _ none in
     elim (cases_eq event from) [
       | inl same ↦ ap (λ event. is_empty (times_from sets event 0)) same ∙ parts.0
-      | inr other ↦ times_at sets (from + 1) n event (omega (arith, low, other)) (omega (arith, high)) parts.1
+      | inr other ↦ times_at sets (from + 1) n event (omega (arith, low, other)) (omega (
+        arith,
+        high,
+      )) parts.1
     ]
 
 pub some_left : (sets : Marks) (event : ℕ) → event < sets.events
@@ -102,6 +109,10 @@ empty_at sets from (suc n) event low high none = elim (cases_eq event from) [
       (empty_at sets (from + 1) n event (omega (arith, low, other)) (omega (arith, high)) none)
 ]
 
-pub none_at : (sets : Marks) (event : ℕ) → event < sets.events → length (times_from sets event 0) ≡ 0
+pub none_at : (sets : Marks) (event : ℕ) → event < sets.events
+    → length (times_from sets event 0) ≡ 0
     → HasEmpty sets
-none_at sets event within none = empty_at sets 0 sets.events event (omega arith) (omega (arith, within)) none
+none_at sets event within none = empty_at sets 0 sets.events event (omega arith) (omega (
+  arith,
+  within,
+)) none

@@ -25,7 +25,8 @@ use Rattle.pesp_search.specs.Searches.{listed_on}
 use Rattle.pesp_search.specs.TimeSets.{left_to, reduced}
 use Rattle.pesp_search.specs.TimeSets.{reduced as all_reduced}
 use Rattle.pesp_search.proofs.Revised.{carried_firsts, carried_seconds}
-use Rattle.pesp_search.proofs.Turns.{first_turn, listed, no_turn, none_behind, turns_append, turns_map, unless_one}
+use Rattle.pesp_search.proofs.Turns.{first_turn, listed, no_turn, none_behind, turns_append}
+use Rattle.pesp_search.proofs.Turns.{turns_map, unless_one}
 use Rattle.pesp_search.proofs.Unrolled.{unrolls}
 
 -- ---- a branch
@@ -45,7 +46,8 @@ pub branched : (before after : Tracked) (event : ℕ)
     → position has_several (sets_of before.sets) ≡ Some event
     → after ≡ record {
       sets = before.sets;
-      saved = record { sets = before.sets; branch = record { event = event; from = 0 } } ∷ before.saved;
+      saved = record { sets = before.sets; branch = record { event = event; from = 0 } } ∷
+          before.saved;
     }
     → Branches before after None
 unfolding waiting
@@ -54,7 +56,8 @@ branched before after event none is same = (
       let branch = visit_child before visit in
       let times = times_from before.sets event 0 in
       let left : left_to (sets_of before.sets) event ≡ times =
-      get_or-map-range_with_len (λ event. times_from before.sets event 0) 0 before.sets.events event event []
+      get_or-map-range_with_len (λ event. times_from before.sets event 0) 0 before.sets.events
+      event event []
       (event_within before.sets event is) (omega arith) in
       let children = map (with_time (sets_of before.sets) event) times in
       ap (λ first. unless_found first (in_turn visit (waiting before.saved)))
@@ -88,7 +91,8 @@ module _ (problem : Problem) (before reduced : Tracked) (so : Reduces problem be
   dead sets none =
       ap (λ b. elim b as (λ _. Listing) [
         | true ↦ record { entries = 1; found = None }
-        | false ↦ branches sets (λ event time. listing_of problem (with_time sets event time)) (position has_several sets)
+        | false ↦ branches sets (λ event time. listing_of problem (with_time sets event time))
+            (position has_several sets)
       ]) none
 
   -- an entry of sets in which some event has no time left is that of the reduced sets
@@ -96,7 +100,8 @@ module _ (problem : Problem) (before reduced : Tracked) (so : Reduces problem be
       → children_of (all_reduced problem (sets_of before.sets)) ≡ children_of (sets_of reduced.sets)
   same_entry (inr stands) = ap children_of (sym stands.0)
   same_entry (inl stands) =
-      dead (all_reduced problem (sets_of before.sets)) stands.1 ∙ sym (dead (sets_of reduced.sets) stands.0)
+      dead (all_reduced problem (sets_of before.sets)) stands.1
+      ∙ sym (dead (sets_of reduced.sets) stands.0)
 
   entry_is : listed_on problem before ≡ entry_here (listing_of problem) reduced
   entry_is =
@@ -109,7 +114,8 @@ module _ (problem : Problem) (before reduced : Tracked) (so : Reduces problem be
   entry_found after times found = entry_is ∙ found (listing_of problem)
 
   pub entry_last : (after : Tracked) (last : Tracked) → Branches reduced after None
-      → IsNextChild after last None → listed_on problem before ≡ record { entries = 1; found = None }
+      → IsNextChild after last None
+      → listed_on problem before ≡ record { entries = 1; found = None }
   entry_last after last branch none =
       entry_is ∙ branch.0 (listing_of problem)
       ∙ ap (λ sets. one_more (in_turn (listing_of problem) sets)) none
@@ -125,7 +131,11 @@ module _ (problem : Problem) (before reduced : Tracked) (so : Reduces problem be
       → AreRevised problem after.saved
   saved_revised after was (inl same) = subst (AreRevised problem) (sym (same ∙ so.saved)) was
   saved_revised after was (inr (branch, none, is)) =
-      subst (AreRevised problem) (sym is) (all_revised so.stands none, subst (AreRevised problem) (sym so.saved) was)
+      subst (AreRevised problem) (sym is) (
+        all_revised so.stands none,
+        subst (AreRevised problem)
+            (sym so.saved) was,
+      )
 
   -- and the sets of a child are ready where its event has a flag
   child_ready : (after next : Tracked) (event : ℕ) (flags : Flags)
@@ -139,9 +149,11 @@ module _ (problem : Problem) (before reduced : Tracked) (so : Reduces problem be
         each = each;
         revised = λ i activity at low.
             let is = parts.0 i activity at low in (
-              carried_seconds problem.period (is_left child.branched) (is_left next.sets) (λ _. false)
+              carried_seconds problem.period (is_left child.branched) (is_left next.sets) (λ _.
+                  false)
                   (has_changed flags) activity child.within untouched (λ _. is.seconds),
-              carried_firsts problem.period (is_left child.branched) (is_left next.sets) (λ _. false)
+              carried_firsts problem.period (is_left child.branched) (is_left next.sets) (λ _.
+                  false)
                   (has_changed flags) activity child.within untouched (λ _. is.firsts),
             );
         saved = subst (AreRevised problem) (sym child.now) (parts.0, parts.1);
@@ -239,20 +251,22 @@ listing_some problem sets =
     (entry_some (reduced problem sets) _)
 
 first_some : (first rest : Listing) → first.entries ≤ (unless_found first rest).entries
-first_some first rest = elim (is_some first.found) as (λ b. first.entries ≤ (elim b as (λ _. Listing) [
-  | true ↦ first
-  | false ↦ record { entries = first.entries + rest.entries; found = rest.found }
-]).entries) [
-  | true ↦ omega arith
-  | false ↦ omega arith
-]
+first_some first rest = elim (is_some first.found) as (λ b. first.entries ≤ (elim b as (λ _.
+    Listing) [
+      | true ↦ first
+      | false ↦ record { entries = first.entries + rest.entries; found = rest.found }
+    ]).entries) [
+      | true ↦ omega arith
+      | false ↦ omega arith
+    ]
 
 -- another entry is within the listing
 pub one_within : (problem : Problem) (sets : Tracked) (count : ℕ) → IsSearched problem sets count
     → count + 1 ≤ (listing problem).entries
 one_within problem sets count so =
     let here = listing_some problem (sets_of sets.sets) in
-    let all = first_some (listing_of problem (sets_of sets.sets)) (in_turn (listing_of problem) (waiting sets.saved)) in
+    let all = first_some (listing_of problem (sets_of sets.sets)) (in_turn (listing_of problem)
+    (waiting sets.saved)) in
     let listed = ap (λ (listed : Listing). listed.entries)
     (first_turn (listing_of problem) (sets_of sets.sets) (waiting sets.saved)) in
     let sum = ap (λ (listed : Listing). listed.entries) so.listed in
@@ -274,7 +288,8 @@ search_ended problem sets count budget found so few is =
       ap (entries_listed budget) all ∙ min-eq_right (omega (arith, few)),
     )
 
-pub search_spent : (problem : Problem) (sets : Tracked) (budget : ℕ) → IsSearched problem sets budget
+pub search_spent : (problem : Problem) (sets : Tracked) (budget : ℕ)
+    → IsSearched problem sets budget
     → (result_within budget (listing problem) ≡ Err (refusal.Spent budget))
     × (entries_listed budget (listing problem) ≡ budget)
 unfolding result_within

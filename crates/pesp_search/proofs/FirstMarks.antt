@@ -17,11 +17,15 @@ use Rattle.pesp_search.proofs.Pruned.{kept_by, prunes_by_bits}
 -- ---- filters of a range
 
 pub filter_none : (test : ℕ → Bool) (from n : ℕ)
-    → ((x : ℕ) → from ≤ x → x < from + n → test x ≡ false) → filter test (range_with_len from n) ≡ []
+    → ((x : ℕ) → from ≤ x → x < from + n → test x ≡ false)
+    → filter test (range_with_len from n) ≡ []
 filter_none test from zero none = refl
 filter_none test from (suc n) none =
     left_out test test from (range_with_len (from + 1) n) (none from (omega arith) (omega arith))
-    ∙ filter_none test (from + 1) n (λ x low high. none x (omega (arith, low)) (omega (arith, high)))
+    ∙ filter_none test (from + 1) n (λ x low high. none x (omega (arith, low)) (omega (
+      arith,
+      high,
+    )))
 
 pub filter_all : (test : ℕ → Bool) (from n : ℕ)
     → ((x : ℕ) → from ≤ x → x < from + n → test x ≡ true)
@@ -89,7 +93,8 @@ module _ (period events : ℕ) (some : 1 ≤ period) (few : period ≤ 720) (wor
 
 -- ---- one time of an event
 
-set_on_range : {X : Type 0} (set other : ℕ → X) (one : X) (from n i event : ℕ) → from + i ≡ event → i < n
+set_on_range : {X : Type 0} (set other : ℕ → X) (one : X) (from n i event : ℕ)
+    → from + i ≡ event → i < n
     → other event ≡ one → ((x : ℕ) → (x ≡ event → ⊥) → other x ≡ set x)
     → map other (range_with_len from n) ≡ slice_set (map set (range_with_len from n)) i one
 set_on_range set other one from zero i event at low is others = absurd (omega (arith, low))
@@ -101,7 +106,8 @@ set_on_range set other one from (suc n) zero event at low is others =
 set_on_range set other one from (suc n) (suc i) event at low is others =
     let apart : (from ≡ event → ⊥) = λ own. omega (arith, own, at) in
     λ k. others from apart k
-    ∷ set_on_range set other one (from + 1) n i event (omega (arith, at)) (omega (arith, low)) is others k
+    ∷ set_on_range set other one (from + 1) n i event (omega (arith, at)) (omega (arith, low)) is
+    others k
 
 module _ (before after : Tracked) (event time : ℕ) (within : event < before.sets.events)
     (small : time < before.sets.period) (left : is_left before.sets event time ≡ true) where
@@ -117,13 +123,16 @@ module _ (before after : Tracked) (event time : ℕ) (within : event < before.se
     sets = sets_family after.sets
         ∙ (λ i. family (so.period i) (so.events i) (so.left i))
         ∙ set_on_range (λ e. filter (is_left before.sets e) (range_with_len 0 before.sets.period))
-        (λ e. filter (after_left e) (range_with_len 0 before.sets.period)) (time ∷ []) 0 before.sets.events
+        (λ e. filter (after_left e) (range_with_len 0 before.sets.period)) (time ∷ []) 0
+        before.sets.events
         event event (omega arith) within only others
         ∙ ap (λ sets. with_time sets event time) (sym (sets_family before.sets));
     within = λ e t is.
-        (and_parts (is_left before.sets e t) _ (sym (ap (λ (left : Left). left e t) so.left) ∙ is)).0;
+        (and_parts (is_left before.sets e t) _ (sym (ap (λ (left : Left). left e t) so.left)
+        ∙ is)).0;
     others = λ e other. ap (λ (left : Left). left e) so.left
-        ∙ (λ i t. and_all (is_left before.sets e t) _ (ap (λ b. not b || (t == time)) (ne_eqb e event other)) i);
+        ∙ (λ i t. and_all (is_left before.sets e t) _ (ap (λ b. not b
+        || (t == time)) (ne_eqb e event other)) i);
   }
     where
       after_left : Left
@@ -141,7 +150,10 @@ module _ (before after : Tracked) (event time : ℕ) (within : event < before.se
       here t = ap (λ b. not b || (t == time)) (eq-eqb event event refl)
 
       only : filter (after_left event) (range_with_len 0 before.sets.period) ≡ time ∷ []
-      only = filter_one (after_left event) time 0 before.sets.period (omega arith) (omega (arith, small))
+      only = filter_one (after_left event) time 0 before.sets.period (omega arith) (omega (
+        arith,
+        small,
+      ))
           (and_from _ _ left (here time ∙ eq-eqb time time refl))
           (λ t other. and_none (is_left before.sets event t) _ (here t ∙ ne_eqb t time other))
 
@@ -150,9 +162,11 @@ module _ (before after : Tracked) (event time : ℕ) (within : event < before.se
           ≡ filter (is_left before.sets e) (range_with_len 0 before.sets.period)
       others e other =
           same_filter (after_left e) (is_left before.sets e) 0 before.sets.period (λ t _ _.
-          and_all (is_left before.sets e t) _ (ap (λ b. not b || (t == time)) (ne_eqb e event other)))
+          and_all (is_left before.sets e t) _ (ap (λ b. not b
+          || (t == time)) (ne_eqb e event other)))
 
   pub keeps_time : (keep : List ℕ) (changes : Bool) → ((other : ℕ) → marked keep other ≡ one other)
       → Prunes before after (stays event keep) changes → KeepsTime before after event time
   keeps_time keep changes is so =
-      kept changes (prunes_by_bits {E = ℕ} before after event one keep (Ok changes) (λ other _. is other) so)
+      kept changes (prunes_by_bits {E = ℕ} before after event one keep (Ok changes) (λ other _. is
+      other) so)

@@ -1,11 +1,15 @@
 -- Flags of events as bits.
-use Rattle.std.proofs.Common.{◌≡◌, ◌∙◌, inl, inr, ℕ, zero, suc, ◌+◌, ◌-◌, ◌*◌, ◌/◌, ◌%◌, ◌^◌, ◌<◌, ◌≤◌, ◌==◌}
-use Rattle.std.proofs.Common.{Bool, true, false, not, ◌||◌, max, List, [], ◌∷◌, length, get_or, slice_set, All}
+use Rattle.std.proofs.Common.{◌≡◌, ◌∙◌, inl, inr, ℕ, zero, suc, ◌+◌, ◌-◌, ◌*◌, ◌/◌, ◌%◌, ◌^◌, ◌<◌}
+use Rattle.std.proofs.Common.{◌≤◌, ◌==◌}
+use Rattle.std.proofs.Common.{Bool, true, false, not, ◌||◌, max, List, [], ◌∷◌, length, get_or}
+use Rattle.std.proofs.Common.{slice_set, All}
 use Rattle.std.proofs.Common.{Some, None, refl, ap, sym, subst, arith}
 use Rattle.std.specs.List.{list_any}
-use Rattle.std.proofs.lemmas.Bool.{cases_Bool, cases_eq, cases_lt, eq-eqb, eqb-true, false≢true, ne_eqb, or_parts}
+use Rattle.std.proofs.lemmas.Bool.{cases_Bool, cases_eq, cases_lt, eq-eqb, eqb-true, false≢true}
+use Rattle.std.proofs.lemmas.Bool.{ne_eqb, or_parts}
 use Rattle.std.proofs.lemmas.List.{get_or-set_other, get_or-set_same, get_or_past, length-set}
-use Rattle.pesp_search.specs.Flags.{AreFlags, Flags, IsNextFlag, has_changed, some_changed, with_flag}
+use Rattle.pesp_search.specs.Flags.{AreFlags, Flags, IsNextFlag, has_changed, some_changed}
+use Rattle.pesp_search.specs.Flags.{with_flag}
 use Rattle.pesp_search.specs.Marks.{IsFirstBit, has_bit, marked, with_bit}
 use Rattle.pesp_search.proofs.WordBits.{none_at_zero, with_fits, with_other, with_same, zero_bit}
 
@@ -25,7 +29,8 @@ module _ (flags : Flags) (event : ℕ) (flag : Bool) (there : event / 64 < lengt
       ap (λ word. has_bit word (event % 64)) word_here
       ∙ with_same (get_or flags.words (event / 64) 0) (event % 64) flag (omega arith)
 
-  pub other_flag : (other : ℕ) → (other ≡ event → ⊥) → has_changed now other ≡ has_changed flags other
+  pub other_flag : (other : ℕ) → (other ≡ event → ⊥)
+      → has_changed now other ≡ has_changed flags other
   other_flag other apart = elim (cases_eq (other / 64) (event / 64)) [
     | inr index ↦
         ap (λ word. has_bit word (other % 64))
@@ -37,7 +42,8 @@ module _ (flags : Flags) (event : ℕ) (flag : Bool) (there : event / 64 < lengt
         let second : event % 64 < 64 = omega arith in
         ap (λ i. has_bit (get_or now.words i 0) (other % 64)) index
         ∙ ap (λ word. has_bit word (other % 64)) word_here
-        ∙ with_other (get_or flags.words (event / 64) 0) (event % 64) (other % 64) flag second first bits
+        ∙ with_other (get_or flags.words (event / 64) 0) (event % 64) (other % 64) flag second
+        first bits
         ∙ ap (λ i. has_bit (get_or flags.words i 0) (other % 64)) (sym index)
   ]
 
@@ -45,7 +51,8 @@ pub flag_within : (flags : Flags) (event : ℕ) → AreFlags flags → event < f
     → event / 64 < length flags.words
 flag_within flags event are low = omega (arith, are.each, low)
 
-pub flags_written : (flags : Flags) (event word : ℕ) (flag : Bool) → AreFlags flags → event < flags.events
+pub flags_written : (flags : Flags) (event word : ℕ) (flag : Bool) → AreFlags flags
+    → event < flags.events
     → word ≡ with_bit (get_or flags.words (event / 64) 0) (event % 64) flag
     → AreFlags (record { events = flags.events; words = slice_set flags.words (event / 64) word })
 flags_written flags event word flag are low new =
@@ -86,10 +93,13 @@ flags_written flags event word flag are low new =
 
 -- ---- none
 
-pub all_zero : (words : List ℕ) → All (λ word. word ≡ 0) words → (event : ℕ) → marked words event ≡ false
+pub all_zero : (words : List ℕ) → All (λ word. word ≡ 0) words → (event : ℕ)
+    → marked words event ≡ false
 all_zero words zeros event = elim (cases_lt (event / 64) (length words)) [
-  | inl low ↦ ap (λ word. has_bit word (event % 64)) (zeros (event / 64) 0 low) ∙ zero_bit (event % 64)
-  | inr high ↦ ap (λ word. has_bit word (event % 64)) (get_or_past words (event / 64) 0 high) ∙ zero_bit (event % 64)
+  | inl low ↦ ap (λ word. has_bit word (event % 64)) (zeros (event / 64) 0 low)
+      ∙ zero_bit (event % 64)
+  | inr high ↦ ap (λ word. has_bit word (event % 64)) (get_or_past words (event / 64) 0 high)
+      ∙ zero_bit (event % 64)
 ]
 
 pub none_flagged : (events : ℕ) (words : List ℕ) → events ≤ 4000 → length words ≡ (events + 63) / 64
@@ -112,12 +122,15 @@ word_of_none (word ∷ words) none zero =
       | inl is ↦ eqb-true word 0 is
       | inr other ↦ absurd (false≢true (sym first ∙ ap not other))
     ]
-word_of_none (word ∷ words) none (suc i) = word_of_none words (or_parts (not (word == 0)) _ none).1 i
+word_of_none (word ∷ words) none (suc i) = word_of_none words (or_parts (not (word == 0)) _
+    none).1 i
 
-pub no_flag : (flags : Flags) → some_changed flags ≡ false → (event : ℕ) → has_changed flags event ≡ false
+pub no_flag : (flags : Flags) → some_changed flags ≡ false → (event : ℕ)
+    → has_changed flags event ≡ false
 unfolding some_changed
 no_flag flags none event =
-    ap (λ word. has_bit word (event % 64)) (word_of_none flags.words none (event / 64)) ∙ zero_bit (event % 64)
+    ap (λ word. has_bit word (event % 64)) (word_of_none flags.words none (event / 64))
+    ∙ zero_bit (event % 64)
 
 -- a word that is not 0
 pub some_word : (words : List ℕ) → list_any (λ word. not (word == 0)) words ≡ true
@@ -127,7 +140,8 @@ some_word (word ∷ words) some = elim (cases_eq word 0) [
   | inr other ↦ (0, omega arith, other)
   | inl none ↦
       let rest : list_any (λ word. not (word == 0)) words ≡ true =
-      sym (ap (λ b. not b || list_any (λ word. not (word == 0)) words) (eq-eqb word 0 none)) ∙ some in
+      sym (ap (λ b. not b || list_any (λ word. not (word == 0)) words) (eq-eqb word 0 none))
+      ∙ some in
       let found = some_word words rest in
       (suc found.0, (let low = found.1 in omega (arith, low)), found.2)
 ]
@@ -161,11 +175,16 @@ next_flag flags index from start bit are begins so first =
       λ event low high. elim (cases_lt event (64 * index)) [
         | inl before ↦ so event low before
         | inr after ↦
-            let few : event - 64 * index < 64 = (let small = first.1 in omega (arith, high, after, small)) in
+            let few : event - 64 * index < 64 = (let small = first.1 in
+            omega (arith, high, after, small)) in
             let index_is : event / 64 ≡ index = omega (arith, after, few) in
             let bit_is : event % 64 ≡ event - 64 * index = omega (arith, after, few) in
             (λ i. has_bit (get_or flags.words (index_is i) 0) (bit_is i))
-            ∙ first.3 (event - 64 * index) (omega (arith, begins, low, after)) (omega (arith, high, after))
+            ∙ first.3 (event - 64 * index) (omega (arith, begins, low, after)) (omega (
+              arith,
+              high,
+              after,
+            ))
       ],
     )
   where
@@ -180,20 +199,25 @@ pub no_next_flag : (flags : Flags) (index from start : ℕ)
     → ((event : ℕ) → from ≤ event → event < 64 * index → has_changed flags event ≡ false)
     → IsFirstBit (get_or flags.words index 0) start None
     → (event : ℕ) → from ≤ event → event < 64 * (index + 1) → has_changed flags event ≡ false
-no_next_flag flags index from start begins so none event low high = elim (cases_lt event (64 * index)) [
-  | inl before ↦ so event low before
-  | inr after ↦
-      let few : event - 64 * index < 64 = omega (arith, high, after) in
-      let index_is : event / 64 ≡ index = omega (arith, after, few) in
-      let bit_is : event % 64 ≡ event - 64 * index = omega (arith, after, few) in
-      (λ i. has_bit (get_or flags.words (index_is i) 0) (bit_is i))
-      ∙ none (event - 64 * index) (omega (arith, begins, low, after)) few
-]
+no_next_flag flags index from start begins so none event low high = elim (cases_lt event (64 *
+    index)) [
+      | inl before ↦ so event low before
+      | inr after ↦
+          let few : event - 64 * index < 64 = omega (arith, high, after) in
+          let index_is : event / 64 ≡ index = omega (arith, after, few) in
+          let bit_is : event % 64 ≡ event - 64 * index = omega (arith, after, few) in
+          (λ i. has_bit (get_or flags.words (index_is i) 0) (bit_is i))
+          ∙ none (event - 64 * index) (omega (arith, begins, low, after)) few
+    ]
 
 pub past_flags : (flags : Flags) (index event : ℕ) → length flags.words ≤ index → 64 * index ≤ event
     → has_changed flags event ≡ false
 past_flags flags index event all high =
-    ap (λ word. has_bit word (event % 64)) (get_or_past flags.words (event / 64) 0 (omega (arith, all, high)))
+    ap (λ word. has_bit word (event % 64)) (get_or_past flags.words (event / 64) 0 (omega (
+      arith,
+      all,
+      high,
+    )))
     ∙ zero_bit (event % 64)
 
 pub none_left : (flags : Flags) (index from event : ℕ) → length flags.words ≤ index
@@ -207,7 +231,8 @@ none_left flags index from event all so low = elim (cases_lt event (64 * index))
 -- ---- flags that are set one after the other
 
 pub one_set : (flags after : Flags) (event : ℕ) → event / 64 < length flags.words
-    → after ≡ with_flag flags event true → ((other : ℕ) → has_changed flags other ≡ false) → (other : ℕ)
+    → after ≡ with_flag flags event true → ((other : ℕ) → has_changed flags other ≡ false)
+    → (other : ℕ)
     → has_changed after other ≡ (other == event)
 one_set flags after event there is none other =
     ap (λ flags. has_changed flags other) is
@@ -216,7 +241,8 @@ one_set flags after event there is none other =
           ap (has_changed (with_flag flags event true)) same ∙ this_flag flags event true there
           ∙ sym (eq-eqb other event same)
       | inr apart ↦
-          other_flag flags event true there other apart ∙ none other ∙ sym (ne_eqb other event apart)
+          other_flag flags event true there other apart ∙ none other
+          ∙ sym (ne_eqb other event apart)
     ]
 
 pub one_more_set : (flags after : Flags) (event : ℕ) → event / 64 < length flags.words
@@ -226,6 +252,8 @@ pub one_more_set : (flags after : Flags) (event : ℕ) → event / 64 < length f
 one_more_set flags after event there is so other low =
     ap (λ flags. has_changed flags other) is
     ∙ elim (cases_eq other event) [
-      | inl same ↦ ap (has_changed (with_flag flags event true)) same ∙ this_flag flags event true there
-      | inr apart ↦ other_flag flags event true there other apart ∙ so other (omega (arith, low, apart))
+      | inl same ↦ ap (has_changed (with_flag flags event true)) same
+          ∙ this_flag flags event true there
+      | inr apart ↦ other_flag flags event true there other apart
+          ∙ so other (omega (arith, low, apart))
     ]

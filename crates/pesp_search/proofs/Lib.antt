@@ -1,6 +1,7 @@
 mod AnyBelow
 mod Changes
 mod Crowded
+mod EmptyMarks
 mod EmptySets
 mod Entries
 mod Families

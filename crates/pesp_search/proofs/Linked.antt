@@ -3,7 +3,8 @@ use Rattle.std.proofs.Common.{◌≡◌, ◌≢◌, ◌∙◌, ◌⊎◌, inl, i
 use Rattle.std.proofs.Common.{length, get_or, slice_get, Some, Contains, All, ap, sym, subst, arith}
 use Rattle.std.proofs.lemmas.Bool.{cases_eq, cases_lt, false≢true}
 use Rattle.std.proofs.lemmas.List.{length-set, get_or-set_same, get_or-set_other, get_or_past}
-use Rattle.std.proofs.lemmas.List.Elements.{Contains-append_left, Contains-get_or, Contains-push, Contains-push_cases}
+use Rattle.std.proofs.lemmas.List.Elements.{Contains-append_left, Contains-get_or, Contains-push}
+use Rattle.std.proofs.lemmas.List.Elements.{Contains-push_cases}
 use Rattle.std.proofs.lemmas.Option.{get_or_from_slice_get, slice_get_within, same_Some}
 use Rattle.pesp_model.specs.declared.activity.PespActivity.{PespActivity}
 use Rattle.pesp_model.specs.Timetables.{IsActivity, Problem}
@@ -72,13 +73,15 @@ links_begun problem rows size empty = record {
           let few = is.1 in
           omega (arith, few)
       | inr high ↦
-          let is = subst (λ (row : List ℕ). Contains row index) (get_or_past rows event [] high) there in
+          let is = subst (λ (row : List ℕ). Contains row index) (get_or_past rows event [] high)
+          there in
           let few = is.1 in
           omega (arith, few)
     ]
 
 module _ (problem : Problem) (count : ℕ) (activity : PespActivity) (rows new : List (List ℕ))
-    (at : slice_get problem.activities count ≡ Some activity) (sound : IsActivity problem.events activity)
+    (at : slice_get problem.activities count ≡ Some activity) (sound : IsActivity problem.events
+    activity)
     (so : AreLinks problem count rows) where
   free_more : is_free problem.period activity ≡ true → new ≡ rows → AreLinks problem (count + 1) new
   free_more free same = subst (AreLinks problem (count + 1)) (sym same) (record {
@@ -126,7 +129,8 @@ module _ (problem : Problem) (count : ℕ) (activity : PespActivity) (rows new :
         | inr last ↦
             let here : index ≡ count = omega (arith, low, last) in
             let same = same_Some _ _ (sym at ∙ ap (slice_get problem.activities) (sym here) ∙ is) in
-            subst (λ index. Contains (get_or new other.from []) index × Contains (get_or new other.to []) index)
+            subst (λ index. Contains (get_or new other.from []) index
+            × Contains (get_or new other.to []) index)
             (sym here)
             (subst (λ (other : PespActivity). Contains (get_or new other.from []) count
             × Contains (get_or new other.to []) count) same (
@@ -137,7 +141,8 @@ module _ (problem : Problem) (count : ℕ) (activity : PespActivity) (rows new :
       ];
     }
 
-  pub links_more : NotesActivity problem.period activity count rows new → AreLinks problem (count + 1) new
+  pub links_more : NotesActivity problem.period activity count rows new
+      → AreLinks problem (count + 1) new
   links_more (inl same) = free_more same.0 same.1
   links_more (inr noted) = bound_more noted.0 noted.1 noted.2
 
@@ -147,7 +152,8 @@ pub links_at : (problem : Problem) (event : ℕ) (rows : List (List ℕ)) (index
     → AreLinksAt problem event indexes
 links_at problem event rows indexes so at = record {
   within = λ k d low. so.within event _
-      (subst (λ row. Contains row (get_or indexes k d)) (sym row) (Contains-get_or indexes k d low));
+      (subst (λ row. Contains row (get_or indexes k d)) (sym row) (Contains-get_or indexes k d
+      low));
   from = λ index activity is bound own.
       subst (λ row. Contains row index) (ap (λ event. get_or rows event []) own ∙ row)
       (so.all index activity is (slice_get_within problem.activities index activity is) bound).0;

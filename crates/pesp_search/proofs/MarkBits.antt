@@ -1,13 +1,18 @@
 -- Marks of times as bits, and one mark that is set or taken away.
-use Rattle.std.proofs.Common.{◌≡◌, ◌∙◌, inl, inr, ℕ, zero, suc, ◌+◌, ◌-◌, ◌*◌, ◌/◌, ◌%◌, ◌^◌, ◌<◌, ◌≤◌}
-use Rattle.std.proofs.Common.{nat_lt, Bool, true, false, not, ◌&&◌, List, [], ◌∷◌, length, get_or, slice_set, sum}
+use Rattle.std.proofs.Common.{◌≡◌, ◌∙◌, inl, inr, ℕ, zero, suc, ◌+◌, ◌-◌, ◌*◌, ◌/◌, ◌%◌, ◌^◌, ◌<◌}
+use Rattle.std.proofs.Common.{◌≤◌}
+use Rattle.std.proofs.Common.{nat_lt, Bool, true, false, not, ◌&&◌, List, [], ◌∷◌, length, get_or}
+use Rattle.std.proofs.Common.{slice_set, sum}
 use Rattle.std.proofs.Common.{max, Option, Some, None, refl, ap, sym, subst, arith}
 use Rattle.std.proofs.Math.Nat.{mul-le-mul_right}
-use Rattle.std.proofs.lemmas.Bool.{and_from, and_parts, cases_Bool, cases_eq, cases_lt, false≢true, lt-ltb, ltb-true}
-use Rattle.std.proofs.lemmas.List.{get_or-set_other, get_or-set_same, get_or_past, length-set, set-get_or}
+use Rattle.std.proofs.lemmas.Bool.{and_from, and_parts, cases_Bool, cases_eq, cases_lt}
+use Rattle.std.proofs.lemmas.Bool.{false≢true, lt-ltb, ltb-true}
+use Rattle.std.proofs.lemmas.List.{get_or-set_other, get_or-set_same, get_or_past, length-set}
+use Rattle.std.proofs.lemmas.List.{set-get_or}
 use Rattle.std.proofs.lemmas.List.Sums.{sum_by-set}
 use Rattle.std.proofs.lemmas.Nat.{div-mul-add}
-use Rattle.pesp_search.specs.Marks.{AreMarks, IsFirstBit, IsNext, IsNextBesides, Marks, has_bit, is_left, marked}
+use Rattle.pesp_search.specs.Marks.{AreMarks, IsFirstBit, IsNext, IsNextBesides, Marks, has_bit}
+use Rattle.pesp_search.specs.Marks.{is_left, marked}
 use Rattle.pesp_search.specs.Marks.{place_of, times_from, with_bit, with_mark, word_of, words_of}
 use Rattle.pesp_search.proofs.NextTimes.{next_one, no_more, not_this}
 use Rattle.pesp_search.proofs.WordBits.{with_fits, with_again, with_less, with_other, with_same}
@@ -22,7 +27,8 @@ pub place_within : (sets : Marks) (event time : ℕ) → AreMarks sets → event
     → time < 64 * words_of sets.period → place_of sets.period event time < length sets.words
 place_within sets event time are inside low =
     let far = mul-le-mul_right (words_of sets.period) (more event inside) in
-    let next : suc event * words_of sets.period ≡ event * words_of sets.period + words_of sets.period = omega arith in
+    let next : suc event * words_of sets.period ≡ event * words_of sets.period + words_of
+    sets.period = omega arith in
     omega (arith, far, next, are.each, low)
   where
     more : (event : ℕ) → event < sets.events → suc event ≤ sets.events
@@ -66,7 +72,8 @@ module _ (sets : Marks) (event time : ℕ) (is : Bool)
       elim (cases_eq (place_of sets.period e t) (place_of sets.period event time)) [
         | inr apart ↦
             ap (λ word. has_bit word (t % 64))
-            (get_or-set_other sets.words (place_of sets.period event time) (place_of sets.period e t)
+            (get_or-set_other sets.words (place_of sets.period event time) (place_of sets.period e
+            t)
             (with_bit (word_of sets event time) (time % 64) is) 0 apart)
         | inl same ↦
             let both = same_event (words_of sets.period) e t event time low small same in
@@ -96,7 +103,12 @@ marks_kept sets event time is are inside low =
             (with_bit (word_of sets event time) (time % 64) is),
       ));
       clear = λ e t within high few.
-          other_bit sets event time is there small e t few (λ _ same. absurd (omega (arith, same, low, high)))
+          other_bit sets event time is there small e t few (λ _ same. absurd (omega (
+            arith,
+            same,
+            low,
+            high,
+          )))
           ∙ are.clear e t within high few;
     }
   where
@@ -109,17 +121,20 @@ marks_kept sets event time is are inside low =
           let new = with_bit word (time % 64) is in
           let fit : word < 2 ^ 64 = are.fit (place_of sets.period event time) 0 there in
           let bit : time % 64 < 64 = omega arith in
-          subst (λ n. n < 2 ^ 64) (sym (ap (λ k. get_or (with_mark sets event time is).words k d) same
+          subst (λ n. n < 2 ^ 64) (sym (ap (λ k. get_or (with_mark sets event time is).words k d)
+          same
           ∙ get_or-set_same sets.words (place_of sets.period event time) new d there))
           (with_fits word (time % 64) is fit bit)
       | inr other ↦
-          subst (λ n. n < 2 ^ 64) (sym (get_or-set_other sets.words (place_of sets.period event time) k
+          subst (λ n. n < 2 ^ 64) (sym (get_or-set_other sets.words (place_of sets.period event
+          time) k
           (with_bit (word_of sets event time) (time % 64) is) d other))
           (are.fit k d h)
     ]
 
 -- as it is written
-pub marks_written : (sets : Marks) (event time width word : ℕ) (is : Bool) → AreMarks sets → event < sets.events
+pub marks_written : (sets : Marks) (event time width word : ℕ) (is : Bool) → AreMarks sets
+    → event < sets.events
     → time < sets.period → width ≡ words_of sets.period
     → word ≡ with_bit (get_or sets.words (event * width + time / 64) 0) (time % 64) is
     → AreMarks (record {
@@ -135,11 +150,13 @@ marks_written sets event time width word is are inside low wide new =
     })) (marks_kept sets event time is are inside low)
   where
     all : word ≡ with_bit (word_of sets event time) (time % 64) is
-    all = new ∙ ap (λ width. with_bit (get_or sets.words (event * width + time / 64) 0) (time % 64) is) wide
+    all = new ∙ ap (λ width. with_bit (get_or sets.words (event * width + time / 64) 0) (time %
+        64) is) wide
 
 -- ---- sums
 
-sum_less : (words : List ℕ) (i word : ℕ) → word < get_or words i 0 → sum (slice_set words i word) < sum words
+sum_less : (words : List ℕ) (i word : ℕ) → word < get_or words i 0
+    → sum (slice_set words i word) < sum words
 sum_less words i word less = elim (cases_lt i (length words)) [
   | inl low ↦ let all = sum_by-set (λ (n : ℕ). n) words i word 0 low in omega (arith, all, less)
   | inr high ↦ let none = get_or_past words i 0 high in absurd (omega (arith, none, less))
@@ -157,7 +174,8 @@ set_twice : (words : List ℕ) (i first second : ℕ)
     → slice_set (slice_set words i first) i second ≡ slice_set words i second
 set_twice [] i first second = refl
 set_twice (word ∷ words) zero first second = refl
-set_twice (word ∷ words) (suc i) first second = ap (λ rest. word ∷ rest) (set_twice words i first second)
+set_twice (word ∷ words) (suc i) first second = ap (λ rest. word ∷ rest) (set_twice words i first
+    second)
 
 pub marked_again : (sets : Marks) (event time : ℕ) → AreMarks sets → event < sets.events
     → is_left sets event time ≡ true
@@ -197,7 +215,8 @@ marked_again sets event time are inside left =
 -- none so far
 abbrev pub NoneBesides : Marks → ℕ → List ℕ → ℕ → ℕ → Type 0
 NoneBesides sets event others from end =
-    (time : ℕ) → from ≤ time → time < end → is_left sets event time ≡ true → marked others time ≡ true
+    (time : ℕ) → from ≤ time → time < end → is_left sets event time ≡ true
+    → marked others time ≡ true
 
 bit_left : (sets : Marks) (event time : ℕ) → is_left sets event time ≡ true
     → (time < sets.period) × (bit_there sets event time ≡ true)
@@ -224,7 +243,8 @@ and_false : (x y : Bool) → (x && y) ≡ false → x ≡ true → y ≡ false
 and_false true y none is = none
 and_false false y none is = absurd (false≢true is)
 
-module _ (sets : Marks) (event index from start word rest : ℕ) (others : List ℕ) (are : AreMarks sets)
+module _ (sets : Marks) (event index from start word rest : ℕ) (others : List ℕ) (are : AreMarks
+    sets)
     (inside : event < sets.events) (within : index < words_of sets.period)
     (rest_is : (bit : ℕ) → bit < 64
     → has_bit rest bit ≡ (has_bit word bit && not (has_bit (get_or others index 0) bit)))
@@ -232,7 +252,8 @@ module _ (sets : Marks) (event index from start word rest : ℕ) (others : List 
     (so : NoneBesides sets event others from (64 * index)) where
   -- a bit of the rest
   at : (bit : ℕ) → bit < 64
-      → has_bit rest bit ≡ (bit_there sets event (64 * index + bit) && not (marked others (64 * index + bit)))
+      → has_bit rest bit ≡ (bit_there sets event (64 * index + bit)
+      && not (marked others (64 * index + bit)))
   at bit low =
       let own : (64 * index + bit) / 64 ≡ index = omega (arith, low) in
       let place : (64 * index + bit) % 64 ≡ bit = omega (arith, low) in
@@ -243,7 +264,8 @@ module _ (sets : Marks) (event index from start word rest : ℕ) (others : List 
       rest_is bit low ∙ (λ i. here i && not (other i))
 
   pub next_found : (bit : ℕ) → start ≡ max from (64 * index) - 64 * index
-      → IsFirstBit rest start (Some bit) → IsNextBesides sets event others from (Some (64 * index + bit))
+      → IsFirstBit rest start (Some bit)
+      → IsNextBesides sets event others from (Some (64 * index + bit))
   next_found bit begins first =
       let both = and_parts _ _ (sym (at bit first.1) ∙ first.2) in
       let small : 64 * index + bit < 64 * words_of sets.period = omega (arith, first.1, within) in
@@ -258,7 +280,8 @@ module _ (sets : Marks) (event index from start word rest : ℕ) (others : List 
               let place : 64 * index + (time - 64 * index) ≡ time = omega (arith, after) in
               let reach : start ≤ time - 64 * index = omega (arith, begins, low, after) in
               let none = first.3 (time - 64 * index) reach (omega (arith, high, after)) in
-              let bits = subst (λ t. (bit_there sets event t && not (marked others t)) ≡ false) place
+              let bits = subst (λ t. (bit_there sets event t
+              && not (marked others t)) ≡ false) place
               (sym (at (time - 64 * index) (omega (arith, high, after, first.1))) ∙ none) in
               not_false _ (and_false _ _ bits (bit_left sets event time is).1)
         ],
@@ -278,7 +301,8 @@ module _ (sets : Marks) (event index from start word rest : ℕ) (others : List 
         not_false _ (and_false _ _ bits (bit_left sets event time is).1)
   ]
 
-pub none_besides : (sets : Marks) (event index from : ℕ) (others : List ℕ) → words_of sets.period ≤ index
+pub none_besides : (sets : Marks) (event index from : ℕ) (others : List ℕ)
+    → words_of sets.period ≤ index
     → NoneBesides sets event others from (64 * index) → IsNextBesides sets event others from None
 none_besides sets event index from others all so time low is =
     let within = (bit_left sets event time is).0 in so time low (omega (arith, within, all)) is

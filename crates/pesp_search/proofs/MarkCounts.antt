@@ -1,7 +1,9 @@
 -- How many bits are set, and how many times are left.
 use Rattle.std.proofs.Common.{get_or, slice_set, ◌⊎◌}
-use Rattle.std.proofs.Common.{◌≡◌, ◌∙◌, inl, inr, ℕ, zero, suc, ◌+◌, ◌-◌, ◌*◌, ◌/◌, ◌%◌, ◌^◌, ◌<◌, ◌≤◌}
-use Rattle.std.proofs.Common.{cond, nat_lt, count_ones, Bool, true, false, ◌&&◌, List, ◌∷◌, length, filter}
+use Rattle.std.proofs.Common.{◌≡◌, ◌∙◌, inl, inr, ℕ, zero, suc, ◌+◌, ◌-◌, ◌*◌, ◌/◌, ◌%◌, ◌^◌, ◌<◌}
+use Rattle.std.proofs.Common.{◌≤◌}
+use Rattle.std.proofs.Common.{cond, nat_lt, count_ones, Bool, true, false, ◌&&◌, List, ◌∷◌}
+use Rattle.std.proofs.Common.{length, filter}
 use Rattle.std.proofs.Common.{refl, ap, sym, arith}
 use Rattle.std.specs.Int.{bit_at}
 use Rattle.std.specs.Int.Count.{ones}
@@ -10,7 +12,8 @@ use Rattle.std.proofs.Math.Nat.{mod-eq_of_lt, mod-lt}
 use Rattle.std.proofs.lemmas.Bool.{cases_Bool, cases_eq, cases_lt, lt-ltb, le-ltb}
 use Rattle.std.proofs.lemmas.List.{get_or-set_other, get_or-set_same}
 use Rattle.std.proofs.lemmas.Nat.{mod-pow-add, ones-le, ones_cat, pow_pos}
-use Rattle.pesp_search.specs.Marks.{AreMarks, Marks, has_bit, is_left, marked, times_from, word_of, words_of}
+use Rattle.pesp_search.specs.Marks.{AreMarks, Marks, has_bit, is_left, marked, times_from}
+use Rattle.pesp_search.specs.Marks.{word_of, words_of}
 use Rattle.pesp_search.specs.Revising.{count_below}
 use Rattle.pesp_search.proofs.MarkBits.{bit_there}
 use Rattle.pesp_search.proofs.WordBits.{set_is, unset_is}
@@ -19,7 +22,8 @@ count_start : (test : ℕ → Bool) → count_below test 0 ≡ 0
 unfolding count_below
 count_start test = refl
 
-count_next : (test : ℕ → Bool) (n : ℕ) → count_below test (suc n) ≡ count_below test n + cond (test n) 1 0
+count_next : (test : ℕ → Bool) (n : ℕ)
+    → count_below test (suc n) ≡ count_below test n + cond (test n) 1 0
 unfolding count_below
 count_next test n = refl
 
@@ -32,7 +36,8 @@ count_same test other from (suc n) none =
     let same : from + suc n ≡ suc (from + n) = omega arith in
     let rest = count_same test other from n (λ k low high. none k low (omega (arith, high))) in
     let last = count_next test (from + n) in
-    let gone = ap (λ (b : Bool). cond {A = ℕ} b 1 0) (none (from + n) (omega arith) (omega arith)) in
+    let gone = ap (λ (b : Bool). cond {A = ℕ} b 1 0) (none (from + n) (omega arith) (omega arith))
+    in
     let all = ap (count_below test) same in
     omega (arith, rest, last, gone, all)
 
@@ -48,11 +53,14 @@ one_set = refl
 
 one_of : (word bit : ℕ) → count_ones (bit_at word bit) ≡ cond (has_bit word bit) 1 0
 one_of word bit = elim (cases_Bool (has_bit word bit)) [
-  | inl is ↦ ap count_ones (set_is word bit is) ∙ one_set ∙ sym (ap (λ (b : Bool). cond {A = ℕ} b 1 0) is)
-  | inr not ↦ ap count_ones (unset_is word bit not) ∙ none_set ∙ sym (ap (λ (b : Bool). cond {A = ℕ} b 1 0) not)
+  | inl is ↦ ap count_ones (set_is word bit is) ∙ one_set
+      ∙ sym (ap (λ (b : Bool). cond {A = ℕ} b 1 0) is)
+  | inr not ↦ ap count_ones (unset_is word bit not) ∙ none_set
+      ∙ sym (ap (λ (b : Bool). cond {A = ℕ} b 1 0) not)
 ]
 
-low_ones : (test : ℕ → Bool) (from word n : ℕ) → ((bit : ℕ) → bit < n → test (from + bit) ≡ has_bit word bit)
+low_ones : (test : ℕ → Bool) (from word n : ℕ) → ((bit : ℕ) → bit < n
+    → test (from + bit) ≡ has_bit word bit)
     → count_below test (from + n) ≡ count_below test from + count_ones (word % 2 ^ n)
 low_ones test from word zero same =
     let none : from + 0 ≡ from = omega arith in
@@ -80,7 +88,8 @@ word_counted sets event index word fits is =
     let end : 64 * (index + 1) ≡ 64 * index + 64 = omega arith in
     ap (count_below (bit_there sets event)) end
     ∙ low_ones (bit_there sets event) (64 * index) word 64 (λ bit low. here bit low)
-    ∙ ap (λ word. count_below (bit_there sets event) (64 * index) + count_ones word) (mod-eq_of_lt fits)
+    ∙ ap (λ word. count_below (bit_there sets event) (64 * index) + count_ones word) (mod-eq_of_lt
+    fits)
   where
     here : (bit : ℕ) → bit < 64 → bit_there sets event (64 * index + bit) ≡ has_bit word bit
     here bit low =
@@ -91,7 +100,8 @@ word_counted sets event index word fits is =
 -- ---- the times that are left
 
 filtered : (left test : ℕ → Bool) (from n : ℕ) → ((k : ℕ) → k < from + n → left k ≡ test k)
-    → count_below test from + length (filter left (range_with_len from n)) ≡ count_below test (from + n)
+    → count_below test from + length (filter left (range_with_len from n)) ≡ count_below test
+    (from + n)
 filtered left test from zero same =
     let none : from + 0 ≡ from = omega arith in
     let all = ap (count_below test) none in
@@ -107,17 +117,21 @@ filtered left test from (suc n) same =
     one (left from) refl rest all first last bit
   where
     one : (b : Bool) → left from ≡ b
-        → count_below test (from + 1) + length (filter left (range_with_len (from + 1) n)) ≡ count_below test (from + 1 + n)
+        → count_below test (from + 1) + length (filter left (range_with_len (from + 1) n)) ≡
+        count_below test (from + 1 + n)
         → count_below test (from + 1 + n) ≡ count_below test (from + suc n)
         → count_below test (from + 1) ≡ count_below test (suc from)
         → count_below test (suc from) ≡ count_below test from + cond (test from) 1 0
         → cond {A = ℕ} (left from) 1 0 ≡ cond {A = ℕ} (test from) 1 0
-        → count_below test from + length (cond b (from ∷ filter left (range_with_len (from + 1) n)) (filter left (range_with_len (from + 1) n)))
+        → count_below test from + length (cond b (from ∷ filter left (range_with_len (from + 1)
+        n)) (filter left (range_with_len (from + 1) n)))
         ≡ count_below test (from + suc n)
     one true is rest all first last bit =
-        let own = ap (λ (b : Bool). cond {A = ℕ} b 1 0) is in omega (arith, own, rest, all, first, last, bit)
+        let own = ap (λ (b : Bool). cond {A = ℕ} b 1 0) is in
+        omega (arith, own, rest, all, first, last, bit)
     one false is rest all first last bit =
-        let own = ap (λ (b : Bool). cond {A = ℕ} b 1 0) is in omega (arith, own, rest, all, first, last, bit)
+        let own = ap (λ (b : Bool). cond {A = ℕ} b 1 0) is in
+        omega (arith, own, rest, all, first, last, bit)
 
 pub all_counted : (sets : Marks) (event index count : ℕ) → AreMarks sets → event < sets.events
     → index ≡ words_of sets.period → count ≡ count_below (bit_there sets event) (64 * index)
@@ -125,7 +139,8 @@ pub all_counted : (sets : Marks) (event index count : ℕ) → AreMarks sets →
 all_counted sets event index count are inside all is =
     let rest : sets.period + (64 * index - sets.period) ≡ 64 * index = omega (arith, all) in
     let same = ap (count_below (bit_there sets event)) rest in
-    let none = count_same (bit_there sets event) (bit_there sets event) sets.period (64 * index - sets.period)
+    let none = count_same (bit_there sets event) (bit_there sets event) sets.period (64 * index -
+    sets.period)
     (λ k low high. are.clear event k inside low (omega (arith, high, all, rest))) in
     let left = filtered (is_left sets event) (bit_there sets event) 0 sets.period
     (λ k low. ap (λ b. b && bit_there sets event k) (lt-ltb k sets.period (omega (arith, low)))) in
@@ -160,22 +175,27 @@ one_copied sets event index word times within is so time = elim (cases_eq (time 
   | inl own ↦
       let after : time < 64 * (index + 1) = omega (arith, own) in
       ap (λ i. has_bit (get_or (slice_set times index word) i 0) (time % 64)) own
-      ∙ ap (λ word. has_bit word (time % 64)) (get_or-set_same times index word 0 within ∙ sym (is time own))
+      ∙ ap (λ word. has_bit word (time % 64)) (get_or-set_same times index word 0 within
+      ∙ sym (is time own))
       ∙ sym (ap (λ b. b && bit_there sets event time) (lt-ltb time _ after))
   | inr other ↦
       ap (λ word. has_bit word (time % 64)) (get_or-set_other times index (time / 64) word 0 other)
-      ∙ so time ∙ ap (λ b. b && bit_there sets event time) (elsewhere (cases_lt time (64 * index)) other)
+      ∙ so time
+      ∙ ap (λ b. b && bit_there sets event time) (elsewhere (cases_lt time (64 * index)) other)
 ]
   where
     elsewhere : (time < 64 * index) ⊎ (64 * index ≤ time) → (time / 64 ≡ index → ⊥)
         → nat_lt time (64 * index) ≡ nat_lt time (64 * (index + 1))
-    elsewhere (inl before) other = lt-ltb time _ before ∙ sym (lt-ltb time _ (omega (arith, before)))
-    elsewhere (inr behind) other = le-ltb time _ behind ∙ sym (le-ltb time _ (omega (arith, behind, other)))
+    elsewhere (inl before) other =
+        lt-ltb time _ before ∙ sym (lt-ltb time _ (omega (arith, before)))
+    elsewhere (inr behind) other =
+        le-ltb time _ behind ∙ sym (le-ltb time _ (omega (arith, behind, other)))
 
 pub all_copied : (sets : Marks) (event index : ℕ) → AreMarks sets → event < sets.events
     → index ≡ words_of sets.period → (time : ℕ)
     → copied_below sets event (64 * index) time ≡ is_left sets event time
-all_copied sets event index are inside all time = one (cases_lt time sets.period) (cases_lt time (64 * index))
+all_copied sets event index are inside all time = one (cases_lt time sets.period) (cases_lt time
+    (64 * index))
   where
     one : (time < sets.period) ⊎ (sets.period ≤ time) → (time < 64 * index) ⊎ (64 * index ≤ time)
         → copied_below sets event (64 * index) time ≡ is_left sets event time

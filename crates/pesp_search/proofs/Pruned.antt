@@ -3,9 +3,11 @@ use Rattle.std.proofs.Common.{◌≡◌, ◌∙◌, ◌⊎◌, inl, inr, ℕ, ze
 use Rattle.std.proofs.Common.{nat_lt}
 use Rattle.std.proofs.Common.{Bool, true, false, not, ◌&&◌, ◌||◌, List}
 use Rattle.std.proofs.Common.{refl, ap, sym, subst, arith, IfOk, Result, Ok, Err, Some, None, ◌-◌}
-use Rattle.std.proofs.lemmas.Bool.{cases_Bool, cases_eq, cases_lt, cases_order, eq-eqb, ne_eqb, lt-ltb}
+use Rattle.std.proofs.lemmas.Bool.{cases_Bool, cases_eq, cases_lt, cases_order, eq-eqb, ne_eqb}
+use Rattle.std.proofs.lemmas.Bool.{lt-ltb}
 use Rattle.std.proofs.lemmas.Bool.{le-ltb, ltb-true, false≢true}
-use Rattle.pesp_search.specs.Marks.{AreMarks, IsNextBesides, Marks, Prunes, Tracked, is_left, marked}
+use Rattle.pesp_search.specs.Marks.{AreMarks, IsNextBesides, Marks, Prunes, Tracked, is_left}
+use Rattle.pesp_search.specs.Marks.{marked}
 use Rattle.pesp_search.specs.Marks.{marks_left, with_mark}
 use Rattle.pesp_search.proofs.MarkBits.{one_less, other_bit, place_within, this_bit}
 use Rattle.pesp_search.specs.Revising.{Left, stays}
@@ -13,7 +15,8 @@ use Rattle.pesp_search.specs.Revising.{Left, stays}
 -- ---- one mark that is taken away
 
 -- it is another time
-other_left : (sets : Marks) (event time e t : ℕ) → AreMarks sets → event < sets.events → time < sets.period
+other_left : (sets : Marks) (event time e t : ℕ) → AreMarks sets → event < sets.events
+    → time < sets.period
     → (e ≡ event → t ≡ time → ⊥)
     → is_left (with_mark sets event time false) e t ≡ is_left sets e t
 other_left sets event time e t are inside within other = one (cases_lt t sets.period)
@@ -23,11 +26,13 @@ other_left sets event time e t are inside within other = one (cases_lt t sets.pe
     one (inl low) =
         ap (λ b. nat_lt t sets.period && b)
         (other_bit sets event time false
-        (place_within sets event time are inside (omega (arith, within))) (omega (arith, within)) e t
+        (place_within sets event time are inside (omega (arith, within))) (omega (arith, within))
+        e t
         (omega (arith, low)) other)
     one (inr high) = rw (le-ltb t sets.period high) refl
 
-this_out : (sets : Marks) (event time : ℕ) → AreMarks sets → event < sets.events → time < sets.period
+this_out : (sets : Marks) (event time : ℕ) → AreMarks sets → event < sets.events
+    → time < sets.period
     → is_left (with_mark sets event time false) event time ≡ false
 this_out sets event time are inside within =
     one (nat_lt time sets.period) _ (this_bit sets event time false
@@ -79,7 +84,8 @@ kept_turn : (left : Left) (kept : ℕ) (keep : List ℕ) (end : ℕ)
 kept_turn left kept keep end why e t = one (cases_eq e kept) (cases_order t end)
   where
     here : t ≡ end → e ≡ kept → (marked keep end ≡ true) ⊎ (left kept end ≡ false)
-        → both left (stays_below kept keep end) e t ≡ both left (stays_below kept keep (end + 1)) e t
+        → both left (stays_below kept keep end) e t ≡ both left (stays_below kept keep (end + 1))
+        e t
     here same own (inl flag) =
         ap (λ b. left e t && b)
         (later kept keep end e t (omega (arith, same))
@@ -88,17 +94,20 @@ kept_turn left kept keep end why e t = one (cases_eq e kept) (cases_order t end)
     here same own (inr gone) = rw (own, same, gone) refl
 
     one : (e ≡ kept) ⊎ (e ≡ kept → ⊥) → (t ≡ end) ⊎ ((t < end) ⊎ (end < t))
-        → both left (stays_below kept keep end) e t ≡ both left (stays_below kept keep (end + 1)) e t
+        → both left (stays_below kept keep end) e t ≡ both left (stays_below kept keep (end + 1))
+        e t
     one (inr other) place =
         ap (λ b. left e t && b)
         (elsewhere kept keep end e t other ∙ sym (elsewhere kept keep (end + 1) e t other))
     one (inl own) (inl same) = here same own why
     one (inl own) (inr (inl less)) =
         ap (λ b. left e t && b)
-        (rw (own) (reached_here keep end kept t less ∙ sym (reached_here keep (end + 1) kept t (omega (arith, less)))))
+        (rw (own) (reached_here keep end kept t less
+        ∙ sym (reached_here keep (end + 1) kept t (omega (arith, less)))))
     one (inl own) (inr (inr more)) =
         ap (λ b. left e t && b)
-        (later kept keep end e t (omega (arith, more)) ∙ sym (later kept keep (end + 1) e t (omega (arith, more))))
+        (later kept keep end e t (omega (arith, more))
+        ∙ sym (later kept keep (end + 1) e t (omega (arith, more))))
 
 -- a turn that removes a time
 removed_turn : (left now : Left) (kept : ℕ) (keep : List ℕ) (end : ℕ)
@@ -124,11 +133,13 @@ removed_turn left now kept keep end flag other gone e t = one (cases_eq e kept) 
     one (inl own) (inr (inl less)) =
         other e t (λ _ same. absurd (omega (arith, same, less)))
         ∙ ap (λ b. left e t && b)
-        (rw (own) (reached_here keep end kept t less ∙ sym (reached_here keep (end + 1) kept t (omega (arith, less)))))
+        (rw (own) (reached_here keep end kept t less
+        ∙ sym (reached_here keep (end + 1) kept t (omega (arith, less)))))
     one (inl own) (inr (inr more)) =
         other e t (λ _ same. absurd (omega (arith, same, more)))
         ∙ ap (λ b. left e t && b)
-        (later kept keep end e t (omega (arith, more)) ∙ sym (later kept keep (end + 1) e t (omega (arith, more))))
+        (later kept keep end e t (omega (arith, more))
+        ∙ sym (later kept keep (end + 1) e t (omega (arith, more))))
 
 -- ---- the loop
 
@@ -161,7 +172,8 @@ prune_kept before now event keep end changes so why = record {
     was : (marked keep end ≡ true) ⊎ (is_left now.sets event end ≡ false)
         → (marked keep end ≡ true) ⊎ (is_left before.sets event end ≡ false)
     was (inl flag) = inl flag
-    was (inr gone) = inr (and_true (is_left before.sets event end) _ (later event keep end event end (omega arith))
+    was (inr gone) = inr (and_true (is_left before.sets event end) _ (later event keep end event end
+        (omega arith))
         ∙ sym (ap (λ (left : Left). left event end) so.left) ∙ gone)
 
 and_parts_right : (b c : Bool) → (b && c) ≡ true → c ≡ true
@@ -179,9 +191,11 @@ prune_removed before now after event keep end changes are inside so flag left wi
       period = so.period;
       events = so.events;
       saved = so.saved;
-      left = λ i e t. removed_turn (is_left before.sets) (is_left (with_mark now.sets event end false))
+      left = λ i e t. removed_turn (is_left before.sets) (is_left (with_mark now.sets event end
+          false))
           event keep end flag
-          (λ e t other. other_left now.sets event end e t are inside within other ∙ ap (λ (left : Left). left e t) so.left)
+          (λ e t other. other_left now.sets event end e t are inside within other
+          ∙ ap (λ (left : Left). left e t) so.left)
           (this_out now.sets event end are inside within) e t i;
       same = λ no. absurd (false≢true (sym no));
       fewer = λ _. omega (arith, less, so.no_more);
@@ -226,7 +240,8 @@ prune_passed before now event keep changes (suc n) end so all =
     let same : end + 1 + n ≡ end + suc n = omega arith in
     subst (λ end. Prunes before now (stays_below event keep end) changes) same
     (prune_passed before now event keep changes n (end + 1)
-    (prune_kept before now event keep end changes so (either (cases_Bool (is_left now.sets event end))))
+    (prune_kept before now event keep end changes so (either (cases_Bool (is_left now.sets event
+    end))))
     (λ time low high. all time (omega (arith, low)) (omega (arith, high))))
   where
     either : (is_left now.sets event end ≡ true) ⊎ (is_left now.sets event end ≡ false)
@@ -235,14 +250,16 @@ prune_passed before now event keep changes (suc n) end so all =
     either (inr gone) = inr gone
 
 -- what is told of sets that are looked at
-pub prune_turn : (before now after : Tracked) (sets : Marks) (event : ℕ) (keep : List ℕ) (from time : ℕ)
+pub prune_turn : (before now after : Tracked) (sets : Marks) (event : ℕ) (keep : List ℕ) (from
+    time : ℕ)
     (changes : Bool) → sets ≡ now.sets → AreMarks sets → event < now.sets.events
     → Prunes before now (stays_below event keep from) changes
     → IsNextBesides sets event keep from (Some time)
     → after ≡ record { sets = with_mark now.sets event time false; saved = now.saved }
     → Prunes before after (stays_below event keep (time + 1)) true
 prune_turn before now after sets event keep from time changes same are inside so looked is =
-    let next = subst (λ (sets : Marks). IsNextBesides sets event keep from (Some time)) same looked in
+    let next = subst (λ (sets : Marks). IsNextBesides sets event keep from (Some time)) same
+    looked in
     let far : from + (time - from) ≡ time = (let low = next.0 in omega (arith, low)) in
     prune_removed before now after event keep time changes (subst AreMarks same are) inside
     (subst (λ end. Prunes before now (stays_below event keep end) changes) far

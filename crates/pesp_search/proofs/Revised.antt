@@ -1,10 +1,12 @@
 -- What the sets of both events of an activity are after it has revised them.
 use Rattle.std.proofs.Common.{Result, Ok, Err, OnOk}
-use Rattle.std.proofs.Common.{◌≡◌, ◌∙◌, ◌⊎◌, inl, inr, ℕ, ◌/◌, ◌<◌, ◌==◌, Bool, true, false, not, ◌&&◌}
+use Rattle.std.proofs.Common.{◌≡◌, ◌∙◌, ◌⊎◌, inl, inr, ℕ, ◌/◌, ◌<◌, ◌==◌, Bool, true, false, not}
+use Rattle.std.proofs.Common.{◌&&◌}
 use Rattle.std.proofs.Common.{◌||◌}
 use Rattle.std.proofs.Common.{filter, length, refl, ap, sym, subst, arith}
 use Rattle.std.specs.List.{list_any, range_with_len}
-use Rattle.std.proofs.lemmas.Bool.{and_from, and_parts, cases_eq, eq-eqb, false≢true, ne_eqb, or_from, or_parts}
+use Rattle.std.proofs.lemmas.Bool.{and_from, and_parts, cases_eq, eq-eqb, false≢true, ne_eqb}
+use Rattle.std.proofs.lemmas.Bool.{or_from, or_parts}
 use Rattle.pesp_model.specs.declared.activity.PespActivity.{PespActivity}
 use Rattle.pesp_model.specs.Timetables.{keeps}
 use Rattle.pesp_search.specs.Marks.{Prunes, Tracked, is_left, marks_left}
@@ -30,8 +32,10 @@ pub firsts_more : (period : ℕ) (left others : Left) (activity : PespActivity) 
     → IsWithin left others → first_left period left activity time ≡ true
     → first_left period others activity time ≡ true
 firsts_more period left others activity time within is =
-    let found = holds_in_range (left activity.from) (λ other. keeps period activity other time) 0 period is in
-    range_holds (others activity.from) (λ other. keeps period activity other time) 0 period found.0 found.1
+    let found = holds_in_range (left activity.from) (λ other. keeps period activity other time) 0
+    period is in
+    range_holds (others activity.from) (λ other. keeps period activity other time) 0 period
+    found.0 found.1
     found.2 (within activity.from found.0 found.3) found.4
 
 -- ---- a test of the times of one event
@@ -57,7 +61,8 @@ module _ (kept : ℕ) (test : ℕ → Bool) where
 
 -- ---- flags
 
-events_noted : (flags : Flags) (event : ℕ) (is : Bool) → (noted flags event is).events ≡ flags.events
+events_noted : (flags : Flags) (event : ℕ) (is : Bool)
+    → (noted flags event is).events ≡ flags.events
 events_noted flags event true = refl
 events_noted flags event false = refl
 
@@ -102,7 +107,8 @@ module _ (before after : Tracked) (kept : ℕ) (test : ℕ → Bool) (changes : 
       at e t ∙ and_from (old e t) _ (within e t is) (passes kept test left holds e t is)
 
   side_passes : (t : ℕ) → new kept t ≡ true → test t ≡ true
-  side_passes t is = sym (passes_here kept test t) ∙ (and_parts (old kept t) _ (sym (at kept t) ∙ is)).1
+  side_passes t is = sym (passes_here kept test t) ∙ (and_parts (old kept t) _ (sym (at kept t)
+      ∙ is)).1
 
   and_all : (x y : Bool) → y ≡ true → (x && y) ≡ x
   and_all true y is = is
@@ -116,7 +122,8 @@ module _ (before after : Tracked) (kept : ℕ) (test : ℕ → Bool) (changes : 
 
 -- ---- what is known of a side, and of both
 
-module _ (activity : PespActivity) (before after : Tracked) (kept : ℕ) (test : ℕ → Bool) (changes : Bool)
+module _ (activity : PespActivity) (before after : Tracked) (kept : ℕ) (test : ℕ
+    → Bool) (changes : Bool)
     (flags : Flags) (inside : kept / 64 < length flags.words)
     (so : Prunes before after (kept_test kept test) changes)
     (holds : (left : Left) → IsRevised before.sets.period left activity
@@ -154,7 +161,8 @@ seconds_revised activity before after changes at flags inside so =
     seconds_more period left (is_left before.sets) activity t within (revised.seconds t is)) in (
       touched,
       λ _ none t is.
-          ap (λ (left : ℕ → Bool). list_any (keeps period activity t) (filter left (range_with_len 0 period)))
+          ap (λ (left : ℕ → Bool). list_any (keeps period activity t) (filter left (range_with_len
+          0 period)))
           (touched.untouched activity.to none).1
           ∙ side_passes before after activity.from test changes so t is,
     )
@@ -206,13 +214,15 @@ firsts_kept activity at flags sets other = (
 )
 
 -- what is revised stays so where the set of the other event has not changed
-pub carried_seconds : (period : ℕ) (first last : Left) (flags more : ℕ → Bool) (other : PespActivity)
+pub carried_seconds : (period : ℕ) (first last : Left) (flags more : ℕ
+    → Bool) (other : PespActivity)
     → IsWithin last first
     → ((event : ℕ) → more event ≡ false → (flags event ≡ false) × (last event ≡ first event))
     → SecondsUnless period first flags other → SecondsUnless period last more other
 carried_seconds period first last flags more other within untouched so none t is =
     let to = untouched other.to none in
-    ap (λ (left : ℕ → Bool). list_any (keeps period other t) (filter left (range_with_len 0 period))) to.1
+    ap (λ (left : ℕ → Bool). list_any (keeps period other t) (filter left (range_with_len 0
+    period))) to.1
     ∙ so to.0 t (within other.from t is)
 
 pub carried_firsts : (period : ℕ) (first last : Left) (flags more : ℕ → Bool) (other : PespActivity)
@@ -229,7 +239,8 @@ carried_firsts period first last flags more other within untouched so none t is 
 module _ (activity : PespActivity) (at : ℕ) (start middle end : Tracked)
     (flags some more : Flags) (one : RevisesSeconds activity at start middle flags some)
     (two : RevisesFirsts activity at middle end some more) where
-  fewer_both : (event : ℕ) → (has_changed some event ≡ true) ⊎ (marks_left end.sets < marks_left middle.sets)
+  fewer_both : (event : ℕ) → (has_changed some event ≡ true) ⊎ (marks_left end.sets < marks_left
+      middle.sets)
       → (has_changed flags event ≡ true) ⊎ (marks_left end.sets < marks_left start.sets)
   fewer_both event (inr less) = inr (omega (arith, less, one.0.no_more))
   fewer_both event (inl was) = elim (one.0.fewer event was) [
@@ -244,7 +255,8 @@ module _ (activity : PespActivity) (at : ℕ) (start middle end : Tracked)
     saved = two.0.saved ∙ one.0.saved;
     within = λ e t is. one.0.within e t (two.0.within e t is);
     keeps = λ left revised within.
-        two.0.keeps left (subst (λ period. IsRevised period left activity) (sym one.0.period) revised)
+        two.0.keeps left (subst (λ period. IsRevised period left activity) (sym one.0.period)
+        revised)
         (one.0.keeps left revised within);
     each = two.0.each ∙ one.0.each;
     untouched = λ event none.

@@ -8,20 +8,22 @@ use Rattle.pesp_model.specs.declared.activity.PespActivity.{PespActivity}
 use Rattle.pesp_model.specs.Timetables.{IsActivity, IsProblem, Problem}
 use Rattle.pesp_search.specs.Flags.{AreFlags, Flags, IsNextFlag, has_changed, some_changed}
 use Rattle.pesp_search.specs.Marks.{Tracked, is_left, marks_left}
-use Rattle.pesp_search.specs.Revising.{AllFrom, AreRevised, BoundUnless, Dies, IsReady, IsRevised, IsWithin}
+use Rattle.pesp_search.specs.Revising.{AllFrom, AreRevised, BoundUnless, Dies, IsReady, IsRevised}
+use Rattle.pesp_search.specs.Revising.{IsWithin}
 use Rattle.pesp_search.specs.Revising.{Left, Propagates, RevisedUnless, Sweeps, Visits, is_free}
 use Rattle.pesp_search.proofs.FlagBits.{no_flag, some_flag}
 use Rattle.pesp_search.proofs.Revised.{carried_firsts, carried_seconds}
 
 -- what is known behind the events before one: no flag is left at them unless times were taken out
-pub record IsSwept (problem : Problem) (before now : Tracked) (flags : Flags) (from : ℕ) : Type 0 where
-  pub propagates : Propagates problem before now
-  pub each : flags.events ≡ problem.events
-  pub revised : AllFrom problem.activities
-      (BoundUnless problem.period (is_left now.sets) (has_changed flags)) 0
-  pub fewer : (event : ℕ) → has_changed flags event ≡ true
-      → (from ≤ event) ⊎ (marks_left now.sets < marks_left before.sets)
-  pub no_more : marks_left now.sets ≤ marks_left before.sets
+pub record IsSwept (problem : Problem) (before now : Tracked) (flags : Flags) (from : ℕ) : Type 0
+  where
+    pub propagates : Propagates problem before now
+    pub each : flags.events ≡ problem.events
+    pub revised : AllFrom problem.activities
+        (BoundUnless problem.period (is_left now.sets) (has_changed flags)) 0
+    pub fewer : (event : ℕ) → has_changed flags event ≡ true
+        → (from ≤ event) ⊎ (marks_left now.sets < marks_left before.sets)
+    pub no_more : marks_left now.sets ≤ marks_left before.sets
 
 -- what is known between two sweeps
 pub record IsReducing (problem : Problem) (before now : Tracked) (flags : Flags) : Type 0 where
@@ -42,10 +44,12 @@ when_false P Q false so told = told
 
 pub held : {X : Type 0} (P : X → Type 0) (xs : List X) (i : ℕ) (x : X) → All P xs
     → slice_get xs i ≡ Some x → P x
-held P xs i x all is = subst P (get_or_from_slice_get xs i x x is) (all i x (slice_get_within xs i x is))
+held P xs i x all is = subst P (get_or_from_slice_get xs i x x is) (all i x (slice_get_within xs i
+    x is))
 
 -- what is revised stays so where sets have not changed
-pub carried : (period : ℕ) (old new : Left) (flags more : ℕ → Bool) (other : PespActivity) → IsWithin new old
+pub carried : (period : ℕ) (old new : Left) (flags more : ℕ → Bool) (other : PespActivity)
+    → IsWithin new old
     → ((event : ℕ) → more event ≡ false → (flags event ≡ false) × (new event ≡ old event))
     → RevisedUnless period old flags other → RevisedUnless period new more other
 carried period old new flags more other within untouched so = (
@@ -64,7 +68,8 @@ none_yet problem sets = record {
   keeps = λ left _ within. within;
 }
 
-pub both_propagate : (problem : Problem) (before now after : Tracked) → Propagates problem before now
+pub both_propagate : (problem : Problem) (before now after : Tracked)
+    → Propagates problem before now
     → Propagates problem now after → Propagates problem before after
 both_propagate problem before now after one two = record {
   period = two.period ∙ one.period;
@@ -76,8 +81,10 @@ both_propagate problem before now after one two = record {
 
 -- ---- a sweep
 
-pub sweep_begun : (problem : Problem) (sets : Tracked) (flags : Flags) → flags.events ≡ problem.events
-    → AllFrom problem.activities (BoundUnless problem.period (is_left sets.sets) (has_changed flags)) 0
+pub sweep_begun : (problem : Problem) (sets : Tracked) (flags : Flags)
+    → flags.events ≡ problem.events
+    → AllFrom problem.activities (BoundUnless problem.period (is_left sets.sets) (has_changed
+    flags)) 0
     → IsSwept problem sets sets flags 0
 sweep_begun problem sets flags each revised = record {
   propagates = none_yet problem sets;
@@ -87,7 +94,8 @@ sweep_begun problem sets flags each revised = record {
   no_more = omega arith;
 }
 
-pub sweep_turn : (problem : Problem) (before now after : Tracked) (flags more : Flags) (from event : ℕ)
+pub sweep_turn : (problem : Problem) (before now after : Tracked) (flags more : Flags) (from event
+    : ℕ)
     → IsSwept problem before now flags from → IsNextFlag flags from (Some event)
     → Visits problem event now after flags more → IsSwept problem before after more (event + 1)
 sweep_turn problem before now after flags more from event so next turn = record {
@@ -112,7 +120,8 @@ sweep_turn problem before now after flags more from event so next turn = record 
     old other is apart (inr less) = inr (omega (arith, less, turn.no_more))
 
     fewer : (other : ℕ)
-        → ((has_changed flags other ≡ true) × (other ≡ event → ⊥)) ⊎ (marks_left after.sets < marks_left now.sets)
+        → ((has_changed flags other ≡ true) × (other ≡ event
+        → ⊥)) ⊎ (marks_left after.sets < marks_left now.sets)
         → (event + 1 ≤ other) ⊎ (marks_left after.sets < marks_left before.sets)
     fewer other (inl was) = old other was.0 was.1 (so.fewer other was.0)
     fewer other (inr less) = inr (omega (arith, less, so.no_more))
@@ -124,14 +133,16 @@ sweep_died problem before now after flags from so dead = record {
   empty = dead.empty;
 }
 
-pub sweep_ended : (problem : Problem) (before now : Tracked) (flags : Flags) (from : ℕ) → AreFlags flags
+pub sweep_ended : (problem : Problem) (before now : Tracked) (flags : Flags) (from : ℕ)
+    → AreFlags flags
     → IsSwept problem before now flags from → IsNextFlag flags from None
     → Sweeps problem before now flags
 sweep_ended problem before now flags from are so none = record {
   propagates = so.propagates;
   each = so.each;
   revised = so.revised;
-  fewer = λ some. let found = some_flag flags are some in last found.0 found.1 (so.fewer found.0 found.1);
+  fewer = λ some. let found = some_flag flags are some in
+      last found.0 found.1 (so.fewer found.0 found.1);
   no_more = so.no_more;
 }
   where

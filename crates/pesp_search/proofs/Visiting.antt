@@ -1,5 +1,6 @@
 -- The activities at an event, one after the other, and what they leave.
-use Rattle.std.proofs.Common.{◌≡◌, ◌∙◌, ◌⊎◌, inl, inr, ℕ, ◌+◌, ◌<◌, ◌≤◌, ◌==◌, true, false, List, length, get_or}
+use Rattle.std.proofs.Common.{◌≡◌, ◌∙◌, ◌⊎◌, inl, inr, ℕ, ◌+◌, ◌<◌, ◌≤◌, ◌==◌, true, false, List}
+use Rattle.std.proofs.Common.{length, get_or}
 use Rattle.std.proofs.Common.{slice_get, Some, Contains, refl, ap, sym, subst, arith}
 use Rattle.std.proofs.lemmas.Bool.{cases_eq, eq-eqb, false≢true, or_from, or_parts}
 use Rattle.std.proofs.lemmas.Grind.{get_or_default_zero}
@@ -8,7 +9,8 @@ use Rattle.pesp_model.specs.declared.activity.PespActivity.{PespActivity}
 use Rattle.pesp_model.specs.Timetables.{Problem}
 use Rattle.pesp_search.specs.Flags.{AreFlags, Flags, has_changed, with_flag}
 use Rattle.pesp_search.specs.Marks.{Tracked, is_left, marks_left}
-use Rattle.pesp_search.specs.Revising.{AllFrom, AreLinksAt, BoundUnless, Dies, HasEmpty, IsRevised, Propagates}
+use Rattle.pesp_search.specs.Revising.{AllFrom, AreLinksAt, BoundUnless, Dies, HasEmpty}
+use Rattle.pesp_search.specs.Revising.{IsRevised, Propagates}
 use Rattle.pesp_search.specs.Revising.{RevisedUnless, Revises, Visits, either, is_free}
 use Rattle.pesp_search.proofs.FlagBits.{flag_within, other_flag, this_flag}
 use Rattle.pesp_search.proofs.Sweeping.{carried, held, none_yet}
@@ -23,10 +25,12 @@ pub record IsVisited (problem : Problem) (event : ℕ) (indexes : List ℕ) (bef
     (old flags : Flags) (from : ℕ) : Type 0 where
   pub propagates : Propagates problem before now
   pub each : flags.events ≡ old.events
-  pub done : (index : ℕ) (activity : PespActivity) → slice_get problem.activities index ≡ Some activity
+  pub done : (index : ℕ) (activity : PespActivity)
+      → slice_get problem.activities index ≡ Some activity
       → is_free problem.period activity ≡ false → Awaits indexes from index
       ⊎ RevisedUnless problem.period (is_left now.sets) (has_changed flags) activity
-  pub rest : (index : ℕ) (activity : PespActivity) → slice_get problem.activities index ≡ Some activity
+  pub rest : (index : ℕ) (activity : PespActivity)
+      → slice_get problem.activities index ≡ Some activity
       → is_free problem.period activity ≡ false
       → RevisedUnless problem.period (is_left now.sets) (either event flags) activity
   pub fewer : (other : ℕ) → has_changed flags other ≡ true
@@ -59,10 +63,12 @@ module _ (problem : Problem) (event : ℕ) (indexes : List ℕ) (sets : Tracked)
   gone : has_changed left_out event ≡ false
   gone = this_flag old event false (flag_within old event are inside)
 
-  unset : (other : ℕ) → (other ≡ event → ⊥) → has_changed left_out other ≡ false → has_changed old other ≡ false
+  unset : (other : ℕ) → (other ≡ event → ⊥) → has_changed left_out other ≡ false
+      → has_changed old other ≡ false
   unset other apart none = sym (there other apart) ∙ none
 
-  begun_done : (index : ℕ) (activity : PespActivity) → slice_get problem.activities index ≡ Some activity
+  begun_done : (index : ℕ) (activity : PespActivity)
+      → slice_get problem.activities index ≡ Some activity
       → is_free problem.period activity ≡ false → Awaits indexes 0 index
       ⊎ RevisedUnless problem.period (is_left sets.sets) (has_changed left_out) activity
   begun_done index activity at bound = elim (cases_eq activity.from event) [
@@ -71,11 +77,16 @@ module _ (problem : Problem) (event : ℕ) (indexes : List ℕ) (sets : Tracked)
       | inl own ↦ inl (awaited indexes index (links.to index activity at bound own))
       | inr to ↦
           let so = revised index activity at (omega arith) bound in
-          inr (λ none. so.0 (unset activity.to to none), λ none. so.1 (unset activity.from from none))
+          inr (
+            λ none. so.0 (unset activity.to to none),
+            λ none. so.1 (unset activity.from from
+                none),
+          )
     ]
   ]
 
-  begun_rest : (index : ℕ) (activity : PespActivity) → slice_get problem.activities index ≡ Some activity
+  begun_rest : (index : ℕ) (activity : PespActivity)
+      → slice_get problem.activities index ≡ Some activity
       → is_free problem.period activity ≡ false
       → RevisedUnless problem.period (is_left sets.sets) (either event left_out) activity
   begun_rest index activity at bound =
@@ -106,7 +117,8 @@ module _ (problem : Problem) (event : ℕ) (indexes : List ℕ) (sets : Tracked)
 module _ (problem : Problem) (event : ℕ) (indexes : List ℕ) (before now after : Tracked)
     (old flags more : Flags) (from index : ℕ) (activity : PespActivity)
     (so : IsVisited problem event indexes before now old flags from)
-    (place : get_or indexes from 0 ≡ index) (at : slice_get problem.activities index ≡ Some activity)
+    (place : get_or indexes from 0 ≡ index) (at : slice_get problem.activities index ≡ Some
+    activity)
     (period_is : now.sets.period ≡ problem.period)
     (turn : Revises activity event now after flags more) where
   propagates : Propagates problem before after
@@ -124,7 +136,8 @@ module _ (problem : Problem) (event : ℕ) (indexes : List ℕ) (before now afte
 
   here : is_free problem.period activity ≡ false
       → RevisedUnless problem.period (is_left after.sets) (has_changed more) activity
-  here bound = subst (λ period. RevisedUnless period (is_left now.sets) (either event flags) activity
+  here bound = subst (λ period. RevisedUnless period (is_left now.sets) (either event flags)
+      activity
       → RevisedUnless period (is_left after.sets) (has_changed more) activity) period_is turn.1
       (so.rest index activity at bound)
 
@@ -139,7 +152,8 @@ module _ (problem : Problem) (event : ℕ) (indexes : List ℕ) (before now afte
       | inr apart ↦
           inl (waits.0, (let low = waits.1 in omega (arith, low, apart)), waits.2, waits.3)
       | inl own ↦
-          let same : other ≡ index = sym waits.3 ∙ ap (λ place. get_or indexes place 0) own ∙ place in
+          let same : other ≡ index = sym waits.3 ∙ ap (λ place. get_or indexes place 0) own
+          ∙ place in
           let equal : activity ≡ one =
           same_Some _ _ (sym at ∙ ap (slice_get problem.activities) (sym same) ∙ is) in
           inr (subst (RevisedUnless problem.period (is_left after.sets) (has_changed more)) equal
@@ -159,7 +173,8 @@ module _ (problem : Problem) (event : ℕ) (indexes : List ℕ) (before now afte
       (or_from (place == event) _ parts.0 same.0, same.1))
       (so.rest other one is bound)
 
-  fewer : (other : ℕ) → (has_changed flags other ≡ true) ⊎ (marks_left after.sets < marks_left now.sets)
+  fewer : (other : ℕ) → (has_changed flags other ≡ true) ⊎ (marks_left after.sets < marks_left
+      now.sets)
       → ((has_changed old other ≡ true) × (other ≡ event → ⊥))
       ⊎ (marks_left after.sets < marks_left before.sets)
   fewer other (inr less) = inr (omega (arith, less, so.no_more))

@@ -123,7 +123,8 @@ module _ (period : ℕ) (left : ℕ → Bool) where
       ]
 
   all_counted : (from n : ℕ) → from + n ≤ period
-      → count_below shown from + length (filter left (range_with_len from n)) ≡ count_below shown (from + n)
+      → count_below shown from + length (filter left (range_with_len from n)) ≡ count_below shown
+      (from + n)
   all_counted from zero few =
       let none : from + 0 ≡ from = omega arith in
       let same = ap (count_below shown) none in
@@ -136,13 +137,18 @@ module _ (period : ℕ) (left : ℕ → Bool) where
       one (left from) refl rest end own
     where
       one : (b : Bool) → left from ≡ b
-          → count_below shown (from + 1) + length (filter left (range_with_len (from + 1) n)) ≡ count_below shown (from + 1 + n)
-          → count_below shown (from + 1 + n) ≡ count_below shown (from + suc n) → shown from ≡ left from
+          → count_below shown (from + 1) + length (filter left (range_with_len (from + 1) n)) ≡
+          count_below shown (from + 1 + n)
+          → count_below shown (from + 1 + n) ≡ count_below shown (from + suc n)
+          → shown from ≡ left from
           → count_below shown from
-          + length (cond b (from ∷ filter left (range_with_len (from + 1) n)) (filter left (range_with_len (from + 1) n)))
+          + length (cond b (from ∷ filter left (range_with_len (from + 1) n)) (filter left
+          (range_with_len (from + 1) n)))
           ≡ count_below shown (from + suc n)
-      one true is rest end own = let more = count_more shown from (own ∙ is) in omega (arith, rest, end, more)
-      one false is rest end own = let same = count_same shown from (own ∙ is) in omega (arith, rest, end, same)
+      one true is rest end own = let more = count_more shown from (own ∙ is) in
+          omega (arith, rest, end, more)
+      one false is rest end own = let same = count_same shown from (own ∙ is) in
+          omega (arith, rest, end, same)
 
   pub crowded : (width : ℕ) → 1 ≤ period → width < period
       → period ≤ length (filter left (range_with_len 0 period)) + width → (offset time : ℕ)
@@ -156,12 +162,26 @@ module _ (period : ℕ) (left : ℕ → Bool) where
       let whole = ap (count_below shown) none in
       let round = again start in
       let slowly = slow (start + (width + 1)) (period - (width + 1)) in
-      let last : start + (width + 1) + (period - (width + 1)) ≡ period + start = omega (arith, narrow) in
+      let last : start + (width + 1) + (period - (width + 1)) ≡ period + start = omega (
+        arith,
+        narrow,
+      ) in
       let ends = ap (count_below shown) last in
       sym (ap (λ test. any_below test (width + 1)) (λ i k. left (shift k i)))
       ∙ sym (differs shown start (width + 1))
       ∙ ap not (ne_eqb (count_below shown (start + (width + 1))) (count_below shown start)
-      (λ same. absurd (omega (arith, same, counted, first, whole, round, slowly, ends, many, narrow))))
+      (λ same. absurd (omega (
+        arith,
+        same,
+        counted,
+        first,
+        whole,
+        round,
+        slowly,
+        ends,
+        many,
+        narrow,
+      ))))
     where
       shift : (k : ℕ) → ((time + offset) % period + k) % period ≡ (time + offset + k) % period
       shift k = mod-add-mod (time + offset) period k

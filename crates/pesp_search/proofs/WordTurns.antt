@@ -1,6 +1,8 @@
 -- Words of times in a period that goes round.
-use Rattle.std.proofs.Common.{◌≡◌, ◌∙◌, ◌⊎◌, inl, inr, ℕ, ◌+◌, ◌-◌, ◌*◌, ◌/◌, ◌%◌, ◌^◌, ◌<◌, ◌≤◌, ◌==◌}
-use Rattle.std.proofs.Common.{nat_lt, bit_or, Bool, true, false, ◌&&◌, ◌||◌, List, length, get_or, slice_set, replicate}
+use Rattle.std.proofs.Common.{◌≡◌, ◌∙◌, ◌⊎◌, inl, inr, ℕ, ◌+◌, ◌-◌, ◌*◌, ◌/◌, ◌%◌, ◌^◌, ◌<◌, ◌≤◌}
+use Rattle.std.proofs.Common.{◌==◌}
+use Rattle.std.proofs.Common.{nat_lt, bit_or, Bool, true, false, ◌&&◌, ◌||◌, List, length, get_or}
+use Rattle.std.proofs.Common.{slice_set, replicate}
 use Rattle.std.proofs.Common.{refl, ap, sym, subst, arith}
 use Rattle.std.proofs.Math.Nat.{add-mod_left, mod-add-mod, mod-eq_of_lt, mod-lt}
 use Rattle.std.proofs.lemmas.Bool.{cases_eq, cases_lt, eq-eqb, lt-ltb, le-ltb, ne_eqb}
@@ -17,14 +19,16 @@ or_false false y is = is
 -- ---- the bits from a time on
 
 module _ (period from start bit : ℕ) (times : List ℕ) (word : ℕ) (opens : start ≡ from % period)
-    (within : start < period) (small : bit < period) (is : has_bit word bit ≡ marked times (start + bit)) where
+    (within : start < period) (small : bit < period) (is : has_bit word bit ≡ marked times (start
+    + bit)) where
   at : (from + bit) % period ≡ (start + bit) % period
   at = sym (ap (λ start. (start + bit) % period) opens ∙ mod-add-mod from period bit)
 
   near : start + bit < period → has_bit word bit ≡ marked times ((from + bit) % period)
   near low = is ∙ sym (ap (marked times) (at ∙ mod-eq_of_lt low))
 
-  pub round_whole : 64 ≤ period - start → bit < 64 → has_bit word bit ≡ marked times ((from + bit) % period)
+  pub round_whole : 64 ≤ period - start → bit < 64
+      → has_bit word bit ≡ marked times ((from + bit) % period)
   round_whole much low = near (omega (arith, much, low))
 
   pub round_bit : bit < 64 → IsClear period times
@@ -44,7 +48,8 @@ module _ (period from start bit : ℕ) (times : List ℕ) (word : ℕ) (opens : 
             let place : rest % 64 ≡ rest = omega (arith, low) in
             (λ i. (is ∙ clear (start + bit) (omega (arith, outside, within))) i
             || shl_high (get_or times 0 0) (period - start) bit low outside i)
-            ∙ sym (ap (marked times) (at ∙ ap (λ n. n % period) again ∙ add-mod_left period rest ∙ mod-eq_of_lt few)
+            ∙ sym (ap (marked times) (at ∙ ap (λ n. n % period) again ∙ add-mod_left period rest
+            ∙ mod-eq_of_lt few)
             ∙ (λ i. has_bit (get_or times (index i) 0) (place i)))
       ]
 
@@ -64,25 +69,30 @@ pub none_added : (period by : ℕ) (old times : List ℕ) (time : ℕ)
     → marked old time ≡ added_below (64 * 0) period old times by time
 none_added period by old times time =
     let none : 64 * 0 ≤ time = omega arith in
-    sym (or_false (marked old time) _ (ap (λ b. b && turned_to period times by time) (le-ltb time (64 * 0) none)))
+    sym (or_false (marked old time) _ (ap (λ b. b
+    && turned_to period times by time) (le-ltb time (64 * 0) none)))
 
 pub all_added : (period by index : ℕ) (old times : List ℕ) (time : ℕ) → words_of period ≤ index
-    → added_below (64 * index) period old times by time ≡ (marked old time || turned_to period times by time)
-all_added period by index old times time all = ap (λ b. marked old time || b) (inside (cases_lt time period))
+    → added_below (64 * index) period old times by time ≡ (marked old time
+    || turned_to period times by time)
+all_added period by index old times time all = ap (λ b. marked old time
+    || b) (inside (cases_lt time period))
   where
     and_none : (x : Bool) → (x && false) ≡ false
     and_none true = refl
     and_none false = refl
 
     inside : (time < period) ⊎ (period ≤ time)
-        → (nat_lt time (64 * index) && turned_to period times by time) ≡ turned_to period times by time
+        → (nat_lt time (64 * index)
+        && turned_to period times by time) ≡ turned_to period times by time
     inside (inl low) =
         let before : time < 64 * index = omega (arith, low, all) in
         ap (λ b. b && turned_to period times by time) (lt-ltb time (64 * index) before)
     inside (inr high) =
         let none : turned_to period times by time ≡ false =
         ap (λ b. b && marked times ((time + by) % period)) (le-ltb time period high) in
-        ap (λ b. nat_lt time (64 * index) && b) none ∙ and_none (nat_lt time (64 * index)) ∙ sym none
+        ap (λ b. nat_lt time (64 * index) && b) none ∙ and_none (nat_lt time (64 * index))
+        ∙ sym none
 
 module _ (period by index : ℕ) (old all times : List ℕ) (cut : ℕ) (low : index < words_of period)
     (here : index < length all)
@@ -110,7 +120,8 @@ module _ (period by index : ℕ) (old all times : List ℕ) (cut : ℕ) (low : i
       cut_is (time % 64) (omega arith)
       ∙ (λ i. inside time own i && marked times (at i % period))
     where
-      inside : (time : ℕ) → time / 64 ≡ index → nat_lt (time % 64) (period - 64 * index) ≡ nat_lt time period
+      inside : (time : ℕ) → time / 64 ≡ index
+          → nat_lt (time % 64) (period - 64 * index) ≡ nat_lt time period
       inside time own = elim (cases_lt time period) [
         | inl low ↦
             let less : time % 64 < period - 64 * index = omega (arith, low, own) in
@@ -120,7 +131,8 @@ module _ (period by index : ℕ) (old all times : List ℕ) (cut : ℕ) (low : i
             le-ltb _ _ more ∙ sym (le-ltb time period high)
       ]
 
-  pub one_added : (time : ℕ) → marked more time ≡ added_below (64 * (index + 1)) period old times by time
+  pub one_added : (time : ℕ)
+      → marked more time ≡ added_below (64 * (index + 1)) period old times by time
   one_added time = elim (cases_eq (time / 64) index) [
     | inl own ↦
         let before : 64 * index ≤ time = omega (arith, own) in
@@ -129,10 +141,13 @@ module _ (period by index : ℕ) (old all times : List ℕ) (cut : ℕ) (low : i
         so time ∙ or_false (marked old time) _
         (ap (λ b. b && turned_to period times by time) (le-ltb time (64 * index) before)) in
         ap (λ i. has_bit (get_or more i 0) (time % 64)) own
-        ∙ ap (λ word. has_bit word (time % 64)) (get_or-set_same all index (bit_or (get_or all index 0) cut) 0 here)
+        ∙ ap (λ word. has_bit word (time % 64)) (get_or-set_same all index (bit_or (get_or all
+        index 0) cut) 0 here)
         ∙ or_bit (get_or all index 0) cut (time % 64)
-        ∙ (λ i. (ap (λ i. has_bit (get_or all i 0) (time % 64)) (sym own) ∙ was) i || cut_here time own i)
-        ∙ sym (ap (λ b. marked old time || (b && turned_to period times by time)) (lt-ltb time _ after))
+        ∙ (λ i. (ap (λ i. has_bit (get_or all i 0) (time % 64)) (sym own) ∙ was) i
+        || cut_here time own i)
+        ∙ sym (ap (λ b. marked old time || (b
+        && turned_to period times by time)) (lt-ltb time _ after))
     | inr other ↦
         ap (λ word. has_bit word (time % 64))
         (get_or-set_other all index (time / 64) (bit_or (get_or all index 0) cut) 0 other)
@@ -158,13 +173,16 @@ pub one_marked : (time other : ℕ) → time < 720
     → marked (slice_set zeros (time / 64) (one_bit (time % 64))) other ≡ (other == time)
 one_marked time other few = elim (cases_eq (other / 64) (time / 64)) [
   | inr apart ↦
-      ap (λ word. has_bit word (other % 64)) (get_or-set_other zeros (time / 64) (other / 64) (one_bit (time % 64)) 0 apart)
+      ap (λ word. has_bit word (other % 64)) (get_or-set_other zeros (time / 64) (other / 64)
+      (one_bit (time % 64)) 0 apart)
       ∙ no_bits other
       ∙ sym (ne_eqb other time (λ same. apart (ap (λ n. n / 64) same)))
   | inl own ↦
       let within : time / 64 < 13 = omega (arith, few) in
-      ap (λ i. has_bit (get_or (slice_set zeros (time / 64) (one_bit (time % 64))) i 0) (other % 64)) own
-      ∙ ap (λ word. has_bit word (other % 64)) (get_or-set_same zeros (time / 64) (one_bit (time % 64)) 0 within)
+      ap (λ i. has_bit (get_or (slice_set zeros (time / 64) (one_bit (time % 64))) i 0) (other %
+      64)) own
+      ∙ ap (λ word. has_bit word (other % 64)) (get_or-set_same zeros (time / 64) (one_bit (time %
+      64)) 0 within)
       ∙ bit_of_one (time % 64) (other % 64) (omega arith)
       ∙ same_time own (cases_eq (other % 64) (time % 64))
 ]
@@ -183,7 +201,8 @@ only_turned period own times by time same =
     ap (λ b. b || turned_to own times by time) (no_bits time)
     ∙ ap (λ (period : ℕ). turned_to period times by time) same
 
-pub clear_at : (period own : ℕ) (times : List ℕ) → own ≡ period → IsClear period times → IsClear own times
+pub clear_at : (period own : ℕ) (times : List ℕ) → own ≡ period → IsClear period times
+    → IsClear own times
 clear_at period own times same clear = subst (λ (period : ℕ). IsClear period times) (sym same) clear
 
 pub left_twice : (sets : Marks) (event time : ℕ)
@@ -202,10 +221,12 @@ IsWide period left wide times = (time : ℕ) → marked times time
 pub wide_clear : (period : ℕ) (left : ℕ → Bool) (wide : ℕ) (times : List ℕ)
     → IsWide period left wide times → IsClear period times
 wide_clear period left wide times so time high =
-    so time ∙ ap (λ b. b && any_below (λ minutes. left ((time + minutes) % period)) wide) (le-ltb time period high)
+    so time ∙ ap (λ b. b && any_below (λ minutes. left ((time + minutes) % period)) wide) (le-ltb
+    time period high)
 
 pub wide_begun : (period : ℕ) (left : ℕ → Bool) (times : List ℕ)
-    → ((time : ℕ) → marked times time ≡ (nat_lt time period && left time)) → IsWide period left 1 times
+    → ((time : ℕ) → marked times time ≡ (nat_lt time period && left time))
+    → IsWide period left 1 times
 wide_begun period left times is time = elim (cases_lt time period) [
   | inl low ↦
       let at : (time + 0) % period ≡ time = ap (λ n. n % period) (none time) ∙ mod-eq_of_lt low in
@@ -213,7 +234,8 @@ wide_begun period left times is time = elim (cases_lt time period) [
       (sym (any_one (λ minutes. left ((time + minutes) % period)) ∙ ap left at))
   | inr high ↦
       is time ∙ ap (λ b. b && left time) (le-ltb time period high)
-      ∙ sym (ap (λ b. b && any_below (λ minutes. left ((time + minutes) % period)) 1) (le-ltb time period high))
+      ∙ sym (ap (λ b. b && any_below (λ minutes. left ((time + minutes) % period)) 1) (le-ltb time
+      period high))
 ]
   where
     none : (n : ℕ) → n + 0 ≡ n
@@ -237,19 +259,24 @@ module _ (period : ℕ) (left : ℕ → Bool) (wide : ℕ) (times : List ℕ) (s
   wide_turn by more few is time = elim (cases_lt time period) [
     | inr high ↦
         is time
-        ∙ (λ i. (so time ∙ ap (λ b. b && any_below (λ minutes. left ((time + minutes) % period)) wide)
+        ∙ (λ i. (so time ∙ ap (λ b. b
+        && any_below (λ minutes. left ((time + minutes) % period)) wide)
         (le-ltb time period high)) i
         || ap (λ b. b && marked times ((time + by) % period)) (le-ltb time period high) i)
-        ∙ sym (ap (λ b. b && any_below (λ minutes. left ((time + minutes) % period)) (wide + by)) (le-ltb time period high))
+        ∙ sym (ap (λ b. b && any_below (λ minutes. left ((time + minutes) % period)) (wide + by))
+        (le-ltb time period high))
     | inl low ↦
         is time
-        ∙ (λ i. (so time ∙ ap (λ b. b && any_below (λ minutes. left ((time + minutes) % period)) wide)
+        ∙ (λ i. (so time ∙ ap (λ b. b
+        && any_below (λ minutes. left ((time + minutes) % period)) wide)
         (lt-ltb time period low)) i
         || (ap (λ b. b && marked times ((time + by) % period)) (lt-ltb time period low)
         ∙ there by time
-        ∙ any_same _ (λ minutes. left ((time + (by + minutes)) % period)) wide (λ minutes. ap (λ n. left (n % period)) (sum minutes))) i)
+        ∙ any_same _ (λ minutes. left ((time + (by + minutes)) % period)) wide (λ minutes. ap (λ
+        n. left (n % period)) (sum minutes))) i)
         ∙ joined_below (λ minutes. left ((time + minutes) % period)) wide by few
-        ∙ sym (ap (λ b. b && any_below (λ minutes. left ((time + minutes) % period)) (wide + by)) (lt-ltb time period low))
+        ∙ sym (ap (λ b. b && any_below (λ minutes. left ((time + minutes) % period)) (wide + by))
+        (lt-ltb time period low))
   ]
     where
       sum : (minutes : ℕ) → time + by + minutes ≡ time + (by + minutes)
@@ -260,4 +287,5 @@ module _ (period : ℕ) (left : ℕ → Bool) (wide : ℕ) (times : List ℕ) (s
       → (time : ℕ) → time < period → marked reached time ≡ reaches period left offset width time
   wide_ended offset width reached all is time low =
       is time ∙ ap (λ b. b && marked times ((time + offset) % period)) (lt-ltb time period low)
-      ∙ there offset time ∙ ap (any_below (λ minutes. left ((time + offset + minutes) % period))) all
+      ∙ there offset time ∙ ap (any_below (λ minutes. left ((time + offset + minutes) % period)))
+      all

@@ -1,6 +1,7 @@
 -- Inner words: sets of times by a test of events and times, and what revising them by activities
 -- does.
-use Rattle.std.specs.Prelude.{nat_le, nat_lt, slice_index_or, Contains, ◌++◌, ◌≡◌, ◌⊎◌, ℕ, zero, suc, ◌+◌, ◌-◌, ◌%◌, ◌<◌, ◌≤◌}
+use Rattle.std.specs.Prelude.{nat_le, nat_lt, slice_index_or, Contains, ◌++◌, ◌≡◌, ◌⊎◌, ℕ, zero}
+use Rattle.std.specs.Prelude.{suc, ◌+◌, ◌-◌, ◌%◌, ◌<◌, ◌≤◌}
 use Rattle.std.specs.Prelude.{min, ◌==◌, not, Bool, true, false, ◌||◌, ◌&&◌}
 use Rattle.std.specs.Prelude.{if◌then◌else◌, ⊤, [], ◌∷◌, List, length, filter, slice_get}
 use Rattle.std.specs.Prelude.{slice_set, Some, All, unsigned_abs, ◌-ℤ◌}

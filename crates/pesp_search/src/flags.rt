@@ -1,7 +1,9 @@
 // Flags of events.
-ghost use Rattle.std.specs.Prelude.{◌≡◌, ℕ, ◌/◌, ◌<◌, ◌≤◌, ◌==◌, not, length, slice_index, true, false, IfOk};
+ghost use Rattle.std.specs.Prelude.{◌≡◌, ℕ, ◌/◌, ◌<◌, ◌≤◌, ◌==◌, not, length, slice_index, true};
+ghost use Rattle.std.specs.Prelude.{false, IfOk};
 ghost use Rattle.std.specs.List.{list_any};
-ghost use Rattle.pesp_search.specs.Flags.{AreFlags, IsNextFlag, has_changed, some_changed, with_flag};
+ghost use Rattle.pesp_search.specs.Flags.{AreFlags, IsNextFlag, has_changed, some_changed};
+ghost use Rattle.pesp_search.specs.Flags.{with_flag};
 
 use crate::words::{first_bit, with_bit};
 use plan_num::NoMemory;

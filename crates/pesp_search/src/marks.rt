@@ -2,8 +2,9 @@
 ghost use Rattle.std.specs.Prelude.{◌≡◌, ℕ, ◌<◌, ◌≤◌, ◌==◌, ◌||◌, ◌&&◌, ◌+◌, ◌*◌, ◌/◌, ◌%◌, nat_le};
 ghost use Rattle.std.specs.Prelude.{length, map, IfOk, IfSome};
 ghost use Rattle.std.specs.List.{range_with_len};
-ghost use Rattle.pesp_search.specs.Listings.{times_at_first};
-ghost use Rattle.pesp_search.specs.Marks.{AreMarks, IsNext, IsNextBesides, has_bit, is_left, marked};
+ghost use Rattle.pesp_search.specs.Listings.{is_empty, times_at_first};
+ghost use Rattle.pesp_search.specs.Marks.{AreMarks, IsNext, IsNextBesides, has_bit, is_left};
+ghost use Rattle.pesp_search.specs.Marks.{marked};
 ghost use Rattle.pesp_search.specs.Marks.{first_bit_at, sets_of, times_from, with_mark, word_of};
 ghost use Rattle.pesp_search.specs.Marks.{words_of};
 
@@ -151,6 +152,19 @@ impl TimeMarks {
             }
         }
         None
+    }
+
+    /// Whether no time is left to an event.
+    pub(crate) fn is_empty(&self, event: usize) -> bool
+        requires event { event < self.now.events }
+        ensures { result ≡ is_empty (times_from self.now event 0) }
+    {
+        for index in 0..self.width() {
+            if self.word(event, index) != 0 {
+                return false;
+            }
+        }
+        true
     }
 
     /// How many times are left to an event.

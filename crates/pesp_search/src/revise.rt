@@ -1,5 +1,6 @@
 // Sets of times that are revised by an activity.
-ghost use Rattle.std.specs.Prelude.{◌≡◌, ◌-◌, ◌/◌, ◌||◌, ◌<◌, ◌≤◌, ◌≤ℤ◌, ℕ, true, nat_le, pos, length, IfOk, OnOk};
+ghost use Rattle.std.specs.Prelude.{◌≡◌, ◌-◌, ◌/◌, ◌||◌, ◌<◌, ◌≤◌, ◌≤ℤ◌, ℕ, true, nat_le, pos};
+ghost use Rattle.std.specs.Prelude.{length, IfOk, OnOk};
 ghost use Rattle.pesp_model.specs.Timetables.{IsActivity};
 ghost use Rattle.pesp_search.specs.Marks.{AreMarks, Prunes, is_left, marked, times_from};
 ghost use Rattle.pesp_search.specs.Revising.{ahead, behind, first_left, second_left, width_of};
@@ -89,7 +90,7 @@ fn is_emptied(sets: &TimeMarks, event: usize, is_changed: bool) -> bool
     requires { event < sets.now.events }
     ensures { result ≡ true → HasEmpty sets.now }
 {
-    is_changed && sets.count(event) == 0
+    is_changed && sets.is_empty(event)
 }
 
 // Sets the flag of an event if its set has changed.

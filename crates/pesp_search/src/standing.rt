@@ -13,7 +13,7 @@ pub(crate) fn has_empty(sets: &TimeMarks) -> bool
     ensures { result ≡ list_any is_empty (sets_of sets.now) }
 {
     for event in 0..sets.events() {
-        if sets.count(event) == 0 {
+        if sets.is_empty(event) {
             return true;
         }
     }

@@ -1,5 +1,6 @@
 // Windows of a period in which a time is left.
-ghost use Rattle.std.specs.Prelude.{◌≡◌, ℕ, ◌<◌, ◌≤◌, ◌+◌, ◌-◌, ◌*◌, ◌%◌, ◌&&◌, ◌||◌, nat_lt, length};
+ghost use Rattle.std.specs.Prelude.{◌≡◌, ℕ, ◌<◌, ◌≤◌, ◌+◌, ◌-◌, ◌*◌, ◌%◌, ◌&&◌, ◌||◌, nat_lt};
+ghost use Rattle.std.specs.Prelude.{length};
 ghost use Rattle.std.specs.Prelude.{true, false};
 ghost use Rattle.pesp_search.specs.Marks.{has_bit, is_left, marked};
 ghost use Rattle.pesp_search.specs.Revising.{IsClear, reaches, turned_to};

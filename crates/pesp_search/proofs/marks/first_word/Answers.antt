@@ -15,5 +15,6 @@ pub returns-else-place-width : goal.returns-else-place-width
 returns-else-place-width c bit low =
     word_whole c.args.period c.args.place bit c.requires.some low c.cut.result (omega arith)
     (c.cut.ensures bit low
-    ∙ ap (λ width. nat_lt bit (c.args.period - 64 * (c.args.place % width)) && has_bit (2 ^ 64 - 1) bit)
+    ∙ ap (λ width. nat_lt bit (c.args.period - 64 * (c.args.place % width))
+    && has_bit (2 ^ 64 - 1) bit)
     c.words_of-width.ensures.value)

@@ -2,7 +2,8 @@ use Rattle.std.proofs.Common.{◌∙◌, subst, sym}
 use Rattle.pesp_search.specs.Marks.{AreMarks}
 use Rattle.pesp_search.specs.Revising.{Dies, Sweeps}
 use Rattle.pesp_search.proofs.ReducedSets.{bound_stands, dead_stands}
-use Rattle.pesp_search.proofs.Sweeping.{all_bound, both_propagate, reducing_begun, reducing_turn, when_false}
+use Rattle.pesp_search.proofs.Sweeping.{all_bound, both_propagate, reducing_begun, reducing_turn}
+use Rattle.pesp_search.proofs.Sweeping.{when_false}
 use Rattle.pesp_search.proofs.Sweeping.{when_true}
 use Rattle.pesp_search.proofs.reduce.reduce.Goals as goal
 
@@ -12,7 +13,8 @@ loop-sets-init c = reducing_begun c.args.pesp.now c.args.sets.now c.args.changed
 pub returns-then-branch : goal.returns-then-branch
 returns-then-branch c =
     let dead = when_true (Dies c.args.pesp.now c.loop-sets.sets c.sweep.new.sets)
-    (Sweeps c.args.pesp.now c.loop-sets.sets c.sweep.new.sets c.sweep.new.changed) c.in_ok-sweep.field-0 c.if-branch.true c.in_ok-sweep.ensures in
+    (Sweeps c.args.pesp.now c.loop-sets.sets c.sweep.new.sets c.sweep.new.changed)
+    c.in_ok-sweep.field-0 c.if-branch.true c.in_ok-sweep.ensures in
     dead_stands c.args.pesp.now c.event_count.ensures.problem c.args.sets.now c.sweep.new.sets
     c.requires.period c.requires.events
     (both_propagate c.args.pesp.now c.args.sets.now c.loop-sets.sets c.sweep.new.sets
@@ -23,7 +25,8 @@ loop-sets-preserved c =
     reducing_turn c.args.pesp.now c.args.sets.now c.loop-sets.sets c.sweep.new.sets
     c.loop-sets.changed c.sweep.new.changed c.loop-sets.invariant
     (when_false (Dies c.args.pesp.now c.loop-sets.sets c.sweep.new.sets)
-    (Sweeps c.args.pesp.now c.loop-sets.sets c.sweep.new.sets c.sweep.new.changed) c.in_ok-sweep.field-0 c.if-branch.false c.in_ok-sweep.ensures)
+    (Sweeps c.args.pesp.now c.loop-sets.sets c.sweep.new.sets c.sweep.new.changed)
+    c.in_ok-sweep.field-0 c.if-branch.false c.in_ok-sweep.ensures)
 
 pub returns : goal.returns
 returns c =

@@ -1,24 +1,28 @@
 use Rattle.std.proofs.Common.{arith}
 use Rattle.pesp_search.specs.Revising.{Dies, Visits}
 use Rattle.pesp_search.proofs.Linked.{links_at}
-use Rattle.pesp_search.proofs.Sweeping.{sweep_begun, sweep_died, sweep_ended, sweep_turn, when_false}
+use Rattle.pesp_search.proofs.Sweeping.{sweep_begun, sweep_died, sweep_ended, sweep_turn}
+use Rattle.pesp_search.proofs.Sweeping.{when_false}
 use Rattle.pesp_search.proofs.Sweeping.{when_true}
 use Rattle.pesp_search.proofs.reduce.sweep.Goals as goal
 
 pub loop-event-init : goal.loop-event-init
 loop-event-init c =
-    sweep_begun c.args.pesp.now c.args.sets.now c.args.changed.now c.requires.each c.requires.revised
+    sweep_begun c.args.pesp.now c.args.sets.now c.args.changed.now c.requires.each
+    c.requires.revised
 
 pub visit-requires-clause-links : goal.visit-requires-clause-links
 visit-requires-clause-links c =
-    links_at c.args.pesp.now c.in-Some.event c.args.links.now c.at.result.now c.requires.links c.at.ensures
+    links_at c.args.pesp.now c.in-Some.event c.args.links.now c.at.result.now c.requires.links
+    c.at.ensures
 
 pub overflow_add-from : goal.overflow_add-from
 overflow_add-from c = omega (arith, c.in-Some.ensures.next.1, c.in-Some.ensures.sound.few)
 
 pub returns-then-branch : goal.returns-then-branch
 returns-then-branch c =
-    sweep_died c.args.pesp.now c.args.sets.now c.loop-event.sets c.visit.new.sets c.loop-event.changed
+    sweep_died c.args.pesp.now c.args.sets.now c.loop-event.sets c.visit.new.sets
+    c.loop-event.changed
     c.loop-event.from c.loop-event.invariant (when_true
     (Dies c.args.pesp.now c.loop-event.sets c.visit.new.sets)
     (Visits c.args.pesp.now c.in-Some.event c.loop-event.sets c.visit.new.sets c.loop-event.changed
@@ -26,7 +30,8 @@ returns-then-branch c =
 
 pub loop-event-preserved : goal.loop-event-preserved
 loop-event-preserved c =
-    sweep_turn c.args.pesp.now c.args.sets.now c.loop-event.sets c.visit.new.sets c.loop-event.changed
+    sweep_turn c.args.pesp.now c.args.sets.now c.loop-event.sets c.visit.new.sets
+    c.loop-event.changed
     c.visit.new.changed c.loop-event.from c.in-Some.event c.loop-event.invariant
     c.in-Some.ensures.next (when_false (Dies c.args.pesp.now c.loop-event.sets c.visit.new.sets)
     (Visits c.args.pesp.now c.in-Some.event c.loop-event.sets c.visit.new.sets c.loop-event.changed
@@ -34,5 +39,6 @@ loop-event-preserved c =
 
 pub returns : goal.returns
 returns c =
-    sweep_ended c.args.pesp.now c.args.sets.now c.loop-event.sets c.loop-event.changed c.loop-event.from
+    sweep_ended c.args.pesp.now c.args.sets.now c.loop-event.sets c.loop-event.changed
+    c.loop-event.from
     c.in_default.ensures.sound c.loop-event.invariant c.in_default.ensures.next

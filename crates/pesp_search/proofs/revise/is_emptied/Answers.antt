@@ -4,4 +4,5 @@ use Rattle.pesp_search.proofs.EmptySets.{none_at}
 use Rattle.pesp_search.proofs.revise.is_emptied.Goals as goal
 
 pub returns-then-is_changed : goal.returns-then-is_changed
-returns-then-is_changed c is = none_at c.args.sets.now c.args.event c.requires (sym c.count.ensures ∙ eqb-true _ 0 is)
+returns-then-is_changed c is = none_at c.args.sets.now c.args.event c.requires (eqb-true _ 0 (sym
+    c.is_empty.ensures ∙ is))

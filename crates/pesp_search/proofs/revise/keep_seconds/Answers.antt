@@ -10,14 +10,17 @@ returns c =
     prunes_by_bits c.args.sets.now c.prune.new.sets c.args.activity.from
     (second_left c.args.sets.now.sets.period (is_left c.args.sets.now.sets) c.args.activity)
     c.with_second-times.result c.prune.result
-    (subst (λ (sets : Marks). (time : ℕ) → time < sets.period → marked c.with_second-times.result time
-    ≡ second_left sets.period (is_left sets) c.args.activity time) c.sets-2.ensures c.with_second-times.ensures.each)
+    (subst (λ (sets : Marks). (time : ℕ) → time < sets.period
+    → marked c.with_second-times.result time
+    ≡ second_left sets.period (is_left sets) c.args.activity time) c.sets-2.ensures
+    c.with_second-times.ensures.each)
     c.prune.ensures
 
 pub returns-then-is_crowded : goal.returns-then-is_crowded
 returns-then-is_crowded c =
     let activity = c.args.activity in
-    crowded_seconds activity c.args.sets.now c.requires (subst AreMarks c.sets.ensures c.is_crowded.ensures.sound)
+    crowded_seconds activity c.args.sets.now c.requires (subst AreMarks c.sets.ensures
+    c.is_crowded.ensures.sound)
     (subst (λ (sets : Marks). nat_le (sets.period - width_of sets.period activity)
     (length (times_from sets activity.to 0)) ≡ true) c.sets.ensures
     (sym c.is_crowded.ensures.crowded ∙ c.if-is_crowded.true))

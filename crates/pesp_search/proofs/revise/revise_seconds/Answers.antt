@@ -8,5 +8,6 @@ pub returns-clause-revises : goal.returns-clause-revises
 returns-clause-revises c =
     subst (λ (more : Flags). RevisesSeconds c.args.activity c.args.at c.args.sets.now
     c.keep_seconds.new.sets c.args.changed.now more) (sym c.note.ensures.noted)
-    (seconds_revised c.args.activity c.args.sets.now c.keep_seconds.new.sets c.in_ok-is_changed.is_changed
+    (seconds_revised c.args.activity c.args.sets.now c.keep_seconds.new.sets
+    c.in_ok-is_changed.is_changed
     c.args.at c.args.changed.now c.note.ensures.within c.in_ok-is_changed.ensures)

@@ -11,7 +11,8 @@ returns-clause-each c time low =
     let left = is_left c.args.sets.now in
     let period_is = c.period-period.ensures.value in
     let some : 1 ≤ period = omega (arith, c.period-period.ensures.sound.some) in
-    let offset_is = c.behind.ensures.behind ∙ ap (λ (period : ℕ). behind period activity) period_is in
+    let offset_is = c.behind.ensures.behind
+    ∙ ap (λ (period : ℕ). behind period activity) period_is in
     let width_is = c.width_of-width.ensures.width
     ∙ ap (λ (period : ℕ). width_of period activity) period_is in
     c.reached.ensures.each time low

@@ -14,8 +14,10 @@ pub returns-in_ok-one-in-Some-2 : goal.returns-in_ok-one-in-Some-2
 returns-in_ok-one-in-Some-2 c =
     entry_next c.args.pesp.now c.args.sets.now c.reduce.new.sets c.in_ok-reduce.ensures
     c.branch-alloc.new.sets c.next_child.new.sets c.in-Some-2.event c.in_ok-one-in-Some-2.field-0
-    (subst (Branches c.reduce.new.sets c.branch-alloc.new.sets) c.in_default.is c.in_ok-times.ensures)
-    (subst (IsNextChild c.branch-alloc.new.sets c.next_child.new.sets) c.in-Some-2.is c.in_ok-event.ensures)
+    (subst (Branches c.reduce.new.sets c.branch-alloc.new.sets) c.in_default.is
+    c.in_ok-times.ensures)
+    (subst (IsNextChild c.branch-alloc.new.sets c.next_child.new.sets) c.in-Some-2.is
+    c.in_ok-event.ensures)
     c.requires.ready.saved (c.in_ok-one-in-Some-2.ensures.events ∙ c.event_count.ensures.count)
     c.in_ok-one-in-Some-2.ensures.one
 
@@ -23,5 +25,7 @@ pub returns-in-None : goal.returns-in-None
 returns-in-None c =
     entry_last c.args.pesp.now c.args.sets.now c.reduce.new.sets c.in_ok-reduce.ensures
     c.branch-alloc.new.sets c.next_child.new.sets
-    (subst (Branches c.reduce.new.sets c.branch-alloc.new.sets) c.in_default.is c.in_ok-times.ensures)
-    (subst (IsNextChild c.branch-alloc.new.sets c.next_child.new.sets) c.in-None.is c.in_ok-event.ensures)
+    (subst (Branches c.reduce.new.sets c.branch-alloc.new.sets) c.in_default.is
+    c.in_ok-times.ensures)
+    (subst (IsNextChild c.branch-alloc.new.sets c.next_child.new.sets) c.in-None.is
+    c.in_ok-event.ensures)

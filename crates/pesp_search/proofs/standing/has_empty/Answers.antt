@@ -14,15 +14,15 @@ loop-event-preserved c =
     omega (arith, c.loop-event-test.true, c.events-event-end.ensures.value) in
     c.loop-event.invariant
     ∙ not_here c.args.sets.now c.loop-event.event is_empty some
-    (ne_eqb _ 0 (λ none. c.if-count-eq0.false (c.count.ensures ∙ none)))
+    (sym c.is_empty.ensures ∙ c.if-is_empty.false)
 
-pub returns-then-count-eq0 : goal.returns-then-count-eq0
-returns-then-count-eq0 c =
+pub returns-then-is_empty : goal.returns-then-is_empty
+returns-then-is_empty c =
     let some : c.loop-event.event < c.args.sets.now.events =
     omega (arith, c.loop-event-test.true, c.events-event-end.ensures.value) in
     sym (c.loop-event.invariant
     ∙ here_empty c.args.sets.now c.loop-event.event is_empty some
-    (eq-eqb _ 0 (sym c.count.ensures ∙ c.if-count-eq0.true)))
+    (sym c.is_empty.ensures ∙ c.if-is_empty.true))
 
 pub returns : goal.returns
 returns c =

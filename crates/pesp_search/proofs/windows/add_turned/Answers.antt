@@ -12,7 +12,8 @@ loop-index-init c = record {
 pub loop-index-preserved : goal.loop-index-preserved
 loop-index-preserved c = record {
   long = length-set c.loop-index.all c.loop-index.index _ ∙ c.loop-index.invariant.long;
-  each = one_added c.args.period c.args.by c.loop-index.index c.args.all.now c.loop-index.all c.args.times.now
+  each = one_added c.args.period c.args.by c.loop-index.index c.args.all.now c.loop-index.all
+      c.args.times.now
       c.cut.result (omega arith) (omega arith) c.loop-index.invariant.each
       (λ bit low. c.cut.ensures bit low
       ∙ and_under bit _ _ _ (λ inside. c.word_round.ensures bit low (omega arith)));
@@ -21,4 +22,5 @@ loop-index-preserved c = record {
 pub returns-clause-each : goal.returns-clause-each
 returns-clause-each c time =
     c.loop-index.invariant.each time
-    ∙ all_added c.args.period c.args.by c.loop-index.index c.args.all.now c.args.times.now time (omega arith)
+    ∙ all_added c.args.period c.args.by c.loop-index.index c.args.all.now c.args.times.now time
+    (omega arith)

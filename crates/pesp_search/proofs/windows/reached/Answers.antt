@@ -1,7 +1,8 @@
 use Rattle.std.proofs.Common.{◌≡◌, ◌∙◌, ◌||◌, ℕ, arith, refl, subst}
 use Rattle.pesp_search.specs.Marks.{is_left, marked}
 use Rattle.pesp_search.specs.Revising.{turned_to}
-use Rattle.pesp_search.proofs.WordTurns.{clear_at, left_twice, only_turned, wide_begun, wide_clear, wide_ended}
+use Rattle.pesp_search.proofs.WordTurns.{clear_at, left_twice, only_turned, wide_begun}
+use Rattle.pesp_search.proofs.WordTurns.{wide_clear, wide_ended}
 use Rattle.pesp_search.proofs.WordTurns.{wide_turn}
 use Rattle.pesp_search.proofs.windows.reached.Goals as goal
 
@@ -10,7 +11,8 @@ loop-wide-init c = record {
   long = c.times_of-times.ensures.long;
   some = omega arith;
   few = omega arith;
-  wide = wide_begun c.args.sets.now.period (is_left c.args.sets.now c.args.event) c.times_of-times.result
+  wide = wide_begun c.args.sets.now.period (is_left c.args.sets.now c.args.event)
+      c.times_of-times.result
       (λ time. c.times_of-times.ensures.each time ∙ left_twice c.args.sets.now c.args.event time);
 }
 
@@ -22,11 +24,14 @@ loop-wide-preserved c =
       long = c.widened-times.ensures.long;
       some = omega (arith, so.some);
       few = omega (arith, so.few, c.min-by.ensures);
-      wide = wide_turn c.args.sets.now.period (is_left c.args.sets.now c.args.event) c.loop-wide.wide
-          c.loop-wide.times (omega (arith, period.sound.some)) so.wide c.min-by.result c.widened-times.result
+      wide = wide_turn c.args.sets.now.period (is_left c.args.sets.now c.args.event)
+          c.loop-wide.wide
+          c.loop-wide.times (omega (arith, period.sound.some)) so.wide c.min-by.result
+          c.widened-times.result
           (omega (arith, c.min-by.ensures))
           (subst (λ (period : ℕ). (time : ℕ) → marked c.widened-times.result time
-          ≡ (marked c.loop-wide.times time || turned_to period c.loop-wide.times c.min-by.result time))
+          ≡ (marked c.loop-wide.times time
+          || turned_to period c.loop-wide.times c.min-by.result time))
           period.value c.widened-times.ensures.each);
     }
 
@@ -67,4 +72,5 @@ returns-clause-each c =
     c.loop-wide.times (omega (arith, period.sound.some)) so.wide c.args.offset c.args.width
     c.add_turned.new.all (omega (arith, so.few, c.loop-wide-test.false))
     (λ time. c.add_turned.ensures.each time
-    ∙ only_turned c.args.sets.now.period c.period-period.result c.loop-wide.times c.args.offset time period.value)
+    ∙ only_turned c.args.sets.now.period c.period-period.result c.loop-wide.times c.args.offset
+    time period.value)

@@ -6,7 +6,8 @@ use Rattle.pesp_search.proofs.links.Links.new.Goals as goal
 pub loop-index-preserved : goal.loop-index-preserved
 loop-index-preserved c =
     let items : Vec ℕ Global → List ℕ = λ row. row.items in
-    links_more c.args.pesp.now c.loop-index.index c.activity.result (map items c.loop-index.rows.items)
+    links_more c.args.pesp.now c.loop-index.index c.activity.result (map items
+    c.loop-index.rows.items)
     (map items c.note_activity.new.rows.items) c.activity.ensures.place c.activity.ensures.sound
     c.loop-index.invariant
     (subst (λ (period : ℕ). NotesActivity period c.activity.result c.loop-index.index
@@ -17,5 +18,10 @@ pub returns : goal.returns
 returns c =
     let items : Vec ℕ Global → List ℕ = λ row. row.items in
     subst (λ (count : ℕ). AreLinks c.args.pesp.now count (map items c.loop-index.rows.items))
-    (omega (arith, c.loop-index-test.false, c.loop-index.auto.index-end, c.activity_count-index-end.ensures.count))
+    (omega (
+      arith,
+      c.loop-index-test.false,
+      c.loop-index.auto.index-end,
+      c.activity_count-index-end.ensures.count,
+    ))
     c.loop-index.invariant

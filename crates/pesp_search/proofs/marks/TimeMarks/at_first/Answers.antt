@@ -24,5 +24,6 @@ invariant_of-result c =
 
 pub returns-clause-first : goal.returns-clause-first
 returns-clause-first c =
-    first_sets_are c.args.period c.args.events c.requires.some c.requires.few c.loop-place.words.items
+    first_sets_are c.args.period c.args.events c.requires.some c.requires.few
+    c.loop-place.words.items
     (subst (AreFirst c.args.period c.loop-place.words.items) (all_placed c) c.loop-place.invariant)

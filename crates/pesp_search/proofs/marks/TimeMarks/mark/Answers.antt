@@ -11,8 +11,10 @@ invariant_of-self c =
       events = c.self.inside.events;
       words = c.self.inside.words.items;
     } in
-    let event = subst (λ (sets : Marks). c.args.event < sets.events) (sym c.self.view_is) c.requires.event in
-    let time = subst (λ (sets : Marks). c.args.time < sets.period) (sym c.self.view_is) c.requires.time in
+    let event = subst (λ (sets : Marks). c.args.event < sets.events) (sym c.self.view_is)
+    c.requires.event in
+    let time = subst (λ (sets : Marks). c.args.time < sets.period) (sym c.self.view_is)
+    c.requires.time in
     marks_written sets c.args.event c.args.time c.words_of.result c.with_bit.result c.args.mark
     c.self.invariant event time c.words_of.ensures.value
     (c.with_bit.ensures ∙ ap (λ word. with_bit word (c.args.time % 64) c.args.mark)

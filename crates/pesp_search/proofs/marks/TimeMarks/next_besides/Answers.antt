@@ -4,9 +4,14 @@ use Rattle.pesp_search.proofs.marks.TimeMarks.next_besides.Goals as goal
 
 pub returns-in-Some : goal.returns-in-Some
 returns-in-Some c =
-    let next = next_found c.args.self.now c.args.event c.loop-index.index c.args.from _ c.word.result
-    c.besides-rest.result c.args.others.now c.width-index-end.ensures.sound c.requires.event (omega arith)
-    c.besides-rest.ensures c.word.ensures c.loop-index.invariant c.in-Some.bit (omega (arith, c.max.ensures))
+    let next = next_found c.args.self.now c.args.event c.loop-index.index c.args.from _
+    c.word.result
+    c.besides-rest.result c.args.others.now c.width-index-end.ensures.sound c.requires.event
+    (omega arith)
+    c.besides-rest.ensures c.word.ensures c.loop-index.invariant c.in-Some.bit (omega (
+      arith,
+      c.max.ensures,
+    ))
     c.in-Some.ensures in
     record {
       next = next;
@@ -16,6 +21,8 @@ returns-in-Some c =
 
 pub loop-index-preserved : goal.loop-index-preserved
 loop-index-preserved c =
-    none_found c.args.self.now c.args.event c.loop-index.index c.args.from _ c.word.result c.besides-rest.result
-    c.args.others.now c.width-index-end.ensures.sound c.requires.event (omega arith) c.besides-rest.ensures
+    none_found c.args.self.now c.args.event c.loop-index.index c.args.from _ c.word.result
+    c.besides-rest.result
+    c.args.others.now c.width-index-end.ensures.sound c.requires.event (omega arith)
+    c.besides-rest.ensures
     c.word.ensures c.loop-index.invariant (omega (arith, c.max.ensures)) c.in_default.ensures

@@ -7,9 +7,11 @@ pub returns : goal.returns
 returns c =
     let left = subst (λ (tracked : Tracked). is_left tracked.sets c.args.event c.args.time ≡ true)
     (sym c.self.view_is) c.requires.left in
-    removed_view c.self.inside.sets c.mark.new.self c.self.inside.changes.items c.push.new.self.items
+    removed_view c.self.inside.sets c.mark.new.self c.self.inside.changes.items
+    c.push.new.self.items
     c.args.event c.args.time c.mark.ensures.sound
-    (subst (λ (tracked : Tracked). c.args.event < tracked.sets.events) (sym c.self.view_is) c.requires.event)
+    (subst (λ (tracked : Tracked). c.args.event < tracked.sets.events) (sym c.self.view_is)
+    c.requires.event)
     left c.in_ok-push.ensures.items c.mark.ensures.marked
     ∙ ap (λ (tracked : Tracked). record {
       sets = with_mark tracked.sets c.args.event c.args.time _;
