@@ -1,11 +1,14 @@
 -- Sets of times in whose words no bit is set.
-use Rattle.std.proofs.Common.{◌≡◌, ◌∙◌, inl, inr, ℕ, zero, suc, ◌+◌, ◌-◌, ◌*◌, ◌/◌, ◌%◌, ◌^◌, ◌<◌, ◌≤◌}
-use Rattle.std.proofs.Common.{◌&&◌, nat_lt, Bool, true, false, List, [], length, filter, refl, ap, sym}
+use Rattle.std.proofs.Common.{◌≡◌, ◌∙◌, inl, inr, ℕ, zero, suc, ◌+◌, ◌-◌, ◌*◌, ◌/◌, ◌%◌, ◌^◌, ◌<◌}
+use Rattle.std.proofs.Common.{◌≤◌}
+use Rattle.std.proofs.Common.{◌&&◌, Bool, true, false, length, filter, ap, sym}
 use Rattle.std.proofs.Common.{arith}
 use Rattle.std.specs.List.{range_with_len}
-use Rattle.std.proofs.lemmas.Bool.{cases_Bool, cases_eq, cases_lt, eq-eqb, false≢true, lt-ltb, ne_eqb}
+use Rattle.std.proofs.lemmas.Bool.{cases_Bool, cases_eq, cases_lt, eq-eqb, false≢true, lt-ltb}
+use Rattle.std.proofs.lemmas.Bool.{ne_eqb}
 use Rattle.pesp_search.specs.Listings.{is_empty}
-use Rattle.pesp_search.specs.Marks.{AreMarks, Marks, has_bit, is_left, times_from, word_of, words_of}
+use Rattle.pesp_search.specs.Marks.{AreMarks, Marks, has_bit, is_left, times_from, word_of}
+use Rattle.pesp_search.specs.Marks.{words_of}
 use Rattle.pesp_search.proofs.FirstMarks.{filter_none}
 use Rattle.pesp_search.proofs.MarkBits.{bit_there, left_bit}
 use Rattle.pesp_search.proofs.Partners.{kept_first, left_out}
@@ -24,7 +27,10 @@ some_passes test from (suc n) x low high is = elim (cases_Bool (test from)) [
       elim (cases_eq from x) [
         | inl own ↦ absurd (false≢true (sym first ∙ ap test own ∙ is))
         | inr apart ↦
-            let rest = some_passes test (from + 1) n x (omega (arith, low, apart)) (omega (arith, high)) is in
+            let rest = some_passes test (from + 1) n x (omega (arith, low, apart)) (omega (
+              arith,
+              high,
+            )) is in
             omega (arith, rest, same)
       ]
 ]
@@ -42,7 +48,8 @@ some_in_word sets event index word are inside within fits some is =
     let left = left_bit sets event (64 * index + bit.0) are inside (omega (arith, low, within))
     ((λ i. has_bit (is (64 * index + bit.0) own i) (place i)) ∙ bit.2) in
     let first = left.0 in
-    let many = some_passes (is_left sets event) 0 (sets.period - 0) (64 * index + bit.0) (omega arith)
+    let many = some_passes (is_left sets event) 0 (sets.period - 0) (64 * index + bit.0) (omega
+    arith)
     (omega (arith, first)) left.1 in
     ne_eqb (length (times_from sets event 0)) 0 (λ none. omega (arith, many, none))
 
@@ -53,7 +60,8 @@ pub zero_word : (sets : Marks) (event index word : ℕ) → word ≡ 0
 zero_word sets event index word none is so time low = elim (cases_lt time (64 * index)) [
   | inl before ↦ so time before
   | inr after ↦
-      ap (λ word. has_bit word (time % 64)) (is time (omega (arith, low, after)) ∙ none) ∙ zero_bit (time % 64)
+      ap (λ word. has_bit word (time % 64)) (is time (omega (arith, low, after)) ∙ none)
+      ∙ zero_bit (time % 64)
 ]
 
 pub none_empty : (sets : Marks) (event index : ℕ) → words_of sets.period ≤ index

@@ -2,12 +2,14 @@
 use Rattle.std.proofs.Common.{◌≡◌, ◌∙◌, inl, inr, ℕ, zero, suc, ◌+◌, ◌<◌, ◌≤◌, ◌||◌, Bool, true}
 use Rattle.std.proofs.Common.{false}
 use Rattle.std.proofs.Common.{List, [], ◌∷◌, length, map, filter, ap, sym, arith}
+use Rattle.std.proofs.Common.{◌⊎◌, ◌-◌, if◌then◌else◌, refl, slice_set, subst}
 use Rattle.std.specs.List.{list_any, range_with_len}
-use Rattle.std.proofs.lemmas.Bool.{cases_Bool, cases_eq, eq-eqb, eqb-true, false≢true, or_left}
+use Rattle.std.proofs.lemmas.Bool.{cases_Bool, cases_eq, eq-eqb, eqb-true, false≢true, ne_eqb}
+use Rattle.std.proofs.lemmas.Bool.{or_left}
 use Rattle.std.proofs.lemmas.Bool.{or_parts, or_right}
-use Rattle.pesp_search.specs.Listings.{is_empty}
-use Rattle.pesp_search.specs.Marks.{Marks, family, is_left, sets_of, times_from}
-use Rattle.pesp_search.specs.Revising.{HasEmpty, IsWithin, Left}
+use Rattle.pesp_search.specs.Listings.{is_empty, times_at_first, with_time}
+use Rattle.pesp_search.specs.Marks.{Marks, Prunes, Tracked, family, is_left, sets_of, times_from}
+use Rattle.pesp_search.specs.Revising.{HasEmpty, IsFull, IsWithin, Left, StaysFull}
 use Rattle.pesp_search.proofs.Families.{sets_family}
 use Rattle.pesp_search.proofs.Partners.{kept_first, left_out}
 
@@ -116,3 +118,76 @@ none_at sets event within none = empty_at sets 0 sets.events event (omega arith)
   arith,
   within,
 )) none
+
+-- where each event has some, none is empty
+full_on : (sets : Marks) (from n : ℕ)
+    → ((event : ℕ) → event < from + n → is_empty (times_from sets event 0) ≡ false)
+    → list_any is_empty (map (λ event. times_from sets event 0) (range_with_len from n)) ≡ false
+full_on sets from zero each = refl
+full_on sets from (suc n) each =
+    (λ i. each from (omega arith) i
+    || full_on sets (from + 1) n (λ event low. each event (omega (arith, low))) i)
+
+pub full_from : (sets : Marks)
+    → ((event : ℕ) → event < sets.events → is_empty (times_from sets event 0) ≡ false) → IsFull sets
+full_from sets each = full_on sets 0 sets.events (λ event low. each event (omega (arith, low)))
+
+pub full_at : (sets : Marks) (event : ℕ) → event < sets.events → IsFull sets
+    → is_empty (times_from sets event 0) ≡ false
+full_at sets event within full =
+    times_at sets 0 sets.events event (omega arith) (omega (arith, within)) full
+
+-- times are taken out of the set of one event, to which some stay
+pub pruned_full : (before after : Tracked) (kept : ℕ) (keeps : Left) (changes : Bool)
+    → Prunes before after keeps changes
+    → ((event : ℕ) → (event ≡ kept → ⊥) → is_left after.sets event ≡ is_left before.sets event)
+    → (changes ≡ true → is_empty (times_from after.sets kept 0) ≡ false) → StaysFull before after
+pruned_full before after kept keeps changes so others some full = one (cases_Bool changes)
+  where
+    each : changes ≡ true → (event : ℕ) → event < after.sets.events
+        → is_empty (times_from after.sets event 0) ≡ false
+    each is event within = elim (cases_eq event kept) [
+      | inl own ↦ ap (λ event. is_empty (times_from after.sets event 0)) own ∙ some is
+      | inr apart ↦
+          (λ i. is_empty (filter (others event apart i) (range_with_len 0 (so.period i - 0))))
+          ∙ full_at before.sets event (subst (λ events. event < events) so.events within) full
+    ]
+
+    one : (changes ≡ true) ⊎ (changes ≡ false) → IsFull after.sets
+    one (inl is) = full_from after.sets (each is)
+    one (inr is) = subst (λ (tracked : Tracked). IsFull tracked.sets) (sym (so.same is)) full
+
+-- one time is left to one event
+set_full : (sets : List (List ℕ)) (i time : ℕ) → list_any is_empty sets ≡ false
+    → list_any is_empty (slice_set sets i (time ∷ [])) ≡ false
+set_full [] i time full = full
+set_full (times ∷ sets) zero time full = (or_parts (is_empty times) _ full).1
+set_full (times ∷ sets) (suc i) time full =
+    let parts = or_parts (is_empty times) _ full in
+    (λ k. parts.0 k || set_full sets i time parts.1 k)
+
+pub with_time_full : (sets : List (List ℕ)) (event time : ℕ) → list_any is_empty sets ≡ false
+    → list_any is_empty (with_time sets event time) ≡ false
+with_time_full sets event time full = set_full sets event time full
+
+-- the sets at first
+first_on : (period from n : ℕ) → 1 ≤ period
+    → list_any is_empty (map (times_at_first period) (range_with_len from n)) ≡ false
+first_on period from zero some = refl
+first_on period from (suc n) some =
+    (λ i. one (cases_eq from 0) i || first_on period (from + 1) n some i)
+  where
+    long : (n : ℕ) → 1 ≤ n → is_empty (range_with_len 0 n) ≡ false
+    long zero many = absurd (omega (arith, many))
+    long (suc n) many = ne_eqb _ 0 (λ none. absurd (omega (arith, none)))
+
+    one : (from ≡ 0) ⊎ (from ≡ 0 → ⊥) → is_empty (times_at_first period from) ≡ false
+    one (inl first) =
+        ap (λ b. is_empty (if b then 0 ∷ [] else range_with_len 0 period)) (eq-eqb from 0 first)
+    one (inr other) =
+        ap (λ b. is_empty (if b then 0 ∷ [] else range_with_len 0 period)) (ne_eqb from 0 other)
+        ∙ long period some
+
+pub first_full : (sets : Marks) (period events : ℕ) → 1 ≤ period
+    → sets_of sets ≡ map (times_at_first period) (range_with_len 0 events) → IsFull sets
+first_full sets period events some are = ap (list_any is_empty) are ∙ first_on period 0 events some

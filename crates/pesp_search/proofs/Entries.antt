@@ -24,6 +24,7 @@ use Rattle.pesp_search.specs.Searches.{Branches, IsSearched, SavesOnce, behind, 
 use Rattle.pesp_search.specs.Searches.{listed_on}
 use Rattle.pesp_search.specs.TimeSets.{left_to, reduced}
 use Rattle.pesp_search.specs.TimeSets.{reduced as all_reduced}
+use Rattle.pesp_search.proofs.EmptySets.{with_time_full}
 use Rattle.pesp_search.proofs.Revised.{carried_firsts, carried_seconds}
 use Rattle.pesp_search.proofs.Turns.{first_turn, listed, no_turn, none_behind, turns_append}
 use Rattle.pesp_search.proofs.Turns.{turns_map, unless_one}
@@ -131,11 +132,8 @@ module _ (problem : Problem) (before reduced : Tracked) (so : Reduces problem be
       → AreRevised problem after.saved
   saved_revised after was (inl same) = subst (AreRevised problem) (sym (same ∙ so.saved)) was
   saved_revised after was (inr (branch, none, is)) =
-      subst (AreRevised problem) (sym is) (
-        all_revised so.stands none,
-        subst (AreRevised problem)
-            (sym so.saved) was,
-      )
+      subst (AreRevised problem) (sym is)
+      (all_revised so.stands none, none, subst (AreRevised problem) (sym so.saved) was)
 
   -- and the sets of a child are ready where its event has a flag
   child_ready : (after next : Tracked) (event : ℕ) (flags : Flags)
@@ -147,22 +145,23 @@ module _ (problem : Problem) (before reduced : Tracked) (so : Reduces problem be
       ∷ child.earlier) (subst (AreRevised problem) child.was was) in
       record {
         each = each;
+        full = ap (list_any is_empty) child.sets
+            ∙ with_time_full (sets_of child.branched) event child.one parts.1;
         revised = λ i activity at low.
             let is = parts.0 i activity at low in (
-              carried_seconds problem.period (is_left child.branched) (is_left next.sets) (λ _.
-                  false)
-                  (has_changed flags) activity child.within untouched (λ _. is.seconds),
-              carried_firsts problem.period (is_left child.branched) (is_left next.sets) (λ _.
-                  false)
-                  (has_changed flags) activity child.within untouched (λ _. is.firsts),
+              carried_seconds problem.period (is_left child.branched) (is_left next.sets)
+                  (λ _. false) (has_changed flags) activity child.within untouched (λ _.
+                  is.seconds),
+              carried_firsts problem.period (is_left child.branched) (is_left next.sets)
+                  (λ _. false) (has_changed flags) activity child.within untouched (λ _. is.firsts),
             );
-        saved = subst (AreRevised problem) (sym child.now) (parts.0, parts.1);
+        saved = subst (AreRevised problem) (sym child.now) parts;
       }
     where
       rest_revised : (passed rest : List Saved) → AreRevised problem (passed ++ rest)
           → AreRevised problem rest
       rest_revised [] rest all = all
-      rest_revised (saved ∷ passed) rest all = rest_revised passed rest all.1
+      rest_revised (saved ∷ passed) rest all = rest_revised passed rest all.2
 
       set_there : has_changed flags event ≡ true
       set_there = are event ∙ eq-eqb event event refl

@@ -9,9 +9,12 @@ use Rattle.std.proofs.lemmas.Bool.{and_from, and_parts, cases_eq, eq-eqb, false�
 use Rattle.std.proofs.lemmas.Bool.{or_from, or_parts}
 use Rattle.pesp_model.specs.declared.activity.PespActivity.{PespActivity}
 use Rattle.pesp_model.specs.Timetables.{keeps}
-use Rattle.pesp_search.specs.Marks.{Prunes, Tracked, is_left, marks_left}
+use Rattle.pesp_search.specs.Listings.{is_empty}
+use Rattle.pesp_search.specs.Marks.{Prunes, Tracked, is_left, marks_left, times_from}
+use Rattle.pesp_search.proofs.EmptySets.{pruned_full}
 use Rattle.pesp_search.specs.Revising.{FirstsUnless, IsRevised, IsWithin, Left, Revises}
-use Rattle.pesp_search.specs.Revising.{RevisesFirsts, RevisesSeconds, SecondsUnless, Touches}
+use Rattle.pesp_search.specs.Revising.{RevisesFirsts, RevisesSeconds, SecondsUnless, StaysFull}
+use Rattle.pesp_search.specs.Revising.{Touches}
 use Rattle.pesp_search.specs.Flags.{Flags, has_changed, with_flag}
 use Rattle.pesp_search.specs.Revising.{either, first_left}
 use Rattle.pesp_search.specs.Revising.{keeps_firsts, keeps_seconds, noted, second_left}
@@ -183,6 +186,16 @@ firsts_revised activity before after changes at flags inside so =
           (filter left (range_with_len 0 period))) (touched.untouched activity.from none).1
           ∙ side_passes before after activity.to test changes so t is,
     )
+
+-- times stay left to all events where some do to this one
+pub side_full : (before after : Tracked) (kept : ℕ) (test : ℕ → Bool) (changes : Bool)
+    → Prunes before after (kept_test kept test) changes
+    → (changes ≡ true → is_empty (times_from after.sets kept 0) ≡ false) → StaysFull before after
+side_full before after kept test changes so some =
+    pruned_full before after kept (kept_test kept test) changes so
+    (λ event apart. side_untouched before after kept test changes so event (λ own. absurd (apart
+    own)))
+    some
 
 -- a side that is not to be revised
 none_touched : (activity : PespActivity) (flags : Flags) (sets : Tracked)

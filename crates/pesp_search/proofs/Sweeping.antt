@@ -11,6 +11,7 @@ use Rattle.pesp_search.specs.Marks.{Tracked, is_left, marks_left}
 use Rattle.pesp_search.specs.Revising.{AllFrom, AreRevised, BoundUnless, Dies, IsReady, IsRevised}
 use Rattle.pesp_search.specs.Revising.{IsWithin}
 use Rattle.pesp_search.specs.Revising.{Left, Propagates, RevisedUnless, Sweeps, Visits, is_free}
+use Rattle.pesp_search.specs.Revising.{IsFull, StaysFull}
 use Rattle.pesp_search.proofs.FlagBits.{no_flag, some_flag}
 use Rattle.pesp_search.proofs.Revised.{carried_firsts, carried_seconds}
 
@@ -24,6 +25,7 @@ pub record IsSwept (problem : Problem) (before now : Tracked) (flags : Flags) (f
     pub fewer : (event : ℕ) → has_changed flags event ≡ true
         → (from ≤ event) ⊎ (marks_left now.sets < marks_left before.sets)
     pub no_more : marks_left now.sets ≤ marks_left before.sets
+    pub full : StaysFull before now
 
 -- what is known between two sweeps
 pub record IsReducing (problem : Problem) (before now : Tracked) (flags : Flags) : Type 0 where
@@ -31,6 +33,7 @@ pub record IsReducing (problem : Problem) (before now : Tracked) (flags : Flags)
   pub each : flags.events ≡ problem.events
   pub revised : AllFrom problem.activities
       (BoundUnless problem.period (is_left now.sets) (has_changed flags)) 0
+  pub full : StaysFull before now
 
 pub when_true : (P Q : Type 0) (is : Bool) → is ≡ true → MatchBool is P Q → P
 when_true P Q true so told = told
@@ -92,6 +95,7 @@ sweep_begun problem sets flags each revised = record {
   revised = revised;
   fewer = λ event _. inl (omega arith);
   no_more = omega arith;
+  full = λ full. full;
 }
 
 pub sweep_turn : (problem : Problem) (before now after : Tracked) (flags more : Flags) (from event
@@ -104,6 +108,7 @@ sweep_turn problem before now after flags more from event so next turn = record 
   revised = turn.revised;
   fewer = λ other is. fewer other (turn.fewer other is);
   no_more = omega (arith, turn.no_more, so.no_more);
+  full = λ was. turn.full (so.full was);
 }
   where
     later : (other : ℕ) → has_changed flags other ≡ true → (other ≡ event → ⊥) → from ≤ other
@@ -144,6 +149,7 @@ sweep_ended problem before now flags from are so none = record {
   fewer = λ some. let found = some_flag flags are some in
       last found.0 found.1 (so.fewer found.0 found.1);
   no_more = so.no_more;
+  full = so.full;
 }
   where
     last : (event : ℕ) → has_changed flags event ≡ true
@@ -160,15 +166,17 @@ reducing_begun problem sets flags ready = record {
   propagates = none_yet problem sets;
   each = ready.each;
   revised = λ i activity at low _. ready.revised i activity at low;
+  full = λ full. full;
 }
 
 -- flags that are all set make sets ready
 pub all_ready : (problem : Problem) (sets : Tracked) (flags : Flags) → IsProblem problem
     → flags.events ≡ problem.events
     → ((event : ℕ) → event < problem.events → has_changed flags event ≡ true) → sets.saved ≡ []
-    → IsReady problem sets flags
-all_ready problem sets flags sound each all none = record {
+    → IsFull sets.sets → IsReady problem sets flags
+all_ready problem sets flags sound each all none full = record {
   each = each;
+  full = full;
   revised = λ i activity at _.
       let is = held (IsActivity problem.events) problem.activities i activity sound.sound at in (
         λ to. absurd (false≢true (sym to ∙ all activity.to is.to)),
@@ -184,6 +192,7 @@ reducing_turn problem before now after flags next so swept = record {
   propagates = both_propagate problem before now after so.propagates swept.propagates;
   each = swept.each;
   revised = swept.revised;
+  full = λ was. swept.full (so.full was);
 }
 
 -- how much is still to be done: a sweep takes times out, or is the last one

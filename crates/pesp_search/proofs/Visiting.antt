@@ -12,6 +12,7 @@ use Rattle.pesp_search.specs.Marks.{Tracked, is_left, marks_left}
 use Rattle.pesp_search.specs.Revising.{AllFrom, AreLinksAt, BoundUnless, Dies, HasEmpty}
 use Rattle.pesp_search.specs.Revising.{IsRevised, Propagates}
 use Rattle.pesp_search.specs.Revising.{RevisedUnless, Revises, Visits, either, is_free}
+use Rattle.pesp_search.specs.Revising.{StaysFull}
 use Rattle.pesp_search.proofs.FlagBits.{flag_within, other_flag, this_flag}
 use Rattle.pesp_search.proofs.Sweeping.{carried, held, none_yet}
 
@@ -37,6 +38,7 @@ pub record IsVisited (problem : Problem) (event : ℕ) (indexes : List ℕ) (bef
       → ((has_changed old other ≡ true) × (other ≡ event → ⊥))
       ⊎ (marks_left now.sets < marks_left before.sets)
   pub no_more : marks_left now.sets ≤ marks_left before.sets
+  pub full : StaysFull before now
 
 awaited : (indexes : List ℕ) (index : ℕ) → Contains indexes index → Awaits indexes 0 index
 awaited indexes index there = (
@@ -111,6 +113,7 @@ module _ (problem : Problem) (event : ℕ) (indexes : List ℕ) (sets : Tracked)
       | inr apart ↦ inl (sym (there other apart) ∙ is, apart)
     ];
     no_more = omega arith;
+    full = λ full. full;
   }
 
 -- one activity more
@@ -183,14 +186,16 @@ module _ (problem : Problem) (event : ℕ) (indexes : List ℕ) (before now afte
     | inr less ↦ inr (omega (arith, less, turn.0.no_more))
   ]
 
-  pub visit_turn : IsVisited problem event indexes before after old more (from + 1)
-  visit_turn = record {
+  pub visit_turn : StaysFull now after
+      → IsVisited problem event indexes before after old more (from + 1)
+  visit_turn full = record {
     propagates = propagates;
     each = turn.0.each ∙ so.each;
     done = done;
     rest = rest;
     fewer = λ other is. fewer other (turn.0.fewer other is);
     no_more = omega (arith, turn.0.no_more, so.no_more);
+    full = λ was. full (so.full was);
   }
 
   pub visit_died : HasEmpty after.sets → Dies problem before after
@@ -205,6 +210,7 @@ visit_ended problem event indexes before now old flags from so all = record {
   revised = λ index activity at _ bound. last index activity (so.done index activity at bound);
   fewer = so.fewer;
   no_more = so.no_more;
+  full = so.full;
 }
   where
     last : (index : ℕ) (activity : PespActivity) → Awaits indexes from index

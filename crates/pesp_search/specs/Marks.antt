@@ -195,6 +195,8 @@ pub record IsChildOf (before after : Tracked) (event : ℕ) : Type 0 where
   pub within : (other time : ℕ) → is_left after.sets other time ≡ true
       → is_left branched other time ≡ true
   pub others : (other : ℕ) → (other ≡ event → ⊥) → is_left after.sets other ≡ is_left branched other
+  pub one : ℕ
+  pub sets : sets_of after.sets ≡ with_time (sets_of branched) event one
 
 -- the next child that waits, if one does, by the event of its branch: its sets, and those that
 -- wait behind it

@@ -139,6 +139,13 @@ BoundUnless period left changed activity =
 abbrev pub HasEmpty : Marks → Type 0
 HasEmpty sets = list_any is_empty (sets_of sets) ≡ true
 
+-- times are left to all events, and still are where they were before
+abbrev pub IsFull : Marks → Type 0
+IsFull sets = list_any is_empty (sets_of sets) ≡ false
+
+abbrev pub StaysFull : Tracked → Tracked → Type 0
+StaysFull before after = IsFull before.sets → IsFull after.sets
+
 -- An activity makes the sets of its events smaller. Where the set of an event is not said to have
 -- changed it has not.
 pub record Touches (activity : PespActivity) (before after : Tracked) (flags more : Flags)
@@ -189,6 +196,7 @@ pub record Visits (problem : Problem) (event : ℕ) (before after : Tracked) (fl
       → ((has_changed flags other ≡ true) × (other ≡ event → ⊥))
       ⊎ (marks_left after.sets < marks_left before.sets)
   pub no_more : marks_left after.sets ≤ marks_left before.sets
+  pub full : StaysFull before after
 
 -- sets are made smaller until no time is left to some event
 pub record Dies (problem : Problem) (before after : Tracked) : Type 0 where
@@ -204,6 +212,7 @@ pub record Sweeps (problem : Problem) (before after : Tracked) (changed : Flags)
       (BoundUnless problem.period (is_left after.sets) (has_changed changed)) 0
   pub fewer : some_changed changed ≡ true → marks_left after.sets < marks_left before.sets
   pub no_more : marks_left after.sets ≤ marks_left before.sets
+  pub full : StaysFull before after
 
 -- reduced sets: these, or some sets in which no time is left to some event where none is in these
 abbrev pub Stands : Problem → Tracked → Tracked → Type 0
@@ -252,17 +261,19 @@ pub record AreLinksAt (problem : Problem) (event : ℕ) (indexes : List ℕ) : T
       → slice_get problem.activities index ≡ Some activity → is_free problem.period activity ≡ false
       → activity.to ≡ event → Contains indexes index
 
--- all activities are revised in each of the sets that were saved
+-- all activities are revised in each of the sets that were saved, and times are left to all events
 abbrev pub AreRevised : Problem → List Saved → Type 0
 AreRevised problem [] = ⊤
 AreRevised problem (saved ∷ earlier) =
     AllFrom problem.activities (IsRevised problem.period (is_left saved.sets)) 0
+    × IsFull saved.sets
     × AreRevised problem earlier
 
 -- sets are ready for an entry: activities are revised unless the set of one of their events is
--- said to have changed, and in all saved sets
+-- said to have changed, times are left to all events, and so it is in all saved sets
 pub record IsReady (problem : Problem) (sets : Tracked) (flags : Flags) : Type 0 where
   pub each : flags.events ≡ problem.events
   pub revised : AllFrom problem.activities
       (RevisedUnless problem.period (is_left sets.sets) (has_changed flags)) 0
+  pub full : IsFull sets.sets
   pub saved : AreRevised problem sets.saved

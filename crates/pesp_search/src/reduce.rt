@@ -1,7 +1,9 @@
 // Sets of times that are reduced by all activities.
 ghost use Rattle.std.specs.Prelude.{◌≡◌, ◌<◌, length, All, IfOk, MatchBool, OnOk};
 ghost use Rattle.pesp_search.specs.Flags.{has_changed};
-ghost use Rattle.pesp_search.specs.Marks.{is_left};
+ghost use Rattle.std.specs.List.{list_any};
+ghost use Rattle.pesp_search.specs.Listings.{is_empty};
+ghost use Rattle.pesp_search.specs.Marks.{is_left, sets_of};
 ghost use Rattle.pesp_search.specs.Revising.{AllFrom, AreLinks, AreLinksAt, BoundUnless, Dies};
 ghost use Rattle.pesp_search.specs.Revising.{IsReady, Reduces, Sweeps, Visits};
 
@@ -14,28 +16,31 @@ use plan_num::NoMemory;
 
 /// Takes times out of the sets of events until each time that is left has its partners on all
 /// activities, or no time is left to some event. The activities at an event are revised, and
-/// again, where its set has changed; flags say which have at first.
+/// again, where its set has changed; flags say which have at first. Tells whether no time is left
+/// to some event.
 pub(crate) fn reduce(
     pesp: &Pesp,
     links: &Links,
     sets: &mut TimeSets,
     changed: EventFlags,
-) -> Result<(), NoMemory>
+) -> Result<bool, NoMemory>
     requires period { sets.old.sets.period ≡ pesp.now.period }
     requires events { sets.old.sets.events ≡ pesp.now.events }
     requires links { AreLinks pesp.now (length pesp.now.activities) links.now }
     requires ready { IsReady pesp.now sets.old changed }
-    ensures { OnOk result (Reduces pesp.now sets.old sets.new) }
+    ensures reduces { OnOk result (Reduces pesp.now sets.old sets.new) }
+    ensures empty { IfOk result
+        (λ has_empty. has_empty ≡ list_any is_empty (sets_of sets.new.sets)) }
 {
     let _ = pesp.event_count();
     let mut changed = changed;
     while changed.has_some() {
         if sweep(pesp, links, sets, &mut changed)? {
-            return Ok(());
+            return Ok(true);
         }
     }
     let _ = sets.sets().period();
-    Ok(())
+    Ok(false)
 }
 
 // Revises the sets by the activities at each event that has a flag, which it loses. Stops where no

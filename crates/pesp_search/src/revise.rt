@@ -1,10 +1,13 @@
 // Sets of times that are revised by an activity.
-ghost use Rattle.std.specs.Prelude.{◌≡◌, ◌-◌, ◌/◌, ◌||◌, ◌<◌, ◌≤◌, ◌≤ℤ◌, ℕ, true, nat_le, pos};
+ghost use Rattle.std.specs.Prelude.{◌≡◌, ◌-◌, ◌/◌, ◌||◌, ◌<◌, ◌≤◌, ◌≤ℤ◌, ℕ, false, true, nat_le};
+ghost use Rattle.std.specs.Prelude.{pos};
 ghost use Rattle.std.specs.Prelude.{length, IfOk, OnOk};
 ghost use Rattle.pesp_model.specs.Timetables.{IsActivity};
+ghost use Rattle.pesp_search.specs.Listings.{is_empty};
 ghost use Rattle.pesp_search.specs.Marks.{AreMarks, Prunes, is_left, marked, times_from};
 ghost use Rattle.pesp_search.specs.Revising.{ahead, behind, first_left, second_left, width_of};
-ghost use Rattle.pesp_search.specs.Revising.{HasEmpty, Revises, RevisesFirsts, RevisesSeconds};
+ghost use Rattle.pesp_search.specs.Revising.{HasEmpty, StaysFull, Revises, RevisesFirsts};
+ghost use Rattle.pesp_search.specs.Revising.{RevisesSeconds};
 ghost use Rattle.pesp_search.specs.Revising.{keeps_firsts, keeps_seconds, noted};
 
 use crate::flags::EventFlags;
@@ -30,6 +33,7 @@ pub(crate) fn revise(
     ensures revises { OnOk result
         (Revises activity at sets.old sets.new changed.old changed.new) }
     ensures empty { IfOk result (λ is_empty. is_empty ≡ true → HasEmpty sets.new.sets) }
+    ensures full { IfOk result (λ is_empty. is_empty ≡ false → StaysFull sets.old sets.new) }
 {
     let first = revise_seconds(activity, at, sets, changed)?;
     let second = revise_firsts(activity, at, sets, changed)?;
@@ -48,6 +52,7 @@ fn revise_seconds(
     ensures revises { OnOk result
         (RevisesSeconds activity at sets.old sets.new changed.old changed.new) }
     ensures empty { IfOk result (λ is_empty. is_empty ≡ true → HasEmpty sets.new.sets) }
+    ensures full { IfOk result (λ is_empty. is_empty ≡ false → StaysFull sets.old sets.new) }
 {
     if activity.to != at {
         return Ok(false);
@@ -69,6 +74,7 @@ fn revise_firsts(
     ensures revises { OnOk result
         (RevisesFirsts activity at sets.old sets.new changed.old changed.new) }
     ensures empty { IfOk result (λ is_empty. is_empty ≡ true → HasEmpty sets.new.sets) }
+    ensures full { IfOk result (λ is_empty. is_empty ≡ false → StaysFull sets.old sets.new) }
 {
     if activity.from != at {
         return Ok(false);
@@ -88,7 +94,9 @@ fn any_of(first: bool, second: bool) -> bool
 // Whether no time is left to an event whose set has changed.
 fn is_emptied(sets: &TimeMarks, event: usize, is_changed: bool) -> bool
     requires { event < sets.now.events }
-    ensures { result ≡ true → HasEmpty sets.now }
+    ensures empty { result ≡ true → HasEmpty sets.now }
+    ensures some { result ≡ false → is_changed ≡ true
+        → is_empty (times_from sets.now event 0) ≡ false }
 {
     is_changed && sets.is_empty(event)
 }

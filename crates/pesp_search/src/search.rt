@@ -1,8 +1,10 @@
 // The search of a timetable within a budget of entries.
 ghost use Rattle.std.specs.Prelude.{◌≡◌, [], length, IfOk};
 ghost use Rattle.giv_files.specs.StageCalls.{TakesSteps};
-ghost use Rattle.pesp_search.specs.Listings.{entries_listed, listing, result_within};
-ghost use Rattle.pesp_search.specs.Revising.{AreLinks, IsReady};
+ghost use Rattle.std.specs.List.{list_any};
+ghost use Rattle.pesp_search.specs.Listings.{entries_listed, is_empty, listing, result_within};
+ghost use Rattle.pesp_search.specs.Marks.{sets_of};
+ghost use Rattle.pesp_search.specs.Revising.{AreLinks, IsFull, IsReady};
 ghost use Rattle.pesp_search.specs.Searches.{Branches, IsSearched, SearchGives, TakesEntry};
 
 use crate::children::next_child;
@@ -10,7 +12,7 @@ use crate::flags::EventFlags;
 use crate::links::Links;
 use crate::marks::TimeMarks;
 use crate::reduce::reduce;
-use crate::standing::{first_open, first_times, has_empty};
+use crate::standing::{first_open, first_times};
 use crate::time_sets::{Branch, TimeSets};
 use giv_files::{Refusal, StageFault};
 use pesp_model::Pesp;
@@ -69,6 +71,7 @@ fn first_sets(alloc: Global, pesp: &Pesp, period: u32) -> Result<TimeSets, NoMem
     requires { pesp.now.period ≡ period }
     ensures searched { IfOk result (λ sets. IsSearched pesp.now sets 0) }
     ensures saved { IfOk result (λ sets. sets.saved ≡ []) }
+    ensures full { IfOk result (λ sets. IsFull sets.sets) }
 {
     let marks = TimeMarks::at_first(alloc, period as usize, pesp.event_count())?;
     Ok(TimeSets::new(alloc, marks))
@@ -88,8 +91,8 @@ fn take_entry(
     requires ready { IsReady pesp.now sets.old changed }
     ensures { IfOk result (TakesEntry pesp.now sets.old sets.new) }
 {
-    reduce(pesp, links, sets, changed)?;
-    if let Some(times) = branch(alloc, sets)? {
+    let has_empty = reduce(pesp, links, sets, changed)?;
+    if let Some(times) = branch(alloc, sets, has_empty)? {
         return Ok(Entry::Found(times));
     }
     match next_child(sets)? {
@@ -100,10 +103,11 @@ fn take_entry(
 
 // The times of reduced sets where each event has one. Where some event has several, the sets are
 // saved as a branch on the first such event, unless some event has none.
-fn branch(alloc: Global, sets: &mut TimeSets) -> Result<Option<Vec<u32>>, NoMemory>
+fn branch(alloc: Global, sets: &mut TimeSets, has_empty: bool) -> Result<Option<Vec<u32>>, NoMemory>
+    requires { has_empty ≡ list_any is_empty (sets_of sets.old.sets) }
     ensures { IfOk result (Branches sets.old sets.new) }
 {
-    if has_empty(sets.sets()) {
+    if has_empty {
         return Ok(None);
     }
     match first_open(sets.sets()) {

@@ -10,8 +10,8 @@ use Rattle.pesp_search.proofs.reduce.reduce.Goals as goal
 pub loop-sets-init : goal.loop-sets-init
 loop-sets-init c = reducing_begun c.args.pesp.now c.args.sets.now c.args.changed c.requires.ready
 
-pub returns-then-branch : goal.returns-then-branch
-returns-then-branch c =
+pub returns-then-branch-clause-reduces : goal.returns-then-branch-clause-reduces
+returns-then-branch-clause-reduces c =
     let dead = when_true (Dies c.args.pesp.now c.loop-sets.sets c.sweep.new.sets)
     (Sweeps c.args.pesp.now c.loop-sets.sets c.sweep.new.sets c.sweep.new.changed)
     c.in_ok-sweep.field-0 c.if-branch.true c.in_ok-sweep.ensures in
@@ -28,10 +28,19 @@ loop-sets-preserved c =
     (Sweeps c.args.pesp.now c.loop-sets.sets c.sweep.new.sets c.sweep.new.changed)
     c.in_ok-sweep.field-0 c.if-branch.false c.in_ok-sweep.ensures)
 
-pub returns : goal.returns
-returns c =
+pub returns-clause-reduces : goal.returns-clause-reduces
+returns-clause-reduces c =
     bound_stands c.args.pesp.now c.event_count.ensures.problem c.args.sets.now c.loop-sets.sets
     c.requires.period c.requires.events c.loop-sets.invariant.propagates
     (subst AreMarks c.sets.ensures c.period.ensures.sound)
     (all_bound c.args.pesp.now c.args.sets.now c.loop-sets.sets c.loop-sets.changed
     c.loop-sets.invariant (sym c.has_some.ensures ∙ c.loop-sets-test.false))
+
+pub returns-then-branch-clause-empty : goal.returns-then-branch-clause-empty
+returns-then-branch-clause-empty c =
+    sym (when_true (Dies c.args.pesp.now c.loop-sets.sets c.sweep.new.sets)
+    (Sweeps c.args.pesp.now c.loop-sets.sets c.sweep.new.sets c.sweep.new.changed)
+    c.in_ok-sweep.field-0 c.if-branch.true c.in_ok-sweep.ensures).empty
+
+pub returns-clause-empty : goal.returns-clause-empty
+returns-clause-empty c = sym (c.loop-sets.invariant.full c.requires.ready.full)

@@ -30,6 +30,7 @@ loop-index-preserved c =
     (get_or c.args.indexes.now c.loop-index.index-index 0) c.activity.result
     c.loop-index.invariant refl c.activity.ensures.place
     (c.loop-index.invariant.propagates.period ∙ c.requires.period) c.in_ok-revise.ensures.revises
+    (c.in_ok-revise.ensures.full c.if-branch.false)
 
 pub returns : goal.returns
 returns c =

@@ -3,6 +3,7 @@ use Rattle.std.proofs.lemmas.Bool.{eqb-true}
 use Rattle.pesp_search.proofs.EmptySets.{none_at}
 use Rattle.pesp_search.proofs.revise.is_emptied.Goals as goal
 
-pub returns-then-is_changed : goal.returns-then-is_changed
-returns-then-is_changed c is = none_at c.args.sets.now c.args.event c.requires (eqb-true _ 0 (sym
+pub returns-then-is_changed-clause-empty : goal.returns-then-is_changed-clause-empty
+returns-then-is_changed-clause-empty c is = none_at c.args.sets.now c.args.event c.requires
+    (eqb-true _ 0 (sym
     c.is_empty.ensures ∙ is))

@@ -1,5 +1,5 @@
 use Rattle.std.proofs.Common.{◌∙◌, inl, inr, sym}
-use Rattle.std.proofs.lemmas.Bool.{or_cases}
+use Rattle.std.proofs.lemmas.Bool.{or_cases, or_parts}
 use Rattle.pesp_search.proofs.EmptySets.{empty_marks}
 use Rattle.pesp_search.proofs.Revised.{both_revised}
 use Rattle.pesp_search.proofs.revise.revise.Goals as goal
@@ -20,3 +20,8 @@ returns-clause-empty c is = elim (or_cases _ _ (sym c.any_of.ensures ∙ is)) [
       touched.within (c.in_ok-first.ensures.empty first)
   | inr second ↦ c.in_ok-second.ensures.empty second
 ]
+
+pub returns-clause-full : goal.returns-clause-full
+returns-clause-full c none full =
+    let parts = or_parts c.in_ok-first.first _ (sym c.any_of.ensures ∙ none) in
+    c.in_ok-second.ensures.full parts.1 (c.in_ok-first.ensures.full parts.0 full)

@@ -79,7 +79,7 @@ loop-entry-init g c = record {
         low,
         c.event_count.ensures.count,
       )))
-      c.in_ok-sets.ensures.saved;
+      c.in_ok-sets.ensures.saved c.in_ok-sets.ensures.full;
   steps = omega arith;
 }
 

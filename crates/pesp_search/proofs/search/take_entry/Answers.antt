@@ -6,13 +6,13 @@ use Rattle.pesp_search.proofs.search.take_entry.Goals as goal
 
 pub returns-in-Some : goal.returns-in-Some
 returns-in-Some c =
-    entry_found c.args.pesp.now c.args.sets.now c.reduce.new.sets c.in_ok-reduce.ensures
+    entry_found c.args.pesp.now c.args.sets.now c.reduce.new.sets c.in_ok-has_empty.ensures.reduces
     c.branch-alloc.new.sets c.in-Some.times
     (subst (Branches c.reduce.new.sets c.branch-alloc.new.sets) c.in-Some.is c.in_ok-times.ensures)
 
 pub returns-in_ok-one-in-Some-2 : goal.returns-in_ok-one-in-Some-2
 returns-in_ok-one-in-Some-2 c =
-    entry_next c.args.pesp.now c.args.sets.now c.reduce.new.sets c.in_ok-reduce.ensures
+    entry_next c.args.pesp.now c.args.sets.now c.reduce.new.sets c.in_ok-has_empty.ensures.reduces
     c.branch-alloc.new.sets c.next_child.new.sets c.in-Some-2.event c.in_ok-one-in-Some-2.field-0
     (subst (Branches c.reduce.new.sets c.branch-alloc.new.sets) c.in_default.is
     c.in_ok-times.ensures)
@@ -23,7 +23,7 @@ returns-in_ok-one-in-Some-2 c =
 
 pub returns-in-None : goal.returns-in-None
 returns-in-None c =
-    entry_last c.args.pesp.now c.args.sets.now c.reduce.new.sets c.in_ok-reduce.ensures
+    entry_last c.args.pesp.now c.args.sets.now c.reduce.new.sets c.in_ok-has_empty.ensures.reduces
     c.branch-alloc.new.sets c.next_child.new.sets
     (subst (Branches c.reduce.new.sets c.branch-alloc.new.sets) c.in_default.is
     c.in_ok-times.ensures)
