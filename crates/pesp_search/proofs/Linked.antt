@@ -1,8 +1,8 @@
 -- The activities at each event, noted one after the other.
 use Rattle.std.proofs.Common.{◌≡◌, ◌≢◌, ◌∙◌, ◌⊎◌, inl, inr, ℕ, ◌+◌, ◌<◌, true, List, [], ◌∷◌, ◌++◌}
-use Rattle.std.proofs.Common.{length, get_or, slice_get, Some, Contains, All, ap, sym, subst, arith}
+use Rattle.std.proofs.Common.{length, get_or, slice_get, Some, Contains, ap, sym, subst, arith}
 use Rattle.std.proofs.lemmas.Bool.{cases_eq, cases_lt, false≢true}
-use Rattle.std.proofs.lemmas.List.{length-set, get_or-set_same, get_or-set_other, get_or_past}
+use Rattle.std.proofs.lemmas.List.{length-set, get_or-set_same, get_or-set_other}
 use Rattle.std.proofs.lemmas.List.Elements.{Contains-append_left, Contains-get_or, Contains-push}
 use Rattle.std.proofs.lemmas.List.Elements.{Contains-push_cases}
 use Rattle.std.proofs.lemmas.Option.{get_or_from_slice_get, slice_get_within, same_Some}
@@ -56,28 +56,6 @@ module _ (rows new : List (List ℕ)) (event index : ℕ) (is : NotesAt event in
       ]
 
 -- ---- the activities so far
-
-pub links_begun : (problem : Problem) (rows : List (List ℕ)) → length rows ≡ problem.events
-    → All (λ row. row ≡ []) rows → AreLinks problem 0 rows
-links_begun problem rows size empty = record {
-  size = size;
-  within = λ event index there. absurd (none event index there);
-  all = λ index activity at low. absurd (omega (arith, low));
-}
-  where
-    none : (event index : ℕ) → Contains (get_or rows event []) index → ⊥
-    none event index there = elim (cases_lt event (length rows)) [
-      | inl low ↦
-          let row = empty event [] low in
-          let is = subst (λ (row : List ℕ). Contains row index) row there in
-          let few = is.1 in
-          omega (arith, few)
-      | inr high ↦
-          let is = subst (λ (row : List ℕ). Contains row index) (get_or_past rows event [] high)
-          there in
-          let few = is.1 in
-          omega (arith, few)
-    ]
 
 module _ (problem : Problem) (count : ℕ) (activity : PespActivity) (rows new : List (List ℕ))
     (at : slice_get problem.activities count ≡ Some activity) (sound : IsActivity problem.events

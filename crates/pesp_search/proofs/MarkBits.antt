@@ -301,12 +301,6 @@ module _ (sets : Marks) (event index from start word rest : ℕ) (others : List 
         not_false _ (and_false _ _ bits (bit_left sets event time is).1)
   ]
 
-pub none_besides : (sets : Marks) (event index from : ℕ) (others : List ℕ)
-    → words_of sets.period ≤ index
-    → NoneBesides sets event others from (64 * index) → IsNextBesides sets event others from None
-none_besides sets event index from others all so time low is =
-    let within = (bit_left sets event time is).0 in so time low (omega (arith, within, all)) is
-
 -- ---- the next time
 
 none_between : (sets : Marks) (event from n : ℕ)

@@ -143,18 +143,6 @@ removed_turn left now kept keep end flag other gone e t = one (cases_eq e kept) 
 
 -- ---- the loop
 
-pub prune_begun : (sets : Tracked) (event : ℕ) (keep : List ℕ)
-    → Prunes sets sets (stays_below event keep 0) false
-prune_begun sets event keep = record {
-  period = refl;
-  events = refl;
-  saved = refl;
-  left = λ i e t. and_true (is_left sets.sets e t) _ (later event keep 0 e t (omega arith)) i;
-  same = λ _. refl;
-  fewer = λ is. absurd (false≢true is);
-  no_more = omega arith;
-}
-
 pub prune_kept : (before now : Tracked) (event : ℕ) (keep : List ℕ) (end : ℕ) (changes : Bool)
     → Prunes before now (stays_below event keep end) changes
     → (marked keep end ≡ true) ⊎ (is_left now.sets event end ≡ false)

@@ -197,35 +197,6 @@ side_full before after kept test changes so some =
     own)))
     some
 
--- a side that is not to be revised
-none_touched : (activity : PespActivity) (flags : Flags) (sets : Tracked)
-    → Touches activity sets sets flags flags
-none_touched activity flags sets = record {
-  period = refl;
-  events = refl;
-  saved = refl;
-  within = λ e t is. is;
-  keeps = λ left _ within. within;
-  each = refl;
-  untouched = λ event none. (none, refl);
-  fewer = λ event some. inl some;
-  no_more = omega arith;
-}
-
-pub seconds_kept : (activity : PespActivity) (at : ℕ) (flags : Flags) (sets : Tracked)
-    → (activity.to ≡ at → ⊥) → RevisesSeconds activity at sets sets flags flags
-seconds_kept activity at flags sets other = (
-  none_touched activity flags sets,
-  λ so none. so (or_from (activity.to == at) _ (ne_eqb activity.to at other) none),
-)
-
-pub firsts_kept : (activity : PespActivity) (at : ℕ) (flags : Flags) (sets : Tracked)
-    → (activity.from ≡ at → ⊥) → RevisesFirsts activity at sets sets flags flags
-firsts_kept activity at flags sets other = (
-  none_touched activity flags sets,
-  λ so none. so (or_from (activity.from == at) _ (ne_eqb activity.from at other) none),
-)
-
 -- what is revised stays so where the set of the other event has not changed
 pub carried_seconds : (period : ℕ) (first last : Left) (flags more : ℕ
     → Bool) (other : PespActivity)
