@@ -1,41 +1,27 @@
 -- Changes of sets of times, and what they say of the sets before them.
-use Rattle.std.proofs.Common.{◌≡◌, ◌∙◌, ℕ, zero, suc, ◌<◌, Bool, true, false, ◌&&◌, nat_lt, List}
+use Rattle.std.proofs.Common.{◌≡◌, ◌∙◌, ℕ, ◌<◌, true, false, List}
 use Rattle.std.proofs.Common.{[], ◌∷◌, ◌++◌}
-use Rattle.std.proofs.Common.{get_or, slice_set, length, reverse, refl, ap, sym, subst, arith, All}
+use Rattle.std.proofs.Common.{length, reverse, refl, ap, sym, subst, arith, All}
 use Rattle.std.proofs.Math.Seq.{get_or-append_seam}
 use Rattle.std.proofs.lemmas.List.{get_or_append_left, length_push, reverse-append}
 use Rattle.pesp_search.specs.declared.time_sets.Branch.{Branch}
 use Rattle.pesp_search.specs.declared.time_sets.Change.{Change}
 use Rattle.pesp_search.specs.declared.time_sets.Change.TheVariants as change
-use Rattle.pesp_search.specs.Marks.{Marks, Saved, Tracked, is_left, saved_by, with_mark}
+use Rattle.pesp_search.specs.Marks.{AreMarks, Marks, Saved, Tracked, is_left, saved_by, with_mark}
+use Rattle.pesp_search.proofs.MarkBits.{marked_again}
 
 pub last_first : {X : Type 0} (xs : List X) (x : X) → reverse (xs ++ x ∷ []) ≡ x ∷ reverse xs
 last_first xs x = reverse-append xs (x ∷ [])
 
--- a mark that was set, taken away and set again
-set_again : (marks : List Bool) (i : ℕ) → get_or marks i false ≡ true
-    → slice_set (slice_set marks i false) i true ≡ marks
-set_again [] i is = refl
-set_again (mark ∷ marks) zero is = ap (λ first. first ∷ marks) (sym is)
-set_again (mark ∷ marks) (suc i) is = ap (λ rest. mark ∷ rest) (set_again marks i is)
-
-and_right : (b c : Bool) → (b && c) ≡ true → c ≡ true
-and_right true c is = is
-and_right false c is = absurd (cc)
-
 pub saved_removed : (sets : Marks) (changes : List Change) (event time : ℕ)
-    → is_left sets event time ≡ true
-    → saved_by (with_mark sets event time false) (reverse (changes ++ change.Removed event time ∷ []))
+    → AreMarks sets → event < sets.events → is_left sets event time ≡ true
+    → saved_by (with_mark sets event time false) (reverse (changes ++ change.Removed event time ∷
+    []))
     ≡ saved_by sets (reverse changes)
 unfolding saved_by
-saved_removed sets changes event time left =
+saved_removed sets changes event time are inside left =
     ap (saved_by (with_mark sets event time false)) (last_first changes (change.Removed event time))
-    ∙ ap (λ marks. saved_by (record {
-      period = sets.period;
-      events = sets.events;
-      marks = marks;
-    }) (reverse changes))
-    (set_again sets.marks _ (and_right (nat_lt time sets.period) _ left))
+    ∙ ap (λ sets. saved_by sets (reverse changes)) (marked_again sets event time are inside left)
 
 pub saved_branched : (sets : Marks) (changes : List Change) (branch : Branch)
     → saved_by sets (reverse (changes ++ change.Branched branch ∷ []))
@@ -70,7 +56,8 @@ popped_branched sets all rest last branch is branched =
     ∙ ap (λ last. saved_by sets (last ∷ reverse rest)) branched
 
 -- where nothing is left, nothing was saved
-pub none_left : (sets : Marks) (all : List Change) → length all ≡ 0 → saved_by sets (reverse all) ≡ []
+pub none_left : (sets : Marks) (all : List Change) → length all ≡ 0
+    → saved_by sets (reverse all) ≡ []
 unfolding saved_by
 none_left sets [] none = refl
 none_left sets (change ∷ all) none = absurd (omega (arith, none))
@@ -96,14 +83,15 @@ abbrev pub tracked : Marks → List Saved → Tracked
 tracked sets saved = record { sets = sets; saved = saved }
 
 pub removed_view : (sets now : Marks) (changes more : List Change) (event time : ℕ)
-    → is_left sets event time ≡ true → more ≡ changes ++ change.Removed event time ∷ []
+    → AreMarks sets → event < sets.events → is_left sets event time ≡ true
+    → more ≡ changes ++ change.Removed event time ∷ []
     → now ≡ with_mark sets event time false
     → tracked now (saved_by now (reverse more))
     ≡ tracked (with_mark sets event time false) (saved_by sets (reverse changes))
-removed_view sets now changes more event time left is same =
+removed_view sets now changes more event time are inside left is same =
     (λ i. tracked (same i) (saved_by (same i) (reverse (is i))))
     ∙ ap (tracked (with_mark sets event time false))
-    (saved_removed sets changes event time left)
+    (saved_removed sets changes event time are inside left)
 
 pub branched_view : (sets : Marks) (changes more : List Change) (branch : Branch)
     → more ≡ changes ++ change.Branched branch ∷ []

@@ -1,12 +1,14 @@
 -- An activity takes out nothing where more times are left than lie outside of each window.
-use Rattle.std.proofs.Common.{◌≡◌, ◌∙◌, inl, inr, ℕ, ◌+◌, ◌-◌, ◌<◌, ◌≤◌, ◌==◌, nat_le, nat_lt, Bool, true, false}
+use Rattle.std.proofs.Common.{◌≡◌, ◌∙◌, inl, inr, ℕ, ◌+◌, ◌-◌, ◌<◌, ◌≤◌, ◌==◌, nat_le, nat_lt}
+use Rattle.std.proofs.Common.{Bool, true, false}
 use Rattle.std.proofs.Common.{not, ◌&&◌, ◌||◌, filter, length, refl, ap, sym, arith}
 use Rattle.std.specs.List.{range_with_len}
-use Rattle.std.proofs.lemmas.Bool.{and_parts, cases_Bool, eqb-true, false≢true, leb-true, ltb-true}
+use Rattle.std.proofs.lemmas.Bool.{and_parts, cases_Bool, false≢true, le-leb, leb-true, ltb-true}
 use Rattle.pesp_model.specs.declared.activity.PespActivity.{PespActivity}
 use Rattle.pesp_model.specs.Timetables.{IsActivity}
-use Rattle.pesp_search.specs.Marks.{AreMarks, Marks, Prunes, Tracked, is_left, times_from}
-use Rattle.pesp_search.specs.Revising.{Left, ahead, behind, keeps_firsts, keeps_seconds, width_of}
+use Rattle.pesp_search.specs.Marks.{AreMarks, Prunes, Tracked, is_left, times_from}
+use Rattle.pesp_search.specs.Revising.{IsRevised, Left, ahead, behind, is_free, keeps_firsts}
+use Rattle.pesp_search.specs.Revising.{keeps_seconds, width_of}
 use Rattle.pesp_search.proofs.Partners.{first_reached, second_reached}
 use Rattle.pesp_search.proofs.WindowSums.{crowded}
 
@@ -56,7 +58,8 @@ module _ (activity : PespActivity) (before : Tracked)
       let same = ap (λ n. length (filter (is_left before.sets event) (range_with_len 0 n))) none in
       omega (arith, leb-true _ _ so, narrow, same)
 
-  own : (event : ℕ) (test : Bool) → test ≡ true → (other : ℕ) → (not (event == other) || test) ≡ true
+  own : (event : ℕ) (test : Bool) → test ≡ true → (other : ℕ) → (not (event == other)
+      || test) ≡ true
   own event test so other = elim (cases_Bool (event == other)) [
     | inl same ↦ ap (λ b. not b || test) same ∙ so
     | inr differs ↦ ap (λ b. not b || test) differs
@@ -67,8 +70,10 @@ module _ (activity : PespActivity) (before : Tracked)
   crowded_seconds so =
       prunes_none before (keeps_seconds period (is_left before.sets) activity)
       (λ event time left. own event _
-      (second_reached period are.some before.sets.events activity is (is_left before.sets) time (low event time left)
-      ∙ crowded period (is_left before.sets activity.to) width are.some narrow (many activity.to so) (ahead period activity) time)
+      (second_reached period are.some before.sets.events activity is (is_left before.sets) time
+      (low event time left)
+      ∙ crowded period (is_left before.sets activity.to) width are.some narrow (many activity.to
+      so) (ahead period activity) time)
       activity.from)
 
   pub crowded_firsts : IsCrowded activity.from
@@ -76,6 +81,32 @@ module _ (activity : PespActivity) (before : Tracked)
   crowded_firsts so =
       prunes_none before (keeps_firsts period (is_left before.sets) activity)
       (λ event time left. own event _
-      (first_reached period are.some before.sets.events activity is (is_left before.sets) time (low event time left)
-      ∙ crowded period (is_left before.sets activity.from) width are.some narrow (many activity.from so) (behind period activity) time)
+      (first_reached period are.some before.sets.events activity is (is_left before.sets) time
+      (low event time left)
+      ∙ crowded period (is_left before.sets activity.from) width are.some narrow (many
+      activity.from so) (behind period activity) time)
       activity.to)
+
+  -- and any two times keep an activity that is free
+  crowded_free : is_free period activity ≡ true → (event : ℕ)
+      → 1 ≤ length (times_from before.sets event 0) → IsCrowded event
+  crowded_free free event some = le-leb _ _ (let wide = leb-true period (width + 1) free in
+      omega (arith, wide, some))
+
+  pub free_revised : is_free period activity ≡ true
+      → 1 ≤ length (times_from before.sets activity.from 0)
+      → 1 ≤ length (times_from before.sets activity.to 0)
+      → IsRevised period (is_left before.sets) activity
+  free_revised free some_from some_to = record {
+    seconds = λ time left.
+        second_reached period are.some before.sets.events activity is (is_left before.sets) time
+        (low activity.from time left)
+        ∙ crowded period (is_left before.sets activity.to) width are.some narrow
+        (many activity.to (crowded_free free activity.to some_to)) (ahead period activity) time;
+    firsts = λ time left.
+        first_reached period are.some before.sets.events activity is (is_left before.sets) time
+        (low activity.to time left)
+        ∙ crowded period (is_left before.sets activity.from) width are.some narrow
+        (many activity.from (crowded_free free activity.from some_from)) (behind period activity)
+        time;
+  }

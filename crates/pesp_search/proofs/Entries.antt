@@ -1,8 +1,7 @@
 -- A search entry by entry, and what it comes to.
-use Rattle.std.specs.List.{range_with_len}
 use Rattle.pesp_search.specs.Marks.{IsChildOf, Saved, is_left}
 use Rattle.std.proofs.Common.{◌==◌}
-use Rattle.std.proofs.Common.{Bool, inl, inr, get_or, length}
+use Rattle.std.proofs.Common.{inl, inr}
 use Rattle.std.proofs.Common.{◌≡◌, ◌∙◌, ℕ, ◌+◌, ◌<◌, ◌≤◌, true, false, if◌then◌else◌}
 use Rattle.std.proofs.Common.{List, [], ◌∷◌, ◌++◌, map, position, Option, Some, None, is_some, Vec}
 use Rattle.std.proofs.Common.{Global}
@@ -19,12 +18,16 @@ use Rattle.pesp_search.specs.Listings.{has_several, in_turn, is_empty}
 use Rattle.pesp_search.specs.Listings.{listing, listing_of, one_more, result_within, unless_found}
 use Rattle.pesp_search.specs.Listings.{whole_result, with_time}
 use Rattle.pesp_search.specs.Marks.{IsNextChild, Marks, Tracked, sets_of, times_from, waiting}
-use Rattle.pesp_search.specs.Revising.{AreRevised, IsReady, Reduces, has_changed}
+use Rattle.pesp_search.specs.Flags.{Flags, has_changed}
+use Rattle.pesp_search.specs.Revising.{AllFrom, AreRevised, IsReady, IsRevised, Reduces, Stands}
 use Rattle.pesp_search.specs.Searches.{Branches, IsSearched, SavesOnce, behind, entry_here}
 use Rattle.pesp_search.specs.Searches.{listed_on}
 use Rattle.pesp_search.specs.TimeSets.{left_to, reduced}
+use Rattle.pesp_search.specs.TimeSets.{reduced as all_reduced}
+use Rattle.pesp_search.proofs.EmptySets.{with_time_full}
 use Rattle.pesp_search.proofs.Revised.{carried_firsts, carried_seconds}
-use Rattle.pesp_search.proofs.Turns.{first_turn, listed, no_turn, none_behind, turns_append, turns_map, unless_one}
+use Rattle.pesp_search.proofs.Turns.{first_turn, listed, no_turn, none_behind, turns_append}
+use Rattle.pesp_search.proofs.Turns.{turns_map, unless_one}
 use Rattle.pesp_search.proofs.Unrolled.{unrolls}
 
 -- ---- a branch
@@ -44,7 +47,8 @@ pub branched : (before after : Tracked) (event : ℕ)
     → position has_several (sets_of before.sets) ≡ Some event
     → after ≡ record {
       sets = before.sets;
-      saved = record { sets = before.sets; branch = record { event = event; from = 0 } } ∷ before.saved;
+      saved = record { sets = before.sets; branch = record { event = event; from = 0 } } ∷
+          before.saved;
     }
     → Branches before after None
 unfolding waiting
@@ -53,7 +57,8 @@ branched before after event none is same = (
       let branch = visit_child before visit in
       let times = times_from before.sets event 0 in
       let left : left_to (sets_of before.sets) event ≡ times =
-      get_or-map-range_with_len (λ event. times_from before.sets event 0) 0 before.sets.events event event []
+      get_or-map-range_with_len (λ event. times_from before.sets event 0) 0 before.sets.events
+      event event []
       (event_within before.sets event is) (omega arith) in
       let children = map (with_time (sets_of before.sets) event) times in
       ap (λ first. unless_found first (in_turn visit (waiting before.saved)))
@@ -70,7 +75,7 @@ branched before after event none is same = (
       ∙ turns_append visit children (waiting before.saved)
       ∙ ap (λ (tracked : Tracked). in_turn visit (waiting tracked.saved)) (sym same))),
   ap (λ (tracked : Tracked). tracked.sets) same,
-  inr (record { event = event; from = 0 }, ap (λ (tracked : Tracked). tracked.saved) same),
+  inr (record { event = event; from = 0 }, none, ap (λ (tracked : Tracked). tracked.saved) same),
 )
 
 -- ---- an entry
@@ -82,10 +87,27 @@ module _ (problem : Problem) (before reduced : Tracked) (so : Reduces problem be
   abbrev children_of : List (List ℕ) → Listing
   children_of sets = entry sets (λ event time. listing_of problem (with_time sets event time))
 
+  dead : (sets : List (List ℕ)) → list_any is_empty sets ≡ true
+      → children_of sets ≡ record { entries = 1; found = None }
+  dead sets none =
+      ap (λ b. elim b as (λ _. Listing) [
+        | true ↦ record { entries = 1; found = None }
+        | false ↦ branches sets (λ event time. listing_of problem (with_time sets event time))
+            (position has_several sets)
+      ]) none
+
+  -- an entry of sets in which some event has no time left is that of the reduced sets
+  same_entry : Stands problem before reduced
+      → children_of (all_reduced problem (sets_of before.sets)) ≡ children_of (sets_of reduced.sets)
+  same_entry (inr stands) = ap children_of (sym stands.0)
+  same_entry (inl stands) =
+      dead (all_reduced problem (sets_of before.sets)) stands.1
+      ∙ sym (dead (sets_of reduced.sets) stands.0)
+
   entry_is : listed_on problem before ≡ entry_here (listing_of problem) reduced
   entry_is =
       first_turn (listing_of problem) (sets_of before.sets) (waiting before.saved)
-      ∙ (λ i. unless_found ((unrolls problem (sets_of before.sets) ∙ ap children_of (sym so.sets)) i)
+      ∙ (λ i. unless_found ((unrolls problem (sets_of before.sets) ∙ same_entry so.stands) i)
       (in_turn (listing_of problem) (waiting (sym so.saved i))))
 
   pub entry_found : (after : Tracked) (times : Vec ℕ Global) → Branches reduced after (Some times)
@@ -93,50 +115,56 @@ module _ (problem : Problem) (before reduced : Tracked) (so : Reduces problem be
   entry_found after times found = entry_is ∙ found (listing_of problem)
 
   pub entry_last : (after : Tracked) (last : Tracked) → Branches reduced after None
-      → IsNextChild after last None → listed_on problem before ≡ record { entries = 1; found = None }
+      → IsNextChild after last None
+      → listed_on problem before ≡ record { entries = 1; found = None }
   entry_last after last branch none =
       entry_is ∙ branch.0 (listing_of problem)
       ∙ ap (λ sets. one_more (in_turn (listing_of problem) sets)) none
       ∙ ap one_more (no_turn (listing_of problem))
 
+  all_revised : Stands problem before reduced → list_any is_empty (sets_of reduced.sets) ≡ false
+      → AllFrom problem.activities (IsRevised problem.period (is_left reduced.sets)) 0
+  all_revised (inr stands) none = stands.1
+  all_revised (inl stands) none = absurd (false≢true (sym none ∙ stands.0))
+
   -- what was saved before is still revised, and so is what an entry saves
   saved_revised : (after : Tracked) → AreRevised problem before.saved → SavesOnce reduced after
       → AreRevised problem after.saved
   saved_revised after was (inl same) = subst (AreRevised problem) (sym (same ∙ so.saved)) was
-  saved_revised after was (inr (branch, is)) =
-      subst (AreRevised problem) (sym is) (so.revised, subst (AreRevised problem) (sym so.saved) was)
+  saved_revised after was (inr (branch, none, is)) =
+      subst (AreRevised problem) (sym is)
+      (all_revised so.stands none, none, subst (AreRevised problem) (sym so.saved) was)
 
   -- and the sets of a child are ready where its event has a flag
-  child_ready : (after next : Tracked) (event : ℕ) (flags : List Bool)
-      → AreRevised problem after.saved → next.sets.events ≡ problem.events → IsChildOf after next event
-      → flags ≡ map (λ other. other == event) (range_with_len 0 problem.events)
+  child_ready : (after next : Tracked) (event : ℕ) (flags : Flags)
+      → AreRevised problem after.saved → IsChildOf after next event → flags.events ≡ problem.events
+      → ((other : ℕ) → has_changed flags other ≡ (other == event))
       → IsReady problem next flags
-  child_ready after next event flags was events child are =
+  child_ready after next event flags was child each are =
       let parts = rest_revised child.passed (record { sets = child.branched; branch = child.from }
       ∷ child.earlier) (subst (AreRevised problem) child.was was) in
       record {
-        each = ap length are ∙ length-map-range_with_len (λ other. other == event) 0 problem.events;
+        each = each;
+        full = ap (list_any is_empty) child.sets
+            ∙ with_time_full (sets_of child.branched) event child.one parts.1;
         revised = λ i activity at low.
             let is = parts.0 i activity at low in (
-              carried_seconds problem.period (is_left child.branched) (is_left next.sets) (λ _. false)
-                  (has_changed flags) activity child.within untouched (λ _. is.seconds),
-              carried_firsts problem.period (is_left child.branched) (is_left next.sets) (λ _. false)
-                  (has_changed flags) activity child.within untouched (λ _. is.firsts),
+              carried_seconds problem.period (is_left child.branched) (is_left next.sets)
+                  (λ _. false) (has_changed flags) activity child.within untouched (λ _.
+                  is.seconds),
+              carried_firsts problem.period (is_left child.branched) (is_left next.sets)
+                  (λ _. false) (has_changed flags) activity child.within untouched (λ _. is.firsts),
             );
-        saved = subst (AreRevised problem) (sym child.now) (parts.0, parts.1);
+        saved = subst (AreRevised problem) (sym child.now) parts;
       }
     where
       rest_revised : (passed rest : List Saved) → AreRevised problem (passed ++ rest)
           → AreRevised problem rest
       rest_revised [] rest all = all
-      rest_revised (saved ∷ passed) rest all = rest_revised passed rest all.1
+      rest_revised (saved ∷ passed) rest all = rest_revised passed rest all.2
 
       set_there : has_changed flags event ≡ true
-      set_there =
-          ap (λ flags. get_or flags event false) are
-          ∙ get_or-map-range_with_len (λ other. other == event) 0 problem.events event event false
-          (omega (arith, child.inside, events)) (omega arith)
-          ∙ eq-eqb event event refl
+      set_there = are event ∙ eq-eqb event event refl
 
       untouched : (e : ℕ) → has_changed flags e ≡ false
           → (false ≡ false) × (is_left next.sets e ≡ is_left child.branched e)
@@ -145,21 +173,21 @@ module _ (problem : Problem) (before reduced : Tracked) (so : Reduces problem be
         | inr other ↦ (refl, child.others e other)
       ]
 
-  pub entry_next : (after : Tracked) (next : Tracked) (event : ℕ) (flags : List Bool)
+  pub entry_next : (after : Tracked) (next : Tracked) (event : ℕ) (flags : Flags)
       → Branches reduced after None → IsNextChild after next (Some event)
-      → before.sets.events ≡ problem.events → AreRevised problem before.saved
-      → flags ≡ map (λ other. other == event) (range_with_len 0 problem.events)
+      → AreRevised problem before.saved → flags.events ≡ problem.events
+      → ((other : ℕ) → has_changed flags other ≡ (other == event))
       → (listed_on problem before ≡ one_more (listed_on problem next))
       × (next.sets.period ≡ before.sets.period)
       × (next.sets.events ≡ before.sets.events)
       × IsReady problem next flags
-  entry_next after next event flags branch child there was are =
+  entry_next after next event flags branch child was each are =
       let events = child.2 ∙ ap (λ (sets : Marks). sets.events) branch.1 ∙ so.events in (
         entry_is ∙ branch.0 (listing_of problem)
             ∙ ap (λ sets. one_more (in_turn (listing_of problem) sets)) child.0,
         child.1 ∙ ap (λ (sets : Marks). sets.period) branch.1 ∙ so.period,
         events,
-        child_ready after next event flags (saved_revised after was branch.2) (events ∙ there) child.3 are,
+        child_ready after next event flags (saved_revised after was branch.2) child.3 each are,
       )
 
 -- ---- the first entry, and one more
@@ -222,20 +250,22 @@ listing_some problem sets =
     (entry_some (reduced problem sets) _)
 
 first_some : (first rest : Listing) → first.entries ≤ (unless_found first rest).entries
-first_some first rest = elim (is_some first.found) as (λ b. first.entries ≤ (elim b as (λ _. Listing) [
-  | true ↦ first
-  | false ↦ record { entries = first.entries + rest.entries; found = rest.found }
-]).entries) [
-  | true ↦ omega arith
-  | false ↦ omega arith
-]
+first_some first rest = elim (is_some first.found) as (λ b. first.entries ≤ (elim b as (λ _.
+    Listing) [
+      | true ↦ first
+      | false ↦ record { entries = first.entries + rest.entries; found = rest.found }
+    ]).entries) [
+      | true ↦ omega arith
+      | false ↦ omega arith
+    ]
 
 -- another entry is within the listing
 pub one_within : (problem : Problem) (sets : Tracked) (count : ℕ) → IsSearched problem sets count
     → count + 1 ≤ (listing problem).entries
 one_within problem sets count so =
     let here = listing_some problem (sets_of sets.sets) in
-    let all = first_some (listing_of problem (sets_of sets.sets)) (in_turn (listing_of problem) (waiting sets.saved)) in
+    let all = first_some (listing_of problem (sets_of sets.sets)) (in_turn (listing_of problem)
+    (waiting sets.saved)) in
     let listed = ap (λ (listed : Listing). listed.entries)
     (first_turn (listing_of problem) (sets_of sets.sets) (waiting sets.saved)) in
     let sum = ap (λ (listed : Listing). listed.entries) so.listed in
@@ -257,7 +287,8 @@ search_ended problem sets count budget found so few is =
       ap (entries_listed budget) all ∙ min-eq_right (omega (arith, few)),
     )
 
-pub search_spent : (problem : Problem) (sets : Tracked) (budget : ℕ) → IsSearched problem sets budget
+pub search_spent : (problem : Problem) (sets : Tracked) (budget : ℕ)
+    → IsSearched problem sets budget
     → (result_within budget (listing problem) ≡ Err (refusal.Spent budget))
     × (entries_listed budget (listing problem) ≡ budget)
 unfolding result_within

@@ -1,29 +1,31 @@
 -- The marks at first, and marks of which one time of an event is left.
-use Rattle.std.proofs.Common.{◌≡◌, ◌∙◌, inl, inr, ℕ, zero, suc, ◌+◌, ◌*◌, ◌<◌, ◌≤◌, ◌==◌, nat_le}
+use Rattle.std.proofs.Common.{◌≡◌, ◌∙◌, inl, inr, ℕ, zero, suc, ◌+◌, ◌*◌, ◌<◌, ◌≤◌, ◌==◌}
 use Rattle.std.proofs.Common.{Bool, true, false, not, ◌&&◌, ◌||◌, if◌then◌else◌, List, [], ◌∷◌}
-use Rattle.std.proofs.Common.{length, map, filter, get_or, slice_set}
+use Rattle.std.proofs.Common.{map, filter, slice_set}
 use Rattle.std.proofs.Common.{refl, ap, sym, arith, Ok}
 use Rattle.std.specs.List.{range_with_len}
-use Rattle.std.proofs.Math.Nat.{mul-le-mul_right}
-use Rattle.std.proofs.lemmas.Bool.{and_from, and_parts, cases_eq, eq-eqb, ne_eqb, le-leb, lt-leb}
-use Rattle.std.proofs.lemmas.Bool.{lt-ltb, or_right}
-use Rattle.std.proofs.lemmas.List.FromFn.{get_or-map-range_with_len, length-map-range_with_len}
+use Rattle.std.proofs.lemmas.Bool.{and_from, and_parts, cases_eq, eq-eqb, ne_eqb}
 use Rattle.pesp_search.specs.Listings.{times_at_first, with_time}
-use Rattle.pesp_search.specs.Marks.{AreMarks, KeepsTime, Marks, Prunes, Tracked, family, is_left}
-use Rattle.pesp_search.specs.Marks.{sets_of}
+use Rattle.pesp_search.specs.Marks.{KeepsTime, Marks, Prunes, Tracked, family, is_left, marked}
+use Rattle.pesp_search.specs.Marks.{sets_of, words_of}
 use Rattle.pesp_search.specs.Revising.{Left, stays}
 use Rattle.pesp_search.proofs.Families.{same_filter, sets_family}
 use Rattle.pesp_search.proofs.Partners.{kept_first, left_out, same_on_range}
-use Rattle.pesp_search.proofs.Pruned.{flags_of, kept_by, prunes_by_flags}
+use Rattle.pesp_search.proofs.FirstWords.{AreFirst, left_first, left_later}
+use Rattle.pesp_search.proofs.Pruned.{kept_by, prunes_by_bits}
 
 -- ---- filters of a range
 
 pub filter_none : (test : ℕ → Bool) (from n : ℕ)
-    → ((x : ℕ) → from ≤ x → x < from + n → test x ≡ false) → filter test (range_with_len from n) ≡ []
+    → ((x : ℕ) → from ≤ x → x < from + n → test x ≡ false)
+    → filter test (range_with_len from n) ≡ []
 filter_none test from zero none = refl
 filter_none test from (suc n) none =
     left_out test test from (range_with_len (from + 1) n) (none from (omega arith) (omega arith))
-    ∙ filter_none test (from + 1) n (λ x low high. none x (omega (arith, low)) (omega (arith, high)))
+    ∙ filter_none test (from + 1) n (λ x low high. none x (omega (arith, low)) (omega (
+      arith,
+      high,
+    )))
 
 pub filter_all : (test : ℕ → Bool) (from n : ℕ)
     → ((x : ℕ) → from ≤ x → x < from + n → test x ≡ true)
@@ -49,70 +51,28 @@ filter_one test one from (suc n) low high is others = elim (cases_eq from one) [
       ∙ filter_one test one (from + 1) n (omega (arith, low, other)) (omega (arith, high)) is others
 ]
 
--- ---- the marks at first
+-- ---- the sets at first
 
-abbrev pub first_mark : ℕ → ℕ → Bool
-first_mark period place = place == 0 || nat_le period place
-
-module _ (period events : ℕ) (some : 1 ≤ period) (marks : List Bool)
-    (are : marks ≡ map (first_mark period) (range_with_len 0 (events * period))) where
+module _ (period events : ℕ) (some : 1 ≤ period) (few : period ≤ 720) (words : List ℕ)
+    (are : AreFirst period words (events * words_of period)) where
   abbrev sets : Marks
-  sets = record { period = period; events = events; marks = marks }
-
-  pub are_marks : period ≤ 720 → AreMarks sets
-  are_marks few = record {
-    each = ap length are ∙ length-map-range_with_len (first_mark period) 0 (events * period);
-    some = some;
-    few = few;
-  }
-
-  mark_is : (event time : ℕ) → event < events → time < period
-      → is_left sets event time ≡ first_mark period (event * period + time)
-  mark_is event time within small =
-      let far = mul-le-mul_right period within in
-      let there : event * period + time < events * period = inside event time within small in
-      ap (λ b. b && get_or marks (event * period + time) false) (lt-ltb time period small)
-      ∙ ap (λ marks. get_or marks (event * period + time) false) are
-      ∙ get_or-map-range_with_len (first_mark period) 0 (events * period) (event * period + time)
-      (event * period + time) false there (omega arith)
-    where
-      next : (event : ℕ) → (suc event) * period ≡ event * period + period
-      next event = omega arith
-
-      inside : (event time : ℕ) → event < events → time < period → event * period + time < events * period
-      inside event time within small =
-          let far = mul-le-mul_right period within in omega (arith, far, next event, small)
+  sets = record { period = period; events = events; words = words }
 
   -- only time 0 is left to the first event
   only_zero : (event : ℕ) → event ≡ 0 → event < events
       → filter (is_left sets event) (range_with_len 0 period) ≡ 0 ∷ []
   only_zero event first within =
       same_filter (is_left sets event) (λ time. time == 0) 0 period (λ time _ small.
-      mark_is event time within (omega (arith, small))
-      ∙ ap (first_mark period) (here event time first)
-      ∙ or_none (time == 0) _ (lt-leb period time (omega (arith, small))))
+      left_first period events some few words are event time within (omega (arith, small)) first)
       ∙ filter_one (λ time. time == 0) 0 0 period (omega arith) (omega (arith, some)) refl
       (λ time other. ne_eqb time 0 other)
-    where
-      here : (event time : ℕ) → event ≡ 0 → event * period + time ≡ time
-      here event time first = rw (first) (omega arith)
-
-      or_none : (x y : Bool) → y ≡ false → (x || y) ≡ x
-      or_none true y is = refl
-      or_none false y is = is
 
   -- and all times to every other one
   every_time : (event : ℕ) → 1 ≤ event → event < events
       → filter (is_left sets event) (range_with_len 0 period) ≡ range_with_len 0 period
   every_time event later within =
       filter_all (is_left sets event) 0 period (λ time _ small.
-      mark_is event time within (omega (arith, small))
-      ∙ or_right (event * period + time == 0) _
-      (le-leb period (event * period + time) (behind event time later)))
-    where
-      behind : (event time : ℕ) → 1 ≤ event → period ≤ event * period + time
-      behind event time later =
-          let far = mul-le-mul_right period later in omega (arith, far)
+      left_later period events some few words are event time within (omega (arith, small)) later)
 
   times_are : (event : ℕ) → event < events
       → filter (is_left sets event) (range_with_len 0 period) ≡ times_at_first period event
@@ -133,7 +93,8 @@ module _ (period events : ℕ) (some : 1 ≤ period) (marks : List Bool)
 
 -- ---- one time of an event
 
-set_on_range : {X : Type 0} (set other : ℕ → X) (one : X) (from n i event : ℕ) → from + i ≡ event → i < n
+set_on_range : {X : Type 0} (set other : ℕ → X) (one : X) (from n i event : ℕ)
+    → from + i ≡ event → i < n
     → other event ≡ one → ((x : ℕ) → (x ≡ event → ⊥) → other x ≡ set x)
     → map other (range_with_len from n) ≡ slice_set (map set (range_with_len from n)) i one
 set_on_range set other one from zero i event at low is others = absurd (omega (arith, low))
@@ -145,7 +106,8 @@ set_on_range set other one from (suc n) zero event at low is others =
 set_on_range set other one from (suc n) (suc i) event at low is others =
     let apart : (from ≡ event → ⊥) = λ own. omega (arith, own, at) in
     λ k. others from apart k
-    ∷ set_on_range set other one (from + 1) n i event (omega (arith, at)) (omega (arith, low)) is others k
+    ∷ set_on_range set other one (from + 1) n i event (omega (arith, at)) (omega (arith, low)) is
+    others k
 
 module _ (before after : Tracked) (event time : ℕ) (within : event < before.sets.events)
     (small : time < before.sets.period) (left : is_left before.sets event time ≡ true) where
@@ -161,13 +123,16 @@ module _ (before after : Tracked) (event time : ℕ) (within : event < before.se
     sets = sets_family after.sets
         ∙ (λ i. family (so.period i) (so.events i) (so.left i))
         ∙ set_on_range (λ e. filter (is_left before.sets e) (range_with_len 0 before.sets.period))
-        (λ e. filter (after_left e) (range_with_len 0 before.sets.period)) (time ∷ []) 0 before.sets.events
+        (λ e. filter (after_left e) (range_with_len 0 before.sets.period)) (time ∷ []) 0
+        before.sets.events
         event event (omega arith) within only others
         ∙ ap (λ sets. with_time sets event time) (sym (sets_family before.sets));
     within = λ e t is.
-        (and_parts (is_left before.sets e t) _ (sym (ap (λ (left : Left). left e t) so.left) ∙ is)).0;
+        (and_parts (is_left before.sets e t) _ (sym (ap (λ (left : Left). left e t) so.left)
+        ∙ is)).0;
     others = λ e other. ap (λ (left : Left). left e) so.left
-        ∙ (λ i t. and_all (is_left before.sets e t) _ (ap (λ b. not b || (t == time)) (ne_eqb e event other)) i);
+        ∙ (λ i t. and_all (is_left before.sets e t) _ (ap (λ b. not b
+        || (t == time)) (ne_eqb e event other)) i);
   }
     where
       after_left : Left
@@ -185,7 +150,10 @@ module _ (before after : Tracked) (event time : ℕ) (within : event < before.se
       here t = ap (λ b. not b || (t == time)) (eq-eqb event event refl)
 
       only : filter (after_left event) (range_with_len 0 before.sets.period) ≡ time ∷ []
-      only = filter_one (after_left event) time 0 before.sets.period (omega arith) (omega (arith, small))
+      only = filter_one (after_left event) time 0 before.sets.period (omega arith) (omega (
+        arith,
+        small,
+      ))
           (and_from _ _ left (here time ∙ eq-eqb time time refl))
           (λ t other. and_none (is_left before.sets event t) _ (here t ∙ ne_eqb t time other))
 
@@ -194,9 +162,11 @@ module _ (before after : Tracked) (event time : ℕ) (within : event < before.se
           ≡ filter (is_left before.sets e) (range_with_len 0 before.sets.period)
       others e other =
           same_filter (after_left e) (is_left before.sets e) 0 before.sets.period (λ t _ _.
-          and_all (is_left before.sets e t) _ (ap (λ b. not b || (t == time)) (ne_eqb e event other)))
+          and_all (is_left before.sets e t) _ (ap (λ b. not b
+          || (t == time)) (ne_eqb e event other)))
 
-  pub keeps_time : (flags : List Bool) (changes : Bool) → flags ≡ flags_of before.sets.period one
-      → Prunes before after (stays event flags) changes → KeepsTime before after event time
-  keeps_time flags changes is so =
-      kept changes (prunes_by_flags {E = ℕ} before after event one flags (Ok changes) is so)
+  pub keeps_time : (keep : List ℕ) (changes : Bool) → ((other : ℕ) → marked keep other ≡ one other)
+      → Prunes before after (stays event keep) changes → KeepsTime before after event time
+  keeps_time keep changes is so =
+      kept changes (prunes_by_bits {E = ℕ} before after event one keep (Ok changes) (λ other _. is
+      other) so)

@@ -1,20 +1,19 @@
 -- What a listing finds is a timetable.
 use Rattle.std.proofs.Common.{◌≡◌, ◌∙◌, ℕ, zero, suc, ◌+◌, ◌<◌, ◌==◌, nat_eq, nat_lt, Bool, true, false, cond}
-use Rattle.std.proofs.Common.{not, ◌&&◌, ◌||◌, List, [], ◌∷◌, get_or, length, map, position, All, slice_set}
+use Rattle.std.proofs.Common.{not, ◌&&◌, ◌||◌, List, [], ◌∷◌, get_or, length, position, All}
 use Rattle.std.proofs.Common.{filter, slice_index_or, Option, Some, None, is_some, refl, ap, sym, subst, arith}
 use Rattle.std.specs.List.{AllByRecursion, list_all, list_any}
 use Rattle.std.proofs.lemmas.Bool.{and_parts, eq-eqb, eqb-true, ltb-true, ltb-false, or_right}
 use Rattle.std.proofs.lemmas.List.{get_or_default, length-map, length-set}
-use Rattle.std.proofs.lemmas.List.Elements.{All-nil, All-cons}
 use Rattle.std.proofs.lemmas.List.Sums.{AllPass-from_list_all}
 use Rattle.pesp_model.specs.declared.activity.PespActivity.{PespActivity}
 use Rattle.pesp_model.specs.Timetables.{IsActivity, IsKept, IsProblem, IsTimetable, Problem, keeps}
-use Rattle.pesp_model.specs.Timetables.{keeps_in, time_of}
+use Rattle.pesp_model.specs.Timetables.{time_of}
 use Rattle.pesp_model.proofs.FirstBroken.{none_passes}
 use Rattle.pesp_model.proofs.Keeping.{test_tells}
 use Rattle.pesp_search.specs.Listings.{Listing, branches, first_times, has_several, in_turn, is_empty}
 use Rattle.pesp_search.specs.Listings.{listing_from, with_time}
-use Rattle.pesp_search.specs.TimeSets.{has_first, has_partner, has_partners, has_second, left_to, reduced}
+use Rattle.pesp_search.specs.TimeSets.{has_partner, has_partners, has_second, left_to, reduced}
 use Rattle.pesp_search.proofs.ListedTimes.{several_at}
 use Rattle.pesp_search.proofs.RoundsKeep.{is_in}
 use Rattle.pesp_search.proofs.ShrinkingSets.{reduced_each, reduced_length, reduced_partnered}

@@ -1,7 +1,7 @@
 -- A text that breaks no rule of a timetable is one.
-use Rattle.std.proofs.Common.{◌≡◌, ◌∙◌, ℕ, zero, suc, ◌+◌, ◌<◌, ◌&&◌, ◌==◌, not, Bool, true, false, cond, nat_eq}
+use Rattle.std.proofs.Common.{◌≡◌, ◌∙◌, ℕ, suc, ◌+◌, ◌<◌, ◌&&◌, ◌==◌, not, Bool, true, false, cond, nat_eq}
 use Rattle.std.proofs.Common.{nat_lt, List, [], ◌∷◌, ◌++◌, length, map, slice_get, All, Option, Some, None, is_some}
-use Rattle.std.proofs.Common.{is_none, IfNone, IfOk, Result, Ok, Err, refl, ap, sym, subst, arith}
+use Rattle.std.proofs.Common.{is_none, IfNone, IfOk, Result, Ok, Err, refl, ap, sym, arith}
 use Rattle.std.specs.List.{enumerate_from, list_all}
 use Rattle.std.proofs.lemmas.Bool.{and_from, and_parts, eq-eqb, eqb-true, lt-ltb, ltb-true, not-false}
 use Rattle.std.proofs.lemmas.List.{length-map}

@@ -1,11 +1,19 @@
+mod AnyBelow
 mod Changes
 mod Crowded
+mod EmptyMarks
+mod EmptySets
 mod Entries
 mod Families
 mod FirstMarks
+mod FirstWords
+mod FlagBits
 mod FoundTimes
 mod JudgedTimes
+mod Linked
 mod ListedTimes
+mod MarkBits
+mod MarkCounts
 mod NextSets
 mod NextTimes
 mod Partners
@@ -23,8 +31,11 @@ mod Tried
 mod TurnedTimes
 mod Turns
 mod Unrolled
+mod Visiting
 mod Waiting
 mod WindowSums
+mod WordBits
+mod WordTurns
 pub mod ListingRight
 pub mod TimetableEnds
 pub mod TimetableMakes

@@ -1,22 +1,17 @@
 -- What a listing finds is a timetable, and it finds nothing only where there is none.
-use Rattle.std.proofs.Common.{◌≡◌, ◌∙◌, ℕ, zero, suc, ◌+◌, ◌<◌, ◌≤◌, ◌==◌, nat_eq, nat_lt, Bool, true, false}
-use Rattle.std.proofs.Common.{cond, not, ◌&&◌, ◌||◌, List, [], ◌∷◌, filter, get_or, length, map, position, All}
-use Rattle.std.proofs.Common.{slice_set, Option, Some, None, is_some, refl, ap, sym, subst, arith}
-use Rattle.std.specs.List.{AllByRecursion, AllZip, list_all, list_any}
+use Rattle.std.proofs.Common.{◌≡◌, ◌∙◌, ℕ, zero, suc, ◌+◌, ◌<◌, nat_eq, Bool, true, false}
+use Rattle.std.proofs.Common.{cond, ◌||◌, List, [], ◌∷◌, filter, length, position}
+use Rattle.std.proofs.Common.{Option, Some, None, is_some, refl, ap, sym, arith}
+use Rattle.std.specs.List.{list_any}
 use Rattle.std.proofs.lemmas.Bool.{eq-eqb, eqb-true, ne_eqb}
-use Rattle.std.proofs.lemmas.List.{length-map, length-set}
 use Rattle.std.proofs.lemmas.List.Quantifiers.{position-Some}
-use Rattle.std.proofs.lemmas.List.Sums.{AllPass-from_list_all}
-use Rattle.pesp_model.specs.declared.activity.PespActivity.{PespActivity}
-use Rattle.pesp_model.specs.Timetables.{IsActivity, IsKept, IsProblem, IsTimetable, Problem, keeps}
-use Rattle.pesp_model.specs.Timetables.{keeps_in, time_of}
-use Rattle.pesp_model.proofs.FirstBroken.{none_passes}
-use Rattle.pesp_model.proofs.Keeping.{test_tells}
-use Rattle.pesp_search.specs.Listings.{Listing, branches, entry, first_times, has_several, in_turn, is_empty}
-use Rattle.pesp_search.specs.Listings.{listing_from, one_more, several_in, unless_found, with_time}
-use Rattle.pesp_search.specs.TimeSets.{has_first, has_partner, has_partners, has_second, left_to, reduced}
+use Rattle.pesp_model.specs.Timetables.{IsProblem, IsTimetable, Problem}
+use Rattle.pesp_model.specs.Timetables.{time_of}
+use Rattle.pesp_search.specs.Listings.{Listing, branches, has_several, in_turn, is_empty}
+use Rattle.pesp_search.specs.Listings.{listing_from, several_in, with_time}
+use Rattle.pesp_search.specs.TimeSets.{left_to, reduced}
 use Rattle.pesp_search.proofs.RoundsKeep.{Holds, held_at, is_in, reduced_keeps}
-use Rattle.pesp_search.proofs.ShrinkingSets.{reduced_each, reduced_length, reduced_partnered, reduced_several}
+use Rattle.pesp_search.proofs.ShrinkingSets.{reduced_several}
 
 -- ---- something is found where a timetable is left
 

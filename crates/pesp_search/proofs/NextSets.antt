@@ -1,10 +1,9 @@
 -- The sets of events, one after the other.
-use Rattle.std.proofs.Common.{◌≡◌, ◌∙◌, ℕ, zero, suc, ◌+◌, ◌-◌, ◌<◌, ◌≤◌, Bool, true, false, ◌||◌}
+use Rattle.std.proofs.Common.{◌≡◌, ◌∙◌, ℕ, zero, suc, ◌+◌, ◌-◌, ◌<◌, ◌≤◌, Bool, true, false}
 use Rattle.std.proofs.Common.{cond}
 use Rattle.std.proofs.Common.{List, [], ◌∷◌, ◌++◌, map, slice_index_or, Some, None, refl, ap, sym}
 use Rattle.std.proofs.Common.{arith}
-use Rattle.std.specs.List.{list_any, position_from, range_with_len}
-use Rattle.std.proofs.lemmas.Bool.{or_left}
+use Rattle.std.specs.List.{position_from, range_with_len}
 use Rattle.std.proofs.lemmas.List.FromFn.{map-range_with_len_more}
 use Rattle.pesp_search.specs.Listings.{first_times}
 use Rattle.pesp_search.specs.Marks.{Marks, sets_of, times_from}
@@ -28,24 +27,6 @@ pub sets_none : (sets : Marks) (event : ℕ) → sets.events ≤ event → sets_
 sets_none sets event none =
     let over : sets.events - event ≡ 0 = omega (arith, none) in
     ap (λ n. map (λ event. times_from sets event 0) (range_with_len event n)) over
-
--- whether a set is empty
-pub here_empty : (sets : Marks) (event : ℕ) (test : List ℕ → Bool) → event < sets.events
-    → test (times_from sets event 0) ≡ true → list_any test (sets_from sets event) ≡ true
-here_empty sets event test some is =
-    ap (list_any test) (sets_more sets event some)
-    ∙ or_left (test (times_from sets event 0)) _ is
-
-pub not_here : (sets : Marks) (event : ℕ) (test : List ℕ → Bool) → event < sets.events
-    → test (times_from sets event 0) ≡ false
-    → list_any test (sets_from sets event) ≡ list_any test (sets_from sets (event + 1))
-not_here sets event test some is =
-    ap (list_any test) (sets_more sets event some)
-    ∙ ap (λ b. b || list_any test (sets_from sets (event + 1))) is
-
-pub nowhere : (sets : Marks) (event : ℕ) (test : List ℕ → Bool) → sets.events ≤ event
-    → list_any test (sets_from sets event) ≡ false
-nowhere sets event test none = ap (list_any test) (sets_none sets event none)
 
 -- where a set passes
 pub place_here : (sets : Marks) (event : ℕ) (test : List ℕ → Bool) → event < sets.events

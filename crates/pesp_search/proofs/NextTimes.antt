@@ -1,6 +1,6 @@
 -- The times that are left to an event, one after the other.
 use Rattle.std.proofs.Common.{◌≡◌, ◌∙◌, ℕ, suc, ◌+◌, ◌-◌, ◌<◌, ◌≤◌, Bool, true, false, List, []}
-use Rattle.std.proofs.Common.{◌∷◌, length}
+use Rattle.std.proofs.Common.{◌∷◌}
 use Rattle.std.proofs.Common.{cond, filter, ap, arith}
 use Rattle.std.specs.List.{range_with_len}
 use Rattle.pesp_search.specs.Marks.{Marks, is_left, times_from}
@@ -41,17 +41,3 @@ pub no_more : (sets : Marks) (event time : ℕ) → sets.period ≤ time
     → times_from sets event time ≡ []
 no_more sets event time none =
     ap (filter (is_left sets event)) (range_none time sets.period none)
-
-pub count_one : (sets : Marks) (event time count all : ℕ) → time < sets.period
-    → is_left sets event time ≡ true → count + length (times_from sets event time) ≡ all
-    → count + 1 + length (times_from sets event (time + 1)) ≡ all
-count_one sets event time count all some left counted =
-    let more = ap length (next_one sets event time some left) in
-    omega (arith, more, counted)
-
-pub count_none : (sets : Marks) (event time count all : ℕ) → time < sets.period
-    → is_left sets event time ≡ false → count + length (times_from sets event time) ≡ all
-    → count + length (times_from sets event (time + 1)) ≡ all
-count_none sets event time count all some out counted =
-    let same = ap length (not_this sets event time some out) in
-    omega (arith, same, counted)

@@ -1,59 +1,42 @@
 -- Times that are taken out of the set of an event, one after the other.
-use Rattle.std.proofs.Common.{◌≡◌, ◌∙◌, ◌⊎◌, inl, inr, ℕ, zero, suc, ◌+◌, ◌/◌, ◌%◌, ◌<◌, ◌≤◌, ◌==◌}
+use Rattle.std.proofs.Common.{◌≡◌, ◌∙◌, ◌⊎◌, inl, inr, ℕ, zero, suc, ◌+◌, ◌<◌, ◌≤◌, ◌==◌}
 use Rattle.std.proofs.Common.{nat_lt}
-use Rattle.std.proofs.Common.{Bool, true, false, not, ◌&&◌, ◌||◌, List, [], ◌∷◌, length, filter}
-use Rattle.std.proofs.Common.{get_or}
-use Rattle.std.proofs.Common.{slice_set, map, refl, ap, sym, subst, arith, IfOk, Result, Ok, Err}
-use Rattle.std.specs.List.{range_with_len}
-use Rattle.std.proofs.lemmas.List.FromFn.{get_or-map-range_with_len}
-use Rattle.std.proofs.lemmas.Bool.{cases_Bool, cases_eq, cases_order, eq-eqb, ne_eqb, lt-ltb}
+use Rattle.std.proofs.Common.{Bool, true, false, not, ◌&&◌, ◌||◌, List}
+use Rattle.std.proofs.Common.{refl, ap, sym, subst, arith, IfOk, Result, Ok, Err, Some, None, ◌-◌}
+use Rattle.std.proofs.lemmas.Bool.{cases_Bool, cases_eq, cases_lt, cases_order, eq-eqb, ne_eqb}
+use Rattle.std.proofs.lemmas.Bool.{lt-ltb}
 use Rattle.std.proofs.lemmas.Bool.{le-ltb, ltb-true, false≢true}
-use Rattle.std.proofs.lemmas.List.{get_or-set_other}
-use Rattle.std.proofs.lemmas.Nat.{div-mul-add, mod-mul-add}
-use Rattle.pesp_search.specs.Marks.{Marks, Prunes, Tracked, is_left, marks_left, place_of}
-use Rattle.pesp_search.specs.Marks.{with_mark}
+use Rattle.pesp_search.specs.Marks.{AreMarks, IsNextBesides, Marks, Prunes, Tracked, is_left}
+use Rattle.pesp_search.specs.Marks.{marked}
+use Rattle.pesp_search.specs.Marks.{marks_left, with_mark}
+use Rattle.pesp_search.proofs.MarkBits.{one_less, other_bit, place_within, this_bit}
 use Rattle.pesp_search.specs.Revising.{Left, stays}
 
 -- ---- one mark that is taken away
 
-set_out : (marks : List Bool) (i : ℕ) → get_or (slice_set marks i false) i false ≡ false
-set_out [] i = refl
-set_out (mark ∷ marks) zero = refl
-set_out (mark ∷ marks) (suc i) = set_out marks i
-
-one_less : (marks : List Bool) (i : ℕ) → get_or marks i false ≡ true
-    → length (filter (λ mark. mark) (slice_set marks i false)) < length (filter (λ mark. mark) marks)
-one_less [] i is = absurd (false≢true is)
-one_less (true ∷ marks) zero is = omega arith
-one_less (false ∷ marks) zero is = absurd (false≢true is)
-one_less (true ∷ marks) (suc i) is = let less = one_less marks i is in omega (arith, less)
-one_less (false ∷ marks) (suc i) is = one_less marks i is
-
-same_place : (period e t event time : ℕ) → t < period → time < period
-    → place_of period e t ≡ place_of period event time → (e ≡ event) × (t ≡ time)
-same_place period e t event time h k is = (
-  sym (div-mul-add e period t h) ∙ ap (λ n. n / period) is ∙ div-mul-add event period time k,
-  sym (mod-mul-add e period t h) ∙ ap (λ n. n % period) is ∙ mod-mul-add event period time k,
-)
-
 -- it is another time
-other_left : (sets : Marks) (event time e t : ℕ) → time < sets.period → (e ≡ event → t ≡ time → ⊥)
+other_left : (sets : Marks) (event time e t : ℕ) → AreMarks sets → event < sets.events
+    → time < sets.period
+    → (e ≡ event → t ≡ time → ⊥)
     → is_left (with_mark sets event time false) e t ≡ is_left sets e t
-other_left sets event time e t within other = one (cases_Bool (nat_lt t sets.period))
+other_left sets event time e t are inside within other = one (cases_lt t sets.period)
   where
-    one : (nat_lt t sets.period ≡ true) ⊎ (nat_lt t sets.period ≡ false)
+    one : (t < sets.period) ⊎ (sets.period ≤ t)
         → is_left (with_mark sets event time false) e t ≡ is_left sets e t
-    one (inl is) =
-        let apart : (place_of sets.period e t ≡ place_of sets.period event time → ⊥) =
-        λ same. let both = same_place sets.period e t event time (ltb-true _ _ is) within same in
-        other both.0 both.1 in
+    one (inl low) =
         ap (λ b. nat_lt t sets.period && b)
-        (get_or-set_other sets.marks (place_of sets.period event time) (place_of sets.period e t)
-        false false apart)
-    one (inr is) = rw (is) refl
+        (other_bit sets event time false
+        (place_within sets event time are inside (omega (arith, within))) (omega (arith, within))
+        e t
+        (omega (arith, low)) other)
+    one (inr high) = rw (le-ltb t sets.period high) refl
 
-this_out : (sets : Marks) (event time : ℕ) → is_left (with_mark sets event time false) event time ≡ false
-this_out sets event time = one (nat_lt time sets.period) _ (set_out sets.marks (place_of sets.period event time))
+this_out : (sets : Marks) (event time : ℕ) → AreMarks sets → event < sets.events
+    → time < sets.period
+    → is_left (with_mark sets event time false) event time ≡ false
+this_out sets event time are inside within =
+    one (nat_lt time sets.period) _ (this_bit sets event time false
+    (place_within sets event time are inside (omega (arith, within))))
   where
     one : (b c : Bool) → c ≡ false → (b && c) ≡ false
     one true c is = is
@@ -61,9 +44,9 @@ this_out sets event time = one (nat_lt time sets.period) _ (set_out sets.marks (
 
 -- ---- the times up to one
 
-abbrev pub stays_below : ℕ → List Bool → ℕ → Left
-stays_below kept flags end event time =
-    not (event == kept) || (not (nat_lt time end) || get_or flags time false)
+abbrev pub stays_below : ℕ → List ℕ → ℕ → Left
+stays_below kept keep end event time =
+    not (event == kept) || (not (nat_lt time end) || marked keep time)
 
 abbrev both : Left → Left → Left
 both left keeps event time = left event time && keeps event time
@@ -77,145 +60,143 @@ or_end true y is = refl
 or_end false y is = is
 
 -- another event
-elsewhere : (kept : ℕ) (flags : List Bool) (end e t : ℕ) → (e ≡ kept → ⊥)
-    → stays_below kept flags end e t ≡ true
-elsewhere kept flags end e t other =
-    ap (λ b. not b || (not (nat_lt t end) || get_or flags t false)) (ne_eqb e kept other)
+elsewhere : (kept : ℕ) (keep : List ℕ) (end e t : ℕ) → (e ≡ kept → ⊥)
+    → stays_below kept keep end e t ≡ true
+elsewhere kept keep end e t other =
+    ap (λ b. not b || (not (nat_lt t end) || marked keep t)) (ne_eqb e kept other)
 
 -- a time that is not reached
-later : (kept : ℕ) (flags : List Bool) (end e t : ℕ) → end ≤ t → stays_below kept flags end e t ≡ true
-later kept flags end e t late =
-    or_end (not (e == kept)) _ (ap (λ b. not b || get_or flags t false) (le-ltb t end late))
+later : (kept : ℕ) (keep : List ℕ) (end e t : ℕ) → end ≤ t → stays_below kept keep end e t ≡ true
+later kept keep end e t late =
+    or_end (not (e == kept)) _ (ap (λ b. not b || marked keep t) (le-ltb t end late))
 
 -- one that is
-reached_here : (flags : List Bool) (end e t : ℕ) → t < end
-    → stays_below e flags end e t ≡ get_or flags t false
-reached_here flags end e t h =
-    ap (λ b. not b || (not (nat_lt t end) || get_or flags t false)) (eq-eqb e e refl)
-    ∙ ap (λ b. not b || get_or flags t false) (lt-ltb t end h)
+reached_here : (keep : List ℕ) (end e t : ℕ) → t < end
+    → stays_below e keep end e t ≡ marked keep t
+reached_here keep end e t h =
+    ap (λ b. not b || (not (nat_lt t end) || marked keep t)) (eq-eqb e e refl)
+    ∙ ap (λ b. not b || marked keep t) (lt-ltb t end h)
 
 -- a turn that removes nothing
-kept_turn : (left : Left) (kept : ℕ) (flags : List Bool) (end : ℕ)
-    → (get_or flags end false ≡ true) ⊎ (left kept end ≡ false) → (e t : ℕ)
-    → both left (stays_below kept flags end) e t ≡ both left (stays_below kept flags (end + 1)) e t
-kept_turn left kept flags end why e t = one (cases_eq e kept) (cases_order t end)
+kept_turn : (left : Left) (kept : ℕ) (keep : List ℕ) (end : ℕ)
+    → (marked keep end ≡ true) ⊎ (left kept end ≡ false) → (e t : ℕ)
+    → both left (stays_below kept keep end) e t ≡ both left (stays_below kept keep (end + 1)) e t
+kept_turn left kept keep end why e t = one (cases_eq e kept) (cases_order t end)
   where
-    here : t ≡ end → e ≡ kept → (get_or flags end false ≡ true) ⊎ (left kept end ≡ false)
-        → both left (stays_below kept flags end) e t ≡ both left (stays_below kept flags (end + 1)) e t
+    here : t ≡ end → e ≡ kept → (marked keep end ≡ true) ⊎ (left kept end ≡ false)
+        → both left (stays_below kept keep end) e t ≡ both left (stays_below kept keep (end + 1))
+        e t
     here same own (inl flag) =
         ap (λ b. left e t && b)
-        (later kept flags end e t (omega (arith, same))
-        ∙ sym (rw (own) (reached_here flags (end + 1) kept t (omega (arith, same))
-        ∙ ap (λ t. get_or flags t false) same ∙ flag)))
+        (later kept keep end e t (omega (arith, same))
+        ∙ sym (rw (own) (reached_here keep (end + 1) kept t (omega (arith, same))
+        ∙ ap (λ t. marked keep t) same ∙ flag)))
     here same own (inr gone) = rw (own, same, gone) refl
 
     one : (e ≡ kept) ⊎ (e ≡ kept → ⊥) → (t ≡ end) ⊎ ((t < end) ⊎ (end < t))
-        → both left (stays_below kept flags end) e t ≡ both left (stays_below kept flags (end + 1)) e t
+        → both left (stays_below kept keep end) e t ≡ both left (stays_below kept keep (end + 1))
+        e t
     one (inr other) place =
         ap (λ b. left e t && b)
-        (elsewhere kept flags end e t other ∙ sym (elsewhere kept flags (end + 1) e t other))
+        (elsewhere kept keep end e t other ∙ sym (elsewhere kept keep (end + 1) e t other))
     one (inl own) (inl same) = here same own why
     one (inl own) (inr (inl less)) =
         ap (λ b. left e t && b)
-        (rw (own) (reached_here flags end kept t less ∙ sym (reached_here flags (end + 1) kept t (omega (arith, less)))))
+        (rw (own) (reached_here keep end kept t less
+        ∙ sym (reached_here keep (end + 1) kept t (omega (arith, less)))))
     one (inl own) (inr (inr more)) =
         ap (λ b. left e t && b)
-        (later kept flags end e t (omega (arith, more)) ∙ sym (later kept flags (end + 1) e t (omega (arith, more))))
+        (later kept keep end e t (omega (arith, more))
+        ∙ sym (later kept keep (end + 1) e t (omega (arith, more))))
 
 -- a turn that removes a time
-removed_turn : (left now : Left) (kept : ℕ) (flags : List Bool) (end : ℕ)
-    → get_or flags end false ≡ false
-    → ((e t : ℕ) → (e ≡ kept → t ≡ end → ⊥) → now e t ≡ both left (stays_below kept flags end) e t)
+removed_turn : (left now : Left) (kept : ℕ) (keep : List ℕ) (end : ℕ)
+    → marked keep end ≡ false
+    → ((e t : ℕ) → (e ≡ kept → t ≡ end → ⊥) → now e t ≡ both left (stays_below kept keep end) e t)
     → now kept end ≡ false → (e t : ℕ)
-    → now e t ≡ both left (stays_below kept flags (end + 1)) e t
-removed_turn left now kept flags end flag other gone e t = one (cases_eq e kept) (cases_order t end)
+    → now e t ≡ both left (stays_below kept keep (end + 1)) e t
+removed_turn left now kept keep end flag other gone e t = one (cases_eq e kept) (cases_order t end)
   where
     and_false : (x y : Bool) → y ≡ false → (x && y) ≡ false
     and_false true y is = is
     and_false false y is = refl
 
     one : (e ≡ kept) ⊎ (e ≡ kept → ⊥) → (t ≡ end) ⊎ ((t < end) ⊎ (end < t))
-        → now e t ≡ both left (stays_below kept flags (end + 1)) e t
+        → now e t ≡ both left (stays_below kept keep (end + 1)) e t
     one (inr apart) place =
         other e t (λ own _. apart own)
         ∙ ap (λ b. left e t && b)
-        (elsewhere kept flags end e t apart ∙ sym (elsewhere kept flags (end + 1) e t apart))
+        (elsewhere kept keep end e t apart ∙ sym (elsewhere kept keep (end + 1) e t apart))
     one (inl own) (inl same) =
         rw (own, same) (gone ∙ sym (and_false (left kept end) _
-        (reached_here flags (end + 1) kept end (omega arith) ∙ flag)))
+        (reached_here keep (end + 1) kept end (omega arith) ∙ flag)))
     one (inl own) (inr (inl less)) =
         other e t (λ _ same. absurd (omega (arith, same, less)))
         ∙ ap (λ b. left e t && b)
-        (rw (own) (reached_here flags end kept t less ∙ sym (reached_here flags (end + 1) kept t (omega (arith, less)))))
+        (rw (own) (reached_here keep end kept t less
+        ∙ sym (reached_here keep (end + 1) kept t (omega (arith, less)))))
     one (inl own) (inr (inr more)) =
         other e t (λ _ same. absurd (omega (arith, same, more)))
         ∙ ap (λ b. left e t && b)
-        (later kept flags end e t (omega (arith, more)) ∙ sym (later kept flags (end + 1) e t (omega (arith, more))))
+        (later kept keep end e t (omega (arith, more))
+        ∙ sym (later kept keep (end + 1) e t (omega (arith, more))))
 
 -- ---- the loop
 
-pub prune_begun : (sets : Tracked) (event : ℕ) (flags : List Bool)
-    → Prunes sets sets (stays_below event flags 0) false
-prune_begun sets event flags = record {
-  period = refl;
-  events = refl;
-  saved = refl;
-  left = λ i e t. and_true (is_left sets.sets e t) _ (later event flags 0 e t (omega arith)) i;
-  same = λ _. refl;
-  fewer = λ is. absurd (false≢true is);
-  no_more = omega arith;
-}
-
-pub prune_kept : (before now : Tracked) (event : ℕ) (flags : List Bool) (end : ℕ) (changes : Bool)
-    → Prunes before now (stays_below event flags end) changes
-    → (get_or flags end false ≡ true) ⊎ (is_left now.sets event end ≡ false)
-    → Prunes before now (stays_below event flags (end + 1)) changes
-prune_kept before now event flags end changes so why = record {
+pub prune_kept : (before now : Tracked) (event : ℕ) (keep : List ℕ) (end : ℕ) (changes : Bool)
+    → Prunes before now (stays_below event keep end) changes
+    → (marked keep end ≡ true) ⊎ (is_left now.sets event end ≡ false)
+    → Prunes before now (stays_below event keep (end + 1)) changes
+prune_kept before now event keep end changes so why = record {
   period = so.period;
   events = so.events;
   saved = so.saved;
-  left = so.left ∙ (λ i e t. kept_turn (is_left before.sets) event flags end (was why) e t i);
+  left = so.left ∙ (λ i e t. kept_turn (is_left before.sets) event keep end (was why) e t i);
   same = so.same;
   fewer = so.fewer;
   no_more = so.no_more;
 }
   where
-    was : (get_or flags end false ≡ true) ⊎ (is_left now.sets event end ≡ false)
-        → (get_or flags end false ≡ true) ⊎ (is_left before.sets event end ≡ false)
+    was : (marked keep end ≡ true) ⊎ (is_left now.sets event end ≡ false)
+        → (marked keep end ≡ true) ⊎ (is_left before.sets event end ≡ false)
     was (inl flag) = inl flag
-    was (inr gone) = inr (and_true (is_left before.sets event end) _ (later event flags end event end (omega arith))
+    was (inr gone) = inr (and_true (is_left before.sets event end) _ (later event keep end event end
+        (omega arith))
         ∙ sym (ap (λ (left : Left). left event end) so.left) ∙ gone)
 
 and_parts_right : (b c : Bool) → (b && c) ≡ true → c ≡ true
 and_parts_right true c is = is
 and_parts_right false c is = absurd (false≢true is)
 
-pub prune_removed : (before now after : Tracked) (event : ℕ) (flags : List Bool) (end : ℕ)
-    (changes : Bool) → Prunes before now (stays_below event flags end) changes
-    → get_or flags end false ≡ false → is_left now.sets event end ≡ true → end < now.sets.period
+pub prune_removed : (before now after : Tracked) (event : ℕ) (keep : List ℕ) (end : ℕ)
+    (changes : Bool) → AreMarks now.sets → event < now.sets.events
+    → Prunes before now (stays_below event keep end) changes
+    → marked keep end ≡ false → is_left now.sets event end ≡ true → end < now.sets.period
     → after ≡ record { sets = with_mark now.sets event end false; saved = now.saved }
-    → Prunes before after (stays_below event flags (end + 1)) true
-prune_removed before now after event flags end changes so flag left within is =
-    subst (λ after. Prunes before after (stays_below event flags (end + 1)) true) (sym is) (record {
+    → Prunes before after (stays_below event keep (end + 1)) true
+prune_removed before now after event keep end changes are inside so flag left within is =
+    subst (λ after. Prunes before after (stays_below event keep (end + 1)) true) (sym is) (record {
       period = so.period;
       events = so.events;
       saved = so.saved;
-      left = λ i e t. removed_turn (is_left before.sets) (is_left (with_mark now.sets event end false))
-          event flags end flag
-          (λ e t other. other_left now.sets event end e t within other ∙ ap (λ (left : Left). left e t) so.left)
-          (this_out now.sets event end) e t i;
+      left = λ i e t. removed_turn (is_left before.sets) (is_left (with_mark now.sets event end
+          false))
+          event keep end flag
+          (λ e t other. other_left now.sets event end e t are inside within other
+          ∙ ap (λ (left : Left). left e t) so.left)
+          (this_out now.sets event end are inside within) e t i;
       same = λ no. absurd (false≢true (sym no));
       fewer = λ _. omega (arith, less, so.no_more);
       no_more = omega (arith, less, so.no_more);
     })
   where
     less : marks_left (with_mark now.sets event end false) < marks_left now.sets
-    less = one_less now.sets.marks _ (and_parts_right (nat_lt end now.sets.period) _ left)
+    less = one_less now.sets event end (and_parts_right (nat_lt end now.sets.period) _ left)
 
-pub prune_ended : (before after : Tracked) (event : ℕ) (flags : List Bool) (end : ℕ)
-    (changes : Bool) → Prunes before after (stays_below event flags end) changes
-    → before.sets.period ≤ end → Prunes before after (stays event flags) changes
-prune_ended before after event flags end changes so all = record {
+pub prune_ended : (before after : Tracked) (event : ℕ) (keep : List ℕ) (end : ℕ)
+    (changes : Bool) → Prunes before after (stays_below event keep end) changes
+    → before.sets.period ≤ end → Prunes before after (stays event keep) changes
+prune_ended before after event keep end changes so all = record {
   period = so.period;
   events = so.events;
   saved = so.saved;
@@ -226,24 +207,65 @@ prune_ended before after event flags end changes so all = record {
 }
   where
     last : (e t : ℕ) → (nat_lt t before.sets.period ≡ true) ⊎ (nat_lt t before.sets.period ≡ false)
-        → both (is_left before.sets) (stays_below event flags end) e t
-        ≡ both (is_left before.sets) (stays event flags) e t
+        → both (is_left before.sets) (stays_below event keep end) e t
+        ≡ both (is_left before.sets) (stays event keep) e t
     last e t (inl is) =
         let h = ltb-true _ _ is in
-        ap (λ b. is_left before.sets e t && (not (e == event) || (not b || get_or flags t false)))
+        ap (λ b. is_left before.sets e t && (not (e == event) || (not b || marked keep t)))
         (lt-ltb t end (omega (arith, h, all)))
     last e t (inr is) = rw (is) refl
 
+-- many times that are kept
+prune_passed : (before now : Tracked) (event : ℕ) (keep : List ℕ) (changes : Bool) (n end : ℕ)
+    → Prunes before now (stays_below event keep end) changes
+    → ((time : ℕ) → end ≤ time → time < end + n
+    → is_left now.sets event time ≡ true → marked keep time ≡ true)
+    → Prunes before now (stays_below event keep (end + n)) changes
+prune_passed before now event keep changes zero end so all =
+    let same : end ≡ end + 0 = omega arith in
+    subst (λ end. Prunes before now (stays_below event keep end) changes) same so
+prune_passed before now event keep changes (suc n) end so all =
+    let same : end + 1 + n ≡ end + suc n = omega arith in
+    subst (λ end. Prunes before now (stays_below event keep end) changes) same
+    (prune_passed before now event keep changes n (end + 1)
+    (prune_kept before now event keep end changes so (either (cases_Bool (is_left now.sets event
+    end))))
+    (λ time low high. all time (omega (arith, low)) (omega (arith, high))))
+  where
+    either : (is_left now.sets event end ≡ true) ⊎ (is_left now.sets event end ≡ false)
+        → (marked keep end ≡ true) ⊎ (is_left now.sets event end ≡ false)
+    either (inl left) = inl (all end (omega arith) (omega arith) left)
+    either (inr gone) = inr gone
+
 -- what is told of sets that are looked at
-pub left_now : (tracked : Tracked) (sets : Marks) (event time : ℕ) (is : Bool)
-    → sets ≡ tracked.sets → is_left sets event time ≡ is → is_left tracked.sets event time ≡ is
-left_now tracked sets event time is same told =
-    ap (λ (sets : Marks). is_left sets event time) (sym same) ∙ told
+pub prune_turn : (before now after : Tracked) (sets : Marks) (event : ℕ) (keep : List ℕ) (from
+    time : ℕ)
+    (changes : Bool) → sets ≡ now.sets → AreMarks sets → event < now.sets.events
+    → Prunes before now (stays_below event keep from) changes
+    → IsNextBesides sets event keep from (Some time)
+    → after ≡ record { sets = with_mark now.sets event time false; saved = now.saved }
+    → Prunes before after (stays_below event keep (time + 1)) true
+prune_turn before now after sets event keep from time changes same are inside so looked is =
+    let next = subst (λ (sets : Marks). IsNextBesides sets event keep from (Some time)) same
+    looked in
+    let far : from + (time - from) ≡ time = (let low = next.0 in omega (arith, low)) in
+    prune_removed before now after event keep time changes (subst AreMarks same are) inside
+    (subst (λ end. Prunes before now (stays_below event keep end) changes) far
+    (prune_passed before now event keep changes (time - from) from so
+    (λ other low high. next.4 other low (omega (arith, high, far)))))
+    next.3 next.2 next.1 is
 
--- ---- flags by a test
+pub prune_over : (before now : Tracked) (sets : Marks) (event : ℕ) (keep : List ℕ) (from : ℕ)
+    (changes : Bool) → sets ≡ now.sets → Prunes before now (stays_below event keep from) changes
+    → IsNextBesides sets event keep from None → Prunes before now (stays event keep) changes
+prune_over before now sets event keep from changes same so looked =
+    let none = subst (λ (sets : Marks). IsNextBesides sets event keep from None) same looked in
+    prune_ended before now event keep (from + before.sets.period) changes
+    (prune_passed before now event keep changes before.sets.period from so
+    (λ time low _. none time low))
+    (omega arith)
 
-abbrev pub flags_of : ℕ → (ℕ → Bool) → List Bool
-flags_of period test = map test (range_with_len 0 period)
+-- ---- bits by a test
 
 abbrev pub kept_by : ℕ → (ℕ → Bool) → Left
 kept_by kept test event time = not (event == kept) || test time
@@ -261,24 +283,23 @@ prunes_as before after keeps others changes same so = record {
   no_more = so.no_more;
 }
 
-by_flags : (sets : Marks) (kept : ℕ) (test : ℕ → Bool) (flags : List Bool)
-    → flags ≡ flags_of sets.period test → (e t : ℕ)
-    → both (is_left sets) (stays kept flags) e t ≡ both (is_left sets) (kept_by kept test) e t
-by_flags sets kept test flags is e t = one (cases_Bool (nat_lt t sets.period))
+by_bits : (sets : Marks) (kept : ℕ) (test : ℕ → Bool) (keep : List ℕ)
+    → ((t : ℕ) → t < sets.period → marked keep t ≡ test t) → (e t : ℕ)
+    → both (is_left sets) (stays kept keep) e t ≡ both (is_left sets) (kept_by kept test) e t
+by_bits sets kept test keep is e t = one (cases_Bool (nat_lt t sets.period))
   where
     one : (nat_lt t sets.period ≡ true) ⊎ (nat_lt t sets.period ≡ false)
-        → both (is_left sets) (stays kept flags) e t ≡ both (is_left sets) (kept_by kept test) e t
+        → both (is_left sets) (stays kept keep) e t ≡ both (is_left sets) (kept_by kept test) e t
     one (inl low) =
-        ap (λ b. is_left sets e t && (not (e == kept) || b))
-        (ap (λ flags. get_or flags t false) is
-        ∙ get_or-map-range_with_len test 0 sets.period t t false (ltb-true _ _ low) (omega arith))
+        ap (λ b. is_left sets e t && (not (e == kept) || b)) (is t (ltb-true _ _ low))
     one (inr high) = rw (high) refl
 
-pub prunes_by_flags : {E : Type 0} (before after : Tracked) (kept : ℕ) (test : ℕ → Bool)
-    (flags : List Bool) (result : Result Bool E) → flags ≡ flags_of before.sets.period test
-    → IfOk result (Prunes before after (stays kept flags))
+pub prunes_by_bits : {E : Type 0} (before after : Tracked) (kept : ℕ) (test : ℕ → Bool)
+    (keep : List ℕ) (result : Result Bool E)
+    → ((t : ℕ) → t < before.sets.period → marked keep t ≡ test t)
+    → IfOk result (Prunes before after (stays kept keep))
     → IfOk result (Prunes before after (kept_by kept test))
-prunes_by_flags before after kept test flags (Ok changes) is so =
-    prunes_as before after (stays kept flags) (kept_by kept test) changes
-    (by_flags before.sets kept test flags is) so
-prunes_by_flags before after kept test flags (Err why) is so = tt
+prunes_by_bits before after kept test keep (Ok changes) is so =
+    prunes_as before after (stays kept keep) (kept_by kept test) changes
+    (by_bits before.sets kept test keep is) so
+prunes_by_bits before after kept test keep (Err why) is so = tt

@@ -10,11 +10,15 @@ use Rattle.std.proofs.lemmas.List.Elements.{All-from_get_or}
 use Rattle.std.proofs.lemmas.Option.{none-some, slice_get-get_or}
 use Rattle.pesp_model.specs.declared.activity.PespActivity.{PespActivity}
 use Rattle.pesp_model.specs.Timetables.{IsActivity, IsProblem, Problem, keeps}
-use Rattle.pesp_search.specs.Marks.{Tracked, family, is_left}
-use Rattle.pesp_search.specs.Revising.{AllFrom, IsRevised, IsWithin, Left, Propagates, Reduces}
-use Rattle.pesp_search.specs.Revising.{first_left, second_left}
+use Rattle.pesp_search.specs.Listings.{is_empty}
+use Rattle.pesp_search.specs.Marks.{AreMarks, Tracked, family, is_left, sets_of}
+use Rattle.pesp_search.specs.Revising.{AllFrom, HasEmpty, IsRevised, IsWithin, Left, Propagates}
+use Rattle.pesp_search.specs.Revising.{Reduces}
+use Rattle.pesp_search.specs.Revising.{first_left, is_free, second_left}
 use Rattle.pesp_search.specs.TimeSets.{has_partner, has_partners, reduced, round, rounds}
 use Rattle.pesp_search.specs.TimeSets.{times_left}
+use Rattle.pesp_search.proofs.Crowded.{free_revised}
+use Rattle.pesp_search.proofs.EmptySets.{empty_within, some_left}
 use Rattle.pesp_search.proofs.Families.{all_times, both_of, fewer_times, left_to_family}
 use Rattle.pesp_search.proofs.Families.{round_family, same_family, sets_family}
 use Rattle.pesp_search.proofs.Partners.{holds_in_range, range_holds, same_tests}
@@ -34,7 +38,8 @@ holds_at : {X : Type 0} (test : X → Bool) (xs : List X) → list_all test xs �
 holds_at test [] all i x at = absurd (none-some x at)
 holds_at test (first ∷ xs) all zero x at =
     let own : first ≡ x = cc in ap test (sym own) ∙ (and_parts (test first) _ all).0
-holds_at test (first ∷ xs) all (suc i) x at = holds_at test xs (and_parts (test first) _ all).1 i x at
+holds_at test (first ∷ xs) all (suc i) x at = holds_at test xs (and_parts (test first) _ all).1 i
+    x at
 
 -- ---- partners in a family
 
@@ -57,7 +62,8 @@ module _ (problem : Problem) (sound : IsProblem problem) where
       ≡ ((not (activity.from == e) || second_left period left activity t)
       && (not (activity.to == e) || first_left period left activity t))
   partner_is left activity is e t = λ i.
-      (not (activity.from == e) || list_any (keeps period activity t) (left_to_family period events left activity.to is.to i))
+      (not (activity.from == e)
+      || list_any (keeps period activity t) (left_to_family period events left activity.to is.to i))
       && (not (activity.to == e) || list_any (λ other. keeps period activity other t)
       (left_to_family period events left activity.from is.from i))
 
@@ -112,11 +118,13 @@ module _ (problem : Problem) (sound : IsProblem problem) where
   stable_revised : (left : Left)
       → ((e t : ℕ) → e < events → t < period → left e t ≡ true → partners left e t ≡ true)
       → All (IsRevised period (inside left)) problem.activities
-  stable_revised left stable = All-from_get_or (IsRevised period (inside left)) problem.activities no_activity
+  stable_revised left stable = All-from_get_or (IsRevised period (inside left)) problem.activities
+      no_activity
       (λ i within. revised i (get_or problem.activities i no_activity)
       (slice_get-get_or problem.activities i no_activity within))
     where
-      told : (i : ℕ) (activity : PespActivity) → slice_get problem.activities i ≡ Some activity → (e t : ℕ)
+      told : (i : ℕ) (activity : PespActivity) → slice_get problem.activities i ≡ Some activity
+          → (e t : ℕ)
           → inside left e t ≡ true
           → ((not (activity.from == e) || second_left period left activity t) ≡ true)
           × ((not (activity.to == e) || first_left period left activity t) ≡ true)
@@ -131,16 +139,24 @@ module _ (problem : Problem) (sound : IsProblem problem) where
       revised i activity at = record {
         seconds = λ t is.
             let second = here_or activity.from _ (told i activity at activity.from t is).0 in
-            let found = holds_in_range (left activity.to) (keeps period activity t) 0 period second in
-            range_holds (inside left activity.to) (keeps period activity t) 0 period found.0 found.1 found.2
-            (inside_from left activity.to found.0 (activity_at i activity at).to (omega (arith, found.2)) found.3)
+            let found = holds_in_range (left activity.to) (keeps period activity t) 0 period
+            second in
+            range_holds (inside left activity.to) (keeps period activity t) 0 period found.0
+            found.1 found.2
+            (inside_from left activity.to found.0 (activity_at i activity at).to (omega (
+              arith,
+              found.2,
+            )) found.3)
             found.4;
         firsts = λ t is.
             let first = here_or activity.to _ (told i activity at activity.to t is).1 in
-            let found = holds_in_range (left activity.from) (λ other. keeps period activity other t) 0 period first in
-            range_holds (inside left activity.from) (λ other. keeps period activity other t) 0 period found.0
+            let found = holds_in_range (left activity.from) (λ other. keeps period activity other
+            t) 0 period first in
+            range_holds (inside left activity.from) (λ other. keeps period activity other t) 0
+            period found.0
             found.1 found.2
-            (inside_from left activity.from found.0 (activity_at i activity at).from (omega (arith, found.2)) found.3)
+            (inside_from left activity.from found.0 (activity_at i activity at).from (omega
+            (arith, found.2)) found.3)
             found.4;
       }
 
@@ -179,7 +195,8 @@ module _ (problem : Problem) (sound : IsProblem problem) where
         → times_left (sets left) ≤ times_left (round problem (sets left)) → sets left ≡ sets last
     stopped left low high as_many =
         let stable = all_times period events left (partners left)
-        (subst (λ next. times_left (sets left) ≤ times_left next) (round_family period problem events left) as_many) in
+        (subst (λ next. times_left (sets left) ≤ times_left next) (round_family period problem
+        events left) as_many) in
         let inner = keeps_all (inside left) (stable_revised left stable)
         (λ e t is. high e t (inside_parts left e t is).2) in
         same_family period events left last (λ e t within small.
@@ -200,7 +217,8 @@ module _ (problem : Problem) (sound : IsProblem problem) where
         rounds_none (sets left) ∙ stopped left low high (omega (arith, few))
     all_rounds (suc n) left few low high =
         let next = round_family period problem events left in
-        elim (cases_Bool (nat_eq (times_left (round problem (sets left))) (times_left (sets left)))) [
+        elim (cases_Bool (nat_eq (times_left (round problem (sets left))) (times_left (sets
+        left)))) [
           | inl same ↦
               rounds_stop n (sets left) same
               ∙ stopped left low high (omega (arith, eqb-true _ _ same))
@@ -218,20 +236,125 @@ module _ (problem : Problem) (sound : IsProblem problem) where
     family_reduced low =
         all_rounds (times_left (sets first)) first (omega arith) low (λ e t is. is)
 
+  -- ---- sets in which none is left to some event
+
+  stable_of : (left : Left) → times_left (sets left) ≤ times_left (round problem (sets left))
+      → All (IsRevised period (inside left)) problem.activities
+  stable_of left as_many = stable_revised left (all_times period events left (partners left)
+      (subst (λ next. times_left (sets left) ≤ times_left next) (round_family period problem
+      events left) as_many))
+
+  -- what rounds leave are sets in which all activities are revised
+  rounds_family : (n : ℕ) (left : Left) → times_left (sets left) ≤ n
+      → (last : Left) × (rounds n problem (sets left) ≡ sets last) × IsWithin last left
+      × All (IsRevised period (inside last)) problem.activities
+  rounds_family zero left few =
+      (left, rounds_none (sets left), λ e t is. is, stable_of left (omega (arith, few)))
+  rounds_family (suc n) left few =
+      let next = round_family period problem events left in
+      elim (cases_Bool (nat_eq (times_left (round problem (sets left))) (times_left (sets left)))) [
+        | inl same ↦ (
+          left,
+          rounds_stop n (sets left) same,
+          λ e t is. is,
+          stable_of left (omega (arith, eqb-true _ _ same)),
+        )
+        | inr other ↦
+            let apart = eqb-false _ _ other in
+            let fewer = fewer_times period events left (partners left) in
+            let less = ap times_left next in
+            let rest = rounds_family n (both_of left (partners left)) (omega (
+              arith,
+              few,
+              fewer,
+              less,
+              apart,
+            )) in (
+              rest.0,
+              rounds_on n (sets left) other ∙ ap (rounds n problem) next ∙ rest.1,
+              λ e t is. (and_parts (left e t) _ (rest.2 e t is)).0,
+              rest.3,
+            )
+      ]
+
   -- ---- marks
 
-  pub sets_reduced : (before after : Tracked) → before.sets.period ≡ period → before.sets.events ≡ events
-      → Propagates problem before after
-      → AllFrom problem.activities (IsRevised period (is_left after.sets)) 0
-      → Reduces problem before after
-  sets_reduced before after period_is events_is so revised = record {
-    period = so.period;
-    events = so.events;
-    saved = so.saved;
-    revised = revised;
-    sets = sets_family after.sets
+  module _ (before after : Tracked) (period_is : before.sets.period ≡ period)
+      (events_is : before.sets.events ≡ events) (so : Propagates problem before after) where
+    before_is : sets_of before.sets ≡ sets (is_left before.sets)
+    before_is = sets_family before.sets
+        ∙ (λ i. family (period_is i) (events_is i) (is_left before.sets))
+
+    after_is : sets_of after.sets ≡ sets (is_left after.sets)
+    after_is = sets_family after.sets
         ∙ (λ i. family ((so.period ∙ period_is) i) ((so.events ∙ events_is) i) (is_left after.sets))
-        ∙ sym (family_reduced (is_left before.sets) (is_left after.sets) revised so.keeps so.within)
-        ∙ sym (ap (reduced problem) (sets_family before.sets
-        ∙ (λ i. family (period_is i) (events_is i) (is_left before.sets))));
-  }
+
+    sets_reduced : AllFrom problem.activities (IsRevised period (is_left after.sets)) 0
+        → sets_of after.sets ≡ reduced problem (sets_of before.sets)
+    sets_reduced revised =
+        after_is ∙ sym (family_reduced (is_left before.sets) (is_left after.sets) revised so.keeps
+        so.within)
+        ∙ sym (ap (reduced problem) before_is)
+
+    -- where some event has no time left, it has none in the reduced sets
+    none_reduced : HasEmpty after.sets
+        → list_any is_empty (reduced problem (sets_of before.sets)) ≡ true
+    unfolding reduced
+    none_reduced empty =
+        let found = rounds_family (times_left (sets (is_left before.sets))) (is_left before.sets)
+        (omega arith) in
+        let inner = so.keeps (inside found.0) found.3
+        (λ e t is. found.2 e t (inside_parts found.0 e t is).2) in
+        let same = same_family period events found.0 (inside found.0) (λ e t within small.
+        same_tests (found.0 e t) (inside found.0 e t)
+        (λ is. inside_from found.0 e t within small is) (λ is. (inside_parts found.0 e t is).2)) in
+        ap (list_any is_empty) (ap (reduced problem) before_is ∙ found.1 ∙ same)
+        ∙ empty_within period (inside found.0) (is_left after.sets) inner events
+        (sym (ap (list_any is_empty) after_is) ∙ empty)
+
+    pub dead_stands : HasEmpty after.sets → Reduces problem before after
+    dead_stands empty = record {
+      period = so.period;
+      events = so.events;
+      saved = so.saved;
+      stands = inl (empty, none_reduced empty);
+    }
+
+    -- all activities are revised that are not free, and where times are left to all events the others too
+    pub bound_stands : AreMarks after.sets
+        → AllFrom problem.activities (λ activity. is_free period activity ≡ false
+        → IsRevised period (is_left after.sets) activity) 0
+        → Reduces problem before after
+    bound_stands are bound = elim (cases_Bool (list_any is_empty (sets_of after.sets))) [
+      | inl empty ↦ dead_stands empty
+      | inr none ↦
+          let all = all_revised none in
+          record {
+            period = so.period;
+            events = so.events;
+            saved = so.saved;
+            stands = inr (sets_reduced all, all);
+          }
+    ]
+      where
+        own_period : after.sets.period ≡ period
+        own_period = so.period ∙ period_is
+
+        own_events : after.sets.events ≡ events
+        own_events = so.events ∙ events_is
+
+        all_revised : list_any is_empty (sets_of after.sets) ≡ false
+            → AllFrom problem.activities (IsRevised period (is_left after.sets)) 0
+        all_revised none i activity at low = elim (cases_Bool (is_free period activity)) [
+          | inr not_free ↦ bound i activity at low not_free
+          | inl free ↦
+              let is = activity_at i activity at in
+              subst (λ period. IsRevised period (is_left after.sets) activity) own_period
+              (free_revised activity after (subst (λ events. IsActivity events activity) (sym
+              own_events) is) are
+              (ap (λ (period : ℕ). is_free period activity) own_period ∙ free)
+              (some_left after.sets activity.from (subst (λ events. activity.from < events) (sym
+              own_events) is.from) none)
+              (some_left after.sets activity.to (subst (λ events. activity.to < events) (sym
+              own_events) is.to) none))
+        ]

@@ -1,12 +1,12 @@
 -- Rounds lose no timetable.
-use Rattle.std.proofs.Common.{◌≡◌, ◌∙◌, ℕ, zero, suc, ◌+◌, ◌<◌, ◌≤◌, ◌==◌, nat_eq, Bool, true, false, cond}
-use Rattle.std.proofs.Common.{not, ◌&&◌, ◌||◌, List, [], ◌∷◌, filter, get_or, length, map, All, refl, ap, sym}
+use Rattle.std.proofs.Common.{◌≡◌, ◌∙◌, ℕ, zero, suc, ◌+◌, ◌<◌, ◌==◌, nat_eq, Bool, true, false, cond}
+use Rattle.std.proofs.Common.{not, ◌&&◌, ◌||◌, List, [], ◌∷◌, filter, get_or, length, map, refl, ap, sym}
 use Rattle.std.proofs.Common.{subst, arith}
-use Rattle.std.specs.List.{AllZip, enumerate_from, list_all, list_any}
-use Rattle.std.proofs.lemmas.Bool.{cases_Bool, eqb-true, or_left, or_right}
+use Rattle.std.specs.List.{AllZip, enumerate_from, list_any}
+use Rattle.std.proofs.lemmas.Bool.{eqb-true, or_left, or_right}
 use Rattle.std.proofs.lemmas.List.Sums.{list_all-from_AllPass}
 use Rattle.pesp_model.specs.declared.activity.PespActivity.{PespActivity}
-use Rattle.pesp_model.specs.Timetables.{IsActivity, IsKept, IsProblem, IsTimetable, Problem, keeps}
+use Rattle.pesp_model.specs.Timetables.{IsActivity, IsProblem, IsTimetable, Problem, keeps}
 use Rattle.pesp_model.specs.Timetables.{keeps_in, time_of}
 use Rattle.pesp_model.proofs.Keeping.{test_tells}
 use Rattle.pesp_search.specs.TimeSets.{has_first, has_partner, has_partners, has_second, left_to, reduced}

@@ -1,6 +1,6 @@
 -- When a search says that there is no timetable, and when its budget is never spent.
 use Rattle.std.proofs.Common.{◌≡◌, ◌≢◌, ◌∙◌, ◌⊎◌, inl, inr, ℕ, ◌≤◌, Bool, true, false, cond, nat_lt, List, []}
-use Rattle.std.proofs.Common.{◌∷◌, Option, Some, None, Result, Ok, Err, refl, ap, sym, subst, arith}
+use Rattle.std.proofs.Common.{Option, Some, None, Result, Ok, Err, refl, ap, sym, subst, arith}
 use Rattle.std.proofs.lemmas.Bool.{le-ltb, ltb-false}
 use Rattle.giv_files.specs.declared.made.Made.{Made}
 use Rattle.giv_files.specs.declared.refusal.Refusal.{Refusal}
@@ -11,9 +11,9 @@ use Rattle.giv_files.specs.declared.stage.Stage.TheVariants as stage
 use Rattle.giv_files.specs.Settings.{BundleParts, Fits}
 use Rattle.giv_files.specs.StageCalls.{StageGives}
 use Rattle.pesp_model.specs.Timetables.{IsTimetable, Problem}
-use Rattle.pesp_search.specs.Listings.{Listing, ListingIsRight, Tells, listing, most_entries, result_within}
+use Rattle.pesp_search.specs.Listings.{Listing, ListingIsRight, Tells, listing, result_within}
 use Rattle.pesp_search.specs.Listings.{whole_result}
-use Rattle.pesp_search.specs.RightTimetables.{HasNone, IsNeverSpent, SaysNone}
+use Rattle.pesp_search.specs.RightTimetables.{IsNeverSpent, SaysNone}
 use Rattle.pesp_search.specs.TimetableStage.{after_faults, budget_in, problem_in, search_made, timetable_faults}
 use Rattle.pesp_search.specs.TimetableStage.{timetable_stage}
 use Rattle.pesp_search.proofs.ListingRight.{listing_right}

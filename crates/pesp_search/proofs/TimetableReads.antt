@@ -1,9 +1,8 @@
 -- The timetable that is made is right over what the stage was given.
-use Rattle.std.proofs.Common.{◌≡◌, ◌∙◌, ℕ, ◌+◌, ◌<◌, ◌≤◌, Bool, true, false, cond, nat_lt, List, [], ◌∷◌, length}
-use Rattle.std.proofs.Common.{map, All, Option, Some, None, Result, Ok, Err, refl, ap, sym, subst, arith}
+use Rattle.std.proofs.Common.{◌≡◌, ℕ, ◌<◌, ◌≤◌, true, false, cond, nat_lt, List, [], ◌∷◌, length}
+use Rattle.std.proofs.Common.{map, All, Option, Some, None, Result, Ok, Err, refl, sym, subst, arith}
 use Rattle.std.specs.Prelude.{IfOk}
 use Rattle.std.specs.List.{range_with_len}
-use Rattle.std.proofs.lemmas.List.{length-map}
 use Rattle.giv_files.specs.declared.file_id.FileId.TheVariants as file
 use Rattle.giv_files.specs.declared.key.Key.TheVariants as key
 use Rattle.giv_files.specs.declared.made.Made.{Made}
@@ -23,7 +22,7 @@ use Rattle.event_tables.proofs.SoundFiles.{periodic_activities_sound, periodic_e
 use Rattle.pesp_model.specs.PespTexts.{activities_of, activity_of, events_of, problem_faults, problem_of}
 use Rattle.pesp_model.specs.Timetables.{IsProblem, IsTimetable}
 use Rattle.pesp_model.proofs.Texts.{problem_sound}
-use Rattle.pesp_search.specs.Listings.{ListingIsRight, Tells, TimesFound, listing, result_within, whole_result}
+use Rattle.pesp_search.specs.Listings.{Tells, listing, result_within, whole_result}
 use Rattle.pesp_search.specs.RightTimetables.{TimetableFilesAreRight, TimetableIsRight, event_ids}
 use Rattle.pesp_search.specs.TimetableStage.{after_faults, budget_in, period_in, problem_in, search_made}
 use Rattle.pesp_search.specs.TimetableStage.{timetable_faults, timetable_stage, times_made, times_text}

@@ -41,7 +41,8 @@ pub next_waits : (before restored saved after : Tracked) (sets : Marks) (branch 
 unfolding waiting
 next_waits before restored saved after sets branch time is same next save keep = (
   ap waiting is.0
-      ∙ ap (λ times. map (with_time (sets_of restored.sets) branch.event) times ++ waiting restored.saved)
+      ∙ ap (λ times. map (with_time (sets_of restored.sets) branch.event) times ++ waiting
+      restored.saved)
       (ap (λ (sets : Marks). times_from sets branch.event branch.from) (sym same) ∙ next.2
       ∙ ap (λ (sets : Marks). time ∷ times_from sets branch.event (time + 1)) same)
       ∙ (λ i. sym sets_are i ∷ waiting (sym saved_are i)),
@@ -58,7 +59,10 @@ next_waits before restored saved after sets branch time is same next save keep =
     now = saved_are;
     within = λ e t is.
         ap (λ (tracked : Tracked). is_left tracked.sets e t) (sym save) ∙ keep.within e t is;
-    others = λ e other. keep.others e other ∙ ap (λ (tracked : Tracked). is_left tracked.sets e) save;
+    others = λ e other. keep.others e other
+        ∙ ap (λ (tracked : Tracked). is_left tracked.sets e) save;
+    one = time;
+    sets = sets_are;
   },
 )
   where
@@ -89,10 +93,13 @@ next_from first before after passed event same period events all next = (
     earlier = next.3.earlier;
     inside = next.3.inside;
     was = all ∙ ap (λ saved. passed ++ saved) next.3.was
-        ∙ sym (append_assoc passed next.3.passed (saved_at next.3.branched next.3.from ∷ next.3.earlier));
+        ∙ sym (append_assoc passed next.3.passed (saved_at next.3.branched next.3.from ∷
+        next.3.earlier));
     now = next.3.now;
     within = next.3.within;
     others = next.3.others;
+    one = next.3.one;
+    sets = next.3.sets;
   },
 )
 

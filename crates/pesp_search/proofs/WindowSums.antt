@@ -1,16 +1,12 @@
 -- Sums over a period that is gone through twice, and the windows in which they differ.
-use Rattle.std.proofs.Common.{All, subst}
-use Rattle.std.proofs.lemmas.List.Elements.{All-nil, All-push}
-use Rattle.std.proofs.Common.{◌≡◌, ◌∙◌, inl, inr, ℕ, zero, suc, ◌+◌, ◌-◌, ◌*◌, ◌%◌, ◌<◌, ◌≤◌, ◌==◌}
+use Rattle.std.proofs.Common.{◌≡◌, ◌∙◌, inl, inr, ℕ, zero, suc, ◌+◌, ◌-◌, ◌%◌, ◌<◌, ◌≤◌, ◌==◌}
 use Rattle.std.proofs.Common.{cond}
-use Rattle.std.proofs.Common.{Bool, true, false, not, ◌||◌, List, ◌++◌, ◌∷◌, [], filter, length, map}
-use Rattle.std.proofs.Common.{slice_index, refl, ap, sym, arith}
+use Rattle.std.proofs.Common.{Bool, true, false, not, ◌||◌, ◌∷◌, filter, length}
+use Rattle.std.proofs.Common.{refl, ap, sym, arith}
 use Rattle.std.specs.List.{range_with_len}
 use Rattle.std.proofs.Math.Nat.{add-mod_left, mod-add-mod, mod-eq_of_lt, mod-lt}
-use Rattle.std.proofs.lemmas.Bool.{cases_Bool, cases_lt, eq-eqb, le-leb, lt-leb, ne_eqb}
-use Rattle.std.proofs.lemmas.List.FromFn.{get_or-map-range_with_len, length-map-range_with_len}
-use Rattle.std.proofs.lemmas.List.FromFn.{map-range_with_len_more}
-use Rattle.pesp_search.specs.Revising.{any_below, count_below, reaches, sum_before}
+use Rattle.std.proofs.lemmas.Bool.{cases_Bool, eq-eqb, ne_eqb}
+use Rattle.pesp_search.specs.Revising.{any_below, count_below, reaches}
 
 -- ---- sums
 
@@ -37,12 +33,6 @@ count_same test n is =
     let same : count_below test (n + 1) ≡ count_below test n + 0 =
     count_step test n ∙ ap (λ b. count_below test n + cond b 1 0) is in
     omega (arith, same)
-
-pub one_sum_more : (test : ℕ → Bool) (n : ℕ) (sums more : List ℕ) (sum : ℕ)
-    → sums ≡ map (count_below test) (range_with_len 0 n) → sum ≡ count_below test n
-    → more ≡ sums ++ sum ∷ [] → more ≡ map (count_below test) (range_with_len 0 (n + 1))
-one_sum_more test n sums more sum so last is =
-    is ∙ (λ i. so i ++ last i ∷ []) ∙ sym (map-range_with_len_more (count_below test) 0 n n (omega arith))
 
 -- ---- windows
 
@@ -116,46 +106,6 @@ module _ (period : ℕ) (left : ℕ → Bool) where
             omega (arith, rest, far, near)
       ]
 
-  sum_is : (sums : List ℕ) → sums ≡ map (count_below shown) (range_with_len 0 (period + 1)) → (time : ℕ)
-      → time ≤ period → slice_index sums time ≡ count_below shown time
-  sum_is sums so time low =
-      ap (λ sums. slice_index sums time) so
-      ∙ get_or-map-range_with_len (count_below shown) 0 (period + 1) time time 0 (omega (arith, low)) (omega arith)
-
-  sum_before_is : (sums : List ℕ) → sums ≡ map (count_below shown) (range_with_len 0 (period + 1))
-      → (time : ℕ) → time < 2 * period → sum_before sums period time ≡ count_below shown time
-  sum_before_is sums so time low = elim (cases_lt period time) [
-    | inl over ↦
-        let back : period + (time - period) ≡ time = omega (arith, over) in
-        ap (λ b. cond b (slice_index sums time) (slice_index sums period + slice_index sums (time - period)))
-        (lt-leb time period over)
-        ∙ (λ i. sum_is sums so period (omega arith) i + sum_is sums so (time - period) (omega (arith, low, over)) i)
-        ∙ sym (again (time - period)) ∙ ap (count_below shown) back
-    | inr within ↦
-        ap (λ b. cond b (slice_index sums time) (slice_index sums period + slice_index sums (time - period)))
-        (le-leb time period within)
-        ∙ sum_is sums so time within
-  ]
-
-  -- the sums at both ends of a window differ where a time is left in it
-  pub window : (sums : List ℕ) (offset width time start : ℕ)
-      → sums ≡ map (count_below shown) (range_with_len 0 (period + 1))
-      → start ≡ (time + offset) % period → start < period → width < period
-      → not (sum_before sums period (start + width + 1) == slice_index sums start)
-      ≡ reaches period left offset width time
-  window sums offset width time start so opens within narrow =
-      (λ i. not (sum_before_is sums so (start + width + 1) (omega (arith, within, narrow)) i
-      == sum_is sums so start (omega (arith, within)) i))
-      ∙ ap (λ end. not (count_below shown end == count_below shown start)) far
-      ∙ differs shown start (width + 1)
-      ∙ ap (λ test. any_below test (width + 1)) (λ i k. left (there k i))
-    where
-      far : start + width + 1 ≡ start + (width + 1)
-      far = omega arith
-
-      there : (k : ℕ) → (start + k) % period ≡ (time + offset + k) % period
-      there k = ap (λ start. (start + k) % period) opens ∙ mod-add-mod (time + offset) period k
-
   -- ---- where more times are left than lie outside of a window, each window has one
 
   slow : (from n : ℕ) → count_below shown (from + n) ≤ count_below shown from + n
@@ -173,7 +123,8 @@ module _ (period : ℕ) (left : ℕ → Bool) where
       ]
 
   all_counted : (from n : ℕ) → from + n ≤ period
-      → count_below shown from + length (filter left (range_with_len from n)) ≡ count_below shown (from + n)
+      → count_below shown from + length (filter left (range_with_len from n)) ≡ count_below shown
+      (from + n)
   all_counted from zero few =
       let none : from + 0 ≡ from = omega arith in
       let same = ap (count_below shown) none in
@@ -186,13 +137,18 @@ module _ (period : ℕ) (left : ℕ → Bool) where
       one (left from) refl rest end own
     where
       one : (b : Bool) → left from ≡ b
-          → count_below shown (from + 1) + length (filter left (range_with_len (from + 1) n)) ≡ count_below shown (from + 1 + n)
-          → count_below shown (from + 1 + n) ≡ count_below shown (from + suc n) → shown from ≡ left from
+          → count_below shown (from + 1) + length (filter left (range_with_len (from + 1) n)) ≡
+          count_below shown (from + 1 + n)
+          → count_below shown (from + 1 + n) ≡ count_below shown (from + suc n)
+          → shown from ≡ left from
           → count_below shown from
-          + length (cond b (from ∷ filter left (range_with_len (from + 1) n)) (filter left (range_with_len (from + 1) n)))
+          + length (cond b (from ∷ filter left (range_with_len (from + 1) n)) (filter left
+          (range_with_len (from + 1) n)))
           ≡ count_below shown (from + suc n)
-      one true is rest end own = let more = count_more shown from (own ∙ is) in omega (arith, rest, end, more)
-      one false is rest end own = let same = count_same shown from (own ∙ is) in omega (arith, rest, end, same)
+      one true is rest end own = let more = count_more shown from (own ∙ is) in
+          omega (arith, rest, end, more)
+      one false is rest end own = let same = count_same shown from (own ∙ is) in
+          omega (arith, rest, end, same)
 
   pub crowded : (width : ℕ) → 1 ≤ period → width < period
       → period ≤ length (filter left (range_with_len 0 period)) + width → (offset time : ℕ)
@@ -206,44 +162,26 @@ module _ (period : ℕ) (left : ℕ → Bool) where
       let whole = ap (count_below shown) none in
       let round = again start in
       let slowly = slow (start + (width + 1)) (period - (width + 1)) in
-      let last : start + (width + 1) + (period - (width + 1)) ≡ period + start = omega (arith, narrow) in
+      let last : start + (width + 1) + (period - (width + 1)) ≡ period + start = omega (
+        arith,
+        narrow,
+      ) in
       let ends = ap (count_below shown) last in
       sym (ap (λ test. any_below test (width + 1)) (λ i k. left (shift k i)))
       ∙ sym (differs shown start (width + 1))
       ∙ ap not (ne_eqb (count_below shown (start + (width + 1))) (count_below shown start)
-      (λ same. absurd (omega (arith, same, counted, first, whole, round, slowly, ends, many, narrow))))
+      (λ same. absurd (omega (
+        arith,
+        same,
+        counted,
+        first,
+        whole,
+        round,
+        slowly,
+        ends,
+        many,
+        narrow,
+      ))))
     where
       shift : (k : ℕ) → ((time + offset) % period + k) % period ≡ (time + offset + k) % period
       shift k = mod-add-mod (time + offset) period k
-
-pub sums_long : (test : ℕ → Bool) (n : ℕ) (sums : List ℕ)
-    → sums ≡ map (count_below test) (range_with_len 0 n) → length sums ≡ n
-sums_long test n sums so = ap length so ∙ length-map-range_with_len (count_below test) 0 n
-
-pub one_flag_more : (test : ℕ → Bool) (n : ℕ) (flags more : List Bool) (flag : Bool)
-    → flags ≡ map test (range_with_len 0 n) → flag ≡ test n → more ≡ flags ++ flag ∷ []
-    → more ≡ map test (range_with_len 0 (n + 1))
-one_flag_more test n flags more flag so last is =
-    is ∙ (λ i. so i ++ last i ∷ []) ∙ sym (map-range_with_len_more test 0 n n (omega arith))
-
--- the sum before the first time
-pub first_sum : (test : ℕ → Bool) (sums more : List ℕ) → sums ≡ [] → more ≡ sums ++ 0 ∷ []
-    → more ≡ map (count_below test) (range_with_len 0 1)
-first_sum test sums more none is =
-    is ∙ ap (λ sums. sums ++ 0 ∷ []) none ∙ ap (λ n. n ∷ []) (sym (count_start test))
-
-pub next_sum : (test : ℕ → Bool) (n : ℕ) (sums more : List ℕ) (sum : ℕ)
-    → sums ≡ map (count_below test) (range_with_len 0 (n + 1)) → sum ≡ count_below test (n + 1)
-    → more ≡ sums ++ sum ∷ [] → more ≡ map (count_below test) (range_with_len 0 (n + 1 + 1))
-next_sum test n sums more sum so last is = one_sum_more test (n + 1) sums more sum so last is
-
-pub small_more : (sums more : List ℕ) (sum : ℕ) → All (λ sum. sum ≤ 720) sums → sum ≤ 720
-    → more ≡ sums ++ sum ∷ [] → All (λ sum. sum ≤ 720) more
-small_more sums more sum all low is =
-    subst (All (λ sum. sum ≤ 720)) (sym is) (All-push (λ sum. sum ≤ 720) sums sum all low)
-
-pub small_first : (sums more : List ℕ) → sums ≡ [] → more ≡ sums ++ 0 ∷ []
-    → All (λ sum. sum ≤ 720) more
-small_first sums more none is =
-    small_more sums more 0 (subst (All (λ sum. sum ≤ 720)) (sym none) (All-nil (λ sum. sum ≤ 720)))
-    (omega arith) is

@@ -1,3 +1,4 @@
+pub mod Flags
 pub mod Judged
 pub mod Listings
 pub mod Marks

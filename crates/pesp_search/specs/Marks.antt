@@ -1,35 +1,71 @@
 -- Inner words: marks of the times that are left to events, and sets of times that are changed and
 -- restored.
-use Rattle.std.specs.Prelude.{◌≡◌, ℕ, ◌+◌, ◌*◌, ◌-◌, ◌<◌, ◌≤◌, nat_lt, Bool, true, false, ◌&&◌}
-use Rattle.std.specs.Prelude.{List, [], ◌∷◌, ◌++◌, length, map, filter, get_or, slice_set, Option}
-use Rattle.std.specs.Prelude.{Some, None}
+use Rattle.std.specs.Prelude.{◌≡◌, ℕ, ◌+◌, ◌*◌, ◌-◌, ◌/◌, ◌%◌, ◌^◌, ◌<◌, ◌≤◌, ◌==◌, nat_lt, nat_le}
+use Rattle.std.specs.Prelude.{Bool, true, false, ◌&&◌, ◌||◌, if◌then◌else◌, bit_and, bit_or}
+use Rattle.std.specs.Prelude.{List, [], ◌∷◌, ◌++◌, length, map, filter, get_or, slice_set, sum, All}
+use Rattle.std.specs.Prelude.{Option, Some, None}
+use Rattle.std.specs.Int.{bit_at, bit_not, w64}
 use Rattle.std.specs.List.{range_with_len}
 use Rattle.pesp_search.specs.declared.time_sets.Branch.{Branch}
 use Rattle.pesp_search.specs.declared.time_sets.Change.{Change}
 use Rattle.pesp_search.specs.declared.time_sets.Change.TheVariants as change
 use Rattle.pesp_search.specs.Listings.{with_time}
 
--- a mark for each time of a period and each of so many events, event by event
+-- ---- words of 64 bits
+
+-- a bit of a word is set
+unfoldable pub has_bit : ℕ → ℕ → Bool
+has_bit word bit = bit_at word bit == 1
+
+-- the bit at a place of words
+abbrev pub marked : List ℕ → ℕ → Bool
+marked words place = has_bit (get_or words (place / 64) 0) (place % 64)
+
+-- the mask of one bit
+abbrev pub one_bit : ℕ → ℕ
+one_bit bit = 1 * 2 ^ bit % 2 ^ 64
+
+-- the word where a bit is set or not
+unfoldable pub with_bit : ℕ → ℕ → Bool → ℕ
+with_bit word bit is =
+    if is then bit_or word (one_bit bit) else bit_and word (bit_not w64 (one_bit bit))
+
+-- the first bit of a word from one on that is set, if one is
+abbrev pub IsFirstBit : ℕ → ℕ → Option ℕ → Type 0
+IsFirstBit word from None = (bit : ℕ) → from ≤ bit → bit < 64 → has_bit word bit ≡ false
+IsFirstBit word from (Some first) = (from ≤ first) × (first < 64) × (has_bit word first ≡ true)
+    × ((bit : ℕ) → from ≤ bit → bit < first → has_bit word bit ≡ false)
+
+-- how many words hold a bit for each time of a period
+abbrev pub words_of : ℕ → ℕ
+words_of period = (period + 63) / 64
+
+-- ---- marks
+
+-- words with a bit for each time of a period, for each of so many events
 pub record Marks : Type 0 where
   pub period : ℕ
   pub events : ℕ
-  pub marks : List Bool
+  pub words : List ℕ
 
--- the place of the mark of a time
+-- the place of the word of a time, and that word
 abbrev pub place_of : ℕ → ℕ → ℕ → ℕ
-place_of period event time = event * period + time
+place_of period event time = event * words_of period + time / 64
+
+abbrev pub word_of : Marks → ℕ → ℕ → ℕ
+word_of sets event time = get_or sets.words (place_of sets.period event time) 0
 
 -- a time is left to an event
 abbrev pub is_left : Marks → ℕ → ℕ → Bool
-is_left sets event time =
-    nat_lt time sets.period && get_or sets.marks (place_of sets.period event time) false
+is_left sets event time = nat_lt time sets.period && has_bit (word_of sets event time) (time % 64)
 
 -- the marks where that of one time is another one
 abbrev pub with_mark : Marks → ℕ → ℕ → Bool → Marks
 with_mark sets event time mark = record {
   period = sets.period;
   events = sets.events;
-  marks = slice_set sets.marks (place_of sets.period event time) mark;
+  words = slice_set sets.words (place_of sets.period event time)
+      (with_bit (word_of sets event time) (time % 64) mark);
 }
 
 -- the times of an event, from one on
@@ -45,11 +81,20 @@ abbrev pub family : ℕ → ℕ → (ℕ → ℕ → Bool) → List (List ℕ)
 family period events left =
     map (λ event. filter (left event) (range_with_len 0 period)) (range_with_len 0 events)
 
--- there is a mark for each event and time
+-- there are words for each event, and no bit is set behind the period
 pub record AreMarks (sets : Marks) : Type 0 where
-  pub each : length sets.marks ≡ sets.events * sets.period
+  pub each : length sets.words ≡ sets.events * words_of sets.period
   pub some : 1 ≤ sets.period
   pub few : sets.period ≤ 720
+  pub fit : All (λ word. word < 2 ^ 64) sets.words
+  pub clear : (event time : ℕ) → event < sets.events → sets.period ≤ time
+      → time < 64 * words_of sets.period → has_bit (word_of sets event time) (time % 64) ≡ false
+
+-- the bit of a word at first: time 0 is left to the first event, and all times to every other one
+abbrev pub first_bit_at : ℕ → ℕ → ℕ → Bool
+first_bit_at period place bit =
+    let time = 64 * (place % words_of period) + bit in
+    nat_lt time period && (time == 0 || nat_le (words_of period) place)
 
 -- sets that were left where they branched, and the event and the time from which its children are
 -- still to be visited
@@ -101,9 +146,19 @@ unfoldable pub waiting : List Saved → List (List (List ℕ))
 waiting [] = []
 waiting (saved ∷ earlier) = children saved ++ waiting earlier
 
--- how many marks are set
+-- the sum of the words, which falls with each time that is taken out
 abbrev pub marks_left : Marks → ℕ
-marks_left sets = length (filter (λ mark. mark) sets.marks)
+marks_left sets = sum sets.words
+
+-- the first time from one on that is left to an event and has no bit among other words, if one is
+abbrev pub IsNextBesides : Marks → ℕ → List ℕ → ℕ → Option ℕ → Type 0
+IsNextBesides sets event keep from None =
+    (time : ℕ) → from ≤ time → is_left sets event time ≡ true → marked keep time ≡ true
+IsNextBesides sets event keep from (Some first) =
+    (from ≤ first) × (first < sets.period) × (is_left sets event first ≡ true)
+    × (marked keep first ≡ false)
+    × ((time : ℕ) → from ≤ time → time < first → is_left sets event time ≡ true
+    → marked keep time ≡ true)
 
 -- Some times of an event are taken out: of all events those stay for which a test holds. Where
 -- nothing is said to change nothing does, and else fewer times are left.
@@ -140,6 +195,8 @@ pub record IsChildOf (before after : Tracked) (event : ℕ) : Type 0 where
   pub within : (other time : ℕ) → is_left after.sets other time ≡ true
       → is_left branched other time ≡ true
   pub others : (other : ℕ) → (other ≡ event → ⊥) → is_left after.sets other ≡ is_left branched other
+  pub one : ℕ
+  pub sets : sets_of after.sets ≡ with_time (sets_of branched) event one
 
 -- the next child that waits, if one does, by the event of its branch: its sets, and those that
 -- wait behind it

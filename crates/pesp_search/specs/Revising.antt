@@ -1,22 +1,25 @@
 -- Inner words: sets of times by a test of events and times, and what revising them by activities
 -- does.
-use Rattle.std.specs.Prelude.{nat_le, slice_index, ◌≡◌, ◌⊎◌, ℕ, zero, suc, ◌+◌, ◌-◌, ◌%◌, ◌<◌, ◌≤◌}
-use Rattle.std.specs.Prelude.{min, ◌==◌, not, Bool, true, false, ◌||◌}
-use Rattle.std.specs.Prelude.{if◌then◌else◌, ⊤, [], ◌∷◌, List, length, filter, get_or, slice_get}
+use Rattle.std.specs.Prelude.{nat_le, nat_lt, slice_index_or, Contains, ◌++◌, ◌≡◌, ◌⊎◌, ℕ, zero}
+use Rattle.std.specs.Prelude.{suc, ◌+◌, ◌-◌, ◌%◌, ◌<◌, ◌≤◌}
+use Rattle.std.specs.Prelude.{min, ◌==◌, not, Bool, true, false, ◌||◌, ◌&&◌}
+use Rattle.std.specs.Prelude.{if◌then◌else◌, ⊤, [], ◌∷◌, List, length, filter, slice_get}
 use Rattle.std.specs.Prelude.{slice_set, Some, All, unsigned_abs, ◌-ℤ◌}
 use Rattle.std.specs.List.{list_any, range_with_len}
 use Rattle.pesp_model.specs.declared.activity.PespActivity.{PespActivity}
 use Rattle.pesp_model.specs.Timetables.{Problem, keeps}
-use Rattle.pesp_search.specs.Marks.{Saved, Tracked, is_left, marks_left, sets_of}
+use Rattle.pesp_search.specs.Flags.{Flags, has_changed, some_changed, with_flag}
+use Rattle.pesp_search.specs.Listings.{is_empty}
+use Rattle.pesp_search.specs.Marks.{Marks, Saved, Tracked, is_left, marked, marks_left, sets_of}
 use Rattle.pesp_search.specs.TimeSets.{reduced}
 
 -- which times are left to which events
 abbrev pub Left : Type 0
 Left = ℕ → ℕ → Bool
 
--- the times of one event for which a flag is set stay, and those of all others
-abbrev pub stays : ℕ → List Bool → Left
-stays kept flags event time = not (event == kept) || get_or flags time false
+-- the times of one event that have a bit stay, and those of all others
+abbrev pub stays : ℕ → List ℕ → Left
+stays kept keep event time = not (event == kept) || marked keep time
 
 -- a test holds for a number below another one
 unfoldable pub any_below : (ℕ → Bool) → ℕ → Bool
@@ -28,11 +31,13 @@ unfoldable pub count_below : (ℕ → Bool) → ℕ → ℕ
 count_below test zero = 0
 count_below test (suc n) = count_below test n + (if test n then 1 else 0)
 
--- the sum before a time of two periods, by the sums before the times of one and before its end
-abbrev pub sum_before : List ℕ → ℕ → ℕ → ℕ
-sum_before sums period time =
-    if nat_le time period then slice_index sums time
-    else slice_index sums period + slice_index sums (time - period)
+-- no bit behind a period is set
+abbrev pub IsClear : ℕ → List ℕ → Type 0
+IsClear period times = (time : ℕ) → period ≤ time → marked times time ≡ false
+
+-- a time of a period has a bit so many minutes behind it
+abbrev pub turned_to : ℕ → List ℕ → ℕ → ℕ → Bool
+turned_to period times by time = nat_lt time period && marked times ((time + by) % period)
 
 -- a time is left in a window of a period that opens so many minutes behind another time
 abbrev pub reaches : ℕ → (ℕ → Bool) → ℕ → ℕ → ℕ → Bool
@@ -92,16 +97,9 @@ pub record Propagates (problem : Problem) (before after : Tracked) : Type 0 wher
   pub keeps : (left : Left) → All (IsRevised problem.period left) problem.activities
       → IsWithin left (is_left before.sets) → IsWithin left (is_left after.sets)
 
--- whether the set of an event has changed, and whether that of some event has
-abbrev pub has_changed : List Bool → ℕ → Bool
-has_changed changed event = get_or changed event false
-
-abbrev pub some_changed : List Bool → Bool
-some_changed changed = list_any (λ is. is) changed
-
 -- the flags where that of an event is set if its set has changed
-abbrev pub noted : List Bool → ℕ → Bool → List Bool
-noted flags event is_changed = slice_set flags event (has_changed flags event || is_changed)
+abbrev pub noted : Flags → ℕ → Bool → Flags
+noted flags event is_changed = if is_changed then with_flag flags event true else flags
 
 -- the times of an activity's first event have their second ones unless the set of its second event
 -- has changed, and the other way round
@@ -119,22 +117,38 @@ abbrev pub RevisedUnless : ℕ → Left → (ℕ → Bool) → PespActivity → 
 RevisedUnless period left changed activity =
     SecondsUnless period left changed activity × FirstsUnless period left changed activity
 
--- the same of all activities from an index on, and of all before it
+-- the same of all activities from an index on
 abbrev pub AllFrom : List PespActivity → (PespActivity → Type 0) → ℕ → Type 0
 AllFrom activities Holds from = (index : ℕ) (activity : PespActivity)
     → slice_get activities index ≡ Some activity → from ≤ index → Holds activity
 
-abbrev pub AllBefore : List PespActivity → (PespActivity → Type 0) → ℕ → Type 0
-AllBefore activities Holds end = (index : ℕ) (activity : PespActivity)
-    → slice_get activities index ≡ Some activity → index < end → Holds activity
+-- whether it is an event or has a flag
+abbrev pub either : ℕ → Flags → ℕ → Bool
+either at flags event = (event == at) || has_changed flags event
 
--- whether one of two sets of flags has that of an event
-abbrev pub either : List Bool → List Bool → ℕ → Bool
-either changed flags event = has_changed changed event || has_changed flags event
+-- any two times keep an activity
+abbrev pub is_free : ℕ → PespActivity → Bool
+is_free period activity = nat_le period (width_of period activity + 1)
+
+-- an activity that is not free has its partners unless the set of one of its events has changed
+abbrev pub BoundUnless : ℕ → Left → (ℕ → Bool) → PespActivity → Type 0
+BoundUnless period left changed activity =
+    is_free period activity ≡ false → RevisedUnless period left changed activity
+
+-- no time is left to some event
+abbrev pub HasEmpty : Marks → Type 0
+HasEmpty sets = list_any is_empty (sets_of sets) ≡ true
+
+-- times are left to all events, and still are where they were before
+abbrev pub IsFull : Marks → Type 0
+IsFull sets = list_any is_empty (sets_of sets) ≡ false
+
+abbrev pub StaysFull : Tracked → Tracked → Type 0
+StaysFull before after = IsFull before.sets → IsFull after.sets
 
 -- An activity makes the sets of its events smaller. Where the set of an event is not said to have
 -- changed it has not.
-pub record Touches (activity : PespActivity) (before after : Tracked) (flags more : List Bool)
+pub record Touches (activity : PespActivity) (before after : Tracked) (flags more : Flags)
     : Type 0 where
   pub period : after.sets.period ≡ before.sets.period
   pub events : after.sets.events ≡ before.sets.events
@@ -142,63 +156,124 @@ pub record Touches (activity : PespActivity) (before after : Tracked) (flags mor
   pub within : IsWithin (is_left after.sets) (is_left before.sets)
   pub keeps : (left : Left) → IsRevised before.sets.period left activity
       → IsWithin left (is_left before.sets) → IsWithin left (is_left after.sets)
-  pub each : length more ≡ length flags
+  pub each : more.events ≡ flags.events
   pub untouched : (event : ℕ) → has_changed more event ≡ false
       → (has_changed flags event ≡ false) × (is_left after.sets event ≡ is_left before.sets event)
-  pub fewer : some_changed more ≡ true
-      → (some_changed flags ≡ true) ⊎ (marks_left after.sets < marks_left before.sets)
+  pub fewer : (event : ℕ) → has_changed more event ≡ true
+      → (has_changed flags event ≡ true) ⊎ (marks_left after.sets < marks_left before.sets)
   pub no_more : marks_left after.sets ≤ marks_left before.sets
 
--- it revises them on one side or on both, where flags say that a set has changed
-abbrev pub RevisesSeconds : PespActivity → List Bool → Tracked → Tracked → List Bool → List Bool
+-- it revises them on one side or on both, where one of its events is the one whose set has changed
+abbrev pub RevisesSeconds : PespActivity → ℕ → Tracked → Tracked → Flags → Flags
     → Type 0
-RevisesSeconds activity changed before after flags more =
+RevisesSeconds activity at before after flags more =
     Touches activity before after flags more
-    × (SecondsUnless before.sets.period (is_left before.sets) (either changed flags) activity
+    × (SecondsUnless before.sets.period (is_left before.sets) (either at flags) activity
     → SecondsUnless before.sets.period (is_left after.sets) (has_changed more) activity)
 
-abbrev pub RevisesFirsts : PespActivity → List Bool → Tracked → Tracked → List Bool → List Bool
+abbrev pub RevisesFirsts : PespActivity → ℕ → Tracked → Tracked → Flags → Flags
     → Type 0
-RevisesFirsts activity changed before after flags more =
+RevisesFirsts activity at before after flags more =
     Touches activity before after flags more
-    × (FirstsUnless before.sets.period (is_left before.sets) (either changed flags) activity
+    × (FirstsUnless before.sets.period (is_left before.sets) (either at flags) activity
     → FirstsUnless before.sets.period (is_left after.sets) (has_changed more) activity)
 
-abbrev pub Revises : PespActivity → List Bool → Tracked → Tracked → List Bool → List Bool → Type 0
-Revises activity changed before after flags more =
+abbrev pub Revises : PespActivity → ℕ → Tracked → Tracked → Flags → Flags → Type 0
+Revises activity at before after flags more =
     Touches activity before after flags more
-    × (RevisedUnless before.sets.period (is_left before.sets) (either changed flags) activity
+    × (RevisedUnless before.sets.period (is_left before.sets) (either at flags) activity
     → RevisedUnless before.sets.period (is_left after.sets) (has_changed more) activity)
+
+-- what the activities at an event leave where it loses its flag: smaller sets, of which flags tell
+-- where they changed, and fewer marks where there are more flags
+pub record Visits (problem : Problem) (event : ℕ) (before after : Tracked) (flags more : Flags)
+    : Type 0 where
+  pub propagates : Propagates problem before after
+  pub each : more.events ≡ flags.events
+  pub revised : AllFrom problem.activities
+      (BoundUnless problem.period (is_left after.sets) (has_changed more)) 0
+  pub fewer : (other : ℕ) → has_changed more other ≡ true
+      → ((has_changed flags other ≡ true) × (other ≡ event → ⊥))
+      ⊎ (marks_left after.sets < marks_left before.sets)
+  pub no_more : marks_left after.sets ≤ marks_left before.sets
+  pub full : StaysFull before after
+
+-- sets are made smaller until no time is left to some event
+pub record Dies (problem : Problem) (before after : Tracked) : Type 0 where
+  pub propagates : Propagates problem before after
+  pub empty : HasEmpty after.sets
 
 -- what a sweep leaves: smaller sets, of which it tells where they changed, and fewer marks where
 -- they did
-pub record Sweeps (problem : Problem) (before after : Tracked) (changed : List Bool) : Type 0 where
+pub record Sweeps (problem : Problem) (before after : Tracked) (changed : Flags) : Type 0 where
   pub propagates : Propagates problem before after
-  pub each : length changed ≡ problem.events
+  pub each : changed.events ≡ problem.events
   pub revised : AllFrom problem.activities
-      (RevisedUnless problem.period (is_left after.sets) (has_changed changed)) 0
+      (BoundUnless problem.period (is_left after.sets) (has_changed changed)) 0
   pub fewer : some_changed changed ≡ true → marks_left after.sets < marks_left before.sets
   pub no_more : marks_left after.sets ≤ marks_left before.sets
+  pub full : StaysFull before after
+
+-- reduced sets: these, or some sets in which no time is left to some event where none is in these
+abbrev pub Stands : Problem → Tracked → Tracked → Type 0
+Stands problem before after =
+    (HasEmpty after.sets × (list_any is_empty (reduced problem (sets_of before.sets)) ≡ true))
+    ⊎ ((sets_of after.sets ≡ reduced problem (sets_of before.sets))
+    × AllFrom problem.activities (IsRevised problem.period (is_left after.sets)) 0)
 
 -- sets are reduced
 pub record Reduces (problem : Problem) (before after : Tracked) : Type 0 where
   pub period : after.sets.period ≡ before.sets.period
   pub events : after.sets.events ≡ before.sets.events
   pub saved : after.saved ≡ before.saved
-  pub sets : sets_of after.sets ≡ reduced problem (sets_of before.sets)
-  pub revised : AllFrom problem.activities (IsRevised problem.period (is_left after.sets)) 0
+  pub stands : Stands problem before after
 
--- all activities are revised in each of the sets that were saved
+-- ---- activities by their events
+
+-- an index is noted at an event
+abbrev pub NotesAt : ℕ → ℕ → List (List ℕ) → List (List ℕ) → Type 0
+NotesAt event index old new = new ≡ slice_set old event (slice_index_or old event [] ++ index ∷ [])
+
+-- the index of an activity is noted at both of its events unless it is free
+abbrev pub NotesActivity : ℕ → PespActivity → ℕ → List (List ℕ) → List (List ℕ) → Type 0
+NotesActivity period activity index old new =
+    ((is_free period activity ≡ true) × (new ≡ old))
+    ⊎ ((first : List (List ℕ)) × NotesAt activity.from index old first
+    × NotesAt activity.to index first new)
+
+-- of each event the indexes of the activities at it that are not free
+pub record AreLinks (problem : Problem) (count : ℕ) (rows : List (List ℕ)) : Type 0 where
+  pub size : length rows ≡ problem.events
+  pub within : (event index : ℕ) → Contains (slice_index_or rows event []) index → index < count
+  pub all : (index : ℕ) (activity : PespActivity)
+      → slice_get problem.activities index ≡ Some activity → index < count
+      → is_free problem.period activity ≡ false
+      → Contains (slice_index_or rows activity.from []) index
+      × Contains (slice_index_or rows activity.to []) index
+
+-- indexes are those of all activities at an event that are not free
+pub record AreLinksAt (problem : Problem) (event : ℕ) (indexes : List ℕ) : Type 0 where
+  pub within : All (λ index. index < length problem.activities) indexes
+  pub from : (index : ℕ) (activity : PespActivity)
+      → slice_get problem.activities index ≡ Some activity → is_free problem.period activity ≡ false
+      → activity.from ≡ event → Contains indexes index
+  pub to : (index : ℕ) (activity : PespActivity)
+      → slice_get problem.activities index ≡ Some activity → is_free problem.period activity ≡ false
+      → activity.to ≡ event → Contains indexes index
+
+-- all activities are revised in each of the sets that were saved, and times are left to all events
 abbrev pub AreRevised : Problem → List Saved → Type 0
 AreRevised problem [] = ⊤
 AreRevised problem (saved ∷ earlier) =
     AllFrom problem.activities (IsRevised problem.period (is_left saved.sets)) 0
+    × IsFull saved.sets
     × AreRevised problem earlier
 
 -- sets are ready for an entry: activities are revised unless the set of one of their events is
--- said to have changed, and in all saved sets
-pub record IsReady (problem : Problem) (sets : Tracked) (flags : List Bool) : Type 0 where
-  pub each : length flags ≡ problem.events
+-- said to have changed, times are left to all events, and so it is in all saved sets
+pub record IsReady (problem : Problem) (sets : Tracked) (flags : Flags) : Type 0 where
+  pub each : flags.events ≡ problem.events
   pub revised : AllFrom problem.activities
       (RevisedUnless problem.period (is_left sets.sets) (has_changed flags)) 0
+  pub full : IsFull sets.sets
   pub saved : AreRevised problem sets.saved

@@ -1,8 +1,10 @@
 -- Inner words: a search between two entries, and what its call gives. A reader of the contracts of
 -- this crate needs none of them.
-use Rattle.std.specs.Prelude.{◌≡◌, ◌⊎◌, ℕ, ◌+◌, List, ◌∷◌, Option, Some, None, Vec, Result, Ok, Err}
+use Rattle.std.specs.Prelude.{◌≡◌, ◌⊎◌, ℕ, ◌+◌, false, List, ◌∷◌, Option, Some, None, Vec, Result}
+use Rattle.std.specs.Prelude.{Ok, Err}
 use Rattle.std.specs.Prelude.{⊤}
 use Rattle.std.specs.Global.{Global}
+use Rattle.std.specs.List.{list_any}
 use Rattle.giv_files.specs.declared.refusal.Refusal.{Refusal}
 use Rattle.giv_files.specs.declared.refusal.StageFault.{StageFault}
 use Rattle.giv_files.specs.declared.refusal.StageFault.TheVariants as fault
@@ -10,7 +12,8 @@ use Rattle.pesp_model.specs.Timetables.{Problem}
 use Rattle.pesp_search.specs.declared.search.Entry.{Entry}
 use Rattle.pesp_search.specs.declared.search.Entry.TheVariants as entries
 use Rattle.pesp_search.specs.declared.search.FoundTimes.{FoundTimes}
-use Rattle.pesp_search.specs.Listings.{Listing, TimesFound, entry, in_turn, listing, listing_of}
+use Rattle.pesp_search.specs.Listings.{Listing, TimesFound, entry, in_turn, is_empty, listing}
+use Rattle.pesp_search.specs.Listings.{listing_of}
 use Rattle.pesp_search.specs.Listings.{one_more}
 use Rattle.pesp_search.specs.Listings.{unless_found, with_time}
 use Rattle.pesp_search.specs.declared.time_sets.Branch.{Branch}
@@ -34,10 +37,10 @@ entry_here visit sets =
     (entry (sets_of sets.sets) (λ event time. visit (with_time (sets_of sets.sets) event time)))
     (in_turn visit (waiting sets.saved))
 
--- sets are saved at a branch, or none are
+-- sets are saved at a branch where times are left to all events, or none are
 abbrev pub SavesOnce : Tracked → Tracked → Type 0
 SavesOnce before after = (after.saved ≡ before.saved)
-    ⊎ ((branch : Branch)
+    ⊎ ((branch : Branch) × (list_any is_empty (sets_of before.sets) ≡ false)
     × (after.saved ≡ record { sets = before.sets; branch = branch } ∷ before.saved))
 
 -- what an entry comes to whose sets are reduced: the times that are found, or the children that
@@ -61,7 +64,7 @@ TakesEntry problem before after (entries.Next changed) =
     (listed_on problem before ≡ one_more (listed_on problem after))
     × (after.sets.period ≡ before.sets.period)
     × (after.sets.events ≡ before.sets.events)
-    × IsReady problem after changed.items
+    × IsReady problem after changed
 
 -- a search behind some entries, each of which took a step
 pub record IsSearched (problem : Problem) (sets : Tracked) (count : ℕ) : Type 0 where

@@ -1,16 +1,15 @@
 // The children of branches, one after the other.
-ghost use Rattle.std.specs.Prelude.{◌≡◌, ◌<◌, ◌==◌, map, true, IfOk, OnOk};
-ghost use Rattle.std.specs.List.{range_with_len};
-ghost use Rattle.pesp_search.specs.Marks.{IsNextChild, KeepsTime, is_left};
+ghost use Rattle.std.specs.Prelude.{◌≡◌, ℕ, ◌<◌, ◌==◌, length, true, IfOk, OnOk};
+ghost use Rattle.pesp_search.specs.Marks.{IsNextChild, KeepsTime, is_left, marked};
 
 use crate::prune::prune;
 use crate::time_sets::{Branch, TimeSets};
+use crate::words::WORDS;
 use plan_num::NoMemory;
-use std::alloc::Global;
 
 /// Goes to the sets of the next child that waits, and tells the event of its branch; none where no
 /// child waits.
-pub(crate) fn next_child(alloc: Global, sets: &mut TimeSets) -> Result<Option<usize>, NoMemory>
+pub(crate) fn next_child(sets: &mut TimeSets) -> Result<Option<usize>, NoMemory>
     ensures { IfOk result (IsNextChild sets.old sets.new) }
 {
     while let Some(branch) = sets.restore() {
@@ -19,7 +18,7 @@ pub(crate) fn next_child(alloc: Global, sets: &mut TimeSets) -> Result<Option<us
                 event: branch.event,
                 from: time + 1,
             })?;
-            keep_time(alloc, sets, branch.event, time)?;
+            keep_time(sets, branch.event, time)?;
             return Ok(Some(branch.event));
         }
     }
@@ -27,25 +26,24 @@ pub(crate) fn next_child(alloc: Global, sets: &mut TimeSets) -> Result<Option<us
 }
 
 // Leaves one of its times to an event.
-fn keep_time(alloc: Global, sets: &mut TimeSets, event: usize, time: usize) -> Result<(), NoMemory>
+fn keep_time(sets: &mut TimeSets, event: usize, time: usize) -> Result<(), NoMemory>
     requires event { event < sets.old.sets.events }
     requires time { time < sets.old.sets.period }
     requires left { is_left sets.old.sets event time ≡ true }
     ensures { OnOk result (KeepsTime sets.old sets.new event time) }
 {
-    let flags = one_flag(alloc, time, sets.sets().period())?;
-    prune(sets, event, &flags)?;
+    let _ = sets.sets().period();
+    prune(sets, event, &one_time(time))?;
     Ok(())
 }
 
-/// So many flags, of which one is set.
-pub(crate) fn one_flag(alloc: Global, one: usize, count: usize) -> Result<Vec<bool>, NoMemory>
-    ensures { IfOk result
-        (λ flags. flags.items ≡ map (λ other. other == one) (range_with_len 0 count)) }
+// The words in which one time has a bit.
+fn one_time(time: usize) -> [u64; WORDS]
+    requires { time < 720 }
+    ensures long { length result ≡ 13 }
+    ensures each { (other : ℕ) → marked result other ≡ (other == time) }
 {
-    let mut flags = Vec::new(alloc);
-    for other in 0..count {
-        flags.push(other == one)?;
-    }
-    Ok(flags)
+    let mut times = [0; WORDS];
+    times[time / 64] = 1 << (time % 64);
+    times
 }

@@ -6,7 +6,9 @@ mod check;
 mod children;
 mod fault;
 mod files;
+mod flags;
 mod judge;
+mod links;
 mod marks;
 mod prune;
 mod reduce;
@@ -16,6 +18,7 @@ mod stage;
 mod standing;
 mod time_sets;
 mod windows;
+mod words;
 
 pub use check::check_timetable;
 pub use fault::TimetableFault;

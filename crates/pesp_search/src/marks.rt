@@ -1,20 +1,25 @@
 // Marks of the times that are left to events.
-ghost use Rattle.std.specs.Prelude.{◌≡◌, ◌<◌, ◌≤◌, ◌==◌, ◌||◌, nat_le, length, map, IfOk, IfSome};
+ghost use Rattle.std.specs.Prelude.{◌≡◌, ℕ, ◌<◌, ◌≤◌, ◌==◌, ◌||◌, ◌&&◌, ◌+◌, ◌*◌, ◌/◌, ◌%◌, nat_le};
+ghost use Rattle.std.specs.Prelude.{length, map, IfOk, IfSome};
 ghost use Rattle.std.specs.List.{range_with_len};
-ghost use Rattle.pesp_search.specs.Listings.{times_at_first};
-ghost use Rattle.pesp_search.specs.Marks.{AreMarks, IsNext, is_left, sets_of, times_from};
-ghost use Rattle.pesp_search.specs.Marks.{with_mark};
+ghost use Rattle.pesp_search.specs.Listings.{is_empty, times_at_first};
+ghost use Rattle.pesp_search.specs.Marks.{AreMarks, IsNext, IsNextBesides, has_bit, is_left};
+ghost use Rattle.pesp_search.specs.Marks.{marked};
+ghost use Rattle.pesp_search.specs.Marks.{first_bit_at, sets_of, times_from, with_mark, word_of};
+ghost use Rattle.pesp_search.specs.Marks.{words_of};
 
+use crate::words::{WORDS, besides, cut, first_bit, with_bit, words_of};
 use plan_num::NoMemory;
 use std::alloc::Global;
 use std::marker::Model;
 
-/// A mark for each time of a period and each event, set where the time is left to the event.
+/// A bit for each time of a period and each event, set where the time is left to the event. The
+/// bits of an event begin with a word.
 #[derive(Debug, Drop)]
 pub(crate) struct TimeMarks {
     period: usize,
     events: usize,
-    marks: Vec<bool>,
+    words: Vec<u64>,
 }
 
 impl Model for TimeMarks {
@@ -25,13 +30,13 @@ impl Model for TimeMarks {
     ghost view = { λ sets. record {
       period = sets.period;
       events = sets.events;
-      marks = sets.marks.items;
+      words = sets.words.items;
     } };
 
     ghost invariant = { λ sets. AreMarks (record {
       period = sets.period;
       events = sets.events;
-      marks = sets.marks.items;
+      words = sets.words.items;
     }) };
 }
 
@@ -50,14 +55,14 @@ impl TimeMarks {
         ensures first { IfOk result
             (λ sets. sets_of sets ≡ map (times_at_first period) (range_with_len 0 events)) }
     {
-        let mut marks = Vec::new(alloc);
-        for place in 0..events * period {
-            marks.push(is_first(place, period))?;
+        let mut words = Vec::new(alloc);
+        for place in 0..events * words_of(period) {
+            words.push(first_word(place, period))?;
         }
         Ok(TimeMarks {
             period,
             events,
-            marks,
+            words,
         })
     }
 
@@ -77,23 +82,45 @@ impl TimeMarks {
         self.events
     }
 
-    /// Whether a time is left to an event.
-    pub(crate) fn is_left(&self, event: usize, time: usize) -> bool
-        requires event { event < self.now.events }
-        requires time { time < self.now.period }
-        ensures { result ≡ is_left self.now event time }
+    // How many words an event has.
+    fn width(&self) -> usize
+        ensures value { result ≡ words_of self.now.period }
+        ensures sound { AreMarks self.now }
     {
-        self.marks[event * self.period + time]
+        words_of(self.period)
+    }
+
+    // The word of some times of an event.
+    fn word(&self, event: usize, index: usize) -> u64
+        requires event { event < self.now.events }
+        requires index { index < words_of self.now.period }
+        ensures { (time : ℕ) → time / 64 ≡ index → word_of self.now event time ≡ result }
+    {
+        self.words[event * self.width() + index]
     }
 
     /// Sets or takes away the mark of a time of an event.
     pub(crate) fn mark(&mut self, event: usize, time: usize, mark: bool)
         requires event { event < self.old.events }
         requires time { time < self.old.period }
-        ensures { self.new ≡ with_mark self.old event time mark }
+        ensures marked { self.new ≡ with_mark self.old event time mark }
+        ensures sound { AreMarks self.old }
     {
-        let place = event * self.period + time;
-        self.marks[place] = mark;
+        let place = event * words_of(self.period) + time / 64;
+        self.words[place] = with_bit(self.words[place], time % 64, mark);
+    }
+
+    /// The times that are left to an event.
+    pub(crate) fn times_of(&self, event: usize) -> [u64; WORDS]
+        requires event { event < self.now.events }
+        ensures long { length result ≡ 13 }
+        ensures each { (time : ℕ) → marked result time ≡ is_left self.now event time }
+    {
+        let mut times = [0; WORDS];
+        for index in 0..self.width() {
+            times[index] = self.word(event, index);
+        }
+        times
     }
 
     /// The first time from one on that is left to an event.
@@ -102,12 +129,42 @@ impl TimeMarks {
         ensures next { IsNext self.now event from result }
         ensures few { IfSome result (λ time. time < 720) }
     {
-        for time in from..self.period() {
-            if self.is_left(event, time) {
-                return Some(time);
+        self.next_besides(event, &[0; WORDS], from)
+    }
+
+    /// The first time from one on that is left to an event and has no bit among others.
+    pub(crate) fn next_besides(
+        &self,
+        event: usize,
+        others: &[u64; WORDS],
+        from: usize,
+    ) -> Option<usize>
+        requires event { event < self.now.events }
+        requires long { length others.now ≡ 13 }
+        ensures next { IsNextBesides self.now event others.now from result }
+        ensures few { IfSome result (λ time. time < 720) }
+        ensures sound { AreMarks self.now }
+    {
+        for index in from / 64..self.width() {
+            let rest = besides(self.word(event, index), others[index]);
+            if let Some(bit) = first_bit(rest, from.max(64 * index) - 64 * index) {
+                return Some(64 * index + bit);
             }
         }
         None
+    }
+
+    /// Whether no time is left to an event.
+    pub(crate) fn is_empty(&self, event: usize) -> bool
+        requires event { event < self.now.events }
+        ensures { result ≡ is_empty (times_from self.now event 0) }
+    {
+        for index in 0..self.width() {
+            if self.word(event, index) != 0 {
+                return false;
+            }
+        }
+        true
     }
 
     /// How many times are left to an event.
@@ -116,18 +173,24 @@ impl TimeMarks {
         ensures { result ≡ length (times_from self.now event 0) }
     {
         let mut count = 0;
-        for time in 0..self.period() {
-            if self.is_left(event, time) {
-                count += 1;
-            }
+        for index in 0..self.width() {
+            count += self.word(event, index).count_ones() as usize;
         }
         count
     }
 }
 
-// Whether the mark at a place is set at first.
-fn is_first(place: usize, period: usize) -> bool
-    ensures { result ≡ (place == 0 || nat_le period place) }
+// The word at a place at first.
+fn first_word(place: usize, period: usize) -> u64
+    requires some { 1 ≤ period }
+    requires few { period ≤ 720 }
+    ensures { (bit : ℕ) → bit < 64 → has_bit result bit ≡ first_bit_at period place bit }
 {
-    place == 0 || period <= place
+    let width = words_of(period);
+    let times = period - 64 * (place % width);
+    if place < width {
+        if place == 0 { 1 } else { 0 }
+    } else {
+        cut(u64::MAX, times)
+    }
 }

@@ -1,74 +1,99 @@
 // Sets of times that are reduced by all activities.
-ghost use Rattle.std.specs.Prelude.{◌≡◌, ◌<◌, length, All, IfOk, OnOk};
-ghost use Rattle.pesp_search.specs.Marks.{is_left};
-ghost use Rattle.pesp_search.specs.Revising.{AllFrom, IsReady, Reduces, RevisedUnless, Sweeps};
-ghost use Rattle.pesp_search.specs.Revising.{has_changed, some_changed};
+ghost use Rattle.std.specs.Prelude.{◌≡◌, ◌<◌, length, All, IfOk, MatchBool, OnOk};
+ghost use Rattle.pesp_search.specs.Flags.{has_changed};
+ghost use Rattle.std.specs.List.{list_any};
+ghost use Rattle.pesp_search.specs.Listings.{is_empty};
+ghost use Rattle.pesp_search.specs.Marks.{is_left, sets_of};
+ghost use Rattle.pesp_search.specs.Revising.{AllFrom, AreLinks, AreLinksAt, BoundUnless, Dies};
+ghost use Rattle.pesp_search.specs.Revising.{IsReady, Reduces, Sweeps, Visits};
 
+use crate::flags::EventFlags;
+use crate::links::Links;
 use crate::revise::revise;
 use crate::time_sets::TimeSets;
 use pesp_model::Pesp;
 use plan_num::NoMemory;
-use std::alloc::Global;
 
 /// Takes times out of the sets of events until each time that is left has its partners on all
-/// activities. An activity is revised, and again, where the set of one of its events has changed;
-/// flags say which have at first.
+/// activities, or no time is left to some event. The activities at an event are revised, and
+/// again, where its set has changed; flags say which have at first. Tells whether no time is left
+/// to some event.
 pub(crate) fn reduce(
-    alloc: Global,
     pesp: &Pesp,
+    links: &Links,
     sets: &mut TimeSets,
-    changed: Vec<bool>,
-) -> Result<(), NoMemory>
+    changed: EventFlags,
+) -> Result<bool, NoMemory>
     requires period { sets.old.sets.period ≡ pesp.now.period }
     requires events { sets.old.sets.events ≡ pesp.now.events }
-    requires ready { IsReady pesp.now sets.old changed.items }
-    ensures { OnOk result (Reduces pesp.now sets.old sets.new) }
+    requires links { AreLinks pesp.now (length pesp.now.activities) links.now }
+    requires ready { IsReady pesp.now sets.old changed }
+    ensures reduces { OnOk result (Reduces pesp.now sets.old sets.new) }
+    ensures empty { IfOk result
+        (λ has_empty. has_empty ≡ list_any is_empty (sets_of sets.new.sets)) }
 {
     let _ = pesp.event_count();
     let mut changed = changed;
-    while some_changed(&changed) {
-        changed = sweep(alloc, pesp, sets, &changed)?;
+    while changed.has_some() {
+        if sweep(pesp, links, sets, &mut changed)? {
+            return Ok(true);
+        }
     }
-    Ok(())
+    let _ = sets.sets().period();
+    Ok(false)
 }
 
-// Revises the sets by each activity of whose events one has a flag, and tells which sets have
-// changed since their activities were revised.
+// Revises the sets by the activities at each event that has a flag, which it loses. Stops where no
+// time is left to some event, and tells so.
 fn sweep(
-    alloc: Global,
     pesp: &Pesp,
+    links: &Links,
     sets: &mut TimeSets,
-    changed: &[bool],
-) -> Result<Vec<bool>, NoMemory>
+    changed: &mut EventFlags,
+) -> Result<bool, NoMemory>
     requires period { sets.old.sets.period ≡ pesp.now.period }
     requires events { sets.old.sets.events ≡ pesp.now.events }
-    requires each { length changed.now ≡ pesp.now.events }
+    requires links { AreLinks pesp.now (length pesp.now.activities) links.now }
+    requires each { changed.old.events ≡ pesp.now.events }
     requires revised { AllFrom pesp.now.activities
-        (RevisedUnless pesp.now.period (is_left sets.old.sets) (has_changed changed.now)) 0 }
-    ensures { IfOk result (λ next. Sweeps pesp.now sets.old sets.new next.items) }
+        (BoundUnless pesp.now.period (is_left sets.old.sets) (has_changed changed.old)) 0 }
+    ensures { IfOk result (λ is_dead. MatchBool is_dead (Dies pesp.now sets.old sets.new)
+        (Sweeps pesp.now sets.old sets.new changed.new)) }
 {
-    let mut next = flags(alloc, false, pesp.event_count())?;
-    for index in 0..pesp.activity_count() {
-        revise(alloc, pesp.activity(index), sets, changed, &mut next)?;
+    let mut from = 0;
+    while let Some(event) = changed.next(from) {
+        if visit(pesp, links.at(event), event, sets, changed)? {
+            return Ok(true);
+        }
+        from = event + 1;
     }
-    Ok(next)
+    Ok(false)
 }
 
-/// So many flags, which are all set or none of them.
-pub(crate) fn flags(alloc: Global, is_set: bool, count: usize) -> Result<Vec<bool>, NoMemory>
-    ensures each { IfOk result (λ flags. length flags.items ≡ count) }
-    ensures all { IfOk result (λ flags. All (λ flag. flag ≡ is_set) flags.items) }
+// Revises the sets by the activities at an event, which loses its flag. Stops where no time is left
+// to some event, and tells so.
+fn visit(
+    pesp: &Pesp,
+    indexes: &[usize],
+    event: usize,
+    sets: &mut TimeSets,
+    changed: &mut EventFlags,
+) -> Result<bool, NoMemory>
+    requires period { sets.old.sets.period ≡ pesp.now.period }
+    requires events { sets.old.sets.events ≡ pesp.now.events }
+    requires event { event < pesp.now.events }
+    requires links { AreLinksAt pesp.now event indexes.now }
+    requires each { changed.old.events ≡ pesp.now.events }
+    requires revised { AllFrom pesp.now.activities
+        (BoundUnless pesp.now.period (is_left sets.old.sets) (has_changed changed.old)) 0 }
+    ensures { IfOk result (λ is_dead. MatchBool is_dead (Dies pesp.now sets.old sets.new)
+        (Visits pesp.now event sets.old sets.new changed.old changed.new)) }
 {
-    let mut flags = Vec::new(alloc);
-    for _event in 0..count {
-        flags.push(is_set)?;
+    changed.put(event, false);
+    for index in indexes {
+        if revise(pesp.activity(*index), event, sets, changed)? {
+            return Ok(true);
+        }
     }
-    Ok(flags)
-}
-
-// Whether some flag is set.
-fn some_changed(changed: &[bool]) -> bool
-    ensures { result ≡ some_changed changed.now }
-{
-    changed.iter().any(|is| *is)
+    Ok(false)
 }

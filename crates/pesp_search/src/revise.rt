@@ -1,98 +1,121 @@
 // Sets of times that are revised by an activity.
-ghost use Rattle.std.specs.Prelude.{◌≡◌, ◌-◌, ◌<◌, ◌≤◌, ◌≤ℤ◌, nat_le, pos, length, map, IfOk, OnOk};
-ghost use Rattle.std.specs.List.{range_with_len};
+ghost use Rattle.std.specs.Prelude.{◌≡◌, ◌-◌, ◌/◌, ◌||◌, ◌<◌, ◌≤◌, ◌≤ℤ◌, ℕ, false, true, nat_le};
+ghost use Rattle.std.specs.Prelude.{pos};
+ghost use Rattle.std.specs.Prelude.{length, IfOk, OnOk};
 ghost use Rattle.pesp_model.specs.Timetables.{IsActivity};
-ghost use Rattle.pesp_search.specs.Marks.{AreMarks, Prunes, is_left, times_from};
+ghost use Rattle.pesp_search.specs.Listings.{is_empty};
+ghost use Rattle.pesp_search.specs.Marks.{AreMarks, Prunes, is_left, marked, times_from};
 ghost use Rattle.pesp_search.specs.Revising.{ahead, behind, first_left, second_left, width_of};
-ghost use Rattle.pesp_search.specs.Revising.{Revises, RevisesFirsts, RevisesSeconds};
+ghost use Rattle.pesp_search.specs.Revising.{HasEmpty, StaysFull, Revises, RevisesFirsts};
+ghost use Rattle.pesp_search.specs.Revising.{RevisesSeconds};
 ghost use Rattle.pesp_search.specs.Revising.{keeps_firsts, keeps_seconds, noted};
 
+use crate::flags::EventFlags;
 use crate::marks::TimeMarks;
 use crate::prune::prune;
 use crate::time_sets::TimeSets;
 use crate::windows::reached;
+use crate::words::WORDS;
 use pesp_model::PespActivity;
 use plan_num::NoMemory;
-use std::alloc::Global;
 
-/// Takes the times that have no partner out of the sets of both events of an activity, where the
-/// set of the other event has a flag, and sets the flags of those whose set has changed.
+/// Takes the times that have no partner out of the set of an activity's other event where the set
+/// of one of its events has changed, and sets the flags of the events whose set has changed. Tells
+/// whether some set has no time left for that.
 pub(crate) fn revise(
-    alloc: Global,
     activity: PespActivity,
+    at: usize,
     sets: &mut TimeSets,
-    changed: &[bool],
-    next: &mut [bool],
-) -> Result<(), NoMemory>
+    changed: &mut EventFlags,
+) -> Result<bool, NoMemory>
     requires activity { IsActivity sets.old.sets.events activity }
-    requires each { length changed.now ≡ sets.old.sets.events }
-    requires next { length next.old ≡ sets.old.sets.events }
-    ensures { OnOk result
-        (Revises activity changed.now sets.old sets.new next.old next.new) }
+    requires each { changed.old.events ≡ sets.old.sets.events }
+    ensures revises { OnOk result
+        (Revises activity at sets.old sets.new changed.old changed.new) }
+    ensures empty { IfOk result (λ is_empty. is_empty ≡ true → HasEmpty sets.new.sets) }
+    ensures full { IfOk result (λ is_empty. is_empty ≡ false → StaysFull sets.old sets.new) }
 {
-    revise_seconds(alloc, activity, sets, changed, next)?;
-    revise_firsts(alloc, activity, sets, changed, next)
+    let first = revise_seconds(activity, at, sets, changed)?;
+    let second = revise_firsts(activity, at, sets, changed)?;
+    Ok(any_of(first, second))
 }
 
 // Does so for the first event.
 fn revise_seconds(
-    alloc: Global,
     activity: PespActivity,
+    at: usize,
     sets: &mut TimeSets,
-    changed: &[bool],
-    next: &mut [bool],
-) -> Result<(), NoMemory>
+    changed: &mut EventFlags,
+) -> Result<bool, NoMemory>
     requires activity { IsActivity sets.old.sets.events activity }
-    requires each { length changed.now ≡ sets.old.sets.events }
-    requires next { length next.old ≡ sets.old.sets.events }
-    ensures { OnOk result
-        (RevisesSeconds activity changed.now sets.old sets.new next.old next.new) }
+    requires each { changed.old.events ≡ sets.old.sets.events }
+    ensures revises { OnOk result
+        (RevisesSeconds activity at sets.old sets.new changed.old changed.new) }
+    ensures empty { IfOk result (λ is_empty. is_empty ≡ true → HasEmpty sets.new.sets) }
+    ensures full { IfOk result (λ is_empty. is_empty ≡ false → StaysFull sets.old sets.new) }
 {
-    if !changed[activity.to] && !next[activity.to] {
-        return Ok(());
+    if activity.to != at {
+        return Ok(false);
     }
-    let is_changed = keep_seconds(alloc, activity, sets)?;
-    note(next, activity.from, is_changed);
-    Ok(())
+    let is_changed = keep_seconds(activity, sets)?;
+    note(changed, activity.from, is_changed);
+    Ok(is_emptied(sets.sets(), activity.from, is_changed))
 }
 
 // Does so for the second event.
 fn revise_firsts(
-    alloc: Global,
     activity: PespActivity,
+    at: usize,
     sets: &mut TimeSets,
-    changed: &[bool],
-    next: &mut [bool],
-) -> Result<(), NoMemory>
+    changed: &mut EventFlags,
+) -> Result<bool, NoMemory>
     requires activity { IsActivity sets.old.sets.events activity }
-    requires each { length changed.now ≡ sets.old.sets.events }
-    requires next { length next.old ≡ sets.old.sets.events }
-    ensures { OnOk result
-        (RevisesFirsts activity changed.now sets.old sets.new next.old next.new) }
+    requires each { changed.old.events ≡ sets.old.sets.events }
+    ensures revises { OnOk result
+        (RevisesFirsts activity at sets.old sets.new changed.old changed.new) }
+    ensures empty { IfOk result (λ is_empty. is_empty ≡ true → HasEmpty sets.new.sets) }
+    ensures full { IfOk result (λ is_empty. is_empty ≡ false → StaysFull sets.old sets.new) }
 {
-    if !changed[activity.from] && !next[activity.from] {
-        return Ok(());
+    if activity.from != at {
+        return Ok(false);
     }
-    let is_changed = keep_firsts(alloc, activity, sets)?;
-    note(next, activity.to, is_changed);
-    Ok(())
+    let is_changed = keep_firsts(activity, sets)?;
+    note(changed, activity.to, is_changed);
+    Ok(is_emptied(sets.sets(), activity.to, is_changed))
+}
+
+// Whether one of two tests holds.
+fn any_of(first: bool, second: bool) -> bool
+    ensures { result ≡ (first || second) }
+{
+    first || second
+}
+
+// Whether no time is left to an event whose set has changed.
+fn is_emptied(sets: &TimeMarks, event: usize, is_changed: bool) -> bool
+    requires { event < sets.now.events }
+    ensures empty { result ≡ true → HasEmpty sets.now }
+    ensures some { result ≡ false → is_changed ≡ true
+        → is_empty (times_from sets.now event 0) ≡ false }
+{
+    is_changed && sets.is_empty(event)
 }
 
 // Sets the flag of an event if its set has changed.
-fn note(changed: &mut [bool], event: usize, is_changed: bool)
-    requires { event < length changed.old }
-    ensures { changed.new ≡ noted changed.old event is_changed }
+fn note(changed: &mut EventFlags, event: usize, is_changed: bool)
+    requires { event < changed.old.events }
+    ensures noted { changed.new ≡ noted changed.old event is_changed }
+    ensures within { event / 64 < length changed.old.words }
 {
-    changed[event] = changed[event] || is_changed;
+    let _ = changed.events();
+    if is_changed {
+        changed.put(event, true);
+    }
 }
 
 // Takes the times that have no second one out of the set of an activity's first event, and tells
 // whether there were any.
-fn keep_seconds(
-    alloc: Global,
-    activity: PespActivity,
-    sets: &mut TimeSets,
-) -> Result<bool, NoMemory>
+fn keep_seconds(activity: PespActivity, sets: &mut TimeSets) -> Result<bool, NoMemory>
     requires { IsActivity sets.old.sets.events activity }
     ensures { IfOk result (Prunes sets.old sets.new
         (keeps_seconds sets.old.sets.period (is_left sets.old.sets) activity)) }
@@ -100,13 +123,13 @@ fn keep_seconds(
     if is_crowded(sets.sets(), activity.to, activity) {
         return Ok(false);
     }
-    let flags = with_second(alloc, activity, sets.sets())?;
-    prune(sets, activity.from, &flags)
+    let times = with_second(activity, sets.sets());
+    prune(sets, activity.from, &times)
 }
 
 // Takes the times that have no first one out of the set of an activity's second event, and tells
 // whether there were any.
-fn keep_firsts(alloc: Global, activity: PespActivity, sets: &mut TimeSets) -> Result<bool, NoMemory>
+fn keep_firsts(activity: PespActivity, sets: &mut TimeSets) -> Result<bool, NoMemory>
     requires { IsActivity sets.old.sets.events activity }
     ensures { IfOk result (Prunes sets.old sets.new
         (keeps_firsts sets.old.sets.period (is_left sets.old.sets) activity)) }
@@ -114,8 +137,8 @@ fn keep_firsts(alloc: Global, activity: PespActivity, sets: &mut TimeSets) -> Re
     if is_crowded(sets.sets(), activity.from, activity) {
         return Ok(false);
     }
-    let flags = with_first(alloc, activity, sets.sets())?;
-    prune(sets, activity.to, &flags)
+    let times = with_first(activity, sets.sets());
+    prune(sets, activity.to, &times)
 }
 
 // Whether more times are left to an event than lie outside of each window of an activity, so that
@@ -131,46 +154,32 @@ fn is_crowded(sets: &TimeMarks, event: usize, activity: PespActivity) -> bool
     period - width_of(activity, period) <= sets.count(event)
 }
 
-// For each time of the period whether it is the first one of two that keep an activity.
-fn with_second(
-    alloc: Global,
-    activity: PespActivity,
-    sets: &TimeMarks,
-) -> Result<Vec<bool>, NoMemory>
+// The times of the period that are the first one of two that keep an activity.
+fn with_second(activity: PespActivity, sets: &TimeMarks) -> [u64; WORDS]
     requires { IsActivity sets.now.events activity }
-    ensures { IfOk result (λ flags. flags.items
-        ≡ map (second_left sets.now.period (is_left sets.now) activity)
-        (range_with_len 0 sets.now.period)) }
+    ensures long { length result ≡ 13 }
+    ensures each { (time : ℕ) → time < sets.now.period → marked result time
+        ≡ second_left sets.now.period (is_left sets.now) activity time }
 {
     let period = sets.period();
     let width = width_of(activity, period);
-    reached(alloc, sets, activity.to, ahead(activity, period), width)
+    reached(sets, activity.to, ahead(activity, period), width)
 }
 
-// For each time of the period whether it is the second one of two that keep an activity.
-fn with_first(
-    alloc: Global,
-    activity: PespActivity,
-    sets: &TimeMarks,
-) -> Result<Vec<bool>, NoMemory>
+// The times of the period that are the second one of two that keep an activity.
+fn with_first(activity: PespActivity, sets: &TimeMarks) -> [u64; WORDS]
     requires { IsActivity sets.now.events activity }
-    ensures { IfOk result (λ flags. flags.items
-        ≡ map (first_left sets.now.period (is_left sets.now) activity)
-        (range_with_len 0 sets.now.period)) }
+    ensures long { length result ≡ 13 }
+    ensures each { (time : ℕ) → time < sets.now.period → marked result time
+        ≡ first_left sets.now.period (is_left sets.now) activity time }
 {
     let period = sets.period();
     let width = width_of(activity, period);
-    reached(
-        alloc,
-        sets,
-        activity.from,
-        behind(activity, period, width),
-        width,
-    )
+    reached(sets, activity.from, behind(activity, period, width), width)
 }
 
-// By how much an activity may take longer than its lower bound, up to a whole period.
-fn width_of(activity: PespActivity, period: usize) -> usize
+/// By how much an activity may take longer than its lower bound, up to a whole period.
+pub(crate) fn width_of(activity: PespActivity, period: usize) -> usize
     requires some { 1 ≤ period }
     requires low { pos 0 ≤ℤ activity.lower }
     requires in_order { activity.lower ≤ℤ activity.upper }

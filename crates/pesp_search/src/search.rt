@@ -1,14 +1,18 @@
 // The search of a timetable within a budget of entries.
-ghost use Rattle.std.specs.Prelude.{◌≡◌, [], IfOk};
+ghost use Rattle.std.specs.Prelude.{◌≡◌, [], length, IfOk};
 ghost use Rattle.giv_files.specs.StageCalls.{TakesSteps};
-ghost use Rattle.pesp_search.specs.Listings.{entries_listed, listing, result_within};
-ghost use Rattle.pesp_search.specs.Revising.{IsReady};
+ghost use Rattle.std.specs.List.{list_any};
+ghost use Rattle.pesp_search.specs.Listings.{entries_listed, is_empty, listing, result_within};
+ghost use Rattle.pesp_search.specs.Marks.{sets_of};
+ghost use Rattle.pesp_search.specs.Revising.{AreLinks, IsFull, IsReady};
 ghost use Rattle.pesp_search.specs.Searches.{Branches, IsSearched, SearchGives, TakesEntry};
 
-use crate::children::{next_child, one_flag};
+use crate::children::next_child;
+use crate::flags::EventFlags;
+use crate::links::Links;
 use crate::marks::TimeMarks;
-use crate::reduce::{flags, reduce};
-use crate::standing::{first_open, first_times, has_empty};
+use crate::reduce::reduce;
+use crate::standing::{first_open, first_times};
 use crate::time_sets::{Branch, TimeSets};
 use giv_files::{Refusal, StageFault};
 use pesp_model::Pesp;
@@ -28,7 +32,7 @@ pub(crate) struct FoundTimes {
 pub(crate) enum Entry {
     Found(Vec<u32>),
     Last,
-    Next(Vec<bool>),
+    Next(EventFlags),
 }
 
 /// Searches a timetable of a problem of a period, with so many entries at most. Each entry takes a
@@ -46,10 +50,11 @@ pub(crate) fn search_times<L: Ledger>(
         result }
 {
     let mut sets = first_sets(alloc, pesp, period)?;
-    let mut changed = flags(alloc, true, pesp.event_count())?;
+    let links = Links::new(alloc, pesp, period as usize)?;
+    let mut changed = EventFlags::all(alloc, pesp.event_count())?;
     for entry in 0..budget {
         steps.tick();
-        match take_entry(alloc, pesp, &mut sets, changed)? {
+        match take_entry(alloc, pesp, &links, &mut sets, changed)? {
             Entry::Found(times) => return Ok(FoundTimes {
                 times,
                 entries: entry + 1,
@@ -66,6 +71,7 @@ fn first_sets(alloc: Global, pesp: &Pesp, period: u32) -> Result<TimeSets, NoMem
     requires { pesp.now.period ≡ period }
     ensures searched { IfOk result (λ sets. IsSearched pesp.now sets 0) }
     ensures saved { IfOk result (λ sets. sets.saved ≡ []) }
+    ensures full { IfOk result (λ sets. IsFull sets.sets) }
 {
     let marks = TimeMarks::at_first(alloc, period as usize, pesp.event_count())?;
     Ok(TimeSets::new(alloc, marks))
@@ -75,30 +81,33 @@ fn first_sets(alloc: Global, pesp: &Pesp, period: u32) -> Result<TimeSets, NoMem
 fn take_entry(
     alloc: Global,
     pesp: &Pesp,
+    links: &Links,
     sets: &mut TimeSets,
-    changed: Vec<bool>,
+    changed: EventFlags,
 ) -> Result<Entry, NoMemory>
     requires period { sets.old.sets.period ≡ pesp.now.period }
     requires events { sets.old.sets.events ≡ pesp.now.events }
-    requires ready { IsReady pesp.now sets.old changed.items }
+    requires links { AreLinks pesp.now (length pesp.now.activities) links.now }
+    requires ready { IsReady pesp.now sets.old changed }
     ensures { IfOk result (TakesEntry pesp.now sets.old sets.new) }
 {
-    reduce(alloc, pesp, sets, changed)?;
-    if let Some(times) = branch(alloc, sets)? {
+    let has_empty = reduce(pesp, links, sets, changed)?;
+    if let Some(times) = branch(alloc, sets, has_empty)? {
         return Ok(Entry::Found(times));
     }
-    match next_child(alloc, sets)? {
-        Some(event) => Ok(Entry::Next(one_flag(alloc, event, pesp.event_count())?)),
+    match next_child(sets)? {
+        Some(event) => Ok(Entry::Next(EventFlags::one(alloc, event, pesp.event_count())?)),
         None => Ok(Entry::Last),
     }
 }
 
 // The times of reduced sets where each event has one. Where some event has several, the sets are
 // saved as a branch on the first such event, unless some event has none.
-fn branch(alloc: Global, sets: &mut TimeSets) -> Result<Option<Vec<u32>>, NoMemory>
+fn branch(alloc: Global, sets: &mut TimeSets, has_empty: bool) -> Result<Option<Vec<u32>>, NoMemory>
+    requires { has_empty ≡ list_any is_empty (sets_of sets.old.sets) }
     ensures { IfOk result (Branches sets.old sets.new) }
 {
-    if has_empty(sets.sets()) {
+    if has_empty {
         return Ok(None);
     }
     match first_open(sets.sets()) {

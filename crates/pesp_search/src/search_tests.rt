@@ -77,6 +77,48 @@ fn the_first_timetable_is_found(rt: HostRuntime) -> Result<(), Fail> {
     Ok(())
 }
 
+// Periods whose times fill their last word, or do not.
+#[test]
+fn the_first_timetable_is_found_in_full_words(rt: HostRuntime) -> Result<(), Fail> {
+    let one: &[u8] = b"1; drive; 1; 2; 0; 2\n2; drive; 3; 4; 10; 10\n";
+    let two: &[u8] = b"1; drive; 1; 2; 61; 64\n2; drive; 3; 4; 10; 10\n";
+    let three: &[u8] = b"1; drive; 1; 2; 62; 65\n2; drive; 3; 4; 10; 10\n";
+    let four: &[u8] = b"1; drive; 1; 2; 63; 66\n2; drive; 3; 4; 10; 10\n";
+    let cases: [(u32, &[u8], &[u32], u64); 4] = [
+        (1, one, &[0, 0, 0, 0], 1),
+        (63, two, &[0, 0, 0, 10], 3),
+        (64, three, &[0, 0, 0, 10], 3),
+        (65, four, &[0, 0, 0, 10], 3),
+    ];
+    for (period, activities, times, entries) in &cases {
+        let (found, steps) = searched(rt.alloc(), *period, FOUR, *activities, *entries)?;
+        assert_eq!(rt; found?.times.as_slice(), *times);
+        assert_eq!(rt; steps, *entries);
+    }
+    Ok(())
+}
+
+// Periods of several words.
+#[test]
+fn the_first_timetable_is_found_in_several_words(rt: HostRuntime) -> Result<(), Fail> {
+    let late: &[u8] = b"1; drive; 1; 2; 126; 129\n2; drive; 3; 4; 10; 10\n";
+    let round: &[u8] = b"1; drive; 1; 2; 60; 62\n2; wait; 2; 3; 3; 5\n\
+        3; drive; 3; 4; 64; 65\n4; sync; 4; 1; 1; 43\n";
+    let around: &[u8] = b"1; drive; 1; 2; 60; 62\n2; wait; 2; 3; 3; 5\n\
+        3; drive; 3; 4; 64; 65\n4; sync; 4; 1; 1; 44\n";
+    let cases: [(u32, &[u8], &[u32], u64); 3] = [
+        (128, late, &[0, 0, 0, 10], 3),
+        (128, round, &[0, 60, 63, 127], 1),
+        (129, around, &[0, 60, 63, 127], 4),
+    ];
+    for (period, activities, times, entries) in &cases {
+        let (found, steps) = searched(rt.alloc(), *period, FOUR, *activities, *entries)?;
+        assert_eq!(rt; found?.times.as_slice(), *times);
+        assert_eq!(rt; steps, *entries);
+    }
+    Ok(())
+}
+
 // The loop on the second event lets no time stay to it alone: each has another one as its partner.
 #[test]
 fn there_may_be_none(rt: HostRuntime) -> Result<(), Fail> {

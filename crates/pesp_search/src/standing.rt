@@ -1,24 +1,11 @@
 // How a search stands where its sets are reduced.
 ghost use Rattle.std.specs.Prelude.{◌≡◌, ◌<◌, position, slice_index_or, IfOk};
-ghost use Rattle.std.specs.List.{list_any};
-ghost use Rattle.pesp_search.specs.Listings.{first_times, has_several, is_empty};
+ghost use Rattle.pesp_search.specs.Listings.{first_times, has_several};
 ghost use Rattle.pesp_search.specs.Marks.{sets_of, times_from};
 
 use crate::marks::TimeMarks;
 use plan_num::NoMemory;
 use std::alloc::Global;
-
-/// Whether no time is left to some event.
-pub(crate) fn has_empty(sets: &TimeMarks) -> bool
-    ensures { result ≡ list_any is_empty (sets_of sets.now) }
-{
-    for event in 0..sets.events() {
-        if sets.count(event) == 0 {
-            return true;
-        }
-    }
-    false
-}
 
 /// The first event to which several times are left.
 pub(crate) fn first_open(sets: &TimeMarks) -> Option<usize>

@@ -1,60 +1,88 @@
 // Windows of a period in which a time is left.
-ghost use Rattle.std.specs.Prelude.{◌≡◌, ◌<◌, ◌≤◌, ◌+◌, ◌*◌, ◌%◌, not, ◌==◌, length, map};
-ghost use Rattle.std.specs.Prelude.{slice_index, All, IfOk};
-ghost use Rattle.std.specs.List.{range_with_len};
-ghost use Rattle.pesp_search.specs.Marks.{is_left};
-ghost use Rattle.pesp_search.specs.Revising.{count_below, reaches, sum_before};
+ghost use Rattle.std.specs.Prelude.{◌≡◌, ℕ, ◌<◌, ◌≤◌, ◌+◌, ◌-◌, ◌*◌, ◌%◌, ◌&&◌, ◌||◌, nat_lt};
+ghost use Rattle.std.specs.Prelude.{length};
+ghost use Rattle.std.specs.Prelude.{true, false};
+ghost use Rattle.pesp_search.specs.Marks.{has_bit, is_left, marked};
+ghost use Rattle.pesp_search.specs.Revising.{IsClear, reaches, turned_to};
 
 use crate::marks::TimeMarks;
-use plan_num::NoMemory;
-use std::alloc::Global;
+use crate::words::{WORDS, cut, word_from, words_of};
 
-/// For each time of the period whether a time is left to an event in the window that opens so many
-/// minutes behind it, and is so many minutes wide.
-pub(crate) fn reached(
-    alloc: Global,
-    sets: &TimeMarks,
-    event: usize,
-    offset: usize,
-    width: usize,
-) -> Result<Vec<bool>, NoMemory>
+/// The times of the period behind which a time is left to an event, in the window that opens so
+/// many minutes behind them and is so many minutes wide.
+pub(crate) fn reached(sets: &TimeMarks, event: usize, offset: usize, width: usize) -> [u64; WORDS]
     requires event { event < sets.now.events }
     requires offset { offset ≤ sets.now.period }
     requires width { width < sets.now.period }
-    ensures { IfOk result (λ flags. flags.items
-        ≡ map (reaches sets.now.period (is_left sets.now event) offset width)
-        (range_with_len 0 sets.now.period)) }
+    ensures long { length result ≡ 13 }
+    ensures each { (time : ℕ) → time < sets.now.period → marked result time
+        ≡ reaches sets.now.period (is_left sets.now event) offset width time }
 {
     let period = sets.period();
-    let sums = sums_of(alloc, sets, event)?;
-    let mut flags = Vec::with_capacity(alloc, period)?;
-    for time in 0..period {
-        let start = in_period(time + offset, period);
-        let end = start + width + 1;
-        flags.push(differ(&sums, period, start, end))?;
+    let mut times = sets.times_of(event);
+    let mut wide = 1;
+    while wide <= width {
+        let by = wide.min(width + 1 - wide);
+        times = widened(&times, period, by);
+        wide += by;
     }
-    Ok(flags)
+    let mut reached = [0; WORDS];
+    add_turned(&mut reached, &times, period, offset);
+    reached
 }
 
-// How many times are left to an event before each time of the period, and before its end.
-fn sums_of(alloc: Global, sets: &TimeMarks, event: usize) -> Result<Vec<usize>, NoMemory>
-    requires event { event < sets.now.events }
-    ensures sums { IfOk result (λ sums. sums.items
-        ≡ map (count_below (λ time. is_left sets.now event (time % sets.now.period)))
-        (range_with_len 0 (sets.now.period + 1))) }
-    ensures few { IfOk result (λ sums. All (λ sum. sum ≤ 720) sums.items) }
+// The times that have a bit, and those so many minutes before one.
+fn widened(times: &[u64; WORDS], period: usize, by: usize) -> [u64; WORDS]
+    requires some { 1 ≤ period }
+    requires few { period ≤ 720 }
+    requires by { by ≤ period }
+    requires long { length times.now ≡ 13 }
+    requires clear { IsClear period times.now }
+    ensures long { length result ≡ 13 }
+    ensures each { (time : ℕ) → marked result time
+        ≡ (marked times.now time || turned_to period times.now by time) }
 {
-    let period = sets.period();
-    let mut sums = Vec::with_capacity(alloc, period + 1)?;
-    let mut sum = 0;
-    sums.push(sum)?;
-    for time in 0..period {
-        if sets.is_left(event, time) {
-            sum += 1;
-        }
-        sums.push(sum)?;
+    let mut wide = *times;
+    add_turned(&mut wide, times, period, by);
+    wide
+}
+
+// Adds the times that are so many minutes before one that has a bit, in a period that goes round.
+fn add_turned(all: &mut [u64; WORDS], times: &[u64; WORDS], period: usize, by: usize)
+    requires some { 1 ≤ period }
+    requires few { period ≤ 720 }
+    requires by { by ≤ period }
+    requires all_long { length all.old ≡ 13 }
+    requires long { length times.now ≡ 13 }
+    requires clear { IsClear period times.now }
+    ensures long { length all.new ≡ 13 }
+    ensures each { (time : ℕ) → marked all.new time
+        ≡ (marked all.old time || turned_to period times.now by time) }
+{
+    for index in 0..words_of(period) {
+        let start = 64 * index;
+        all[index] |= cut(word_round(times, period, start + by), period - start);
     }
-    Ok(sums)
+}
+
+// The 64 bits from a time on, in a period that goes round.
+fn word_round(times: &[u64; WORDS], period: usize, from: usize) -> u64
+    requires some { 1 ≤ period }
+    requires few { period ≤ 720 }
+    requires from { from < 2 * period }
+    requires long { length times.now ≡ 13 }
+    requires clear { IsClear period times.now }
+    ensures { (bit : ℕ) → bit < 64 → bit < period → has_bit result bit
+        ≡ marked times.now ((from + bit) % period) }
+{
+    let start = in_period(from, period);
+    let rest = period - start;
+    let word = word_from(times, start);
+    if rest < 64 {
+        word | times[0] << rest
+    } else {
+        word
+    }
 }
 
 // The time of the period that is shown after so many minutes, less than two periods.
@@ -68,30 +96,5 @@ fn in_period(minutes: usize, period: usize) -> usize
         minutes
     } else {
         minutes - period
-    }
-}
-
-// Whether the sums before two times differ, the first of which is in the period.
-fn differ(sums: &[usize], period: usize, start: usize, end: usize) -> bool
-    requires sums { length sums.now ≡ period + 1 }
-    requires few { All (λ sum. sum ≤ 720) sums.now }
-    requires start { start < period }
-    requires end { end < 2 * period }
-    ensures { result ≡ not (sum_before sums.now period end == slice_index sums.now start) }
-{
-    sum_before(sums, period, end) != sums[start]
-}
-
-// The sum before a time of two periods, by the sums of one.
-fn sum_before(sums: &[usize], period: usize, time: usize) -> usize
-    requires sums { length sums.now ≡ period + 1 }
-    requires few { All (λ sum. sum ≤ 720) sums.now }
-    requires time { time < 2 * period }
-    ensures { result ≡ sum_before sums.now period time }
-{
-    if time <= period {
-        sums[time]
-    } else {
-        sums[period] + sums[time - period]
     }
 }

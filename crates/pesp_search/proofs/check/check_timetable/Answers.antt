@@ -1,5 +1,4 @@
-use Rattle.std.proofs.Common.{◌≡◌, ◌∙◌, ap, subst}
-use Rattle.pesp_model.specs.Timetables.{IsProblem}
+use Rattle.std.proofs.Common.{◌∙◌, ap}
 use Rattle.pesp_search.specs.Judged.{first_broken_rule}
 use Rattle.pesp_search.specs.TimetableStage.{problem_in}
 use Rattle.pesp_search.proofs.JudgedTimes.{passes_by}

@@ -1,4 +1,4 @@
-use Rattle.std.proofs.Common.{◌≡◌, Bool, true, false, cond, Option, Some, None, IfOk, sym, subst, ◌∙◌, refl}
+use Rattle.std.proofs.Common.{sym, ◌∙◌}
 use Rattle.pesp_search.proofs.JudgedTimes.{as_rows_told, not_table}
 use Rattle.pesp_search.proofs.judge.first_fault.Goals as goal
 

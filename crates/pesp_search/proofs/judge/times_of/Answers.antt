@@ -1,7 +1,7 @@
-use Rattle.std.proofs.Common.{◌≡◌, ◌++◌, ◌∷◌, [], ap, map, take, sym, ◌∙◌, arith}
+use Rattle.std.proofs.Common.{◌++◌, ◌∷◌, [], ap, map, take, sym, ◌∙◌, arith}
 use Rattle.event_tables.specs.Cells.{periodic_time}
 use Rattle.event_tables.specs.RowsOfTables.{records_by}
-use Rattle.pesp_search.proofs.RowsOfTimes.{time_more, times_whole}
+use Rattle.pesp_search.proofs.RowsOfTimes.{time_more}
 use Rattle.pesp_search.proofs.judge.times_of.Goals as goal
 
 pub loop-row-preserved : goal.loop-row-preserved

@@ -1,30 +1,46 @@
-use Rattle.std.proofs.Common.{◌∙◌, Bool, List, ap, subst, sym}
-use Rattle.pesp_search.specs.Marks.{is_left}
-use Rattle.pesp_search.specs.Revising.{AllFrom, RevisedUnless, has_changed, some_changed}
-use Rattle.pesp_search.proofs.ReducedSets.{sets_reduced}
-use Rattle.pesp_search.proofs.Sweeping.{all_revised, reducing_begun, reducing_turn}
+use Rattle.std.proofs.Common.{◌∙◌, subst, sym}
+use Rattle.pesp_search.specs.Marks.{AreMarks}
+use Rattle.pesp_search.specs.Revising.{Dies, Sweeps}
+use Rattle.pesp_search.proofs.ReducedSets.{bound_stands, dead_stands}
+use Rattle.pesp_search.proofs.Sweeping.{all_bound, both_propagate, reducing_begun, reducing_turn}
+use Rattle.pesp_search.proofs.Sweeping.{when_false}
+use Rattle.pesp_search.proofs.Sweeping.{when_true}
 use Rattle.pesp_search.proofs.reduce.reduce.Goals as goal
 
-pub loop-alloc-init : goal.loop-alloc-init
-loop-alloc-init c =
-    reducing_begun c.args.pesp.now c.args.sets.now c.args.changed.items c.requires.ready
+pub loop-sets-init : goal.loop-sets-init
+loop-sets-init c = reducing_begun c.args.pesp.now c.args.sets.now c.args.changed c.requires.ready
 
-pub loop-alloc-preserved : goal.loop-alloc-preserved
-loop-alloc-preserved c =
-    reducing_turn c.args.pesp.now c.args.sets.now c.loop-alloc.sets c.sweep.new.sets
-    c.loop-alloc.changed.items c.in_ok-changed.changed.items c.loop-alloc.invariant
-    c.in_ok-changed.ensures
+pub returns-then-branch-clause-reduces : goal.returns-then-branch-clause-reduces
+returns-then-branch-clause-reduces c =
+    let dead = when_true (Dies c.args.pesp.now c.loop-sets.sets c.sweep.new.sets)
+    (Sweeps c.args.pesp.now c.loop-sets.sets c.sweep.new.sets c.sweep.new.changed)
+    c.in_ok-sweep.field-0 c.if-branch.true c.in_ok-sweep.ensures in
+    dead_stands c.args.pesp.now c.event_count.ensures.problem c.args.sets.now c.sweep.new.sets
+    c.requires.period c.requires.events
+    (both_propagate c.args.pesp.now c.args.sets.now c.loop-sets.sets c.sweep.new.sets
+    c.loop-sets.invariant.propagates dead.propagates) dead.empty
 
-pub returns : goal.returns
-returns c =
-    let none = sym c.some_changed.ensures ∙ c.loop-alloc-test.false in
-    sets_reduced c.args.pesp.now c.event_count.ensures.problem c.args.sets.now c.loop-alloc.sets
-    c.requires.period c.requires.events c.loop-alloc.invariant.propagates
-    (all_revised c.args.pesp.now c.args.sets.now c.loop-alloc.sets c.loop-alloc.changed.items
-    c.loop-alloc.invariant (ap some_changed (sym c.deref.ensures.value) ∙ none))
+pub loop-sets-preserved : goal.loop-sets-preserved
+loop-sets-preserved c =
+    reducing_turn c.args.pesp.now c.args.sets.now c.loop-sets.sets c.sweep.new.sets
+    c.loop-sets.changed c.sweep.new.changed c.loop-sets.invariant
+    (when_false (Dies c.args.pesp.now c.loop-sets.sets c.sweep.new.sets)
+    (Sweeps c.args.pesp.now c.loop-sets.sets c.sweep.new.sets c.sweep.new.changed)
+    c.in_ok-sweep.field-0 c.if-branch.false c.in_ok-sweep.ensures)
 
-pub sweep-requires-clause-revised : goal.sweep-requires-clause-revised
-sweep-requires-clause-revised c =
-    subst (λ (flags : List Bool). AllFrom c.args.pesp.now.activities
-    (RevisedUnless c.args.pesp.now.period (is_left c.loop-alloc.sets.sets) (has_changed flags)) 0)
-    (sym c.deref-in-loop-alloc.ensures.value) c.loop-alloc.invariant.revised
+pub returns-clause-reduces : goal.returns-clause-reduces
+returns-clause-reduces c =
+    bound_stands c.args.pesp.now c.event_count.ensures.problem c.args.sets.now c.loop-sets.sets
+    c.requires.period c.requires.events c.loop-sets.invariant.propagates
+    (subst AreMarks c.sets.ensures c.period.ensures.sound)
+    (all_bound c.args.pesp.now c.args.sets.now c.loop-sets.sets c.loop-sets.changed
+    c.loop-sets.invariant (sym c.has_some.ensures ∙ c.loop-sets-test.false))
+
+pub returns-then-branch-clause-empty : goal.returns-then-branch-clause-empty
+returns-then-branch-clause-empty c =
+    sym (when_true (Dies c.args.pesp.now c.loop-sets.sets c.sweep.new.sets)
+    (Sweeps c.args.pesp.now c.loop-sets.sets c.sweep.new.sets c.sweep.new.changed)
+    c.in_ok-sweep.field-0 c.if-branch.true c.in_ok-sweep.ensures).empty
+
+pub returns-clause-empty : goal.returns-clause-empty
+returns-clause-empty c = sym (c.loop-sets.invariant.full c.requires.ready.full)

@@ -2,8 +2,8 @@
 use Rattle.pesp_search.proofs.Sweeping.{IsReducing, to_be_done}
 use Rattle.pesp_search.proofs.reduce.reduce.Given as goal
 
-abbrev pub invariant-loop-alloc : goal.invariant-loop-alloc
-invariant-loop-alloc l = IsReducing l.pesp l.fn.sets l.sets l.changed.items
+abbrev pub invariant-loop-sets : goal.invariant-loop-sets
+invariant-loop-sets l = IsReducing l.pesp l.fn.sets l.sets l.changed
 
-abbrev pub decreases-loop-alloc : goal.decreases-loop-alloc
-decreases-loop-alloc l = to_be_done l.sets l.changed.items
+abbrev pub decreases-loop-sets : goal.decreases-loop-sets
+decreases-loop-sets l = to_be_done l.sets l.changed

@@ -1,29 +1,44 @@
-use Rattle.std.proofs.Common.{◌∙◌, ◌+◌, List, Bool, arith, subst, sym}
-use Rattle.std.proofs.lemmas.List.{with_items_is}
-use Rattle.pesp_search.specs.Revising.{Revises}
-use Rattle.pesp_search.proofs.Sweeping.{IsSwept, sweep_begun, sweep_ended, sweep_turn}
+use Rattle.std.proofs.Common.{arith}
+use Rattle.pesp_search.specs.Revising.{Dies, Visits}
+use Rattle.pesp_search.proofs.Linked.{links_at}
+use Rattle.pesp_search.proofs.Sweeping.{sweep_begun, sweep_died, sweep_ended, sweep_turn}
+use Rattle.pesp_search.proofs.Sweeping.{when_false}
+use Rattle.pesp_search.proofs.Sweeping.{when_true}
 use Rattle.pesp_search.proofs.reduce.sweep.Goals as goal
 
-pub loop-index-init : goal.loop-index-init
-loop-index-init c =
-    sweep_begun c.args.pesp.now c.args.sets.now c.args.changed.now c.in_ok-next.next.items
-    (c.in_ok-next.ensures.each ∙ c.event_count.ensures.count) c.in_ok-next.ensures.all c.requires.revised
+pub loop-event-init : goal.loop-event-init
+loop-event-init c =
+    sweep_begun c.args.pesp.now c.args.sets.now c.args.changed.now c.requires.each
+    c.requires.revised
 
-pub loop-index-preserved : goal.loop-index-preserved
-loop-index-preserved c =
-    let so = c.loop-index.invariant in
-    let turn = c.in_ok-revise.ensures in
-    subst (λ (flags : List Bool). IsSwept c.args.pesp.now c.args.sets.now c.revise.new.sets
-    c.args.changed.now flags (c.loop-index.index + 1))
-    (sym (with_items_is c.loop-index.next c.revise.new.next (turn.0.each ∙ c.deref_mut.ensures.len)))
-    (sweep_turn c.args.pesp.now c.args.sets.now c.loop-index.sets c.revise.new.sets c.args.changed.now
-    c.loop-index.next.items c.revise.new.next c.loop-index.index c.activity.result so
-    c.activity.ensures.place (so.propagates.period ∙ c.requires.period)
-    (subst (λ (flags : List Bool). Revises c.activity.result c.args.changed.now c.loop-index.sets
-    c.revise.new.sets flags c.revise.new.next) c.deref_mut.ensures.value turn))
+pub visit-requires-clause-links : goal.visit-requires-clause-links
+visit-requires-clause-links c =
+    links_at c.args.pesp.now c.in-Some.event c.args.links.now c.at.result.now c.requires.links
+    c.at.ensures
+
+pub overflow_add-from : goal.overflow_add-from
+overflow_add-from c = omega (arith, c.in-Some.ensures.next.1, c.in-Some.ensures.sound.few)
+
+pub returns-then-branch : goal.returns-then-branch
+returns-then-branch c =
+    sweep_died c.args.pesp.now c.args.sets.now c.loop-event.sets c.visit.new.sets
+    c.loop-event.changed
+    c.loop-event.from c.loop-event.invariant (when_true
+    (Dies c.args.pesp.now c.loop-event.sets c.visit.new.sets)
+    (Visits c.args.pesp.now c.in-Some.event c.loop-event.sets c.visit.new.sets c.loop-event.changed
+    c.visit.new.changed) c.in_ok-visit.field-0 c.if-branch.true c.in_ok-visit.ensures)
+
+pub loop-event-preserved : goal.loop-event-preserved
+loop-event-preserved c =
+    sweep_turn c.args.pesp.now c.args.sets.now c.loop-event.sets c.visit.new.sets
+    c.loop-event.changed
+    c.visit.new.changed c.loop-event.from c.in-Some.event c.loop-event.invariant
+    c.in-Some.ensures.next (when_false (Dies c.args.pesp.now c.loop-event.sets c.visit.new.sets)
+    (Visits c.args.pesp.now c.in-Some.event c.loop-event.sets c.visit.new.sets c.loop-event.changed
+    c.visit.new.changed) c.in_ok-visit.field-0 c.if-branch.false c.in_ok-visit.ensures)
 
 pub returns : goal.returns
 returns c =
-    sweep_ended c.args.pesp.now c.args.sets.now c.loop-index.sets c.args.changed.now
-    c.loop-index.next.items c.loop-index.index c.loop-index.invariant
-    (omega (arith, c.loop-index-test.false, c.activity_count-index-end.ensures.count))
+    sweep_ended c.args.pesp.now c.args.sets.now c.loop-event.sets c.loop-event.changed
+    c.loop-event.from
+    c.in_default.ensures.sound c.loop-event.invariant c.in_default.ensures.next

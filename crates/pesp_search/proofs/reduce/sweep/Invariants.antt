@@ -1,6 +1,10 @@
--- The activities so far are revised unless their sets have changed since.
+-- What is known behind the events so far.
+use Rattle.std.proofs.Common.{◌-◌}
 use Rattle.pesp_search.proofs.Sweeping.{IsSwept}
 use Rattle.pesp_search.proofs.reduce.sweep.Given as goal
 
-abbrev pub invariant-loop-index : goal.invariant-loop-index
-invariant-loop-index l = IsSwept l.pesp l.fn.sets l.sets l.changed l.next.items l.index
+abbrev pub invariant-loop-event : goal.invariant-loop-event
+invariant-loop-event l = IsSwept l.pesp l.fn.sets l.sets l.changed l.from
+
+abbrev pub decreases-loop-event : goal.decreases-loop-event
+decreases-loop-event l = l.pesp.events - l.from

@@ -1,12 +1,11 @@
-use Rattle.std.proofs.Common.{◌≡◌, ◌∙◌, ◌≤◌, ℕ, Bool, List, IfOk, ap, arith, map, subst, sym}
-use Rattle.std.specs.List.{range_with_len}
+use Rattle.std.proofs.Common.{◌∙◌, ◌≤◌, ℕ, ap, arith, sym}
 use Rattle.pesp_search.specs.Marks.{is_left}
-use Rattle.pesp_search.specs.Revising.{ahead, second_left, reaches, width_of}
-use Rattle.pesp_search.proofs.Partners.{second_reached, same_on_range}
+use Rattle.pesp_search.specs.Revising.{ahead, reaches, width_of}
+use Rattle.pesp_search.proofs.Partners.{second_reached}
 use Rattle.pesp_search.proofs.revise.with_second.Goals as goal
 
-pub returns : goal.returns
-returns c =
+pub returns-clause-each : goal.returns-clause-each
+returns-clause-each c time low =
     let period = c.args.sets.now.period in
     let activity = c.args.activity in
     let left = is_left c.args.sets.now in
@@ -15,10 +14,6 @@ returns c =
     let offset_is = c.ahead.ensures.ahead ∙ ap (λ (period : ℕ). ahead period activity) period_is in
     let width_is = c.width_of-width.ensures.width
     ∙ ap (λ (period : ℕ). width_of period activity) period_is in
-    let reached : map (reaches period (left activity.to) c.ahead.result c.width_of-width.result)
-    (range_with_len 0 period) ≡ map (second_left period left activity) (range_with_len 0 period) =
-    (λ i. map (reaches period (left activity.to) (offset_is i) (width_is i)) (range_with_len 0 period))
-    ∙ sym (same_on_range (second_left period left activity) _ 0 period (λ time low high.
-    second_reached period some c.args.sets.now.events activity c.requires left time (omega (arith, high)))) in
-    subst (λ (list : List Bool). IfOk c.reached.result (λ flags. flags.items ≡ list)) reached
-    c.reached.ensures
+    c.reached.ensures.each time low
+    ∙ (λ i. reaches period (left activity.to) (offset_is i) (width_is i) time)
+    ∙ sym (second_reached period some c.args.sets.now.events activity c.requires left time low)

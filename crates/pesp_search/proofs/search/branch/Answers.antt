@@ -1,6 +1,5 @@
 use Rattle.std.proofs.Common.{◌∙◌, ap, position, sym}
-use Rattle.std.specs.List.{list_any}
-use Rattle.pesp_search.specs.Listings.{has_several, is_empty}
+use Rattle.pesp_search.specs.Listings.{has_several}
 use Rattle.pesp_search.specs.Marks.{Marks, sets_of}
 use Rattle.pesp_search.proofs.Entries.{branched, event_within}
 use Rattle.pesp_search.proofs.search.branch.Goals as goal
@@ -8,12 +7,14 @@ use Rattle.pesp_search.proofs.search.branch.Goals as goal
 pub save-requires : goal.save-requires
 save-requires c = record {
   event = event_within c.args.sets.now.sets c.in-Some.event
-      (sym (c.in-Some.ensures ∙ ap (λ (sets : Marks). position has_several (sets_of sets)) c.sets-2.ensures));
+      (sym (c.in-Some.ensures ∙ ap (λ (sets : Marks). position has_several (sets_of sets))
+      c.sets.ensures));
 }
 
 pub returns-in_ok-save-in-Some : goal.returns-in_ok-save-in-Some
 returns-in_ok-save-in-Some c =
     branched c.args.sets.now c.save.new.self c.in-Some.event
-    (sym (c.if-has_empty.ensures ∙ ap (λ (sets : Marks). list_any is_empty (sets_of sets)) c.sets.ensures))
-    (sym (c.in-Some.ensures ∙ ap (λ (sets : Marks). position has_several (sets_of sets)) c.sets-2.ensures))
+    (sym c.requires ∙ c.if-has_empty.false)
+    (sym (c.in-Some.ensures ∙ ap (λ (sets : Marks). position has_several (sets_of sets))
+    c.sets.ensures))
     c.in_ok-save-in-Some.ensures

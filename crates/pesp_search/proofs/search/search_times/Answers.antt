@@ -10,7 +10,8 @@ returns-in_err-times-clause-steps g c =
     let p = err_from_is_err_and c.from_residual-in_err-times.result
     c.from_residual-in_err-times.ensures.1 in
     let so = c.loop-entry.invariant in
-    let within = step_within c.args.pesp.now c.loop-entry.sets c.loop-entry.entry c.args.budget so.searched
+    let within = step_within c.args.pesp.now c.loop-entry.sets c.loop-entry.entry c.args.budget
+    so.searched
     c.loop-entry-test.true in
     rw (p.1, p.2) (
       omega (arith, c.tick.ensures, so.steps),
@@ -19,14 +20,16 @@ returns-in_err-times-clause-steps g c =
 
 pub returns-in-Found-clause-found : goal.returns-in-Found-clause-found
 returns-in-Found-clause-found g c =
-    let taken = subst (TakesEntry c.args.pesp.now c.loop-entry.sets c.take_entry.new.sets) c.in-Found.is
+    let taken = subst (TakesEntry c.args.pesp.now c.loop-entry.sets c.take_entry.new.sets)
+    c.in-Found.is
     c.in_ok-times.ensures in
     (search_ended c.args.pesp.now c.loop-entry.sets c.loop-entry.entry c.args.budget
     (Some c.in-Found.times.items) c.loop-entry.invariant.searched c.loop-entry-test.true taken).0
 
 pub returns-in-Found-clause-steps : goal.returns-in-Found-clause-steps
 returns-in-Found-clause-steps g c =
-    let taken = subst (TakesEntry c.args.pesp.now c.loop-entry.sets c.take_entry.new.sets) c.in-Found.is
+    let taken = subst (TakesEntry c.args.pesp.now c.loop-entry.sets c.take_entry.new.sets)
+    c.in-Found.is
     c.in_ok-times.ensures in
     let listed = (search_ended c.args.pesp.now c.loop-entry.sets c.loop-entry.entry c.args.budget
     (Some c.in-Found.times.items) c.loop-entry.invariant.searched c.loop-entry-test.true taken).1 in
@@ -34,16 +37,19 @@ returns-in-Found-clause-steps g c =
 
 pub returns-in-Last-clause-found : goal.returns-in-Last-clause-found
 returns-in-Last-clause-found g c =
-    let taken = subst (TakesEntry c.args.pesp.now c.loop-entry.sets c.take_entry.new.sets) c.in-Last.is
+    let taken = subst (TakesEntry c.args.pesp.now c.loop-entry.sets c.take_entry.new.sets)
+    c.in-Last.is
     c.in_ok-times.ensures in
     (search_ended c.args.pesp.now c.loop-entry.sets c.loop-entry.entry c.args.budget None
     c.loop-entry.invariant.searched c.loop-entry-test.true taken).0
 
 pub returns-in-Last-clause-steps : goal.returns-in-Last-clause-steps
 returns-in-Last-clause-steps g c =
-    let taken = subst (TakesEntry c.args.pesp.now c.loop-entry.sets c.take_entry.new.sets) c.in-Last.is
+    let taken = subst (TakesEntry c.args.pesp.now c.loop-entry.sets c.take_entry.new.sets)
+    c.in-Last.is
     c.in_ok-times.ensures in
-    let listed = (search_ended c.args.pesp.now c.loop-entry.sets c.loop-entry.entry c.args.budget None
+    let listed = (search_ended c.args.pesp.now c.loop-entry.sets c.loop-entry.entry c.args.budget
+    None
     c.loop-entry.invariant.searched c.loop-entry-test.true taken).1 in
     omega (arith, c.tick.ensures, c.loop-entry.invariant.steps, listed)
 
@@ -59,24 +65,32 @@ returns-clause-steps g c =
     let spent : c.loop-entry.entry ≡ c.args.budget =
     omega (arith, c.loop-entry-test.false, c.loop-entry.auto.entry-end) in
     let listed = (search_spent c.args.pesp.now c.loop-entry.sets c.args.budget
-    (subst (IsSearched c.args.pesp.now c.loop-entry.sets) spent c.loop-entry.invariant.searched)).1 in
+    (subst (IsSearched c.args.pesp.now c.loop-entry.sets) spent
+    c.loop-entry.invariant.searched)).1 in
     omega (arith, c.loop-entry.invariant.steps, listed, spent)
 
 pub loop-entry-init : goal.loop-entry-init
 loop-entry-init g c = record {
   searched = c.in_ok-sets.ensures.searched;
-  ready = all_ready c.args.pesp.now c.in_ok-sets.sets c.in_ok-changed.changed.items
-      c.event_count.ensures.problem (c.in_ok-changed.ensures.each ∙ c.event_count.ensures.count)
-      c.in_ok-changed.ensures.all c.in_ok-sets.ensures.saved;
+  ready = all_ready c.args.pesp.now c.in_ok-sets.sets c.in_ok-changed.changed
+      c.event_count.ensures.problem (c.in_ok-changed.ensures.events ∙ c.event_count.ensures.count)
+      (λ event low. c.in_ok-changed.ensures.all event (omega (
+        arith,
+        low,
+        c.event_count.ensures.count,
+      )))
+      c.in_ok-sets.ensures.saved c.in_ok-sets.ensures.full;
   steps = omega arith;
 }
 
 pub loop-entry-preserved : goal.loop-entry-preserved
 loop-entry-preserved g c =
-    let taken = subst (TakesEntry c.args.pesp.now c.loop-entry.sets c.take_entry.new.sets) c.in-Next.is
+    let taken = subst (TakesEntry c.args.pesp.now c.loop-entry.sets c.take_entry.new.sets)
+    c.in-Next.is
     c.in_ok-times.ensures in
     record {
-      searched = search_turn c.args.pesp.now c.loop-entry.sets c.take_entry.new.sets c.loop-entry.entry
+      searched = search_turn c.args.pesp.now c.loop-entry.sets c.take_entry.new.sets
+          c.loop-entry.entry
           c.loop-entry.invariant.searched taken.0 taken.1 taken.2;
       ready = taken.3;
       steps = omega (arith, c.tick.ensures, c.loop-entry.invariant.steps);

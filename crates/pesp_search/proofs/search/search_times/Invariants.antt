@@ -7,6 +7,6 @@ use Rattle.pesp_search.proofs.search.search_times.Given as goal
 abbrev pub invariant-loop-entry : goal.invariant-loop-entry
 invariant-loop-entry g l = record {
   searched : IsSearched l.pesp l.sets l.entry;
-  ready : IsReady l.pesp l.sets l.changed.items;
+  ready : IsReady l.pesp l.sets l.changed;
   steps : l.steps ≡ l.fn.steps + l.entry;
 }

@@ -1,27 +1,76 @@
-use Rattle.std.proofs.Common.{◌∙◌, ◌==◌, ◌+◌, ◌%◌, ℕ, not, slice_index, arith, ap, length, sym}
-use Rattle.pesp_search.specs.Marks.{is_left}
-use Rattle.pesp_search.specs.Revising.{reaches, sum_before}
-use Rattle.pesp_search.proofs.WindowSums.{one_flag_more, sums_long, window}
+use Rattle.std.proofs.Common.{◌≡◌, ◌∙◌, ◌||◌, ℕ, arith, refl, subst}
+use Rattle.pesp_search.specs.Marks.{is_left, marked}
+use Rattle.pesp_search.specs.Revising.{turned_to}
+use Rattle.pesp_search.proofs.WordTurns.{clear_at, left_twice, only_turned, wide_begun}
+use Rattle.pesp_search.proofs.WordTurns.{wide_clear, wide_ended}
+use Rattle.pesp_search.proofs.WordTurns.{wide_turn}
 use Rattle.pesp_search.proofs.windows.reached.Goals as goal
 
-pub loop-time-preserved : goal.loop-time-preserved
-loop-time-preserved c =
-    let left = is_left c.args.sets.now c.args.event in
-    let period_is = c.period-period.ensures.value in
-    let shown = c.in_period-start.ensures.shown
-    ∙ ap (λ (period : ℕ). (c.loop-time.time + c.args.offset) % period) period_is in
-    let told = c.differ.ensures
-    ∙ (λ i. not (sum_before (c.deref.ensures.value i) (period_is i) (c.in_period-start.result + c.args.width + 1)
-    == slice_index (c.deref.ensures.value i) c.in_period-start.result))
-    ∙ window c.args.sets.now.period left c.in_ok-sums.sums.items c.args.offset c.args.width
-    c.loop-time.time c.in_period-start.result c.in_ok-sums.ensures.sums shown
-    (omega (arith, c.in_period-start.ensures.within, period_is)) c.requires.width in
-    one_flag_more (reaches c.args.sets.now.period left c.args.offset c.args.width) c.loop-time.time
-    c.loop-time.flags.items c.push.new.self.items c.differ.result c.loop-time.invariant told
-    c.in_ok-push.ensures.items
+pub loop-wide-init : goal.loop-wide-init
+loop-wide-init c = record {
+  long = c.times_of-times.ensures.long;
+  some = omega arith;
+  few = omega arith;
+  wide = wide_begun c.args.sets.now.period (is_left c.args.sets.now c.args.event)
+      c.times_of-times.result
+      (λ time. c.times_of-times.ensures.each time ∙ left_twice c.args.sets.now c.args.event time);
+}
 
-pub differ-requires-clause-sums : goal.differ-requires-clause-sums
-differ-requires-clause-sums c =
-    ap length c.deref.ensures.value
-    ∙ sums_long _ _ c.in_ok-sums.sums.items c.in_ok-sums.ensures.sums
-    ∙ ap (λ (n : ℕ). n + 1) (sym c.period-period.ensures.value)
+pub loop-wide-preserved : goal.loop-wide-preserved
+loop-wide-preserved c =
+    let so = c.loop-wide.invariant in
+    let period = c.period-period.ensures in
+    record {
+      long = c.widened-times.ensures.long;
+      some = omega (arith, so.some);
+      few = omega (arith, so.few, c.min-by.ensures);
+      wide = wide_turn c.args.sets.now.period (is_left c.args.sets.now c.args.event)
+          c.loop-wide.wide
+          c.loop-wide.times (omega (arith, period.sound.some)) so.wide c.min-by.result
+          c.widened-times.result
+          (omega (arith, c.min-by.ensures))
+          (subst (λ (period : ℕ). (time : ℕ) → marked c.widened-times.result time
+          ≡ (marked c.loop-wide.times time
+          || turned_to period c.loop-wide.times c.min-by.result time))
+          period.value c.widened-times.ensures.each);
+    }
+
+pub widened-times-requires : goal.widened-times-requires
+widened-times-requires c =
+    let so = c.loop-wide.invariant in
+    let period = c.period-period.ensures in
+    record {
+      some = omega (arith, period.value, period.sound.some);
+      few = omega (arith, period.value, period.sound.few);
+      by = omega (arith, period.value, c.min-by.ensures, c.requires.width);
+      long = so.long;
+      clear = clear_at c.args.sets.now.period c.period-period.result c.loop-wide.times period.value
+          (wide_clear c.args.sets.now.period (is_left c.args.sets.now c.args.event) c.loop-wide.wide
+          c.loop-wide.times so.wide);
+    }
+
+pub add_turned-requires : goal.add_turned-requires
+add_turned-requires c =
+    let so = c.loop-wide.invariant in
+    let period = c.period-period.ensures in
+    record {
+      some = omega (arith, period.value, period.sound.some);
+      few = omega (arith, period.value, period.sound.few);
+      by = omega (arith, period.value, c.requires.offset);
+      all_long = refl;
+      long = so.long;
+      clear = clear_at c.args.sets.now.period c.period-period.result c.loop-wide.times period.value
+          (wide_clear c.args.sets.now.period (is_left c.args.sets.now c.args.event) c.loop-wide.wide
+          c.loop-wide.times so.wide);
+    }
+
+pub returns-clause-each : goal.returns-clause-each
+returns-clause-each c =
+    let so = c.loop-wide.invariant in
+    let period = c.period-period.ensures in
+    wide_ended c.args.sets.now.period (is_left c.args.sets.now c.args.event) c.loop-wide.wide
+    c.loop-wide.times (omega (arith, period.sound.some)) so.wide c.args.offset c.args.width
+    c.add_turned.new.all (omega (arith, so.few, c.loop-wide-test.false))
+    (λ time. c.add_turned.ensures.each time
+    ∙ only_turned c.args.sets.now.period c.period-period.result c.loop-wide.times c.args.offset
+    time period.value)

@@ -1,12 +1,16 @@
--- The flags so far are those of the times so far.
-use Rattle.std.proofs.Common.{◌≡◌, map}
-use Rattle.std.specs.List.{range_with_len}
+-- Among so many minutes from a time on some time is left.
+use Rattle.std.proofs.Common.{◌≡◌, ◌≤◌, ◌+◌, ◌-◌, length}
 use Rattle.pesp_search.specs.Marks.{is_left}
-use Rattle.pesp_search.specs.Revising.{reaches}
+use Rattle.pesp_search.proofs.WordTurns.{IsWide}
 use Rattle.pesp_search.proofs.windows.reached.Given as goal
 
-abbrev pub invariant-loop-time : goal.invariant-loop-time
-invariant-loop-time l =
-    l.flags.items
-    ≡ map (reaches l.sets.period (is_left l.sets l.event) l.offset l.width)
-    (range_with_len 0 l.time)
+abbrev pub invariant-loop-wide : goal.invariant-loop-wide
+invariant-loop-wide l = record {
+  long : length l.times ≡ 13;
+  some : 1 ≤ l.wide;
+  few : l.wide ≤ l.width + 1;
+  wide : IsWide l.sets.period (is_left l.sets l.event) l.wide l.times;
+}
+
+abbrev pub decreases-loop-wide : goal.decreases-loop-wide
+decreases-loop-wide l = l.width + 1 - l.wide

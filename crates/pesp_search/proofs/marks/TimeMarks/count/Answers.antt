@@ -1,22 +1,25 @@
-use Rattle.std.proofs.Common.{◌∙◌, ◌<◌, arith, sym}
-use Rattle.pesp_search.proofs.NextTimes.{count_none, count_one}
+use Rattle.std.proofs.Common.{◌∙◌, ◌+◌, ap, arith, count_ones, sym}
+use Rattle.pesp_search.proofs.MarkCounts.{all_counted, none_counted, ones_few, word_counted}
 use Rattle.pesp_search.proofs.marks.TimeMarks.count.Goals as goal
-use Rattle.pesp_search.proofs.marks.TimeMarks.count.Goals.{then-is_left, else-is_left}
 
-pub loop-time-preserved : goal.loop-time-preserved
-loop-time-preserved c =
-    let some : c.loop-time.time < c.args.self.now.period =
-    omega (arith, c.loop-time-test.true, c.period-time-end.ensures.value) in
-    let so = c.loop-time.invariant in
-    elim c.if-is_left.branch [
-      | then-is_left w ↦ rw (w.count-is) (record {
-        few = omega (arith, so.few);
-        counted = count_one c.args.self.now c.args.event c.loop-time.time c.loop-time.count _ some
-            (sym c.is_left.ensures ∙ w.if-is_left.true) so.counted;
-      })
-      | else-is_left w ↦ rw (w.count-is) (record {
-        few = omega (arith, so.few);
-        counted = count_none c.args.self.now c.args.event c.loop-time.time c.loop-time.count _ some
-            (sym c.is_left.ensures ∙ w.if-is_left.false) so.counted;
-      })
-    ]
+pub loop-index-init : goal.loop-index-init
+loop-index-init c = record {
+  few = omega arith;
+  counted = none_counted c.args.self.now
+      c.args.event;
+}
+
+pub loop-index-preserved : goal.loop-index-preserved
+loop-index-preserved c = record {
+  few = omega (arith, c.loop-index.invariant.few, ones_few c.word.result c.word.type_inv);
+  counted = ap (λ n. n + count_ones c.word.result) c.loop-index.invariant.counted
+      ∙ sym (word_counted c.args.self.now c.args.event c.loop-index.index c.word.result
+      c.word.type_inv
+      c.word.ensures);
+}
+
+pub returns : goal.returns
+returns c =
+    all_counted c.args.self.now c.args.event c.loop-index.index c.loop-index.count
+    c.width-index-end.ensures.sound
+    c.requires.event (omega arith) c.loop-index.invariant.counted

@@ -1,11 +1,11 @@
--- The count so far and that of the rest is that of all.
-use Rattle.std.proofs.Common.{◌≡◌, ◌+◌, ◌≤◌, length}
-use Rattle.pesp_search.specs.Marks.{times_from}
+-- The count so far is that of the bits of the words so far.
+use Rattle.std.proofs.Common.{◌≡◌, ◌*◌, ◌≤◌}
+use Rattle.pesp_search.specs.Revising.{count_below}
+use Rattle.pesp_search.proofs.MarkBits.{bit_there}
 use Rattle.pesp_search.proofs.marks.TimeMarks.count.Given as goal
 
-abbrev pub invariant-loop-time : goal.invariant-loop-time
-invariant-loop-time l = record {
-  few : l.count ≤ l.time;
-  counted : l.count + length (times_from l.self l.event l.time)
-      ≡ length (times_from l.self l.event 0);
+abbrev pub invariant-loop-index : goal.invariant-loop-index
+invariant-loop-index l = record {
+  few : l.count ≤ 64 * l.index;
+  counted : l.count ≡ count_below (bit_there l.self l.event) (64 * l.index);
 }

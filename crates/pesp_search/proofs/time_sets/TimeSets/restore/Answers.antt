@@ -6,15 +6,19 @@ use Rattle.pesp_search.proofs.time_sets.TimeSets.restore.Goals as goal
 
 pub loop-change-preserved : goal.loop-change-preserved
 loop-change-preserved c = record {
-  period = ap (λ (sets : Marks). sets.period) c.mark.ensures ∙ c.loop-change.invariant.period;
-  events = ap (λ (sets : Marks). sets.events) c.mark.ensures ∙ c.loop-change.invariant.events;
+  period = ap (λ (sets : Marks). sets.period) c.mark.ensures.marked
+      ∙ c.loop-change.invariant.period;
+  events = ap (λ (sets : Marks). sets.events) c.mark.ensures.marked
+      ∙ c.loop-change.invariant.events;
   saved = popped_removed c.loop-change.self-inside.sets c.mark.new.self
-      c.loop-change.self-inside.changes.items c.pop.new.self.items c.in-Some.change c.in-Removed.event
-      c.in-Removed.time c.in-Some.ensures.items c.in-Removed.is c.mark.ensures
+      c.loop-change.self-inside.changes.items c.pop.new.self.items c.in-Some.change
+      c.in-Removed.event
+      c.in-Removed.time c.in-Some.ensures.items c.in-Removed.is c.mark.ensures.marked
       ∙ c.loop-change.invariant.saved;
   changes = subst (λ (now : Marks). All (IsChange now.period now.events) c.pop.new.self.items)
-      (sym c.mark.ensures)
-      (others_hold (IsChange c.loop-change.self-inside.sets.period c.loop-change.self-inside.sets.events)
+      (sym c.mark.ensures.marked)
+      (others_hold (IsChange c.loop-change.self-inside.sets.period
+      c.loop-change.self-inside.sets.events)
       c.loop-change.self-inside.changes.items c.pop.new.self.items c.in-Some.change
       c.in-Some.ensures.items c.loop-change.invariant.changes);
 }
@@ -27,7 +31,8 @@ returns-in-Branched c = (
       c.in-Branched.is,
   subst (IsChange c.loop-change.self-inside.sets.period c.loop-change.self-inside.sets.events)
       c.in-Branched.is
-      (last_holds (IsChange c.loop-change.self-inside.sets.period c.loop-change.self-inside.sets.events)
+      (last_holds (IsChange c.loop-change.self-inside.sets.period
+      c.loop-change.self-inside.sets.events)
       c.loop-change.self-inside.changes.items c.pop.new.self.items c.in-Some.change
       c.in-Some.ensures.items c.loop-change.invariant.changes),
   c.loop-change.invariant.period,

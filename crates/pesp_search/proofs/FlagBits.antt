@@ -1,0 +1,259 @@
+-- Flags of events as bits.
+use Rattle.std.proofs.Common.{◌≡◌, ◌∙◌, inl, inr, ℕ, zero, suc, ◌+◌, ◌-◌, ◌*◌, ◌/◌, ◌%◌, ◌^◌, ◌<◌}
+use Rattle.std.proofs.Common.{◌≤◌, ◌==◌}
+use Rattle.std.proofs.Common.{Bool, true, false, not, ◌||◌, max, List, [], ◌∷◌, length, get_or}
+use Rattle.std.proofs.Common.{slice_set, All}
+use Rattle.std.proofs.Common.{Some, None, refl, ap, sym, subst, arith}
+use Rattle.std.specs.List.{list_any}
+use Rattle.std.proofs.lemmas.Bool.{cases_Bool, cases_eq, cases_lt, eq-eqb, eqb-true, false≢true}
+use Rattle.std.proofs.lemmas.Bool.{ne_eqb, or_parts}
+use Rattle.std.proofs.lemmas.List.{get_or-set_other, get_or-set_same, get_or_past, length-set}
+use Rattle.pesp_search.specs.Flags.{AreFlags, Flags, IsNextFlag, has_changed, some_changed}
+use Rattle.pesp_search.specs.Flags.{with_flag}
+use Rattle.pesp_search.specs.Marks.{IsFirstBit, has_bit, marked, with_bit}
+use Rattle.pesp_search.proofs.WordBits.{none_at_zero, with_fits, with_other, with_same, zero_bit}
+
+-- ---- one flag
+
+module _ (flags : Flags) (event : ℕ) (flag : Bool) (there : event / 64 < length flags.words) where
+  abbrev now : Flags
+  now = with_flag flags event flag
+
+  word_here : get_or now.words (event / 64) 0
+      ≡ with_bit (get_or flags.words (event / 64) 0) (event % 64) flag
+  word_here = get_or-set_same flags.words (event / 64)
+      (with_bit (get_or flags.words (event / 64) 0) (event % 64) flag) 0 there
+
+  pub this_flag : has_changed now event ≡ flag
+  this_flag =
+      ap (λ word. has_bit word (event % 64)) word_here
+      ∙ with_same (get_or flags.words (event / 64) 0) (event % 64) flag (omega arith)
+
+  pub other_flag : (other : ℕ) → (other ≡ event → ⊥)
+      → has_changed now other ≡ has_changed flags other
+  other_flag other apart = elim (cases_eq (other / 64) (event / 64)) [
+    | inr index ↦
+        ap (λ word. has_bit word (other % 64))
+        (get_or-set_other flags.words (event / 64) (other / 64)
+        (with_bit (get_or flags.words (event / 64) 0) (event % 64) flag) 0 index)
+    | inl index ↦
+        let bits : (other % 64 ≡ event % 64 → ⊥) = λ equal. apart (omega (arith, equal, index)) in
+        let first : other % 64 < 64 = omega arith in
+        let second : event % 64 < 64 = omega arith in
+        ap (λ i. has_bit (get_or now.words i 0) (other % 64)) index
+        ∙ ap (λ word. has_bit word (other % 64)) word_here
+        ∙ with_other (get_or flags.words (event / 64) 0) (event % 64) (other % 64) flag second
+        first bits
+        ∙ ap (λ i. has_bit (get_or flags.words i 0) (other % 64)) (sym index)
+  ]
+
+pub flag_within : (flags : Flags) (event : ℕ) → AreFlags flags → event < flags.events
+    → event / 64 < length flags.words
+flag_within flags event are low = omega (arith, are.each, low)
+
+pub flags_written : (flags : Flags) (event word : ℕ) (flag : Bool) → AreFlags flags
+    → event < flags.events
+    → word ≡ with_bit (get_or flags.words (event / 64) 0) (event % 64) flag
+    → AreFlags (record { events = flags.events; words = slice_set flags.words (event / 64) word })
+flags_written flags event word flag are low new =
+    let there = flag_within flags event are low in
+    subst AreFlags (sym (λ i. record {
+      events = flags.events;
+      words = slice_set flags.words (event / 64) (new i);
+    })) (record {
+      few = are.few;
+      each = length-set flags.words (event / 64) _ ∙ are.each;
+      fit = λ k d h. fits there k d (omega (
+        arith,
+        h,
+        length-set flags.words (event / 64)
+            (with_bit (get_or flags.words (event / 64) 0) (event % 64) flag),
+      ));
+      clear = λ other high.
+          other_flag flags event flag there other (λ same. absurd (omega (arith, same, low, high)))
+          ∙ are.clear other high;
+    })
+  where
+    fits : event / 64 < length flags.words → (k d : ℕ) → k < length flags.words
+        → get_or (with_flag flags event flag).words k d < 2 ^ 64
+    fits there k d h = elim (cases_eq k (event / 64)) [
+      | inl same ↦
+          let word = get_or flags.words (event / 64) 0 in
+          let new = with_bit word (event % 64) flag in
+          let fit : word < 2 ^ 64 = are.fit (event / 64) 0 there in
+          let bit : event % 64 < 64 = omega arith in
+          subst (λ n. n < 2 ^ 64) (sym (ap (λ k. get_or (with_flag flags event flag).words k d) same
+          ∙ get_or-set_same flags.words (event / 64) new d there))
+          (with_fits word (event % 64) flag fit bit)
+      | inr other ↦
+          subst (λ n. n < 2 ^ 64) (sym (get_or-set_other flags.words (event / 64) k
+          (with_bit (get_or flags.words (event / 64) 0) (event % 64) flag) d other))
+          (are.fit k d h)
+    ]
+
+-- ---- none
+
+pub all_zero : (words : List ℕ) → All (λ word. word ≡ 0) words → (event : ℕ)
+    → marked words event ≡ false
+all_zero words zeros event = elim (cases_lt (event / 64) (length words)) [
+  | inl low ↦ ap (λ word. has_bit word (event % 64)) (zeros (event / 64) 0 low)
+      ∙ zero_bit (event % 64)
+  | inr high ↦ ap (λ word. has_bit word (event % 64)) (get_or_past words (event / 64) 0 high)
+      ∙ zero_bit (event % 64)
+]
+
+pub none_flagged : (events : ℕ) (words : List ℕ) → events ≤ 4000 → length words ≡ (events + 63) / 64
+    → All (λ word. word ≡ 0) words → AreFlags (record { events = events; words = words })
+none_flagged events words few each zeros = record {
+  few = few;
+  each = each;
+  fit = λ k d h. subst (λ n. n < 2 ^ 64) (sym (zeros k d h)) (omega arith);
+  clear = λ event high. all_zero words zeros event;
+}
+
+-- ---- whether some flag is set
+
+word_of_none : (words : List ℕ) → list_any (λ word. not (word == 0)) words ≡ false → (i : ℕ)
+    → get_or words i 0 ≡ 0
+word_of_none [] none i = refl
+word_of_none (word ∷ words) none zero =
+    let first = (or_parts (not (word == 0)) _ none).0 in
+    elim (cases_Bool (word == 0)) [
+      | inl is ↦ eqb-true word 0 is
+      | inr other ↦ absurd (false≢true (sym first ∙ ap not other))
+    ]
+word_of_none (word ∷ words) none (suc i) = word_of_none words (or_parts (not (word == 0)) _
+    none).1 i
+
+pub no_flag : (flags : Flags) → some_changed flags ≡ false → (event : ℕ)
+    → has_changed flags event ≡ false
+unfolding some_changed
+no_flag flags none event =
+    ap (λ word. has_bit word (event % 64)) (word_of_none flags.words none (event / 64))
+    ∙ zero_bit (event % 64)
+
+-- a word that is not 0
+pub some_word : (words : List ℕ) → list_any (λ word. not (word == 0)) words ≡ true
+    → (i : ℕ) × (i < length words) × (get_or words i 0 ≡ 0 → ⊥)
+some_word [] some = absurd (false≢true some)
+some_word (word ∷ words) some = elim (cases_eq word 0) [
+  | inr other ↦ (0, omega arith, other)
+  | inl none ↦
+      let rest : list_any (λ word. not (word == 0)) words ≡ true =
+      sym (ap (λ b. not b || list_any (λ word. not (word == 0)) words) (eq-eqb word 0 none))
+      ∙ some in
+      let found = some_word words rest in
+      (suc found.0, (let low = found.1 in omega (arith, low)), found.2)
+]
+
+pub some_flag : (flags : Flags) → AreFlags flags → some_changed flags ≡ true
+    → (event : ℕ) × (has_changed flags event ≡ true)
+unfolding some_changed
+some_flag flags are some =
+    let found = some_word flags.words some in
+    let word = get_or flags.words found.0 0 in
+    let bit = none_at_zero word (are.fit found.0 0 found.1) found.2 in
+    let index : (64 * found.0 + bit.0) / 64 ≡ found.0 = (let low = bit.1 in omega (arith, low)) in
+    let place : (64 * found.0 + bit.0) % 64 ≡ bit.0 = (let low = bit.1 in omega (arith, low)) in
+    (64 * found.0 + bit.0, (λ i. has_bit (get_or flags.words (index i) 0) (place i)) ∙ bit.2)
+
+-- ---- the next flag
+
+pub next_flag : (flags : Flags) (index from start bit : ℕ) → AreFlags flags
+    → start ≡ max from (64 * index) - 64 * index
+    → ((event : ℕ) → from ≤ event → event < 64 * index → has_changed flags event ≡ false)
+    → IsFirstBit (get_or flags.words index 0) start (Some bit)
+    → IsNextFlag flags from (Some (64 * index + bit))
+next_flag flags index from start bit are begins so first =
+    let own : (64 * index + bit) / 64 ≡ index = (let low = first.1 in omega (arith, low)) in
+    let place : (64 * index + bit) % 64 ≡ bit = (let low = first.1 in omega (arith, low)) in
+    let set : has_changed flags (64 * index + bit) ≡ true =
+    (λ i. has_bit (get_or flags.words (own i) 0) (place i)) ∙ first.2 in (
+      (let low = first.0 in omega (arith, begins, low)),
+      inside (64 * index + bit) set,
+      set,
+      λ event low high. elim (cases_lt event (64 * index)) [
+        | inl before ↦ so event low before
+        | inr after ↦
+            let few : event - 64 * index < 64 = (let small = first.1 in
+            omega (arith, high, after, small)) in
+            let index_is : event / 64 ≡ index = omega (arith, after, few) in
+            let bit_is : event % 64 ≡ event - 64 * index = omega (arith, after, few) in
+            (λ i. has_bit (get_or flags.words (index_is i) 0) (bit_is i))
+            ∙ first.3 (event - 64 * index) (omega (arith, begins, low, after)) (omega (
+              arith,
+              high,
+              after,
+            ))
+      ],
+    )
+  where
+    inside : (event : ℕ) → has_changed flags event ≡ true → event < flags.events
+    inside event set = elim (cases_lt event flags.events) [
+      | inl low ↦ low
+      | inr high ↦ absurd (false≢true (sym (are.clear event high) ∙ set))
+    ]
+
+pub no_next_flag : (flags : Flags) (index from start : ℕ)
+    → start ≡ max from (64 * index) - 64 * index
+    → ((event : ℕ) → from ≤ event → event < 64 * index → has_changed flags event ≡ false)
+    → IsFirstBit (get_or flags.words index 0) start None
+    → (event : ℕ) → from ≤ event → event < 64 * (index + 1) → has_changed flags event ≡ false
+no_next_flag flags index from start begins so none event low high = elim (cases_lt event (64 *
+    index)) [
+      | inl before ↦ so event low before
+      | inr after ↦
+          let few : event - 64 * index < 64 = omega (arith, high, after) in
+          let index_is : event / 64 ≡ index = omega (arith, after, few) in
+          let bit_is : event % 64 ≡ event - 64 * index = omega (arith, after, few) in
+          (λ i. has_bit (get_or flags.words (index_is i) 0) (bit_is i))
+          ∙ none (event - 64 * index) (omega (arith, begins, low, after)) few
+    ]
+
+pub past_flags : (flags : Flags) (index event : ℕ) → length flags.words ≤ index → 64 * index ≤ event
+    → has_changed flags event ≡ false
+past_flags flags index event all high =
+    ap (λ word. has_bit word (event % 64)) (get_or_past flags.words (event / 64) 0 (omega (
+      arith,
+      all,
+      high,
+    )))
+    ∙ zero_bit (event % 64)
+
+pub none_left : (flags : Flags) (index from event : ℕ) → length flags.words ≤ index
+    → ((event : ℕ) → from ≤ event → event < 64 * index → has_changed flags event ≡ false)
+    → from ≤ event → has_changed flags event ≡ false
+none_left flags index from event all so low = elim (cases_lt event (64 * index)) [
+  | inl before ↦ so event low before
+  | inr behind ↦ past_flags flags index event all behind
+]
+
+-- ---- flags that are set one after the other
+
+pub one_set : (flags after : Flags) (event : ℕ) → event / 64 < length flags.words
+    → after ≡ with_flag flags event true → ((other : ℕ) → has_changed flags other ≡ false)
+    → (other : ℕ)
+    → has_changed after other ≡ (other == event)
+one_set flags after event there is none other =
+    ap (λ flags. has_changed flags other) is
+    ∙ elim (cases_eq other event) [
+      | inl same ↦
+          ap (has_changed (with_flag flags event true)) same ∙ this_flag flags event true there
+          ∙ sym (eq-eqb other event same)
+      | inr apart ↦
+          other_flag flags event true there other apart ∙ none other
+          ∙ sym (ne_eqb other event apart)
+    ]
+
+pub one_more_set : (flags after : Flags) (event : ℕ) → event / 64 < length flags.words
+    → after ≡ with_flag flags event true
+    → ((other : ℕ) → other < event → has_changed flags other ≡ true) → (other : ℕ)
+    → other < event + 1 → has_changed after other ≡ true
+one_more_set flags after event there is so other low =
+    ap (λ flags. has_changed flags other) is
+    ∙ elim (cases_eq other event) [
+      | inl same ↦ ap (has_changed (with_flag flags event true)) same
+          ∙ this_flag flags event true there
+      | inr apart ↦ other_flag flags event true there other apart
+          ∙ so other (omega (arith, low, apart))
+    ]

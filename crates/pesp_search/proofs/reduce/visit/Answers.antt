@@ -1,0 +1,39 @@
+use Rattle.std.proofs.Common.{◌∙◌, arith, get_or, refl, subst, sym}
+use Rattle.pesp_search.specs.Flags.{Flags}
+use Rattle.pesp_search.proofs.Visiting.{IsVisited, visit_begun, visit_died, visit_ended, visit_turn}
+use Rattle.pesp_search.proofs.reduce.visit.Goals as goal
+
+pub loop-index-init : goal.loop-index-init
+loop-index-init c =
+    subst (λ (flags : Flags). IsVisited c.args.pesp.now c.args.event c.args.indexes.now
+    c.args.sets.now
+    c.args.sets.now c.args.changed.now flags 0) (sym c.put.ensures.flag)
+    (visit_begun c.args.pesp.now c.args.event c.args.indexes.now c.args.sets.now
+    c.args.changed.now c.put.ensures.sound
+    (omega (arith, c.requires.event, c.requires.each)) c.requires.links c.requires.revised)
+
+pub returns-then-branch : goal.returns-then-branch
+returns-then-branch c =
+    visit_died c.args.pesp.now c.args.event c.args.indexes.now c.args.sets.now c.loop-index.sets
+    c.revise.new.sets c.args.changed.now c.loop-index.changed c.revise.new.changed
+    c.loop-index.index-index
+    (get_or c.args.indexes.now c.loop-index.index-index 0) c.activity.result
+    c.loop-index.invariant refl c.activity.ensures.place
+    (c.loop-index.invariant.propagates.period ∙ c.requires.period) c.in_ok-revise.ensures.revises
+    (c.in_ok-revise.ensures.empty c.if-branch.true)
+
+pub loop-index-preserved : goal.loop-index-preserved
+loop-index-preserved c =
+    visit_turn c.args.pesp.now c.args.event c.args.indexes.now c.args.sets.now c.loop-index.sets
+    c.revise.new.sets c.args.changed.now c.loop-index.changed c.revise.new.changed
+    c.loop-index.index-index
+    (get_or c.args.indexes.now c.loop-index.index-index 0) c.activity.result
+    c.loop-index.invariant refl c.activity.ensures.place
+    (c.loop-index.invariant.propagates.period ∙ c.requires.period) c.in_ok-revise.ensures.revises
+    (c.in_ok-revise.ensures.full c.if-branch.false)
+
+pub returns : goal.returns
+returns c =
+    visit_ended c.args.pesp.now c.args.event c.args.indexes.now c.args.sets.now c.loop-index.sets
+    c.args.changed.now c.loop-index.changed c.loop-index.index-index c.loop-index.invariant (omega
+    arith)

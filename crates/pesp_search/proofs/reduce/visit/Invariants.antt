@@ -1,0 +1,7 @@
+-- The activities so far are revised unless their sets have changed since.
+use Rattle.pesp_search.proofs.Visiting.{IsVisited}
+use Rattle.pesp_search.proofs.reduce.visit.Given as goal
+
+abbrev pub invariant-loop-index : goal.invariant-loop-index
+invariant-loop-index l =
+    IsVisited l.pesp l.event l.indexes l.fn.sets l.sets l.fn.changed l.changed l.index-index

@@ -1,0 +1,133 @@
+// Flags of events.
+ghost use Rattle.std.specs.Prelude.{◌≡◌, ℕ, ◌/◌, ◌<◌, ◌≤◌, ◌==◌, not, length, slice_index, true};
+ghost use Rattle.std.specs.Prelude.{false, IfOk};
+ghost use Rattle.std.specs.List.{list_any};
+ghost use Rattle.pesp_search.specs.Flags.{AreFlags, IsNextFlag, has_changed, some_changed};
+ghost use Rattle.pesp_search.specs.Flags.{with_flag};
+
+use crate::words::{first_bit, with_bit};
+use plan_num::NoMemory;
+use std::alloc::Global;
+use std::marker::Model;
+
+/// A flag for each event, as the bits of words.
+#[derive(Debug, Drop)]
+pub(crate) struct EventFlags {
+    events: usize,
+    words: Vec<u64>,
+}
+
+impl Model for EventFlags {
+    ghost use Rattle.pesp_search.specs.Flags.{Flags, AreFlags};
+
+    ghost Value = { Flags };
+
+    ghost view = { λ flags. record { events = flags.events; words = flags.words.items } };
+
+    ghost invariant = { λ flags.
+        AreFlags (record { events = flags.events; words = flags.words.items }) };
+}
+
+impl EventFlags {
+    /// Flags of so many events, of which none is set.
+    pub(crate) fn none(alloc: Global, events: usize) -> Result<EventFlags, NoMemory>
+        requires { events ≤ 4000 }
+        ensures events { IfOk result (λ flags. flags.events ≡ events) }
+        ensures none { IfOk result (λ flags. (event : ℕ) → has_changed flags event ≡ false) }
+    {
+        let mut words = Vec::new(alloc);
+        for _index in 0..(events + 63) / 64 {
+            words.push(0)?;
+        }
+        Ok(EventFlags { events, words })
+    }
+
+    /// Flags of so many events, which are all set.
+    pub(crate) fn all(alloc: Global, events: usize) -> Result<EventFlags, NoMemory>
+        requires { events ≤ 4000 }
+        ensures events { IfOk result (λ flags. flags.events ≡ events) }
+        ensures all { IfOk result
+            (λ flags. (event : ℕ) → event < events → has_changed flags event ≡ true) }
+    {
+        let mut flags = EventFlags::none(alloc, events)?;
+        for event in 0..events {
+            flags.put(event, true);
+        }
+        Ok(flags)
+    }
+
+    /// Flags of so many events, of which one is set.
+    pub(crate) fn one(alloc: Global, event: usize, events: usize) -> Result<EventFlags, NoMemory>
+        requires few { events ≤ 4000 }
+        requires event { event < events }
+        ensures events { IfOk result (λ flags. flags.events ≡ events) }
+        ensures one { IfOk result
+            (λ flags. (other : ℕ) → has_changed flags other ≡ (other == event)) }
+    {
+        let mut flags = EventFlags::none(alloc, events)?;
+        flags.put(event, true);
+        Ok(flags)
+    }
+
+    /// How many events there are.
+    pub(crate) fn events(&self) -> usize
+        ensures value { result ≡ self.now.events }
+        ensures sound { AreFlags self.now }
+    {
+        self.events
+    }
+
+    // How many words there are.
+    fn width(&self) -> usize
+        ensures value { result ≡ length self.now.words }
+        ensures sound { AreFlags self.now }
+    {
+        self.words.len()
+    }
+
+    // The word of some events.
+    fn word(&self, index: usize) -> u64
+        requires { index < length self.now.words }
+        ensures { result ≡ slice_index self.now.words index }
+    {
+        self.words[index]
+    }
+
+    /// Sets the flag of an event or takes it away.
+    pub(crate) fn put(&mut self, event: usize, flag: bool)
+        requires { event < self.old.events }
+        ensures flag { self.new ≡ with_flag self.old event flag }
+        ensures within { event / 64 < length self.old.words }
+        ensures sound { AreFlags self.old }
+    {
+        let index = event / 64;
+        self.words[index] = with_bit(self.words[index], event % 64, flag);
+    }
+
+    /// Whether some flag is set.
+    pub(crate) fn has_some(&self) -> bool
+        ensures { result ≡ some_changed self.now }
+    {
+        some_word(&self.words)
+    }
+
+    /// The first event from one on whose flag is set.
+    pub(crate) fn next(&self, from: usize) -> Option<usize>
+        ensures next { IsNextFlag self.now from result }
+        ensures sound { AreFlags self.now }
+    {
+        for index in from / 64..self.width() {
+            if let Some(bit) = first_bit(self.word(index), from.max(64 * index) - 64 * index) {
+                return Some(64 * index + bit);
+            }
+        }
+        None
+    }
+}
+
+// Whether some word is not 0.
+fn some_word(words: &[u64]) -> bool
+    ensures { result ≡ list_any (λ word. not (word == 0)) words.now }
+{
+    words.iter().any(|word| *word != 0)
+}
