@@ -102,33 +102,68 @@ fn each_call_of_a_run_may_fail(rt: HostRuntime) -> Result<(), Fail> {
     Ok(())
 }
 
+// A word that only reads, of whose calls one fails; and whether there was no such call.
+fn reads(rt: &(impl AllocGlobal + Abort), word: &str, call: u64) -> Result<bool, Fail> {
+    let alloc = rt.alloc();
+    let mut files = whole(rt)?;
+    let count = files.write_count();
+    files.fail_at(call, None)?;
+    let mut out = MemorySink::new(alloc);
+    let mut steps = Steps::new(Silent);
+    let words = words(alloc, word)?;
+    let answer = lintim(alloc, &words, &mut files, &mut out, &mut steps);
+    assert_eq!(rt; files.write_count(), count);
+    if answer == Status::Done {
+        return Ok(true);
+    }
+    assert_eq!(rt; answer, Status::FileFault);
+    assert_eq!(rt; out.bytes(), b"file fault\n".as_slice());
+    Ok(false)
+}
+
 // Nothing is written.
 #[test]
 fn each_call_of_a_check_may_fail(rt: HostRuntime) -> Result<(), Fail> {
-    for word in ["check", "status"] {
-        let mut files = whole(&rt)?;
-        let (count, before) = (files.write_count(), files.calls());
-        let mut fails = 0;
-        while fails < 100 {
-            fails += 1;
-            let start = files.calls();
-            if start > 1_000_000 {
-                return Err(Fail::from("too many calls"));
-            }
-            files.fail_at(start + fails, None)?;
-            let mut out = MemorySink::new(rt.alloc());
-            let mut steps = Steps::new(Silent);
-            let words = words(rt.alloc(), word)?;
-            let answer = lintim(rt.alloc(), &words, &mut files, &mut out, &mut steps);
-            assert_eq!(&rt; files.write_count(), count);
-            if answer == Status::Done {
-                break;
-            }
-            assert_eq!(&rt; answer, Status::FileFault);
-            assert_eq!(&rt; out.bytes(), b"file fault\n".as_slice());
+    for call in 70..200 {
+        if reads(&rt, "check", call)? {
+            assert!(&rt; call > 100);
+            return Ok(());
         }
-        assert!(&rt; fails > 20 && fails < 100 && before == 69);
     }
+    Err(Fail::from("there are more calls"))
+}
+
+#[test]
+fn each_call_of_a_status_may_fail(rt: HostRuntime) -> Result<(), Fail> {
+    for call in 70..200 {
+        if reads(&rt, "status", call)? {
+            assert!(&rt; call > 100);
+            return Ok(());
+        }
+    }
+    Err(Fail::from("there are more calls"))
+}
+
+// The dataset with all that a run made of it, a made file that was overwritten and a comment.
+fn edited(rt: &(impl AllocGlobal + Abort)) -> Result<MemoryFiles, Fail> {
+    let mut files = whole(rt)?;
+    files.put("line-planning/Line-Concept.lin", b"x")?;
+    files.put(
+        "basis/Stop.giv",
+        b"# stops\n1; A; A; 0; 0\n2; B; B; 0; 0\n3; C; C; 0; 0\n# more\n",
+    )?;
+    Ok(files)
+}
+
+// A run over it whose put of the concept's entry leaves so many bytes, and the next run. That put
+// is the fourth one behind 40 reads and the 71 calls before.
+fn torn(rt: &(impl AllocGlobal + Abort), others: &MemoryFiles, kept: usize) -> Result<(), Fail> {
+    let mut files = edited(rt)?;
+    files.fail_at(115, Some(kept as u64))?;
+    answers(rt, &mut files, "make", Status::FileFault, b"file fault\n")?;
+    assert_eq!(rt; text_of(&files, "keep/concept.keep").len(), kept);
+    answers(rt, &mut files, "make", Status::Done, REPORT)?;
+    made_as(rt, &files, others);
     Ok(())
 }
 
@@ -136,29 +171,13 @@ fn each_call_of_a_check_may_fail(rt: HostRuntime) -> Result<(), Fail> {
 #[test]
 fn a_torn_entry_is_no_entry(rt: HostRuntime) -> Result<(), Fail> {
     let others = whole(&rt)?;
-    let stops = b"# stops\n1; A; A; 0; 0\n2; B; B; 0; 0\n3; C; C; 0; 0\n# more\n";
-    let mut edited = whole(&rt)?;
-    edited.put("line-planning/Line-Concept.lin", b"x")?;
-    edited.put("basis/Stop.giv", stops)?;
-    answers(&rt, &mut edited, "make", Status::Done, REPORT)?;
-    let length = text_of(&edited, "keep/concept.keep").len();
-    assert!(&rt; length > 500 && length < 2000);
-    for kept in 0..length + 1 {
-        let mut files = whole(&rt)?;
-        files.put("line-planning/Line-Concept.lin", b"x")?;
-        files.put("basis/Stop.giv", stops)?;
-        let start = files.calls();
-        if start > 1000 {
-            return Err(Fail::from("too many calls"));
-        }
-        // behind 40 reads, the concept, and the entries of loads and costs
-        files.fail_at(start + 44, Some(kept as u64))?;
-        answers(&rt, &mut files, "make", Status::FileFault, b"file fault\n")?;
-        assert_eq!(&rt; text_of(&files, "keep/concept.keep").len(), kept);
-        answers(&rt, &mut files, "make", Status::Done, REPORT)?;
-        made_as(&rt, &files, &others);
+    let mut files = edited(&rt)?;
+    answers(&rt, &mut files, "make", Status::Done, REPORT)?;
+    let length = text_of(&files, "keep/concept.keep").len();
+    for kept in 0..length {
+        torn(&rt, &others, kept)?;
     }
-    Ok(())
+    torn(&rt, &others, length)
 }
 
 // The report is cut where the sink fails, and the files are those of a run that did not.
