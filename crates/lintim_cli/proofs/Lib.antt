@@ -1,2 +1,3 @@
 pub mod Demos
+mod Forged
 pub mod Telling

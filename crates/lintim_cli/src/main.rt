@@ -49,34 +49,42 @@ fn main(rt: HostRuntime) -> ExitCode {
 }
 
 #[cfg(test)]
-mod cases;
+mod check_scripts;
 #[cfg(test)]
-mod check_tests;
+mod concept_scripts;
 #[cfg(test)]
-mod concept_tests;
+mod day_check_scripts;
 #[cfg(test)]
-mod demo_tests;
+mod day_scripts;
 #[cfg(test)]
-mod ean_tests;
+mod entry_tests;
 #[cfg(test)]
-mod failing_tests;
+mod fault_tests;
 #[cfg(test)]
-mod forged_tests;
+mod folder_tests;
 #[cfg(test)]
 mod hostile_tests;
 #[cfg(test)]
-mod keep_tests;
+mod keep_scripts;
 #[cfg(test)]
-mod refused_tests;
+mod made_scripts;
 #[cfg(test)]
-mod rollout_tests;
+mod names;
+#[cfg(test)]
+mod network_scripts;
+#[cfg(test)]
+mod player;
+#[cfg(test)]
+mod refused_scripts;
+#[cfg(test)]
+mod script;
 #[cfg(test)]
 mod spies;
 #[cfg(test)]
-mod status_tests;
+mod stands;
 #[cfg(test)]
-mod tests;
+mod status_scripts;
 #[cfg(test)]
-mod timetable_tests;
+mod word_scripts;
 #[cfg(test)]
-mod whole_tests;
+mod worked;
