@@ -149,21 +149,22 @@ impl<'a> Player<'a> {
 
     // Whether what is told goes on with some bytes, which are then compared.
     fn goes_on(&mut self, bytes: &[u8]) -> bool {
-        let left = self.told.get(self.done..).unwrap_or(&[]);
-        match left.strip_prefix(bytes) {
-            Some(rest) => {
-                self.done = self.told.len().saturating_sub(rest.len());
-                true
-            }
-            None => false,
+        let goes_on = self.left().starts_with(bytes);
+        if goes_on {
+            self.done = self.done.saturating_add(bytes.len());
         }
+        goes_on
     }
 
-    // The line of what is told that was not compared yet.
+    // What is told and was not compared yet.
+    fn left(&self) -> &[u8] {
+        self.told.get(self.done..).unwrap_or(&[])
+    }
+
+    // Its first line.
     fn next_told(&self) -> &str {
-        let left = self.told.get(self.done..).unwrap_or(&[]);
-        let line = left.split(|byte| *byte == b'\n').next().unwrap_or(&[]);
-        std::str::from_utf8(line).unwrap_or("")
+        let line = self.left().split(|byte| *byte == b'\n').next();
+        std::str::from_utf8(line.unwrap_or(&[])).unwrap_or("")
     }
 
     // Whether all that the last call told was compared.
