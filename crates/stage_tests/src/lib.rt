@@ -46,3 +46,5 @@ mod told;
 mod vehicles;
 #[cfg(test)]
 mod vehicles_check;
+#[cfg(test)]
+mod wrong;

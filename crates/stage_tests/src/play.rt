@@ -19,28 +19,35 @@ use crate::setup::Setup;
 use crate::texts::piece_of;
 use crate::told::outcome;
 use giv_files::Stage;
-use std::alloc::Global;
+use std::alloc::{AllocError, Global};
 use std::process::Abort;
 use std::test::Fail;
 
-/// Plays a script. What does not hold is told by the name of the script and the number of the line.
+/// Plays a script. What does not hold is told behind the name of the script.
 pub(crate) fn play(rt: &impl Abort, alloc: Global, name: &str, script: &str) -> Result<(), Fail> {
+    if let Some(wrong) = first_wrong(alloc, script)? {
+        assert!(rt; false, "{name}, {wrong}");
+    }
+    Ok(())
+}
+
+/// The first line of a script that does not hold, and what is told in its place.
+pub(crate) fn first_wrong(alloc: Global, script: &str) -> Result<Option<String>, Fail> {
     let mut player = Player::new(alloc);
     let mut left = script;
     for number in 0..script.len() {
         let Some((line, rest)) = left.split_once('\n') else {
             break;
         };
-        let holds = player.holds(line, rest)?;
-        let told = player.next_told();
-        assert!(rt; holds, "{name}, line {number}: {line}; told: {told}");
+        if !player.holds(line, rest)? {
+            return Ok(Some(player.wrong(number, line)?));
+        }
         left = rest;
     }
-    assert!(rt;
-        player.is_done(),
-        "{name}: more is told than the last row says"
-    );
-    Ok(())
+    if player.is_done() {
+        return Ok(None);
+    }
+    Ok(Some(player.wrong(script.len(), "the end")?))
 }
 
 // Where a player stands: before the first row of a stage, in a row, or behind its call.
@@ -161,7 +168,13 @@ impl<'a> Player<'a> {
         self.told.get(self.done..).unwrap_or(&[])
     }
 
-    // Its first line.
+    // What does not hold.
+    fn wrong(&self, number: usize, line: &str) -> Result<String, AllocError> {
+        let told = self.next_told();
+        format!(in self.alloc; "line {number}: {line}; told: {told}")
+    }
+
+    // The first line of what is told and was not compared yet.
     fn next_told(&self) -> &str {
         let line = self.left().split(|byte| *byte == b'\n').next();
         std::str::from_utf8(line.unwrap_or(&[])).unwrap_or("")

@@ -149,6 +149,12 @@ input line-planning/Line-Concept.lin
 make
 refused line-planning/Line-Concept.lin row 2: unknown line
 
+row a line that is there without a cost alone
+input line-planning/Line-Concept.lin
+| 900; 1; 1; 1
+make
+refused line-planning/Line-Concept.lin row 1: unknown line
+
 row a line has two frequencies
 input line-planning/Line-Concept.lin
 | 1; 1; 1; 2 | 2; 1; 1; 3 | 1; 2; 2; 1
