@@ -9,6 +9,3 @@ mod load_table;
 mod stage;
 
 pub use stage::make_load;
-
-#[cfg(test)]
-mod tests;

@@ -27,6 +27,3 @@ pub use periodic_values::PeriodicValues;
 pub use rows::{CostRow, LineRow};
 pub use stage::make_statistic;
 pub use statistic::Statistic;
-
-#[cfg(test)]
-mod tests;

@@ -11,6 +11,3 @@ mod runs;
 mod stage;
 
 pub use stage::make_ean;
-
-#[cfg(test)]
-mod tests;

@@ -20,5 +20,3 @@ pub use stage::make_cost;
 mod given_costs_tests;
 #[cfg(test)]
 mod pool_tests;
-#[cfg(test)]
-mod stage_tests;

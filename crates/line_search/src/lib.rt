@@ -18,10 +18,3 @@ mod stage;
 pub use check::check_concept;
 pub use fault::ConceptFault;
 pub use stage::make_concept;
-
-#[cfg(test)]
-mod check_tests;
-#[cfg(test)]
-mod stage_tests;
-#[cfg(test)]
-mod tree_tests;

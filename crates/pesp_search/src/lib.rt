@@ -23,8 +23,3 @@ mod words;
 pub use check::check_timetable;
 pub use fault::TimetableFault;
 pub use stage::make_timetable;
-
-#[cfg(test)]
-mod search_tests;
-#[cfg(test)]
-mod stage_tests;

@@ -16,6 +16,3 @@ mod trip;
 mod ways;
 
 pub use stage::make_rollout;
-
-#[cfg(test)]
-mod tests;

@@ -29,10 +29,4 @@ pub use solved::Solved;
 pub use stage::make_vehicles;
 
 #[cfg(test)]
-mod check_tests;
-#[cfg(test)]
-mod stage_tests;
-#[cfg(test)]
-mod test_inputs;
-#[cfg(test)]
 mod tests;
