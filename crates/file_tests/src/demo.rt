@@ -1,5 +1,5 @@
-// Two small datasets written out, and the largest one counted.
-use crate::demo_files;
+// Demo datasets: two small ones written out, and the largest one counted.
+use demo_dataset::demo_files;
 use plan_files::SteadyFiles;
 use std::test::Fail;
 
@@ -17,16 +17,20 @@ fn rows_of<'a>(files: &'a SteadyFiles, name: &str) -> Result<&'a str, Fail> {
     Ok(str::from_utf8(text.as_bytes()).ok().ok_or("no text")?)
 }
 
+// The five files have these texts, and there are no other writes.
+fn has_texts(rt: &HostRuntime, files: &SteadyFiles, texts: [&str; 5]) -> Result<(), Fail> {
+    assert_eq!(rt; files.write_count(), 5);
+    let names = ["basis/Config.cnf", STOP, EDGE, POOL, DEMAND];
+    for (name, text) in names.iter().zip(&texts) {
+        assert_eq!(rt; rows_of(files, *name)?, *text, "{name}");
+    }
+    Ok(())
+}
+
 #[test]
 fn one_stop_has_no_edges(rt: HostRuntime) -> Result<(), Fail> {
     let files = demo_files(rt.alloc(), 1)?;
-    let names = ["basis/Config.cnf", STOP, EDGE, POOL, DEMAND];
-    let texts = ["", "1; s; s; 0; 0\n", "", "", ""];
-    assert_eq!(rt; files.write_count(), 5);
-    for (name, text) in names.iter().zip(&texts) {
-        assert_eq!(rt; rows_of(&files, name)?, *text, "{name}");
-    }
-    Ok(())
+    has_texts(&rt, &files, ["", "1; s; s; 0; 0\n", "", "", ""])
 }
 
 #[test]
@@ -36,13 +40,7 @@ fn four_stops_have_six_lines(rt: HostRuntime) -> Result<(), Fail> {
     let edges = "1; 1; 2; 1; 4; 5\n2; 3; 4; 1; 5; 6\n3; 1; 3; 1; 3; 4\n4; 2; 4; 1; 4; 5\n";
     let lines = "1; 1; 1\n2; 1; 2\n3; 1; 3\n4; 1; 4\n5; 1; 1\n5; 2; 4\n6; 1; 3\n6; 2; 2\n";
     let demand = "1; 2; 67\n2; 1; 67\n3; 4; 63\n4; 3; 63\n1; 3; 59\n3; 1; 59\n2; 4; 55\n4; 2; 55\n";
-    assert_eq!(rt; files.write_count(), 5);
-    assert_eq!(rt; rows_of(&files, "basis/Config.cnf")?, "");
-    assert_eq!(rt; rows_of(&files, STOP)?, stops);
-    assert_eq!(rt; rows_of(&files, EDGE)?, edges);
-    assert_eq!(rt; rows_of(&files, POOL)?, lines);
-    assert_eq!(rt; rows_of(&files, DEMAND)?, demand);
-    Ok(())
+    has_texts(&rt, &files, ["", stops, edges, lines, demand])
 }
 
 #[test]
