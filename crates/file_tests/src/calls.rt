@@ -7,12 +7,14 @@ use crate::script::{cases, cut};
 use plan_files::{FileFault, Files, Got};
 use plan_num::{Ledger, Tally};
 use std::alloc::{AllocError, Global};
+use std::process::Abort;
 use std::test::Fail;
 
 // What a call answered: what was got, or nothing for a call that changes files.
 type Answer = Result<Option<Got>, FileFault>;
 
 // A call on the file of a name.
+#[derive(Drop)]
 enum Call<'a> {
     Put(&'a str),
     Get(u64),
@@ -77,7 +79,7 @@ fn told(alloc: Global, answer: &Answer) -> Result<String, AllocError> {
 // Makes the call of a line, `call|name|text or limit|answer`, and looks at its answer. The number
 // of failed calls is kept.
 fn play_line<F: Files>(
-    rt: &HostRuntime,
+    rt: &(impl AllocGlobal + Abort),
     files: &mut F,
     line: &str,
     failed: &mut Tally,
@@ -97,7 +99,11 @@ fn play_line<F: Files>(
 
 /// Makes the calls of a script in order, looks at each answer, and tells how many calls failed for
 /// another cause than want of memory.
-pub(crate) fn play<F: Files>(rt: &HostRuntime, files: &mut F, script: &str) -> Result<u64, Fail> {
+pub(crate) fn play<F: Files>(
+    rt: &(impl AllocGlobal + Abort),
+    files: &mut F,
+    script: &str,
+) -> Result<u64, Fail> {
     let mut failed = Tally::new();
     for line in &cases(rt.alloc(), script, '\n')? {
         play_line(rt, files, *line, &mut failed)?;

@@ -6,6 +6,7 @@ use giv_files::{Key, Stage};
 use plan_files::{Files, SteadyFiles};
 use plan_num::Text;
 use std::alloc::{AllocError, Global};
+use std::process::Abort;
 use std::test::Fail;
 
 // The files of folder `basis`, each as `name:text&`.
@@ -59,7 +60,7 @@ fn value_told(
 }
 
 // Reads the settings of a case, `key|value or fault|files`. No file is changed.
-fn read_case(rt: &HostRuntime, case: &str) -> Result<(), Fail> {
+fn read_case(rt: &(impl AllocGlobal + Abort), case: &str) -> Result<(), Fail> {
     let alloc = rt.alloc();
     let (key, rest) = cut(case, '|')?;
     let (wanted, texts) = cut(rest, '|')?;
@@ -73,7 +74,7 @@ fn read_case(rt: &HostRuntime, case: &str) -> Result<(), Fail> {
 }
 
 // Reads each case, and tells how many there are.
-fn read_each(rt: &HostRuntime, script: &str) -> Result<usize, Fail> {
+fn read_each(rt: &(impl AllocGlobal + Abort), script: &str) -> Result<usize, Fail> {
     let cases = cases(rt.alloc(), script, '~')?;
     for case in &cases {
         read_case(rt, *case)?;

@@ -1,6 +1,7 @@
 // Demo datasets: two small ones written out, and the largest one counted.
 use demo_dataset::demo_files;
 use plan_files::SteadyFiles;
+use std::process::Abort;
 use std::test::Fail;
 
 const STOP: &str = "basis/Stop.giv";
@@ -18,7 +19,11 @@ fn rows_of<'a>(files: &'a SteadyFiles, name: &str) -> Result<&'a str, Fail> {
 }
 
 // The five files have these texts, and there are no other writes.
-fn has_texts(rt: &HostRuntime, files: &SteadyFiles, texts: [&str; 5]) -> Result<(), Fail> {
+fn has_texts(
+    rt: &(impl AllocGlobal + Abort),
+    files: &SteadyFiles,
+    texts: [&str; 5],
+) -> Result<(), Fail> {
     assert_eq!(rt; files.write_count(), 5);
     let names = ["basis/Config.cnf", STOP, EDGE, POOL, DEMAND];
     for (name, text) in names.iter().zip(&texts) {

@@ -9,6 +9,7 @@ use giv_files::{Bundle, FileId, Key, Made, MadeFile, MadeList, Settings, Stage};
 use plan_num::{NoMemory, Text};
 use stage_keep::{read_keep, write_keep};
 use std::alloc::Global;
+use std::process::Abort;
 use std::test::Fail;
 
 const COSTS: &str = "lintim keep 1 cost\n\
@@ -77,7 +78,7 @@ const BUNDLES: &str = "same|250000|# a\n1||\r\n~\
     other|250000|# a\n1||\r\n\n~";
 
 // Looks at one of them.
-fn is_as_told(rt: &HostRuntime, case: &str) -> Result<(), Fail> {
+fn is_as_told(rt: &(impl AllocGlobal + Abort), case: &str) -> Result<(), Fail> {
     let (wanted, rest) = cut(case, '|')?;
     let (edges, rest) = cut(rest, '|')?;
     let (stops, rest) = cut(rest, '|')?;

@@ -3,6 +3,7 @@ use crate::calls::play;
 use plan_files::MemoryFiles;
 use plan_num::NoMemory;
 use std::alloc::Global;
+use std::process::Abort;
 use std::test::Fail;
 
 // Files of which these calls fail, with the number of bytes that a put keeps.
@@ -30,7 +31,11 @@ fn writes_of(alloc: Global, files: &MemoryFiles) -> Result<String, Fail> {
 }
 
 // A put over a file fails, and leaves this. The next one does not.
-fn failed_put_leaves(rt: &HostRuntime, kept: Option<u64>, left: &str) -> Result<(), Fail> {
+fn failed_put_leaves(
+    rt: &(impl AllocGlobal + Abort),
+    kept: Option<u64>,
+    left: &str,
+) -> Result<(), Fail> {
     let alloc = rt.alloc();
     let mut files = faulty(alloc, &[(2, kept)])?;
     let script = format!(in alloc;

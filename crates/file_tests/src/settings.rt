@@ -2,6 +2,7 @@
 use crate::script::{cases, count, cut, number};
 use giv_files::{Bundle, Key, Settings, Stage};
 use std::alloc::Global;
+use std::process::Abort;
 use std::test::Fail;
 
 /// The key of a name.
@@ -53,7 +54,7 @@ const BUNDLES: &str = "true|3|period_length 20;DM_earliest_time 0;DM_latest_time
     false|2|period_length 20;DM_earliest_time 0;DM_latest_time 20;~";
 
 // Looks at one of them.
-fn fits_as_told(rt: &HostRuntime, case: &str) -> Result<(), Fail> {
+fn fits_as_told(rt: &(impl AllocGlobal + Abort), case: &str) -> Result<(), Fail> {
     let (fits, rest) = cut(case, '|')?;
     let (inputs, settings) = cut(rest, '|')?;
     let bundle = bundle_of(rt.alloc(), Stage::Rollout, settings, count(inputs)?)?;
@@ -101,7 +102,7 @@ const TEXTS: &str = "load|load_source 0;gen_passengers_per_vehicle 70;load_sprea
     disposition|vs_turn_over_time 0;dm_wait 3;|vs_turn_over_time; 0\ndm_wait; 3\n~";
 
 // Looks at one of them.
-fn has_text(rt: &HostRuntime, case: &str) -> Result<(), Fail> {
+fn has_text(rt: &(impl AllocGlobal + Abort), case: &str) -> Result<(), Fail> {
     let (stage, rest) = cut(case, '|')?;
     let (settings, wanted) = cut(rest, '|')?;
     let stage = stage_named(stage)?;

@@ -6,6 +6,7 @@ use giv_files::{
     ColumnKind, ReadFault, RowFault, RowWhy, Table, TextRow, TextRows, WordTable, read_table,
 };
 use std::alloc::{AllocError, Global};
+use std::process::Abort;
 use std::test::Fail;
 
 const ANY: ColumnKind = ColumnKind::Whole {
@@ -147,7 +148,7 @@ const REFUSED: &str = "aa|row 1: 1 fields|\r\r\n~\
     aa|row 1: column 1 is not a number|\n\u{feff}3;4~";
 
 // Reads the text of each case, and tells how many there are.
-fn read_each(rt: &HostRuntime, script: &str) -> Result<usize, Fail> {
+fn read_each(rt: &(impl AllocGlobal + Abort), script: &str) -> Result<usize, Fail> {
     let alloc = rt.alloc();
     let cases = cases(alloc, script, '~')?;
     for case in &cases {
