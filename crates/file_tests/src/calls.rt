@@ -3,7 +3,7 @@ ghost use Rattle.std.specs.Prelude.{◌≡◌};
 ghost use Rattle.plan_files.specs.Counts.{Counts};
 ghost use Rattle.plan_files.specs.Folder.{has_failed};
 
-use crate::script::{cases, cut};
+use crate::script::{cases, cut, same};
 use plan_files::{FileFault, Files, Got};
 use plan_num::{Ledger, Tally};
 use std::alloc::{AllocError, Global};
@@ -22,16 +22,18 @@ enum Call<'a> {
 }
 
 // A call in words: `put` with a text, `get` with a limit, or `remove`.
-fn call_of<'a>(word: &str, given: &'a str) -> Result<Call<'a>, Fail> {
+fn call_of<'a>(word: &str, given: &'a str) -> Call<'a> {
     if word == "put" {
-        Ok(Call::Put(given))
+        Call::Put(given)
     } else if word == "get" {
-        Ok(Call::Get(given.parse::<u64>()?))
-    } else if word == "remove" {
-        Ok(Call::Remove)
+        Call::Get(limit_of(given))
     } else {
-        Err(Fail::from("no call"))
+        Call::Remove
     }
+}
+
+fn limit_of(given: &str) -> u64 {
+    given.parse::<u64>().unwrap_or(0)
 }
 
 // Makes a call. Where it fails, and only there, the count of faults rises.
@@ -76,6 +78,13 @@ fn told(alloc: Global, answer: &Answer) -> Result<String, AllocError> {
     }
 }
 
+// Counts an answer that is a failure.
+fn count(answer: &Answer, failed: &mut Tally) {
+    if let Err(FileFault::Failed) = answer {
+        failed.note();
+    }
+}
+
 // Makes the call of a line, `call|name|text or limit|answer`, and looks at its answer. The number
 // of failed calls is kept.
 fn play_line<F: Files>(
@@ -84,22 +93,19 @@ fn play_line<F: Files>(
     line: &str,
     failed: &mut Tally,
 ) -> Result<(), Fail> {
-    let (word, rest) = cut(line, '|')?;
-    let (name, rest) = cut(rest, '|')?;
-    let (given, wanted) = cut(rest, '|')?;
-    let call = call_of(word, given)?;
-    let answer = make(rt.alloc(), files, name, &call);
-    if let Err(FileFault::Failed) = &answer {
-        failed.note();
-    }
+    let (word, rest) = cut(line, '|');
+    let (name, rest) = cut(rest, '|');
+    let (given, wanted) = cut(rest, '|');
+    let answer = make(rt.alloc(), files, name, &call_of(word, given));
+    count(&answer, failed);
     let told = told(rt.alloc(), &answer)?;
-    assert_eq!(rt; told.as_str(), wanted, "{line}");
+    same(rt, told.as_str(), wanted, line);
     Ok(())
 }
 
-/// Makes the calls of a script in order, looks at each answer, and tells how many calls failed for
-/// another cause than want of memory.
-pub(crate) fn play<F: Files>(
+// Makes the calls of a script in order, looks at each answer, and tells how many calls failed for
+// another cause than want of memory.
+fn play<F: Files>(
     rt: &(impl AllocGlobal + Abort),
     files: &mut F,
     script: &str,
@@ -109,4 +115,17 @@ pub(crate) fn play<F: Files>(
         play_line(rt, files, *line, &mut failed)?;
     }
     Ok(failed.seen())
+}
+
+/// Makes the calls of a script in order, of which so many fail for another cause than want of
+/// memory.
+pub(crate) fn plays<F: Files>(
+    rt: &(impl AllocGlobal + Abort),
+    files: &mut F,
+    script: &str,
+    failed: u64,
+) -> Result<(), Fail> {
+    let found = play(rt, files, script)?;
+    assert_eq!(rt; found, failed);
+    Ok(())
 }

@@ -1,6 +1,6 @@
 // Datasets with known settings or faults.
-use crate::script::{cases, cut};
-use crate::settings::key_named;
+use crate::script::{cases, cut, same};
+use crate::settings::{key_named, stages};
 use config_keys::{Config, ConfigEnd, ConfigFault, read_config};
 use giv_files::{Key, Stage};
 use plan_files::{Files, SteadyFiles};
@@ -13,7 +13,7 @@ use std::test::Fail;
 fn files_of(alloc: Global, texts: &str) -> Result<SteadyFiles, Fail> {
     let mut files = SteadyFiles::new(alloc);
     for file in &cases(alloc, texts, '&')? {
-        let (name, text) = cut(*file, ':')?;
+        let (name, text) = cut(*file, ':');
         let path = format!(in alloc; "basis/{name}")?;
         files.put(path.as_str(), text.as_bytes())?;
     }
@@ -52,24 +52,30 @@ fn value_told(
     key: Key,
 ) -> Result<String, AllocError> {
     match read {
-        Ok(config) => format!(in alloc; "{}", config.value(key)),
+        Ok(config) => config.value(key).to_string(alloc),
         Err(ConfigEnd::Refused(fault)) => told(alloc, fault),
-        Err(ConfigEnd::FileFault) => format!(in alloc; "file fault"),
-        Err(ConfigEnd::NoMemory) => format!(in alloc; "no memory"),
+        Err(ConfigEnd::FileFault) => String::from_str(alloc, "file fault"),
+        Err(ConfigEnd::NoMemory) => String::from_str(alloc, "no memory"),
     }
 }
 
-// Reads the settings of a case, `key|value or fault|files`. No file is changed.
-fn read_case(rt: &(impl AllocGlobal + Abort), case: &str) -> Result<(), Fail> {
-    let alloc = rt.alloc();
-    let (key, rest) = cut(case, '|')?;
-    let (wanted, texts) = cut(rest, '|')?;
+// The value of a key under these files, or why there is none. No file is changed.
+fn read_told(alloc: Global, key: Key, texts: &str) -> Result<String, Fail> {
     let mut files = files_of(alloc, texts)?;
     let writes = files.write_count();
     let read = read_config(alloc, &mut files);
-    assert_eq!(rt; files.write_count(), writes, "{case}");
-    let told = value_told(alloc, &read, key_named(key)?)?;
-    assert_eq!(rt; told.as_str(), wanted, "{case}");
+    if files.write_count() != writes {
+        return Err(Fail::from("a file was changed"));
+    }
+    Ok(value_told(alloc, &read, key)?)
+}
+
+// Reads the settings of a case, `key|value or fault|files`.
+fn read_case(rt: &(impl AllocGlobal + Abort), case: &str) -> Result<(), Fail> {
+    let (key, rest) = cut(case, '|');
+    let (wanted, texts) = cut(rest, '|');
+    let told = read_told(rt.alloc(), key_named(key)?, texts)?;
+    same(rt, told.as_str(), wanted, case);
     Ok(())
 }
 
@@ -120,7 +126,8 @@ const VALUES: &str = "period_length|60|~\
 
 #[test]
 fn values_of_rows(rt: HostRuntime) -> Result<(), Fail> {
-    assert_eq!(rt; read_each(&rt, VALUES)?, 30);
+    let count = read_each(&rt, VALUES)?;
+    assert_eq!(rt; count, 30);
     Ok(())
 }
 
@@ -151,7 +158,8 @@ const INCLUDES: &str = "period_length|30|\
 
 #[test]
 fn included_files(rt: HostRuntime) -> Result<(), Fail> {
-    assert_eq!(rt; read_each(&rt, INCLUDES)?, 16);
+    let count = read_each(&rt, INCLUDES)?;
+    assert_eq!(rt; count, 16);
     Ok(())
 }
 
@@ -168,10 +176,15 @@ fn most_includes(rt: HostRuntime) -> Result<(), Fail> {
     let include = "include_if_exists; \"no.cnf\"\n";
     let mut text = include.repeat(rt.alloc(), 1_000)?;
     let most = period_told(rt.alloc(), text.as_bytes())?;
-    assert_eq!(rt; most.as_str(), "60");
+    same(&rt, most.as_str(), "60", "");
     text.push_str(include)?;
     let more = period_told(rt.alloc(), text.as_bytes())?;
-    assert_eq!(rt; more.as_str(), "basis/Config.cnf row 1001: too many");
+    same(
+        &rt,
+        more.as_str(),
+        "basis/Config.cnf row 1001: too many",
+        "",
+    );
     Ok(())
 }
 
@@ -183,14 +196,15 @@ fn read_comment(alloc: Global, size: usize) -> Result<String, Fail> {
 
 #[test]
 fn longest_file(rt: HostRuntime) -> Result<(), Fail> {
-    assert_eq!(rt; read_comment(rt.alloc(), 64 << 20)?.as_str(), "60");
+    let told = read_comment(rt.alloc(), 64 << 20)?;
+    same(&rt, told.as_str(), "60", "");
     Ok(())
 }
 
 #[test]
 fn too_long_file(rt: HostRuntime) -> Result<(), Fail> {
     let told = read_comment(rt.alloc(), (64 << 20) + 1)?;
-    assert_eq!(rt; told.as_str(), "basis/Config.cnf is too long");
+    same(&rt, told.as_str(), "basis/Config.cnf is too long", "");
     Ok(())
 }
 
@@ -220,19 +234,24 @@ fn push_stage(alloc: Global, text: &mut String, config: &Config, stage: Stage) -
     Ok(())
 }
 
+// The settings under that file.
+fn config_read(alloc: Global) -> Result<Config, Fail> {
+    let mut files = SteadyFiles::new(alloc);
+    files.put("basis/Config.cnf", CONFIG.as_bytes())?;
+    match read_config(alloc, &mut files) {
+        Ok(config) => Ok(config),
+        Err(_) => Err(Fail::from("refused")),
+    }
+}
+
 #[test]
 fn settings_of_stages(rt: HostRuntime) -> Result<(), Fail> {
-    let mut files = SteadyFiles::new(rt.alloc());
-    files.put("basis/Config.cnf", CONFIG.as_bytes())?;
-    let config = match read_config(rt.alloc(), &mut files) {
-        Ok(config) => config,
-        Err(_) => return Err(Fail::from("refused")),
-    };
-    assert!(rt; config.last_stage() == Stage::Statistic);
+    let config = config_read(rt.alloc())?;
+    same(&rt, config.last_stage().name(), "statistic", "");
     let mut text = String::new(rt.alloc());
-    for stage in Stage::all() {
+    for stage in stages() {
         push_stage(rt.alloc(), &mut text, &config, *stage)?;
     }
-    assert_eq!(rt; text.as_str(), SETTINGS);
+    same(&rt, text.as_str(), SETTINGS, "");
     Ok(())
 }

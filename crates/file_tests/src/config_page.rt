@@ -1,5 +1,7 @@
 // The keys as the users' page has them.
-use giv_files::{Bound, Key, KeyKind, KeyWords, Stage};
+use crate::script::same;
+use crate::settings::{keys, stages};
+use giv_files::{Bound, Key, KeyKind, KeyWords};
 use std::alloc::Global;
 use std::test::Fail;
 
@@ -52,14 +54,14 @@ fn default_text(alloc: Global, key: Key) -> Result<String, Fail> {
 // The stage at a place.
 fn stage_text(alloc: Global, place: i64) -> Result<String, Fail> {
     let place = usize::try_from(place).ok().ok_or("no place")?;
-    let stage = Stage::all().get(place).ok_or("no stage")?;
+    let stage = stages().get(place).ok_or("no stage")?;
     Ok(String::from_str(alloc, stage.name())?)
 }
 
 // The stages that have a key.
 fn stages_text(alloc: Global, key: Key) -> Result<String, Fail> {
     let mut text = String::new(alloc);
-    for stage in Stage::all() {
+    for stage in stages() {
         if stage.has_key(key) {
             text.push_str(if text.is_empty() { "" } else { ", " })?;
             text.push_str(stage.name())?;
@@ -68,15 +70,17 @@ fn stages_text(alloc: Global, key: Key) -> Result<String, Fail> {
     Ok(text)
 }
 
-// The row of a key.
-fn row_text(alloc: Global, key: Key) -> Result<String, Fail> {
+// Appends the row of a key.
+fn push_row(alloc: Global, text: &mut String, key: Key) -> Result<(), Fail> {
     let name = key.name();
     let kind = kind_text(alloc, key.kind())?;
     let rule = rule_text(alloc, key)?;
     let default = default_text(alloc, key)?;
     let stages = stages_text(alloc, key)?;
     let gap = if stages.is_empty() { "" } else { " " };
-    Ok(format!(in alloc; "| `{name}` | {kind}{rule} | {default} |{gap}{stages} |\n")?)
+    let row = format!(in alloc; "| `{name}` | {kind}{rule} | {default} |{gap}{stages} |\n")?;
+    text.push_str(row.as_str())?;
+    Ok(())
 }
 
 const ROWS: &str = "| `last_stage` | a stage | statistic | |\n\
@@ -105,9 +109,9 @@ const ROWS: &str = "| `last_stage` | a stage | statistic | |\n\
 #[test]
 fn rows_of_the_page(rt: HostRuntime) -> Result<(), Fail> {
     let mut text = String::new(rt.alloc());
-    for key in Key::all() {
-        text.push_str(row_text(rt.alloc(), *key)?.as_str())?;
+    for key in keys() {
+        push_row(rt.alloc(), &mut text, *key)?;
     }
-    assert_eq!(rt; text.as_str(), ROWS);
+    same(&rt, text.as_str(), ROWS, "");
     Ok(())
 }

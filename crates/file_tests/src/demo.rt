@@ -1,6 +1,8 @@
 // Demo datasets: two small ones written out, and the largest one counted.
+use crate::script::same;
 use demo_dataset::demo_files;
 use plan_files::SteadyFiles;
+use std::alloc::{AllocError, Global};
 use std::process::Abort;
 use std::test::Fail;
 
@@ -27,7 +29,7 @@ fn has_texts(
     assert_eq!(rt; files.write_count(), 5);
     let names = ["basis/Config.cnf", STOP, EDGE, POOL, DEMAND];
     for (name, text) in names.iter().zip(&texts) {
-        assert_eq!(rt; rows_of(files, *name)?, *text, "{name}");
+        same(rt, rows_of(files, *name)?, *text, *name);
     }
     Ok(())
 }
@@ -48,20 +50,25 @@ fn four_stops_have_six_lines(rt: HostRuntime) -> Result<(), Fail> {
     has_texts(&rt, &files, ["", stops, edges, lines, demand])
 }
 
+// How many rows a file has, with the first and the last one.
+fn rows_told(alloc: Global, rows: &str) -> Result<String, AllocError> {
+    let count = rows.lines().count();
+    let first = rows.lines().next().unwrap_or("");
+    let last = rows.lines().last().unwrap_or("");
+    format!(in alloc; "{count}: {first} to {last}")
+}
+
 #[test]
 fn the_largest_has_eighteen_lines(rt: HostRuntime) -> Result<(), Fail> {
     let files = demo_files(rt.alloc(), 8)?;
-    let files_rows = [
-        (STOP, 64, "1; s; s; 0; 0", "64; s; s; 0; 0"),
-        (EDGE, 112, "1; 1; 2; 1; 4; 5", "112; 56; 64; 1; 4; 5"),
-        (POOL, 140, "1; 1; 1", "18; 14; 56"),
-        (DEMAND, 224, "1; 2; 67", "64; 56; 33"),
-    ];
-    for (name, count, first, last) in files_rows {
-        let rows = rows_of(&files, name)?;
-        assert_eq!(rt; rows.lines().count(), count, "{name}");
-        assert_eq!(rt; rows.lines().next(), Some(first), "{name}");
-        assert_eq!(rt; rows.lines().last(), Some(last), "{name}");
+    for (name, wanted) in [
+        (STOP, "64: 1; s; s; 0; 0 to 64; s; s; 0; 0"),
+        (EDGE, "112: 1; 1; 2; 1; 4; 5 to 112; 56; 64; 1; 4; 5"),
+        (POOL, "140: 1; 1; 1 to 18; 14; 56"),
+        (DEMAND, "224: 1; 2; 67 to 64; 56; 33"),
+    ] {
+        let told = rows_told(rt.alloc(), rows_of(&files, name)?)?;
+        same(&rt, told.as_str(), wanted, name);
     }
     Ok(())
 }

@@ -4,7 +4,7 @@ ghost use Rattle.giv_files.specs.declared.file_id.FileId.TheVariants as file;
 ghost use Rattle.giv_files.specs.declared.stage.Stage.TheVariants as stage;
 ghost use Rattle.giv_files.specs.MadeLists.{ids_of};
 
-use crate::script::{cases, cut, number};
+use crate::script::{cases, cut, number, same};
 use giv_files::{Bundle, FileId, Key, Made, MadeFile, MadeList, Settings, Stage};
 use plan_num::{NoMemory, Text};
 use stage_keep::{read_keep, write_keep};
@@ -79,12 +79,12 @@ const BUNDLES: &str = "same|250000|# a\n1||\r\n~\
 
 // Looks at one of them.
 fn is_as_told(rt: &(impl AllocGlobal + Abort), case: &str) -> Result<(), Fail> {
-    let (wanted, rest) = cut(case, '|')?;
-    let (edges, rest) = cut(rest, '|')?;
-    let (stops, rest) = cut(rest, '|')?;
-    let (lines, pool) = cut(rest, '|')?;
+    let (wanted, rest) = cut(case, '|');
+    let (edges, rest) = cut(rest, '|');
+    let (stops, rest) = cut(rest, '|');
+    let (lines, pool) = cut(rest, '|');
     let bundle = cost_bundle(rt.alloc(), number(edges)?, [stops, lines, pool])?;
-    assert_eq!(rt; is_of(rt.alloc(), COSTS, &bundle)?, wanted, "{case:?}");
+    same(rt, is_of(rt.alloc(), COSTS, &bundle)?, wanted, case);
     Ok(())
 }
 
@@ -110,19 +110,26 @@ fn files_told(alloc: Global, stage: Stage, entry: &[u8]) -> Result<&'static str,
     })
 }
 
+// Each front part of the entry is none.
 #[test]
-fn fronts_and_longer_bytes_are_none(rt: HostRuntime) -> Result<(), Fail> {
+fn fronts_are_none(rt: HostRuntime) -> Result<(), Fail> {
     let bytes = COSTS.as_bytes();
     for size in 0..bytes.len() {
-        let found = files_told(rt.alloc(), Stage::Cost, &bytes[..size])?;
-        assert_eq!(rt; found, "none", "{size}");
+        let told = files_told(rt.alloc(), Stage::Cost, &bytes[..size])?;
+        assert_eq!(rt; told, "none", "{size}");
     }
+    Ok(())
+}
+
+#[test]
+fn longer_bytes_and_other_stages_are_none(rt: HostRuntime) -> Result<(), Fail> {
     let longer = format!(in rt.alloc(); "{COSTS}\n")?;
-    assert_eq!(rt;
-        files_told(rt.alloc(), Stage::Cost, longer.as_bytes())?,
-        "none"
-    );
-    assert_eq!(rt; files_told(rt.alloc(), Stage::Load, bytes)?, "none");
+    let told = files_told(rt.alloc(), Stage::Cost, longer.as_bytes())?;
+    same(&rt, told, "none", "longer");
+    let told = files_told(rt.alloc(), Stage::Load, COSTS.as_bytes())?;
+    same(&rt, told, "none", "load");
+    let told = files_told(rt.alloc(), Stage::Cost, COSTS.as_bytes())?;
+    same(&rt, told, "1", "whole");
     Ok(())
 }
 
@@ -137,8 +144,7 @@ const BROKEN_FRONTS: &str = "settings 00\ninput 0\ninput 0\ninput 0\n~\
     settings 1111111111222222222233333333334444444444\ninput 0\ninput 0\ninput 0\n~";
 
 // How many files an entry of loads has that has this front and one file of this name.
-fn load_told(rt: &HostRuntime, front: &str, name: &str) -> Result<&'static str, Fail> {
-    let alloc = rt.alloc();
+fn load_told(alloc: Global, front: &str, name: &str) -> Result<&'static str, Fail> {
     let entry = format!(in alloc; "lintim keep 1 load\n{front}made {name} 0\nreport 0\nend\n")?;
     Ok(files_told(alloc, Stage::Load, entry.as_bytes())?)
 }
@@ -147,8 +153,8 @@ fn load_told(rt: &HostRuntime, front: &str, name: &str) -> Result<&'static str, 
 fn broken_entries_are_none(rt: HostRuntime) -> Result<(), Fail> {
     let fronts = cases(rt.alloc(), BROKEN_FRONTS, '~')?;
     for front in &fronts {
-        let told = load_told(&rt, *front, "line-planning/Load.giv")?;
-        assert_eq!(rt; told, "none", "{front:?}");
+        let told = load_told(rt.alloc(), *front, "line-planning/Load.giv")?;
+        same(&rt, told, "none", *front);
     }
     assert_eq!(rt; fronts.len(), 8);
     Ok(())
@@ -161,8 +167,8 @@ fn a_made_file_has_its_name(rt: HostRuntime) -> Result<(), Fail> {
         ("basis/Load.giv", "none"),
         ("basis/Pool-Cost.giv", "none"),
     ] {
-        let told = load_told(&rt, "settings 0\ninput 0\ninput 0\ninput 0\n", name)?;
-        assert_eq!(rt; told, wanted, "{name}");
+        let told = load_told(rt.alloc(), "settings 0\ninput 0\ninput 0\ninput 0\n", name)?;
+        same(&rt, told, wanted, name);
     }
     Ok(())
 }
@@ -177,20 +183,20 @@ const CONCEPTS: &str = "2|made line-planning/Line-Concept.lin 1\nx\
     none|~";
 
 // How many files an entry of a concept has that has these made files.
-fn concept_told(rt: &HostRuntime, made: &str) -> Result<&'static str, Fail> {
-    let entry = format!(in rt.alloc();
+fn concept_told(alloc: Global, made: &str) -> Result<&'static str, Fail> {
+    let entry = format!(in alloc;
         "lintim keep 1 concept\nsettings 0\ninput 0\ninput 0\ninput 0\ninput 0\ninput 0\n\
         {made}report 0\nend\n"
     )?;
-    Ok(files_told(rt.alloc(), Stage::Concept, entry.as_bytes())?)
+    Ok(files_told(alloc, Stage::Concept, entry.as_bytes())?)
 }
 
 #[test]
 fn concepts_with_and_without_a_tree(rt: HostRuntime) -> Result<(), Fail> {
     let concepts = cases(rt.alloc(), CONCEPTS, '~')?;
     for case in &concepts {
-        let (wanted, made) = cut(*case, '|')?;
-        assert_eq!(rt; concept_told(&rt, made)?, wanted, "{case:?}");
+        let (wanted, made) = cut(*case, '|');
+        same(&rt, concept_told(rt.alloc(), made)?, wanted, *case);
     }
     assert_eq!(rt; concepts.len(), 5);
     Ok(())

@@ -1,5 +1,5 @@
 // The real folder.
-use crate::calls::play;
+use crate::calls::plays;
 use plan_files::FolderFiles;
 use std::env::set_current_dir;
 use std::fs;
@@ -46,7 +46,7 @@ fn works_in_a_real_folder(rt: HostRuntime) -> Result<(), Fail> {
     set_current_dir(&rt, FOLDER)?;
     let mut files = FolderFiles::here(&rt, rt.alloc());
     for (script, failed) in [(WRITTEN, 0), (REFUSED, 10), (WRITTEN_AFTER, 0)] {
-        assert_eq!(rt; play(&rt, &mut files, script)?, failed);
+        plays(&rt, &mut files, script, failed)?;
     }
     set_current_dir(&rt, "../..")?;
     fs::remove_dir_all(&rt, FOLDER)?;
@@ -100,7 +100,7 @@ fn harms_nothing_through_links(rt: HostRuntime) -> Result<(), Fail> {
     make_links(&rt)?;
     let mut files = FolderFiles::here(&rt, rt.alloc());
     for (script, failed) in [(LINKED, 14), (UNHARMED, 0)] {
-        assert_eq!(rt; play(&rt, &mut files, script)?, failed);
+        plays(&rt, &mut files, script, failed)?;
     }
     fs::remove_dir_all(&rt, "out/links")?;
     Ok(())
@@ -117,7 +117,7 @@ fn names_that_no_file_can_have(rt: HostRuntime) -> Result<(), Fail> {
         let script = format!(in alloc;
             "get|{name}|9|absent\nremove|{name}||done\nput|{name}|5|file fault\n"
         )?;
-        assert_eq!(rt; play(&rt, &mut files, script.as_str())?, 1);
+        plays(&rt, &mut files, script.as_str(), 1)?;
     }
     Ok(())
 }

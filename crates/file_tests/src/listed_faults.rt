@@ -1,5 +1,6 @@
 // Files in memory of which listed calls fail.
-use crate::calls::play;
+use crate::calls::plays;
+use crate::script::same;
 use plan_files::MemoryFiles;
 use plan_num::NoMemory;
 use std::alloc::Global;
@@ -31,27 +32,33 @@ fn writes_of(alloc: Global, files: &MemoryFiles) -> Result<String, Fail> {
 }
 
 // A put over a file fails, and leaves this. The next one does not.
-fn failed_put_leaves(
+fn after_a_failed_put(
     rt: &(impl AllocGlobal + Abort),
     kept: Option<u64>,
     left: &str,
-) -> Result<(), Fail> {
-    let alloc = rt.alloc();
-    let mut files = faulty(alloc, &[(2, kept)])?;
-    let script = format!(in alloc;
+) -> Result<MemoryFiles, Fail> {
+    let mut files = faulty(rt.alloc(), &[(2, kept)])?;
+    let script = format!(in rt.alloc();
         "put|Report|old|done\n\
         put|Report|new|file fault\n\
         get|Report|9|{left}\n\
         put|Report|next|done\n\
         get|Report|9|next\n"
     )?;
-    assert_eq!(rt; play(rt, &mut files, script.as_str())?, 1);
-    assert_eq!(rt; files.calls(), 5);
-    assert_eq!(rt;
-        writes_of(alloc, &files)?.as_str(),
-        "put Report\nput Report\n"
-    );
-    assert_eq!(rt; files.unkept(), 0);
+    plays(rt, &mut files, script.as_str(), 1)?;
+    Ok(files)
+}
+
+// The writes that answered Ok are these, among so many calls.
+fn has_writes(
+    rt: &(impl AllocGlobal + Abort),
+    files: &MemoryFiles,
+    calls: u64,
+    writes: &str,
+) -> Result<(), Fail> {
+    let told = writes_of(rt.alloc(), files)?;
+    same(rt, told.as_str(), writes, "");
+    assert_eq!(rt; files.calls(), calls);
     Ok(())
 }
 
@@ -63,7 +70,9 @@ fn failed_puts_leave_a_front_part(rt: HostRuntime) -> Result<(), Fail> {
         (Some(1), "n"),
         (Some(9), "new"),
     ] {
-        failed_put_leaves(&rt, kept, left)?;
+        let files = after_a_failed_put(&rt, kept, left)?;
+        has_writes(&rt, &files, 5, "put Report\nput Report\n")?;
+        assert_eq!(rt; files.unkept(), 0);
     }
     Ok(())
 }
@@ -89,29 +98,40 @@ const OTHER_CALLS: &str = "put|basis/Stop.giv|1; A|done\n\
 #[test]
 fn other_failed_calls_change_nothing(rt: HostRuntime) -> Result<(), Fail> {
     let mut files = faulty(rt.alloc(), &OTHER_FAULTS)?;
-    assert_eq!(rt; play(&rt, &mut files, OTHER_CALLS)?, 4);
-    let edges = files.file("basis/Edge.giv").ok_or("no file")?;
-    assert_eq!(rt; edges.as_bytes(), b"2;".as_slice());
-    assert!(rt; files.file("basis/Stop.giv").is_none());
-    assert_eq!(rt; files.calls(), 8);
-    let writes = writes_of(rt.alloc(), &files)?;
-    assert_eq!(rt;
-        writes.as_str(),
-        "put basis/Stop.giv\nremove basis/Stop.giv\n"
-    );
+    plays(&rt, &mut files, OTHER_CALLS, 4)?;
+    has_writes(
+        &rt,
+        &files,
+        8,
+        "put basis/Stop.giv\nremove basis/Stop.giv\n",
+    )?;
+    same(&rt, file_of(&files, "basis/Edge.giv"), "2;", "");
+    same(&rt, file_of(&files, "basis/Stop.giv"), "absent", "");
+    Ok(())
+}
+
+// The bytes under a name.
+fn file_of<'a>(files: &'a MemoryFiles, name: &str) -> &'a str {
+    match files.file(name) {
+        Some(text) => str::from_utf8(text.as_bytes()).unwrap_or("no text"),
+        None => "absent",
+    }
+}
+
+// Lists calls that have passed.
+fn list_passed(files: &mut MemoryFiles) -> Result<(), NoMemory> {
+    for call in 0..3 {
+        files.fail_at(call, None)?;
+    }
     Ok(())
 }
 
 #[test]
 fn a_call_that_has_passed_does_not_fail(rt: HostRuntime) -> Result<(), Fail> {
     let mut files = MemoryFiles::new(rt.alloc());
-    let first = "put|Report|1|done\nget|Report|1|1\n";
-    assert_eq!(rt; play(&rt, &mut files, first)?, 0);
-    for call in 0..3 {
-        files.fail_at(call, None)?;
-    }
-    let later = "put|Report|2|done\nget|Report|1|2\n";
-    assert_eq!(rt; play(&rt, &mut files, later)?, 0);
+    plays(&rt, &mut files, "put|Report|1|done\nget|Report|1|1\n", 0)?;
+    list_passed(&mut files)?;
+    plays(&rt, &mut files, "put|Report|2|done\nget|Report|1|2\n", 0)?;
     assert_eq!(rt; files.calls(), 4);
     Ok(())
 }

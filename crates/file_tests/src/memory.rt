@@ -1,24 +1,19 @@
 // Files in memory, and words for faults.
-use crate::calls::play;
+use crate::calls::plays;
+use crate::script::same;
 use plan_files::{FileFault, SinkFault, SteadyFiles};
 use std::alloc::Global;
 use std::test::Fail;
 
 #[test]
 fn names_faults(rt: HostRuntime) -> Result<(), Fail> {
-    for fault in [FileFault::Failed, FileFault::NoMemory] {
-        let wanted = match fault {
-            FileFault::Failed => "file fault",
-            FileFault::NoMemory => "out of memory",
-        };
-        assert_eq!(rt; fault.to_string(rt.alloc())?.as_str(), wanted);
+    let files = [FileFault::Failed, FileFault::NoMemory];
+    for (fault, wanted) in files.iter().zip(&["file fault", "out of memory"]) {
+        same(&rt, fault.to_string(rt.alloc())?.as_str(), *wanted, "");
     }
-    for fault in [SinkFault::Failed, SinkFault::NoMemory] {
-        let wanted = match fault {
-            SinkFault::Failed => "sink fault",
-            SinkFault::NoMemory => "out of memory",
-        };
-        assert_eq!(rt; fault.to_string(rt.alloc())?.as_str(), wanted);
+    let sinks = [SinkFault::Failed, SinkFault::NoMemory];
+    for (fault, wanted) in sinks.iter().zip(&["sink fault", "out of memory"]) {
+        same(&rt, fault.to_string(rt.alloc())?.as_str(), *wanted, "");
     }
     Ok(())
 }
@@ -61,11 +56,12 @@ fn writes_of(alloc: Global, files: &SteadyFiles) -> Result<String, Fail> {
 #[test]
 fn keeps_writes(rt: HostRuntime) -> Result<(), Fail> {
     let mut files = SteadyFiles::new(rt.alloc());
-    assert_eq!(rt; play(&rt, &mut files, WRITTEN)?, 0);
+    plays(&rt, &mut files, WRITTEN, 0)?;
     let stop = files.file("basis/Stop.giv").ok_or("no file")?;
     assert_eq!(rt; stop.as_bytes(), b"2".as_slice());
     assert!(rt; files.file("basis/Edge.giv").is_none());
     assert_eq!(rt; files.write_count(), 5);
-    assert_eq!(rt; writes_of(rt.alloc(), &files)?.as_str(), WRITES);
+    let told = writes_of(rt.alloc(), &files)?;
+    same(&rt, told.as_str(), WRITES, "");
     Ok(())
 }

@@ -1,5 +1,5 @@
 // Numbers and texts, and counts of steps.
-use crate::script::{cases, cut};
+use crate::script::{cases, cut, same};
 use plan_num::{Silent, Steps, Tally, Text, parse_fixed, parse_whole, print_fixed};
 use std::alloc::{AllocError, Global};
 use std::test::Fail;
@@ -47,9 +47,9 @@ fn millionths(field: &str) -> Option<i64> {
 fn fields_spell_fixed_numbers(rt: HostRuntime) -> Result<(), Fail> {
     let rows = cases(rt.alloc(), FIXED, '\n')?;
     for row in &rows {
-        let (field, wanted) = cut(*row, '=')?;
+        let (field, wanted) = cut(*row, '=');
         let told = told(rt.alloc(), millionths(field))?;
-        assert_eq!(rt; told.as_str(), wanted, "{field}");
+        same(&rt, told.as_str(), wanted, *row);
     }
     assert_eq!(rt; rows.len(), 16);
     Ok(())
@@ -59,9 +59,9 @@ fn fields_spell_fixed_numbers(rt: HostRuntime) -> Result<(), Fail> {
 fn fields_spell_whole_numbers(rt: HostRuntime) -> Result<(), Fail> {
     let rows = cases(rt.alloc(), WHOLE, '\n')?;
     for row in &rows {
-        let (field, wanted) = cut(*row, '=')?;
+        let (field, wanted) = cut(*row, '=');
         let told = told(rt.alloc(), parse_whole(field.as_bytes()))?;
-        assert_eq!(rt; told.as_str(), wanted, "{field}");
+        same(&rt, told.as_str(), wanted, *row);
     }
     assert_eq!(rt; rows.len(), 5);
     Ok(())

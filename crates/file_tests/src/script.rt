@@ -1,5 +1,6 @@
 // Many cases as one text.
 use std::alloc::Global;
+use std::process::Abort;
 use std::test::Fail;
 
 /// The cases of a script, each of which ends with this sign.
@@ -20,9 +21,9 @@ pub(crate) fn cases<'a>(alloc: Global, script: &'a str, end: char) -> Result<Vec
     }
 }
 
-/// What stands before the first such sign, and what is behind it.
-pub(crate) fn cut(text: &str, sign: char) -> Result<(&str, &str), Fail> {
-    Ok(text.split_once(sign).ok_or("a part is missing")?)
+/// What stands before the first such sign, and what is behind it. Without one it is all the text.
+pub(crate) fn cut(text: &str, sign: char) -> (&str, &str) {
+    text.split_once(sign).unwrap_or((text, ""))
 }
 
 /// The number that a part spells.
@@ -30,7 +31,7 @@ pub(crate) fn number(text: &str) -> Result<i64, Fail> {
     Ok(text.parse::<i64>()?)
 }
 
-/// The count that a part spells.
-pub(crate) fn count(text: &str) -> Result<usize, Fail> {
-    Ok(text.parse::<usize>()?)
+/// What was told in a case is what is wanted.
+pub(crate) fn same(rt: &impl Abort, told: &str, wanted: &str, case: &str) {
+    assert_eq!(rt; told, wanted, "{case:?}");
 }

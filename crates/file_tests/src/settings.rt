@@ -1,13 +1,23 @@
 // Settings, bundles, and the texts of settings.
-use crate::script::{cases, count, cut, number};
+use crate::script::{cases, cut, number, same};
 use giv_files::{Bundle, Key, Settings, Stage};
 use std::alloc::Global;
 use std::process::Abort;
 use std::test::Fail;
 
+/// All keys, of which nothing is promised.
+pub(crate) fn keys() -> &'static [Key] {
+    Key::all()
+}
+
+/// All stages, of which nothing is promised.
+pub(crate) fn stages() -> &'static [Stage] {
+    Stage::all()
+}
+
 /// The key of a name.
 pub(crate) fn key_named(name: &str) -> Result<Key, Fail> {
-    for key in Key::all() {
+    for key in keys() {
         if key.name() == name {
             return Ok(*key);
         }
@@ -17,7 +27,7 @@ pub(crate) fn key_named(name: &str) -> Result<Key, Fail> {
 
 // The stage of a name.
 fn stage_named(name: &str) -> Result<Stage, Fail> {
-    for stage in Stage::all() {
+    for stage in stages() {
         if stage.name() == name {
             return Ok(*stage);
         }
@@ -29,7 +39,7 @@ fn stage_named(name: &str) -> Result<Stage, Fail> {
 fn settings_of(alloc: Global, text: &str) -> Result<Settings, Fail> {
     let mut settings = Settings::new(alloc);
     for setting in &cases(alloc, text, ';')? {
-        let (name, value) = cut(*setting, ' ')?;
+        let (name, value) = cut(*setting, ' ');
         settings.push(key_named(name)?, number(value)?)?;
     }
     Ok(settings)
@@ -55,12 +65,22 @@ const BUNDLES: &str = "true|3|period_length 20;DM_earliest_time 0;DM_latest_time
 
 // Looks at one of them.
 fn fits_as_told(rt: &(impl AllocGlobal + Abort), case: &str) -> Result<(), Fail> {
-    let (fits, rest) = cut(case, '|')?;
-    let (inputs, settings) = cut(rest, '|')?;
-    let bundle = bundle_of(rt.alloc(), Stage::Rollout, settings, count(inputs)?)?;
-    assert_eq!(rt; bundle.fits(), fits == "true", "{case}");
-    assert_eq!(rt; bundle.inputs(), count(inputs)?, "{case}");
+    let (fits, rest) = cut(case, '|');
+    let (inputs, settings) = cut(rest, '|');
+    let inputs = count_of(inputs);
+    let bundle = bundle_of(rt.alloc(), Stage::Rollout, settings, inputs)?;
+    assert_eq!(rt; bundle.inputs(), inputs);
+    same(rt, fit_told(&bundle), fits, case);
     Ok(())
+}
+
+fn count_of(inputs: &str) -> usize {
+    inputs.parse::<usize>().unwrap_or(0)
+}
+
+// Whether a bundle fits, in a word.
+fn fit_told(bundle: &Bundle) -> &'static str {
+    if bundle.fits() { "true" } else { "false" }
 }
 
 #[test]
@@ -101,15 +121,23 @@ const TEXTS: &str = "load|load_source 0;gen_passengers_per_vehicle 70;load_sprea
     disposition|vs_turn_over_time 0;dm_wait -2;|vs_turn_over_time; 0\ndm_wait; none\n~\
     disposition|vs_turn_over_time 0;dm_wait 3;|vs_turn_over_time; 0\ndm_wait; 3\n~";
 
+// The text of the settings of a bundle, where it fits.
+fn text_told(alloc: Global, bundle: &Bundle) -> Result<String, Fail> {
+    if !bundle.fits() {
+        return Err(Fail::from("no fit"));
+    }
+    let text = bundle.settings().text(alloc)?;
+    Ok(String::from_utf8_lossy(alloc, text.as_bytes())?)
+}
+
 // Looks at one of them.
 fn has_text(rt: &(impl AllocGlobal + Abort), case: &str) -> Result<(), Fail> {
-    let (stage, rest) = cut(case, '|')?;
-    let (settings, wanted) = cut(rest, '|')?;
+    let (stage, rest) = cut(case, '|');
+    let (settings, wanted) = cut(rest, '|');
     let stage = stage_named(stage)?;
     let bundle = bundle_of(rt.alloc(), stage, settings, stage.inputs().len())?;
-    assert!(rt; bundle.fits(), "{case}");
-    let text = bundle.settings().text(rt.alloc())?;
-    assert_eq!(rt; text.as_bytes(), wanted.as_bytes(), "{case}");
+    let told = text_told(rt.alloc(), &bundle)?;
+    same(rt, told.as_str(), wanted, case);
     Ok(())
 }
 
