@@ -2,7 +2,11 @@
 ghost use Rattle.std.specs.Prelude.{◌≡◌, [], false};
 ghost use Rattle.plan_files.specs.Sinks.{is_broken};
 
+use crate::script::{cases, cut, same};
 use plan_files::{MemorySink, Sink, SinkFault};
+use plan_num::NoMemory;
+use std::alloc::Global;
+use std::process::Abort;
 use std::test::Fail;
 
 fn write_all<S: Sink>(sink: &mut S, pieces: &[&str]) -> Result<(), SinkFault> {
@@ -31,24 +35,54 @@ fn keeps_pieces(rt: HostRuntime) -> Result<(), Fail> {
     Ok(())
 }
 
+// A sink of which these writes fail, with the number of bytes that each appends.
+fn faulty(alloc: Global, faults: &[(u64, u64)]) -> Result<MemorySink, NoMemory> {
+    let mut sink = MemorySink::new(alloc);
+    for (call, kept) in faults {
+        sink.fail_at(*call, *kept)?;
+    }
+    Ok(sink)
+}
+
+// A piece for each write, its answer, and what the sink has then.
+const WRITES: &str = "cost\n|done|cost\n~\
+    2 lines\n|sink fault|cost\n2 lin~\
+    es\n|done|cost\n2 lines\n~\
+    done\n|sink fault|cost\n2 lines\ndone\n~\
+    more|sink fault|cost\n2 lines\ndone\n~\
+    |done|cost\n2 lines\ndone\n~";
+
+// The answer of a write in words.
+fn answer_told(written: Result<(), SinkFault>) -> &'static str {
+    match written {
+        Ok(()) => "done",
+        Err(SinkFault::Failed) => "sink fault",
+        Err(SinkFault::NoMemory) => "out of memory",
+    }
+}
+
+// Makes one of the writes.
+fn writes_as_told(rt: &impl Abort, sink: &mut MemorySink, case: &str) {
+    let (piece, rest) = cut(case, '|');
+    let (wanted, left) = cut(rest, '|');
+    same(rt, answer_told(sink.write(piece.as_bytes())), wanted, case);
+    same(
+        rt,
+        str::from_utf8(sink.bytes()).unwrap_or("no text"),
+        left,
+        case,
+    );
+}
+
+// The fifth write is listed twice, and the last time counts.
 #[test]
 fn listed_writes_fail(rt: HostRuntime) -> Result<(), Fail> {
-    let mut sink = MemorySink::new(rt.alloc());
-    for (call, kept) in [(2, 5), (4, 9), (5, 9), (5, 0)] {
-        sink.fail_at(call, kept)?;
+    let mut sink = faulty(rt.alloc(), &[(2, 5), (4, 9), (5, 9), (5, 0)])?;
+    let writes = cases(rt.alloc(), WRITES, '~')?;
+    for case in &writes {
+        writes_as_told(&rt, &mut sink, *case);
     }
-    let rows = [
-        ("cost\n", Ok(()), "cost\n"),
-        ("2 lines\n", Err(SinkFault::Failed), "cost\n2 lin"),
-        ("es\n", Ok(()), "cost\n2 lines\n"),
-        ("done\n", Err(SinkFault::Failed), "cost\n2 lines\ndone\n"),
-        ("more", Err(SinkFault::Failed), "cost\n2 lines\ndone\n"),
-        ("", Ok(()), "cost\n2 lines\ndone\n"),
-    ];
-    for (piece, answer, written) in rows {
-        assert_eq!(rt; write_all(&mut sink, &[piece]), answer, "{piece:?}");
-        assert_eq!(rt; sink.bytes(), written.as_bytes(), "{piece:?}");
-    }
+    assert_eq!(rt; writes.len(), 6);
     assert_eq!(rt; sink.unkept(), 0);
     Ok(())
 }
