@@ -16,6 +16,3 @@ pub use config_end::ConfigEnd;
 pub use config_fault::ConfigFault;
 pub use expand::FILE_LIMIT;
 pub use read::read_config;
-
-#[cfg(test)]
-mod tests;

@@ -6,7 +6,5 @@ mod demo;
 mod edge;
 mod line;
 mod rows;
-#[cfg(test)]
-mod tests;
 
 pub use demo::demo_files;

@@ -59,12 +59,3 @@ pub use text_row::TextRow;
 pub use text_rows::TextRows;
 pub use words::WordTable;
 pub use write::write_table;
-
-#[cfg(test)]
-mod columns_tests;
-#[cfg(test)]
-mod settings_text_tests;
-#[cfg(test)]
-mod tests;
-#[cfg(test)]
-mod write_tests;

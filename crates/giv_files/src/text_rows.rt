@@ -65,37 +65,3 @@ impl<'a> TextRows<'a> {
         }
     }
 }
-
-#[cfg(test)]
-mod tests {
-    use super::*;
-    use std::test::Fail;
-
-    #[test]
-    fn rows_have_numbers_and_fields(rt: HostRuntime) -> Result<(), Fail> {
-        let text = b"1; 1;1 ;\r\n\r\n  # c\r\n2;2 ;\"3\"# x";
-        let mut rows = TextRows::new(rt.alloc(), text).map_err(|_| "refused")?;
-        let mut row = TextRow::new(rt.alloc());
-        let expected: [(u64, [&[u8]; 3]); 2] = [(1, [b"1", b"1", b"1"]), (3, [b"2", b"2", b"3"])];
-        for (number, fields) in &expected {
-            assert!(rt; rows.next_row(&mut row)?);
-            assert_eq!(rt; row.number(), *number);
-            assert_eq!(rt; row.len(), fields.len());
-            for (index, field) in fields.iter().enumerate() {
-                assert_eq!(rt; row.field(index), *field);
-            }
-        }
-        assert!(rt; !rows.next_row(&mut row)?);
-        let mark = TextRows::new(rt.alloc(), b"\xEF\xBB\xBF1;2\n");
-        assert!(rt;
-            matches!(
-                &mark,
-                Err(RowFault {
-                    row: 1,
-                    why: RowWhy::ByteOrderMark
-                })
-            )
-        );
-        Ok(())
-    }
-}

@@ -39,12 +39,6 @@ impl<'a, R: rt::Files> FolderFiles<'a, R> {
         }
     }
 
-    // How many calls have failed.
-    #[cfg(test)]
-    pub(crate) fn faults(&self) -> u64 {
-        self.faults.seen()
-    }
-
     // Passes an answer on, and counts it where it is a fault other than want of memory.
     fn counted<T>(&mut self, answer: Result<T, FileFault>) -> Result<T, FileFault>
         ensures answer { result ≡ answer }

@@ -68,29 +68,3 @@ fn push_fraction(bytes: &mut Vec<u8>, millionths: u32) -> Result<(), NoMemory>
     }
     Ok(())
 }
-
-#[cfg(test)]
-mod tests {
-    use super::*;
-    use std::test::Fail;
-
-    #[test]
-    fn numbers_are_printed(rt: HostRuntime) -> Result<(), Fail> {
-        let most = 10_000_000_000_000_000_000_000_000_000_000_000_000;
-        let numbers: [(i128, &[u8]); 8] = [
-            (1_500_000, b"1.5"),
-            (-250_000, b"-0.25"),
-            (27_000_000, b"27"),
-            (0, b"0"),
-            (-1, b"-0.000001"),
-            (1_000_000_000_000_000_000, b"1000000000000"),
-            (most, b"10000000000000000000000000000000"),
-            (-most, b"-10000000000000000000000000000000"),
-        ];
-        for (millionths, text) in numbers {
-            let printed = print_fixed(rt.alloc(), millionths)?;
-            assert_eq!(rt; printed.as_bytes(), text);
-        }
-        Ok(())
-    }
-}

@@ -98,30 +98,3 @@ impl<L: Ledger> Steps<L> {
         &self.ledger
     }
 }
-
-#[cfg(test)]
-mod tests {
-    use super::*;
-    use crate::text::Text;
-    use std::test::Fail;
-
-    // The ledger is told of each step, and once.
-    #[test]
-    fn steps_are_noted(rt: HostRuntime) {
-        let mut steps = Steps::new(Tally::new());
-        for told in 1..4 {
-            steps.tick();
-            assert_eq!(rt; steps.ledger().seen(), told);
-        }
-        let mut silent = Steps::new(Silent);
-        silent.tick();
-        let _nothing: &Silent = silent.ledger();
-    }
-
-    #[test]
-    fn texts_are_copied(rt: HostRuntime) -> Result<(), Fail> {
-        let text = Text::copy(rt.alloc(), b"a; b\n")?;
-        assert_eq!(rt; text.as_bytes(), b"a; b\n".as_slice());
-        Ok(())
-    }
-}

@@ -1,13 +1,8 @@
 -- Steps of writing an entry.
-use Rattle.std.proofs.Common.{◌≡◌, ℕ, ◌+◌, List, [], ◌∷◌, ◌++◌, map, drop, ap, sym, subst, refl, ◌∙◌, arith, Some, slice_get, append_assoc}
+use Rattle.std.proofs.Common.{◌≡◌, ℕ, ◌+◌, List, ◌∷◌, ◌++◌, map, drop, ap, sym, ◌∙◌, Some, slice_get, append_assoc}
 use Rattle.std.specs.List.{flat_map}
 use Rattle.std.proofs.lemmas.Option.{get_or_from_slice_get, slice_get_within}
-use Rattle.giv_files.specs.declared.file_id.FileId.{FileId}
-use Rattle.giv_files.specs.declared.file_id.FileId.TheVariants as file
 use Rattle.giv_files.specs.declared.made.MadeFile.{MadeFile}
-use Rattle.giv_files.specs.declared.stage.Stage.{Stage}
-use Rattle.giv_files.specs.declared.stage.Stage.TheVariants as stage
-use Rattle.giv_files.specs.MadeLists.{MakesAs}
 use Rattle.stage_keep.specs.Entries.{block_bytes, made_block, made_head}
 use Rattle.stage_keep.proofs.Reading.{drop_at}
 
@@ -26,10 +21,3 @@ made_more files i made head text bytes new all at h t pushed is =
     (ap (λ m. m ∷ drop (i + 1) files) (sym (get_or_from_slice_get files i made made at))
     ∙ sym (drop_at files i made (slice_get_within files i made at)))
     ∙ is
-
--- the one list of files that the stage of costs makes
-pub costs_are_made : (at : Stage) (files : List FileId) → at ≡ stage.Cost → files ≡ file.PoolCost ∷ []
-    → MakesAs at files
-costs_are_made at files is made =
-    subst (λ s. MakesAs s files) (sym is)
-    (subst (λ l. MakesAs stage.Cost l) (sym made) (0, omega arith, refl))

@@ -1,12 +1,9 @@
 // What a disk that refuses calls is told as.
-use crate::file_fault::FileFault;
-use crate::folder_files::FolderFiles;
-use crate::store::Files;
+use plan_files::{FileFault, Files, FolderFiles};
 use std::alloc::Allocator;
 use std::cell::Cell;
 use std::fs::{Metadata, OpenFile, OpenOptions};
 use std::io::{ErrorKind, Read, Seek, SeekFrom, Write};
-use std::test::Fail;
 use std::{io, rt};
 
 // Has one regular file. The first calls are taken, and each one from then on is refused for one
@@ -131,31 +128,27 @@ impl rt::Files for Disk {
 }
 
 // Puts over the file, after so many calls that are taken.
-fn put_after(rt: &HostRuntime, taken: u8, reason: ErrorKind) -> (Result<(), FileFault>, u64) {
+fn put_after(rt: &HostRuntime, taken: u8, reason: ErrorKind) -> Result<(), FileFault> {
     let disk = Disk {
         taken: Cell::new(taken),
         reason,
     };
     let mut files = FolderFiles::here(&disk, rt.alloc());
-    let answer = files.put("Report", b"done");
-    (answer, files.faults())
+    files.put("Report", b"done")
 }
 
 // Two looks are taken, and then the file is opened, looked at, emptied, written and flushed.
 #[test]
-fn an_opened_file_fails(rt: HostRuntime) -> Result<(), Fail> {
+fn an_opened_file_fails(rt: HostRuntime) {
     let (failed, refused) = (Err(FileFault::Failed), Err(FileFault::NoMemory));
-    let full = ErrorKind::StorageFull;
-    let memory = ErrorKind::OutOfMemory;
-    for taken in 0..7 {
-        assert_eq!(rt; put_after(&rt, taken, full), (failed, 1), "{taken}");
+    for (first, end, reason, wanted) in [
+        (0, 7, ErrorKind::StorageFull, failed),
+        (0, 2, ErrorKind::OutOfMemory, refused),
+        (2, 7, ErrorKind::OutOfMemory, failed),
+        (7, 8, ErrorKind::OutOfMemory, Ok(())),
+    ] {
+        for taken in first..end {
+            assert_eq!(rt; put_after(&rt, taken, reason), wanted, "{taken} {reason:?}");
+        }
     }
-    for taken in 0..2 {
-        assert_eq!(rt; put_after(&rt, taken, memory), (refused, 0), "{taken}");
-    }
-    for taken in 2..7 {
-        assert_eq!(rt; put_after(&rt, taken, memory), (failed, 1), "{taken}");
-    }
-    assert_eq!(rt; put_after(&rt, 7, memory), (Ok(()), 0));
-    Ok(())
 }
