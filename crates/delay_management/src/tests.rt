@@ -1,5 +1,5 @@
 // The stage of dispositions, and the test of one, on whole bundles.
-use crate::{Propagation, ReasonFault, check_reasons, make_disposition};
+use crate::{ReasonFault, check_reasons, make_disposition};
 use giv_files::{Bundle, FileId, Key, Made, Refusal, RowWhy, Settings, Stage, StageFault};
 use plan_num::{Steps, Tally};
 use std::alloc::Global;
@@ -297,33 +297,5 @@ fn the_first_broken_rule_is_told(rt: HostRuntime) -> Result<(), Fail> {
     // A change that is not kept is no reason.
     let told = Ok(Some(ReasonFault::Reason { event: 2 }));
     assert_eq!(rt; judged(rt.alloc(), 1, WAITED, WHY_WAITED)?, told);
-    Ok(())
-}
-
-// The times of the events, whether they break the change, and how late all arrivals are, where the
-// change is kept or is not.
-fn propagated(alloc: Global, kept: bool) -> Result<([i64; 4], bool, i128), Fail> {
-    let bundle = bundle(alloc, 0, [EVENTS, ACTIVITIES, SCHEDULE, LATE, b""])?;
-    if bundle.stage() != Stage::Disposition || !bundle.fits() {
-        return Err(Fail::from("the bundle does not fit"));
-    }
-    let problem = Propagation::from_bundle(alloc, &bundle)?;
-    if problem.change_count() != 1 || problem.event_count() != 4 {
-        return Err(Fail::from("there is one change between four events"));
-    }
-    if problem.change_id(0) != 3 {
-        return Err(Fail::from("the change has the id 3"));
-    }
-    let times = problem.least(alloc, &[kept])?;
-    let all = [times.at(0), times.at(1), times.at(2), times.at(3)];
-    Ok((all, problem.broken(&times, 0), problem.delay(&times)))
-}
-
-#[test]
-fn least_times_for_kept_changes(rt: HostRuntime) -> Result<(), Fail> {
-    let waited = propagated(rt.alloc(), true)?;
-    assert_eq!(rt; waited, ([5, 13, 15, 22], false, 5));
-    let gone = propagated(rt.alloc(), false)?;
-    assert_eq!(rt; gone, ([5, 13, 13, 20], true, 3));
     Ok(())
 }

@@ -17,8 +17,4 @@ pub use pool::Pool;
 pub use stage::make_cost;
 
 #[cfg(test)]
-mod given_costs_tests;
-#[cfg(test)]
-mod pool_tests;
-#[cfg(test)]
 mod stage_tests;

@@ -25,6 +25,4 @@ pub use fault::TimetableFault;
 pub use stage::make_timetable;
 
 #[cfg(test)]
-mod search_tests;
-#[cfg(test)]
 mod stage_tests;

@@ -34,5 +34,3 @@ mod check_tests;
 mod stage_tests;
 #[cfg(test)]
 mod test_inputs;
-#[cfg(test)]
-mod tests;
