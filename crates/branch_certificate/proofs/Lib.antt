@@ -3,7 +3,6 @@ mod FirstOfAll
 mod FirstPlaces
 mod Judging
 mod Leaves
-mod Named
 pub mod ReadIds
 pub mod ReadRules
 pub mod ReadSteps

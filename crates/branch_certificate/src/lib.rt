@@ -28,8 +28,3 @@ pub use read_fault::TreeReadFault;
 pub use region_walk::{RegionWalk, go_on};
 pub use tree::Tree;
 pub use write::write_tree;
-
-#[cfg(test)]
-mod check_tests;
-#[cfg(test)]
-mod text_tests;

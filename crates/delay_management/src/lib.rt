@@ -31,6 +31,3 @@ pub use reason::Reason;
 pub use stage::make_disposition;
 pub use step::{Activity, Step};
 pub use times::Times;
-
-#[cfg(test)]
-mod tests;

@@ -61,14 +61,3 @@ pub use schedule_kind::ScheduleKind;
 pub use schedule_row::ScheduleRow;
 pub use trip::{Trip, TripEnd};
 pub use trip_file::trips;
-
-#[cfg(test)]
-mod expanded_tests;
-#[cfg(test)]
-mod periodic_tests;
-#[cfg(test)]
-mod test_texts;
-#[cfg(test)]
-mod text_tests;
-#[cfg(test)]
-mod trip_tests;

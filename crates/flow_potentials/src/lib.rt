@@ -15,6 +15,3 @@ pub use numbers::Potentials;
 pub use potential_fault::PotentialFault;
 pub use table_reading::read_potentials;
 pub use table_writing::write_potentials;
-
-#[cfg(test)]
-mod tests;

@@ -22,6 +22,3 @@ pub use multipliers::Multipliers;
 pub use problem::LineProblem;
 pub use region::Region;
 pub use side::Side;
-
-#[cfg(test)]
-mod problem_tests;

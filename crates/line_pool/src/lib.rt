@@ -15,8 +15,3 @@ mod walk;
 pub use given_costs::LineCosts;
 pub use pool::Pool;
 pub use stage::make_cost;
-
-#[cfg(test)]
-mod given_costs_tests;
-#[cfg(test)]
-mod pool_tests;

@@ -54,23 +54,37 @@ fn block<F: Files>(files: &mut F) -> Result<(), Fail> {
     Ok(files.put("basis/Pool-Cost.giv/inside", b"kept")?)
 }
 
-// A run puts its files there. Where a folder stands in the place of one of them, the answer is a file
-// fault, and nothing is lost.
+// Whether each made file has its worked text.
+fn are_worked<F: Files>(alloc: Global, files: &mut F) -> Result<bool, Fail> {
+    for name in MADE {
+        if !is_worked(alloc, files, name)? {
+            return Ok(false);
+        }
+    }
+    Ok(true)
+}
+
+// Whether a run puts its files there.
+fn is_filled<F: Files>(alloc: Global, files: &mut F) -> Result<bool, Fail> {
+    put_hand_files(alloc, files)?;
+    let (status, _) = makes(alloc, files, b"")?;
+    Ok(status == 0 && are_worked(alloc, files)?)
+}
+
+// Whether the answer is a file fault where a folder stands in the place of a made file, and nothing is
+// lost.
+fn is_broken<F: Files>(alloc: Global, files: &mut F) -> Result<bool, Fail> {
+    block(files)?;
+    let (status, is_told) = makes(alloc, files, b"file fault\n")?;
+    Ok(status == 6 && is_told && is_worked(alloc, files, "basis/Edge.giv")?)
+}
+
 #[test]
 fn a_real_folder_is_used(rt: HostRuntime) -> Result<(), Fail> {
-    let alloc = rt.alloc();
     clear(&rt);
-    let mut files = FolderFiles::here(&rt, alloc);
-    put_hand_files(alloc, &mut files)?;
-    let (status, _) = makes(alloc, &mut files, b"")?;
-    assert_eq!(&rt; status, 0);
-    for name in MADE {
-        assert!(&rt; is_worked(alloc, &mut files, name)?, "{name}");
-    }
-    block(&mut files)?;
-    let (status, is_told) = makes(alloc, &mut files, b"file fault\n")?;
-    assert!(&rt; status == 6 && is_told);
-    assert!(&rt; is_worked(alloc, &mut files, "basis/Edge.giv")?);
+    let mut files = FolderFiles::here(&rt, rt.alloc());
+    assert!(&rt; is_filled(rt.alloc(), &mut files)?);
+    assert!(&rt; is_broken(rt.alloc(), &mut files)?);
     clear(&rt);
     Ok(())
 }

@@ -216,25 +216,42 @@ get statistic/statistic.sta
 remove timetabling/Timetable-periodic.tim
 ";
 
-// The first so many of these calls were made, and no other one. The exit status was this, and the
-// report one write of so many bytes.
-fn makes_first(
-    rt: &(impl AllocGlobal + Abort),
-    files: &mut SpyFiles,
-    line: &str,
-    calls: (&str, usize),
-    ended: (u8, usize),
-    fails: bool,
-) -> Result<(), Fail> {
-    let mut out = SpySink {
-        sink: MemorySink::new(rt.alloc()),
-        pieces: Vec::new(rt.alloc()),
+// A run over these files, and what it has to do: its words, whether the sink fails, the calls that it makes, the first so many of these, its exit status, and how many bytes it
+// writes by one call.
+struct Wanted {
+    words: &'static str,
+    is_cut: bool,
+    calls: &'static str,
+    count: usize,
+    status: u8,
+    size: usize,
+}
+
+const MAKES: Wanted = Wanted {
+    words: "make",
+    is_cut: false,
+    calls: CALLS,
+    count: 64,
+    status: 0,
+    size: 277,
+};
+
+fn spied_sink(alloc: Global, fails: bool) -> SpySink {
+    SpySink {
+        sink: MemorySink::new(alloc),
+        pieces: Vec::new(alloc),
         fails,
-    };
-    let (status, _) = call(rt.alloc(), line, files, &mut out)?;
-    assert_eq!(rt; (status, files.calls), (ended.0, calls.1));
-    assert!(rt; calls.0.as_bytes().starts_with(&files.lines));
-    assert_eq!(rt; out.pieces.as_slice(), [ended.1].as_slice());
+    }
+}
+
+// No other call is made.
+fn runs(rt: &(impl AllocGlobal + Abort), wanted: &Wanted, spied: SpyFiles) -> Result<(), NoMemory> {
+    let mut files = spied;
+    let mut out = spied_sink(rt.alloc(), wanted.is_cut);
+    let (status, _) = call(rt.alloc(), wanted.words, &mut files, &mut out)?;
+    let is_told = status == wanted.status && out.pieces.as_slice() == [wanted.size].as_slice();
+    let is_first = wanted.calls.as_bytes().starts_with(&files.lines);
+    assert!(rt; is_told && is_first && files.calls == wanted.count);
     Ok(())
 }
 
@@ -242,34 +259,62 @@ fn makes_first(
 // keep file is read once. The report is one write, also where the sink fails.
 #[test]
 fn a_run_names_its_files_alone(rt: HostRuntime) -> Result<(), Fail> {
-    let mut files = spied(rt.alloc(), 0)?;
-    makes_first(&rt, &mut files, "make", (CALLS, 64), (0, 277), false)?;
-    let mut files = spied(rt.alloc(), 0)?;
-    makes_first(&rt, &mut files, "make", (CALLS, 64), (7, 277), true)
+    runs(&rt, &MAKES, spied(rt.alloc(), 0)?)?;
+    let cut = Wanted {
+        is_cut: true,
+        status: 7,
+        ..MAKES
+    };
+    Ok(runs(&rt, &cut, spied(rt.alloc(), 0)?)?)
 }
 
 // After a call that fails no other one is made, and the line that tells of it is one write.
 #[test]
 fn nothing_is_called_after_a_fault(rt: HostRuntime) -> Result<(), Fail> {
     for fails in 1..65 {
-        let mut files = spied(rt.alloc(), fails)?;
-        makes_first(&rt, &mut files, "make", (CALLS, fails), (6, 11), false)?;
+        let wanted = Wanted {
+            count: fails,
+            status: 6,
+            size: 11,
+            ..MAKES
+        };
+        runs(&rt, &wanted, spied(rt.alloc(), fails)?)?;
     }
     Ok(())
+}
+
+const REFUSES: Wanted = Wanted {
+    calls: REFUSED,
+    count: 18,
+    status: 3,
+    size: 35,
+    ..MAKES
+};
+
+fn without_stops(alloc: Global) -> Result<SpyFiles, Fail> {
+    let mut files = spied(alloc, 0)?;
+    files.files.remove("basis/Stop.giv")?;
+    Ok(files)
 }
 
 // A stage that is refused has its files removed that are there, and those of later stages, and nothing
 // else is touched.
 #[test]
 fn a_refused_run_removes_made_files_alone(rt: HostRuntime) -> Result<(), Fail> {
-    let mut files = spied(rt.alloc(), 0)?;
-    files.files.remove("basis/Stop.giv")?;
-    makes_first(&rt, &mut files, "make", (REFUSED, 18), (3, 35), false)
+    Ok(runs(&rt, &REFUSES, without_stops(rt.alloc())?)?)
 }
+
+const OTHER_WORDS: Wanted = Wanted {
+    words: "made",
+    calls: "",
+    count: 0,
+    status: 2,
+    size: 53,
+    ..MAKES
+};
 
 // Other words are answered by one write, and no file is named.
 #[test]
 fn usage_names_no_file(rt: HostRuntime) -> Result<(), Fail> {
-    let mut files = spied(rt.alloc(), 0)?;
-    makes_first(&rt, &mut files, "made", ("", 0), (2, 53), false)
+    Ok(runs(&rt, &OTHER_WORDS, spied(rt.alloc(), 0)?)?)
 }

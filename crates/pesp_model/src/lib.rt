@@ -8,6 +8,3 @@ mod tensions;
 pub use activity::PespActivity;
 pub use pesp::Pesp;
 pub use tensions::tension;
-
-#[cfg(test)]
-mod pesp_tests;

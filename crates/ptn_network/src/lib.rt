@@ -24,10 +24,3 @@ pub use loads::Loads;
 pub use network::Network;
 pub use paths::Paths;
 pub use reach::Reach;
-
-#[cfg(test)]
-mod tests;
-#[cfg(test)]
-mod tests_least;
-#[cfg(test)]
-mod tests_paths;

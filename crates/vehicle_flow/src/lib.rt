@@ -27,6 +27,3 @@ pub use check::check_schedule;
 pub use schedule_fault::ScheduleFault;
 pub use solved::Solved;
 pub use stage::make_vehicles;
-
-#[cfg(test)]
-mod tests;

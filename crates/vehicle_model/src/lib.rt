@@ -18,6 +18,3 @@ pub use plan_fault::PlanFault;
 pub use schedule_reading::read_plan;
 pub use schedule_writing::write_plan;
 pub use trips::Trips;
-
-#[cfg(test)]
-mod tests;
