@@ -13,7 +13,14 @@ use std::test::Fail;
 // What a call answered: what was got, or nothing for a call that changes files.
 type Answer = Result<Option<Got>, FileFault>;
 
-// A call on the file of a name.
+// A call on the file of a name, and its answer in words.
+#[derive(Drop)]
+struct Line<'a> {
+    name: &'a str,
+    call: Call<'a>,
+    wanted: &'a str,
+}
+
 #[derive(Drop)]
 enum Call<'a> {
     Put(&'a str),
@@ -21,14 +28,20 @@ enum Call<'a> {
     Remove,
 }
 
-// A call in words: `put` with a text, `get` with a limit, or `remove`.
+// The line `put|name|text|answer`, `get|name|limit|answer` or `remove|name||answer`.
+fn line_of(text: &str) -> Line<'_> {
+    let (word, rest) = cut(text, '|');
+    let (name, rest) = cut(rest, '|');
+    let (given, wanted) = cut(rest, '|');
+    let call = call_of(word, given);
+    Line { name, call, wanted }
+}
+
 fn call_of<'a>(word: &str, given: &'a str) -> Call<'a> {
-    if word == "put" {
-        Call::Put(given)
-    } else if word == "get" {
-        Call::Get(limit_of(given))
-    } else {
-        Call::Remove
+    match word.as_bytes() {
+        [b'p', ..] => Call::Put(given),
+        [b'g', ..] => Call::Get(limit_of(given)),
+        _ => Call::Remove,
     }
 }
 
@@ -36,14 +49,14 @@ fn limit_of(given: &str) -> u64 {
     given.parse::<u64>().unwrap_or(0)
 }
 
-// Makes a call. Where it fails, and only there, the count of faults rises.
-fn make<F: Files>(alloc: Global, files: &mut F, name: &str, call: &Call<'_>) -> Answer
+// Makes the call of a line. Where it fails, and only there, the count of faults rises.
+fn make<F: Files>(alloc: Global, files: &mut F, line: &Line<'_>) -> Answer
     ensures { Counts (has_failed result) (F.faults files.old) (F.faults files.new) }
 {
-    match call {
-        Call::Put(text) => changed(files.put(name, text.as_bytes())),
-        Call::Get(limit) => got(files.get(alloc, name, *limit)),
-        Call::Remove => changed(files.remove(name)),
+    match &line.call {
+        Call::Put(text) => changed(files.put(line.name, text.as_bytes())),
+        Call::Get(limit) => got(files.get(alloc, line.name, *limit)),
+        Call::Remove => changed(files.remove(line.name)),
     }
 }
 
@@ -78,54 +91,34 @@ fn told(alloc: Global, answer: &Answer) -> Result<String, AllocError> {
     }
 }
 
-// Counts an answer that is a failure.
-fn count(answer: &Answer, failed: &mut Tally) {
+// Looks at an answer, and counts it where it is a failure for another cause than want of memory.
+fn look(
+    rt: &(impl AllocGlobal + Abort),
+    answer: &Answer,
+    line: &Line<'_>,
+    failed: &mut Tally,
+) -> Result<(), Fail> {
     if let Err(FileFault::Failed) = answer {
         failed.note();
     }
-}
-
-// Makes the call of a line, `call|name|text or limit|answer`, and looks at its answer. The number
-// of failed calls is kept.
-fn play_line<F: Files>(
-    rt: &(impl AllocGlobal + Abort),
-    files: &mut F,
-    line: &str,
-    failed: &mut Tally,
-) -> Result<(), Fail> {
-    let (word, rest) = cut(line, '|');
-    let (name, rest) = cut(rest, '|');
-    let (given, wanted) = cut(rest, '|');
-    let answer = make(rt.alloc(), files, name, &call_of(word, given));
-    count(&answer, failed);
-    let told = told(rt.alloc(), &answer)?;
-    same(rt, told.as_str(), wanted, line);
+    let told = told(rt.alloc(), answer)?;
+    same(rt, told.as_str(), line.wanted, line.name);
     Ok(())
 }
 
-// Makes the calls of a script in order, looks at each answer, and tells how many calls failed for
-// another cause than want of memory.
-fn play<F: Files>(
-    rt: &(impl AllocGlobal + Abort),
-    files: &mut F,
-    script: &str,
-) -> Result<u64, Fail> {
-    let mut failed = Tally::new();
-    for line in &cases(rt.alloc(), script, '\n')? {
-        play_line(rt, files, *line, &mut failed)?;
-    }
-    Ok(failed.seen())
-}
-
-/// Makes the calls of a script in order, of which so many fail for another cause than want of
-/// memory.
+/// Makes the calls of a script in order, and looks at each answer. So many calls fail.
 pub(crate) fn plays<F: Files>(
     rt: &(impl AllocGlobal + Abort),
     files: &mut F,
     script: &str,
     failed: u64,
 ) -> Result<(), Fail> {
-    let found = play(rt, files, script)?;
-    assert_eq!(rt; found, failed);
+    let mut found = Tally::new();
+    for text in &cases(rt.alloc(), script, '\n')? {
+        let line = line_of(*text);
+        let answer = make(rt.alloc(), files, &line);
+        look(rt, &answer, &line, &mut found)?;
+    }
+    assert_eq!(rt; found.seen(), failed);
     Ok(())
 }

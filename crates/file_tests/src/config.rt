@@ -59,11 +59,16 @@ fn value_told(
     }
 }
 
+// The settings of files, of which nothing is promised here.
+fn config_of(alloc: Global, files: &mut SteadyFiles) -> Result<Config, ConfigEnd> {
+    read_config(alloc, files)
+}
+
 // The value of a key under these files, or why there is none. No file is changed.
 fn read_told(alloc: Global, key: Key, texts: &str) -> Result<String, Fail> {
     let mut files = files_of(alloc, texts)?;
     let writes = files.write_count();
-    let read = read_config(alloc, &mut files);
+    let read = config_of(alloc, &mut files);
     if files.write_count() != writes {
         return Err(Fail::from("a file was changed"));
     }
@@ -167,7 +172,7 @@ fn included_files(rt: HostRuntime) -> Result<(), Fail> {
 fn period_told(alloc: Global, text: &[u8]) -> Result<String, Fail> {
     let mut files = SteadyFiles::new(alloc);
     files.put("basis/Config.cnf", text)?;
-    let read = read_config(alloc, &mut files);
+    let read = config_of(alloc, &mut files);
     Ok(value_told(alloc, &read, Key::PeriodLength)?)
 }
 
@@ -238,7 +243,7 @@ fn push_stage(alloc: Global, text: &mut String, config: &Config, stage: Stage) -
 fn config_read(alloc: Global) -> Result<Config, Fail> {
     let mut files = SteadyFiles::new(alloc);
     files.put("basis/Config.cnf", CONFIG.as_bytes())?;
-    match read_config(alloc, &mut files) {
+    match config_of(alloc, &mut files) {
         Ok(config) => Ok(config),
         Err(_) => Err(Fail::from("refused")),
     }
