@@ -218,6 +218,7 @@ remove timetabling/Timetable-periodic.tim
 
 // A run over these files, and what it has to do: its words, whether the sink fails, the calls that it makes, the first so many of these, its exit status, and how many bytes it
 // writes by one call.
+#[derive(Clone, Copy)]
 struct Wanted {
     words: &'static str,
     is_cut: bool,
