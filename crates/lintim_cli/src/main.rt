@@ -49,6 +49,8 @@ fn main(rt: HostRuntime) -> ExitCode {
 }
 
 #[cfg(test)]
+mod budget_scripts;
+#[cfg(test)]
 mod check_scripts;
 #[cfg(test)]
 mod concept_scripts;
@@ -66,6 +68,8 @@ mod folder_tests;
 mod hostile_tests;
 #[cfg(test)]
 mod keep_scripts;
+#[cfg(test)]
+mod load_scripts;
 #[cfg(test)]
 mod made_scripts;
 #[cfg(test)]
