@@ -141,7 +141,7 @@ const OUT_OF_ORDER: [(&[u8], u64, RowWhy); 8] = [
     (b"bound; 0; 0; 0\nmult; 4; 0; 1\n", 2, RowWhy::OrderGap),
     (b"bound; 1; 0; 0\npoint; 0; 0; 0\n", 2, RowWhy::OrderGap),
     (b"bound; 2; 0; 0\nmult; 4; 0; 1\n", 0, RowWhy::OrderGap),
-    // No room is made for so many before they come.
+    // So many are due that never come.
     (b"bound; 1000000000; 0; 0\n", 0, RowWhy::OrderGap),
     (
         b"split; 3; 1; 0\npoint; 0; 0; 0\nbound; 1000000000; 0; 0\n",
