@@ -37,6 +37,7 @@ few_words table.Direction = omega arith
 few_words table.NodeKind = omega arith
 few_words table.ScheduleKind = omega arith
 few_words table.ReasonKind = omega arith
+few_words table.WaitKind = omega arith
 
 small_in : (column : ColumnKind) (cell : ℤ) → is_small column ≡ true → InColumn column cell
     → IsSmall cell

@@ -11,6 +11,7 @@ pub enum WordTable {
     NodeKind,
     ScheduleKind,
     ReasonKind,
+    WaitKind,
 }
 
 impl WordTable {
@@ -25,6 +26,7 @@ impl WordTable {
             WordTable::NodeKind => &["split", "empty", "bound", "mult", "point"],
             WordTable::ScheduleKind => &["TRIP", "EMPTY"],
             WordTable::ReasonKind => &["source", "activity", "turn"],
+            WordTable::WaitKind => &["cost", "keep", "drop", "split", "leaf"],
         }
     }
 }
