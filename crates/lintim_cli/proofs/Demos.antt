@@ -12,12 +12,12 @@ use Rattle.giv_files.specs.declared.stage.Stage.{Stage}
 use Rattle.giv_files.specs.declared.stage.Stage.TheVariants as stage
 use Rattle.stage_keep.specs.Entries.{keep_name}
 use Rattle.demo_dataset.specs.Demo.{demo_folder, demo_writes}
-use Rattle.stage_driver.specs.declared.outcome.Mode.TheVariants as mode
-use Rattle.stage_driver.specs.Built.{RunParts, made}
-use Rattle.stage_driver.specs.Hand.{hand_of, is_among}
-use Rattle.stage_driver.specs.Runs.{run_over}
-use Rattle.stage_driver.proofs.Keeping.{nothing_kept}
-use Rattle.stage_driver.proofs.Wishes.{get_behind, names_in}
+use Rattle.stage_chain.specs.declared.outcome.Mode.TheVariants as mode
+use Rattle.stage_chain.proofs.Wishes.{get_behind, names_in}
+use Rattle.stage_chain.specs.Built.{RunParts}
+use Rattle.stage_chain.specs.Hand.{hand_of, is_among}
+use Rattle.stage_driver.proofs.Planned.{nothing_kept}
+use Rattle.stage_driver.specs.PlanningChain.{made, run_over}
 use Rattle.lintim_cli.specs.declared.answers.Status.{Status}
 use Rattle.lintim_cli.specs.declared.answers.Status.TheVariants.{Done, Usage, BadInput, NoSolution}
 use Rattle.lintim_cli.specs.declared.answers.Status.TheVariants.{Spent, FileFault, SinkFault}

@@ -4,15 +4,14 @@ use Rattle.std.proofs.Common.{subst, ◌∙◌, inr}
 use Rattle.std.specs.Option.{option_map}
 use Rattle.plan_files.specs.declared.write.Write.{Write}
 use Rattle.plan_files.specs.Folder.{Folder}
-use Rattle.stage_driver.specs.declared.outcome.Mode.{Mode}
-use Rattle.stage_driver.specs.declared.outcome.Outcome.{Outcome}
-use Rattle.stage_driver.specs.declared.outcome.RunEnd.{RunEnd}
-use Rattle.stage_driver.specs.declared.outcome.RunEnd.TheVariants as end
-use Rattle.stage_driver.specs.Kept.{IsKeptHonest}
-use Rattle.stage_driver.specs.Right.{IsLeftRight}
-use Rattle.stage_driver.specs.Runs.{IsLeft, IsOutcome, Trusts, run_over, started, writes_of}
-use Rattle.stage_driver.proofs.BothModes.{both_scratch}
-use Rattle.stage_driver.proofs.MadeParts.{part_left}
+use Rattle.stage_chain.specs.declared.outcome.Mode.{Mode}
+use Rattle.stage_chain.specs.declared.outcome.Outcome.{Outcome}
+use Rattle.stage_chain.specs.declared.outcome.RunEnd.{RunEnd}
+use Rattle.stage_chain.specs.declared.outcome.RunEnd.TheVariants as end
+use Rattle.stage_chain.specs.Runs.{IsOutcome, started}
+use Rattle.stage_driver.proofs.Planned.{both_scratch, part_left}
+use Rattle.stage_driver.specs.PlanningChain.{IsKeptHonest, IsLeftRight, IsLeft, Trusts, run_over}
+use Rattle.stage_driver.specs.PlanningChain.{writes_of}
 use Rattle.lintim_cli.specs.declared.answers.Status.{Status}
 use Rattle.lintim_cli.specs.declared.answers.Status.TheVariants.{Done, Usage, BadInput, NoSolution}
 use Rattle.lintim_cli.specs.declared.answers.Status.TheVariants.{Spent, FileFault, SinkFault}

@@ -1,11 +1,11 @@
 -- How a run ends.
 use Rattle.std.specs.Prelude.{ℕ, Option, Some, None}
-use Rattle.stage_driver.specs.declared.checked.CheckEnd.{CheckEnd}
-use Rattle.stage_driver.specs.declared.checked.CheckEnd.TheVariants as check
-use Rattle.stage_driver.specs.declared.outcome.RunEnd.{RunEnd}
-use Rattle.stage_driver.specs.declared.outcome.RunEnd.TheVariants as end
-use Rattle.stage_driver.specs.declared.state.StatesEnd.{StatesEnd}
-use Rattle.stage_driver.specs.declared.state.StatesEnd.TheVariants as states
+use Rattle.stage_chain.specs.declared.checked.CheckEnd.{CheckEnd}
+use Rattle.stage_chain.specs.declared.checked.CheckEnd.TheVariants as check
+use Rattle.stage_chain.specs.declared.outcome.RunEnd.{RunEnd}
+use Rattle.stage_chain.specs.declared.outcome.RunEnd.TheVariants as end
+use Rattle.stage_chain.specs.declared.state.StatesEnd.{StatesEnd}
+use Rattle.stage_chain.specs.declared.state.StatesEnd.TheVariants as states
 use Rattle.lintim_cli.specs.declared.answers.Status.{Status}
 use Rattle.lintim_cli.specs.declared.command.Command.{Command}
 use Rattle.lintim_cli.specs.declared.command.Command.TheVariants as command

@@ -9,18 +9,18 @@ use Rattle.plan_files.specs.declared.write.Write.{Write}
 use Rattle.plan_files.specs.Counts.{Raised, Rose}
 use Rattle.plan_files.specs.Folder.{Folder}
 use Rattle.std.specs.FinMap as files
-use Rattle.stage_driver.specs.declared.outcome.ChainFault.TheVariants as faults
-use Rattle.stage_driver.specs.declared.outcome.Mode.{Mode}
-use Rattle.stage_driver.specs.declared.outcome.Mode.TheVariants as mode
+use Rattle.stage_chain.specs.declared.outcome.ChainFault.TheVariants as faults
+use Rattle.stage_chain.specs.declared.outcome.Mode.{Mode}
+use Rattle.stage_chain.specs.declared.outcome.Mode.TheVariants as mode
 use Rattle.demo_dataset.specs.Demo.{demo_folder}
-use Rattle.stage_driver.specs.Built.{RunParts, made}
-use Rattle.stage_driver.specs.Checks.{check_end, check_of, check_report}
-use Rattle.stage_driver.specs.Hand.{hand_of}
-use Rattle.stage_driver.specs.Right.{IsLeftRight}
-use Rattle.stage_driver.specs.Kept.{IsKeptHonest}
-use Rattle.stage_driver.specs.Runs.{IsLeft, IsUnfinished, Trusts, made_part, run_over, started}
-use Rattle.stage_driver.specs.Runs.{with_files, writes_of}
-use Rattle.stage_driver.specs.States.{states_end, states_of}
+use Rattle.stage_chain.specs.Built.{RunParts}
+use Rattle.stage_chain.specs.Checks.{check_end, check_report}
+use Rattle.stage_chain.specs.Hand.{hand_of}
+use Rattle.stage_chain.specs.Runs.{started, with_files}
+use Rattle.stage_chain.specs.States.{states_end}
+use Rattle.stage_driver.specs.PlanningChain.{made, check_of, IsLeftRight, IsKeptHonest, IsLeft}
+use Rattle.stage_driver.specs.PlanningChain.{IsUnfinished, Trusts, made_part, run_over, writes_of}
+use Rattle.stage_driver.specs.PlanningChain.{states_of}
 use Rattle.lintim_cli.specs.declared.answers.Status.{Status}
 use Rattle.lintim_cli.specs.declared.answers.Status.TheVariants.{FileFault, SinkFault, NoMemory}
 use Rattle.lintim_cli.specs.declared.command.Command.{Command}

@@ -3,12 +3,10 @@ ghost use Rattle.std.specs.Prelude.{◌≡◌, ◌≤◌, ◌<◌, ◌+◌, ◌�
 ghost use Rattle.plan_files.specs.Counts.{Rose};
 ghost use Rattle.plan_files.specs.Folder.{Folder};
 ghost use Rattle.plan_files.specs.Others.{AreOutside};
-ghost use Rattle.stage_driver.specs.Hand.{hand_of, is_hand};
-ghost use Rattle.stage_driver.specs.Kept.{IsKeptHonest};
-ghost use Rattle.stage_driver.specs.Right.{MadeFilesAreRight, RefusesHand};
-ghost use Rattle.stage_driver.specs.Runs.{AddsNoHandFile, IsOnce, SameHand, Trusts, run_over};
-ghost use Rattle.stage_driver.specs.Runs.{started, writes_of};
-ghost use Rattle.stage_driver.specs.Stopped.{StopsSafely};
+ghost use Rattle.stage_chain.specs.Hand.{hand_of, is_hand};
+ghost use Rattle.stage_chain.specs.Runs.{AddsNoHandFile, IsOnce, SameHand, started};
+ghost use Rattle.stage_driver.specs.PlanningChain.{IsKeptHonest, MadeFilesAreRight, RefusesHand};
+ghost use Rattle.stage_driver.specs.PlanningChain.{Trusts, run_over, writes_of, StopsSafely};
 ghost use Rattle.lintim_cli.specs.declared.command.Command.TheVariants as commands;
 ghost use Rattle.lintim_cli.specs.Answers.{AnswersTo};
 ghost use Rattle.lintim_cli.specs.Top.{FileBroke, Headline, Leaves};

@@ -3,14 +3,12 @@ ghost use Rattle.std.specs.Prelude.{ℕ, ◌≡◌, ◌≤◌, ◌<◌, ◌+◌,
 ghost use Rattle.plan_files.specs.Counts.{Rose};
 ghost use Rattle.plan_files.specs.Folder.{Folder};
 ghost use Rattle.plan_files.specs.Others.{AreOutside};
-ghost use Rattle.stage_driver.specs.declared.outcome.Mode.{Mode};
-ghost use Rattle.stage_driver.specs.Hand.{hand_of, is_hand};
-ghost use Rattle.stage_driver.specs.Kept.{IsKeptHonest};
-ghost use Rattle.stage_driver.specs.Passing.{PassesIn, RunsPass};
-ghost use Rattle.stage_driver.specs.Right.{MadeFilesAreRight, RefusesHand};
-ghost use Rattle.stage_driver.specs.Runs.{AddsNoHandFile, IsOnce, SameHand, Trusts, run_over};
-ghost use Rattle.stage_driver.specs.Runs.{started, writes_of};
-ghost use Rattle.stage_driver.specs.Stopped.{StopsSafely};
+ghost use Rattle.stage_chain.specs.declared.outcome.Mode.{Mode};
+ghost use Rattle.stage_chain.specs.Hand.{hand_of, is_hand};
+ghost use Rattle.stage_chain.specs.Runs.{AddsNoHandFile, IsOnce, SameHand, started};
+ghost use Rattle.stage_driver.specs.PlanningChain.{IsKeptHonest, PassesIn, RunsPass};
+ghost use Rattle.stage_driver.specs.PlanningChain.{MadeFilesAreRight, RefusesHand, Trusts};
+ghost use Rattle.stage_driver.specs.PlanningChain.{run_over, writes_of, StopsSafely};
 ghost use Rattle.lintim_cli.specs.declared.command.Command.TheVariants as commands;
 ghost use Rattle.lintim_cli.specs.Answers.{AnswersTo};
 ghost use Rattle.lintim_cli.specs.Reports.{Reported, usage_report};
@@ -37,7 +35,7 @@ use std::alloc::Global;
 /// whether its files are those that are kept, and changes none. `demo` with a number from 1 to 8 runs
 /// the stages over a dataset in memory that is made from the number. Each writes its report by one
 /// call.
-#[tactic(auto, using(stage_driver::proofs::CheckedRuns::runs_pass, stage_driver::proofs::LeftRight::left_right, stage_driver::proofs::Refusing::refuses_hand, stage_driver::proofs::HandKept::writes_outside, stage_driver::proofs::HandKept::writes_once))]
+#[tactic(auto, using(stage_driver::proofs::Planned::runs_pass, stage_driver::proofs::Planned::left_right, stage_driver::proofs::Planned::refuses_hand, stage_driver::proofs::Planned::writes_outside, stage_driver::proofs::Planned::writes_once))]
 pub fn lintim<F: Files, K: Sink, L: Ledger>(
     alloc: Global,
     words: &[String],

@@ -1,15 +1,1 @@
-pub mod Built
-pub mod Chain
-pub mod Checks
-pub mod Ends
-pub mod Findings
-pub mod Hand
-pub mod Kept
-pub mod Looks
-pub mod Passing
-pub mod Progress
-pub mod Reports
-pub mod Right
-pub mod Runs
-pub mod States
-pub mod Stopped
+pub mod PlanningChain

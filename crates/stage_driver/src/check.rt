@@ -1,26 +1,14 @@
 // A check of the files of a dataset.
-ghost use Rattle.std.specs.Prelude.{◌≡◌, IfSome, IfOk, IfNone};
-ghost use Rattle.stage_driver.specs.declared.checked.CheckEnd.TheVariants as ends;
-ghost use Rattle.stage_driver.specs.Passing.{AllStand, PassesIn, RunsPass, RunsStand};
+ghost use Rattle.std.specs.Prelude.{◌≡◌, IfSome, IfOk};
 ghost use Rattle.plan_files.specs.Folder.{Folder};
 ghost use Rattle.plan_files.specs.Reads.{OnlyReads};
-ghost use Rattle.config_keys.specs.Items.{look_in};
-ghost use Rattle.config_keys.specs.Values.{effective};
-ghost use Rattle.stage_driver.specs.Built.{built};
-ghost use Rattle.stage_driver.specs.Checks.{IsCheck, UnsettledAs, check_of, first_found};
-ghost use Rattle.stage_driver.specs.Checks.{found_at};
-ghost use Rattle.stage_driver.specs.Ends.{has_failed};
+ghost use Rattle.stage_chain.specs.declared.checked.CheckEnd.TheVariants as ends;
+ghost use Rattle.stage_chain.specs.Ends.{has_failed};
+ghost use Rattle.stage_driver.specs.PlanningChain.{IsCheck, PassesIn, RunsPass};
 
-use crate::cause::Cause;
-use crate::checked::CheckOutcome;
-use crate::finding::Finding;
-use crate::judge::judge;
-use crate::outcome::ChainFault;
-use crate::report::check_outcome;
-use crate::stages::{built, place_of};
-use config_keys::{Config, ConfigEnd, read_config};
-use giv_files::Stage;
+use crate::planning::Planning;
 use plan_files::Files;
+use stage_chain::{ChainFault, CheckOutcome};
 use std::alloc::Global;
 
 /// Judges the files of the stages of a dataset over the files that stand there, whoever made them:
@@ -35,75 +23,5 @@ pub fn check_chain<F: Files>(alloc: Global, files: &mut F) -> Result<CheckOutcom
     ensures only_reads { OnlyReads F.contents F.writes F.faults files.old files.new
         (has_failed result) }
 {
-    let finding = find(alloc, files)?;
-    Ok(check_outcome(alloc, finding)?)
-}
-
-// What a check finds, where a dataset does not pass.
-fn find<F: Files>(alloc: Global, files: &mut F) -> Result<Option<Finding>, ChainFault>
-    ensures found { IfSome (F.contents files.old) (λ folder.
-        IfOk result (λ found. found ≡ check_of folder)) }
-    ensures passes { IfSome (F.contents files.old) (λ folder.
-        IfOk result (λ found. IfNone found (PassesIn folder))) }
-    ensures only_reads { OnlyReads F.contents F.writes F.faults files.old files.new
-        (has_failed result) }
-{
-    match read_config(alloc, files) {
-        Ok(config) => find_under(alloc, files, &config),
-        Err(end) => unsettled(end),
-    }
-}
-
-// What it finds where the settings could not be read.
-fn unsettled(end: ConfigEnd) -> Result<Option<Finding>, ChainFault>
-    ensures { UnsettledAs end result }
-{
-    match end {
-        ConfigEnd::Refused(fault) => Ok(Some(Finding::BadInput(Cause::BadConfig(fault)))),
-        ConfigEnd::FileFault => Err(ChainFault::FileFault),
-        ConfigEnd::NoMemory => Err(ChainFault::NoMemory),
-    }
-}
-
-// What it finds under the settings of the dataset.
-fn find_under<F: Files>(
-    alloc: Global,
-    files: &mut F,
-    config: &Config,
-) -> Result<Option<Finding>, ChainFault>
-    ensures found { IfSome (F.contents files.old) (λ folder. IfOk result (λ found.
-        found ≡ first_found folder config.now built)) }
-    ensures passes { IfSome (F.contents files.old) (λ folder.
-        IfOk result (λ found. IfNone found (AllStand folder config.now built))) }
-    ensures only_reads { OnlyReads F.contents F.writes F.faults files.old files.new
-        (has_failed result) }
-{
-    for stage in built() {
-        let found = find_at(alloc, files, config, *stage)?;
-        if found.is_some() {
-            return Ok(found);
-        }
-    }
-    Ok(None)
-}
-
-// What it finds of one stage, where that is to run.
-fn find_at<F: Files>(
-    alloc: Global,
-    files: &mut F,
-    config: &Config,
-    stage: Stage,
-) -> Result<Option<Finding>, ChainFault>
-    ensures found { IfSome (F.contents files.old) (λ folder. IfOk result (λ found.
-        found ≡ found_at folder config.now stage)) }
-    ensures passes { IfSome (F.contents files.old) (λ folder.
-        IfOk result (λ found. IfNone found (RunsStand folder config.now stage))) }
-    ensures only_reads { OnlyReads F.contents F.writes F.faults files.old files.new
-        (has_failed result) }
-{
-    if place_of(stage) <= place_of(config.last_stage()) {
-        judge(alloc, files, config, stage)
-    } else {
-        Ok(None)
-    }
+    stage_chain::check_chain::<Planning, F>(alloc, files)
 }

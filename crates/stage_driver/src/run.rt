@@ -1,35 +1,22 @@
-// A run of the chain over the files of a dataset.
-ghost use Rattle.std.specs.Prelude.{◌≡◌, ◌≤◌, ◌+◌, ◌++◌, [], IfSome, IfOk, IfErr, OnOk, Some};
-ghost use Rattle.plan_files.specs.Applied.{AreApplied};
+// A run of the planning stages over the files of a dataset.
+ghost use Rattle.std.specs.Prelude.{◌≡◌, ◌≤◌, ◌+◌, [], IfSome, IfOk, IfErr, OnOk};
 ghost use Rattle.plan_files.specs.Counts.{Counts};
 ghost use Rattle.plan_files.specs.Folder.{Folder};
-ghost use Rattle.plan_files.specs.Reads.{OnlyReads};
 ghost use Rattle.plan_files.specs.Others.{AreOutside};
-ghost use Rattle.stage_driver.specs.Ends.{has_failed};
-ghost use Rattle.stage_driver.specs.Hand.{hand_of, is_hand};
-ghost use Rattle.stage_driver.specs.Kept.{HaveEntries, IsKeptHonest, trace_over};
-ghost use Rattle.stage_driver.specs.Progress.{EndGives, NamesNoHand, nothing};
-ghost use Rattle.stage_driver.specs.Reports.{last_line, end_of};
-ghost use Rattle.stage_driver.specs.Right.{IsLeftRight, MadeFilesAreRight, RefusesHand};
-ghost use Rattle.stage_driver.specs.Runs.{AddsNoHandFile, AreNotAll, IsFromScratch, IsLeft};
-ghost use Rattle.stage_driver.specs.Runs.{IsOnce, IsOutcome, IsUnfinished, SameHand, run_over};
-ghost use Rattle.stage_driver.specs.Runs.{Trusts, started, unmet, writes_for, writes_of};
-ghost use Rattle.stage_driver.specs.Stopped.{AddsHarmless, StopsSafely};
+ghost use Rattle.stage_chain.specs.Ends.{has_failed};
+ghost use Rattle.stage_chain.specs.Hand.{hand_of, is_hand};
+ghost use Rattle.stage_chain.specs.Runs.{AddsNoHandFile, IsOnce, IsOutcome, SameHand, started};
+ghost use Rattle.stage_driver.specs.PlanningChain.{IsFromScratch, IsKeptHonest, IsLeft, IsLeftRight};
+ghost use Rattle.stage_driver.specs.PlanningChain.{IsUnfinished, MadeFilesAreRight, RefusesHand};
+ghost use Rattle.stage_driver.specs.PlanningChain.{StopsSafely, Trusts, run_over, writes_of};
 
-use crate::cause::Cause;
-use crate::chain::run_built;
-use crate::chain_end::ChainEnd;
-use crate::fresh::clear;
-use crate::outcome::{ChainFault, Mode, Outcome};
-use crate::progress::Progress;
-use crate::report::outcome;
-use crate::settle::settle;
-use crate::writes::writes_for;
+use crate::planning::Planning;
 use plan_files::Files;
 use plan_num::{Ledger, Steps};
+use stage_chain::{ChainFault, Mode, Outcome};
 use std::alloc::Global;
 
-/// Runs the stages that are built over the files of a dataset: a stage that was given the same
+/// Runs the planning stages over the files of a dataset: a stage that was given the same
 /// before is taken from what is kept, and any other one is made. The folder then has the made files
 /// that were made and no others of these stages, and the entry of each of them. Where what is kept
 /// is honest, these are the files that its hand files alone determine. A fresh run first removes
@@ -86,89 +73,5 @@ pub fn run_chain<F: Files, L: Ledger>(
     ensures hand { SameHand (F.contents files.old) (F.contents files.new) }
     ensures faults { Counts (has_failed result) (F.faults files.old) (F.faults files.new) }
 {
-    clear(alloc, files, mode)?;
-    run_kept(alloc, files, steps)
-}
-
-// The same over what is kept.
-fn run_kept<F: Files, L: Ledger>(
-    alloc: Global,
-    files: &mut F,
-    steps: &mut Steps<L>,
-) -> Result<Outcome, ChainFault>
-    ensures outcome { IfSome (F.contents files.old) (λ folder.
-        IfOk result (IsOutcome (run_over folder))) }
-    ensures left { IfSome (F.contents files.old) (λ folder. OnOk result (AreApplied
-        (writes_of folder) (Some folder)
-        (F.contents files.new) (F.writes files.old) (F.writes files.new))) }
-    ensures entries { IfSome (F.contents files.old) (λ folder.
-        OnOk result (HaveEntries folder (trace_over folder folder).visits)) }
-    ensures harmless { IfSome (F.contents files.old) (λ folder. AddsHarmless folder
-        (F.contents files.new) (F.writes files.old) (F.writes files.new)) }
-    ensures work { IfSome (F.contents files.old) (λ folder.
-        OnOk result (steps.new ≡ steps.old + (run_over folder).work)) }
-    ensures unfinished { IfSome (F.contents files.old) (λ folder.
-        IfErr result (λ fault. AreNotAll fault (writes_of folder) (Some folder)
-        (F.contents files.new) (F.writes files.old) (F.writes files.new))) }
-    ensures no_more { IfSome (F.contents files.old) (λ folder.
-        steps.new ≤ steps.old + (run_over folder).work) }
-    ensures no_less { steps.old ≤ steps.new }
-    ensures writes_no_hand_file { AddsNoHandFile (F.writes files.old) (F.writes files.new) }
-    ensures hand { SameHand (F.contents files.old) (F.contents files.new) }
-    ensures faults { Counts (has_failed result) (F.faults files.old) (F.faults files.new) }
-{
-    let mut progress = Progress::new(alloc);
-    let cause = run_to_end(alloc, files, steps, &mut progress)?;
-    finish(alloc, files, progress, cause)
-}
-
-// Runs the stages, and tells why the chain ended early, if it did.
-fn run_to_end<F: Files, L: Ledger>(
-    alloc: Global,
-    files: &mut F,
-    steps: &mut Steps<L>,
-    progress: &mut Progress,
-) -> Result<Option<Cause>, ChainFault>
-    requires { progress.old ≡ nothing }
-    ensures end { IfSome (F.contents files.old) (λ folder.
-        EndGives folder (trace_over folder folder) progress.new steps.old steps.new result) }
-    ensures only_reads { OnlyReads F.contents F.writes F.faults files.old files.new
-        (has_failed result) }
-    ensures no_hand_file { OnOk result (NamesNoHand progress.new) }
-    ensures no_less { steps.old ≤ steps.new }
-{
-    match run_built(alloc, files, steps, progress) {
-        Ok(()) => Ok(None),
-        Err(ChainEnd::Stopped(cause)) => Ok(Some(cause)),
-        Err(ChainEnd::FileFault) => Err(ChainFault::FileFault),
-        Err(ChainEnd::NoMemory) => Err(ChainFault::NoMemory),
-    }
-}
-
-// Tells how a run ended, and makes its writes.
-fn finish<F: Files>(
-    alloc: Global,
-    files: &mut F,
-    progress: Progress,
-    cause: Option<Cause>,
-) -> Result<Outcome, ChainFault>
-    requires { NamesNoHand progress }
-    ensures report { IfOk result (λ outcome. outcome.report ≡ progress.report ++ last_line cause) }
-    ensures end { IfOk result (λ outcome. outcome.end ≡ end_of cause) }
-    ensures left { IfSome (F.contents files.old) (λ folder. OnOk result (AreApplied
-        (unmet folder (writes_for progress.files) ++ progress.entries) (Some folder)
-        (F.contents files.new) (F.writes files.old) (F.writes files.new))) }
-    ensures unfinished { IfSome (F.contents files.old) (λ folder.
-        IfErr result (λ fault. AreNotAll fault
-        (unmet folder (writes_for progress.files) ++ progress.entries) (Some folder)
-        (F.contents files.new) (F.writes files.old) (F.writes files.new))) }
-    ensures hand { SameHand (F.contents files.old) (F.contents files.new) }
-    ensures writes_no_hand_file { AddsNoHandFile (F.writes files.old) (F.writes files.new) }
-    ensures faults { Counts (has_failed result) (F.faults files.old) (F.faults files.new) }
-{
-    let (made, lines, entries) = progress.into_parts();
-    let outcome = outcome(alloc, lines, cause)?;
-    let wishes = writes_for(alloc, made)?;
-    settle(alloc, files, wishes, entries)?;
-    Ok(outcome)
+    stage_chain::run_chain::<Planning, F, L>(alloc, files, mode, steps)
 }

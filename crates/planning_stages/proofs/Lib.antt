@@ -1,0 +1,9 @@
+pub mod AllPlans
+pub mod ContentFiles
+pub mod Laws
+pub mod OneLook
+pub mod SameTexts
+pub mod Standing
+pub mod StatisticLines
+pub mod StopsThere
+pub mod Unbroken

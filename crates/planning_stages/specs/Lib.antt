@@ -1,0 +1,4 @@
+pub mod Models
+pub mod Planning
+pub mod Rules
+pub mod Verdicts

@@ -1,0 +1,154 @@
+-- The folder that a finished run leaves passes a check.
+use Rattle.std.proofs.Common.{◌≡◌, ℤ, suc, Bool, true, false, cond, List, [], ◌∷◌, ◌++◌, length, Option, Some, None, Result, Ok, Err, refl, ap, subst, sym, ◌∙◌, arith}
+use Rattle.std.specs.Option.{option_or}
+use Rattle.plan_files.specs.Folder.{Folder}
+use Rattle.giv_files.specs.declared.made.Made.{Made}
+use Rattle.giv_files.specs.declared.made.MadeFile.{MadeFile}
+use Rattle.giv_files.specs.declared.refusal.Refusal.{Refusal}
+use Rattle.giv_files.specs.declared.refusal.Refusal.TheVariants as refusal
+use Rattle.giv_files.specs.declared.stage.Stage.{Stage}
+use Rattle.giv_files.specs.Settings.{BundleParts}
+use Rattle.giv_files.specs.Stages.{stage_makes}
+use Rattle.config_keys.specs.declared.config_fault.ConfigFault.{ConfigFault}
+use Rattle.config_keys.specs.Items.{look_in}
+use Rattle.config_keys.specs.Values.{effective}
+use Rattle.stage_chain.specs.declared.cause.Cause.{Cause}
+use Rattle.stage_chain.specs.declared.cause.Cause.TheVariants as cause
+use Rattle.stage_chain.specs.declared.finding.Finding.{Finding}
+use Rattle.stage_chain.specs.declared.outcome.RunEnd.TheVariants as end
+use Rattle.stage_chain.specs.Built.{cause_of, files_of, made, trace_of, trace_under}
+use Rattle.stage_chain.specs.Chain.{Halt, Trace, Visit, bundle_by, chain_from, go_on, is_to_run, to_run, visit_of}
+use Rattle.stage_chain.specs.Checks.{check_of, first_found, found_under, judge, lacks_file, standing}
+use Rattle.stage_chain.specs.Hand.{hand_of}
+use Rattle.stage_chain.specs.Passing.{RunsPass}
+use Rattle.stage_chain.specs.Reports.{end_of, end_of_refusal}
+use Rattle.stage_chain.specs.Right.{AllStandRight, files_by, text_in}
+use Rattle.stage_chain.specs.Kept.{IsKeptHonest}
+use Rattle.stage_chain.specs.Runs.{after, run_over}
+use Rattle.stage_chain.proofs.Keeping.{from_scratch}
+use Rattle.stage_chain.proofs.LeftRight.{left_by, run_files, settings_after}
+use Rattle.stage_chain.proofs.Placed.{ArePlaced}
+use Rattle.stage_chain.proofs.Traces.{are_placed, chain, stages_run, traced}
+use Rattle.stage_chain.specs.StageParts.{StageParts}
+use Rattle.stage_chain.specs.Laws.{AreStages}
+use Rattle.stage_chain.proofs.LeftRight.{looks_there}
+
+-- ---- a chain that does not end early makes all its stages
+
+module _ (solve : BundleParts → Result Made Refusal) (values : List ℤ) (hand : Folder) where
+  all_visited : (made : List MadeFile) (stages : List Stage)
+      → (chain_from solve values hand made stages).halt ≡ None
+      → length (chain_from solve values hand made stages).visits ≡ length stages
+  all_visited made [] none = refl
+  all_visited made (stage ∷ stages) none =
+      by (visit_of solve values hand made stage) (λ visit. all_visited (made ++ visit.made.files) stages) none
+    where
+      by : (told : Result Visit Halt)
+          → ((visit : Visit) → (chain_from solve values hand (made ++ visit.made.files) stages).halt ≡ None → length (chain_from solve values hand (made ++ visit.made.files) stages).visits ≡ length stages)
+          → (go_on told (λ visit. chain_from solve values hand (made ++ visit.made.files) stages)).halt ≡ None
+          → length (go_on told (λ visit. chain_from solve values hand (made ++ visit.made.files) stages)).visits ≡ suc (length stages)
+      by (Err halt) rest none = absurd (cc)
+      by (Ok visit) rest none = ap suc (rest visit none)
+
+module _ (S : StageParts) (laws : AreStages S) where
+  module _ (folder : Folder) (values : List ℤ) where
+    -- nothing is found of a stage over what it is given, where its files stand there
+    abbrev NoneFound : Stage → Type 0
+    NoneFound at = judge S folder values at ≡ None
+
+    none_by : (at : Stage) (bundle : BundleParts)
+        → bundle_by (text_in folder) values at ≡ Ok bundle → lacks_file folder at ≡ false
+        → S.verdict at bundle (standing folder at) ≡ None → NoneFound at
+    unfolding judge
+    none_by at bundle given lacks none = rw (given, lacks) none
+
+    one_passes : (visit : Visit)
+        → bundle_by (text_in folder) values visit.bundle.stage ≡ Ok visit.bundle
+        → files_by (text_in folder) (stage_makes visit.bundle.stage) ≡ visit.made.files
+        → S.IsRight visit.bundle.stage visit.bundle visit.made.files
+        → S.run visit.bundle ≡ Ok visit.made → NoneFound visit.bundle.stage
+    one_passes visit given found right solved =
+        let stage = visit.bundle.stage in
+        let passes = laws.pass folder visit.bundle visit.made solved right (sym (looks_there folder stage) ∙ found) in
+        none_by stage visit.bundle given passes.0 passes.1
+
+    -- the first that is found of stages, all of which are to run
+    abbrev first_judged : List Stage → Option Finding
+    first_judged [] = None
+    first_judged (at ∷ stages) = option_or (judge S folder values at) (first_judged stages)
+
+    by_run : (stages : List Stage)
+        → first_found S folder values stages ≡ first_judged (to_run values stages)
+    by_run [] = refl
+    by_run (at ∷ stages) = by (is_to_run values at) (by_run stages)
+      where
+        by : (runs : Bool) → first_found S folder values stages ≡ first_judged (to_run values stages)
+            → option_or (cond runs (judge S folder values at) None) (first_found S folder values stages)
+            ≡ first_judged (cond runs (at ∷ to_run values stages) (to_run values stages))
+        by true rest = ap (option_or (judge S folder values at)) rest
+        by false rest = rest
+
+    all_pass : (hand : Folder) (all : List MadeFile) (stages : List Stage) (visits : List Visit)
+        → length visits ≡ length stages → ArePlaced S.run laws.makes values hand all stages visits
+        → AllStandRight S (text_in folder) values visits → first_judged stages ≡ None
+    all_pass hand all [] visits full placed right = refl
+    all_pass hand all (at ∷ stages) [] full placed right = absurd (omega (arith, full))
+    all_pass hand all (at ∷ stages) (visit ∷ visits) full placed right =
+        let own = placed.0.own in
+        let here = subst NoneFound own (one_passes visit right.0.given right.0.found right.0.right placed.0.solved) in
+        ap (λ found. option_or found (first_judged stages)) here
+        ∙ all_pass hand all stages visits (omega (arith, full)) placed.1 right.1
+
+-- ---- the folder that a run leaves
+
+no_cause : (halt : Option Halt) → end_of (cause_of halt) ≡ end.Done → halt ≡ None
+no_cause None done = refl
+no_cause (Some halt) done = absurd (ends halt.cause done)
+  where
+    refused : (reason : Refusal) → end_of_refusal reason ≡ end.Done → ⊥
+    refused (refusal.BadRow file row why) done = absurd (cc)
+    refused (refusal.TooMany what count) done = absurd (cc)
+    refused refusal.NoSolution done = absurd (cc)
+    refused (refusal.Spent entries) done = absurd (cc)
+
+    ends : (why : Cause) → end_of (Some why) ≡ end.Done → ⊥
+    ends (cause.BadConfig reason) done = absurd (cc)
+    ends (cause.Missing file) done = absurd (cc)
+    ends (cause.TooLong file) done = absurd (cc)
+    ends (cause.Refused at reason) done = refused reason done
+
+module _ (S : StageParts) (laws : AreStages S) where
+  module _ (folder : Folder) (values : List ℤ) where
+    abbrev hand : Folder
+    hand = hand_of folder
+
+    passes_under : effective (look_in hand) ≡ Ok values
+        → (run_over S folder).files ≡ files_of (chain S laws values hand).visits
+        → (chain S laws values hand).halt ≡ None → check_of S (after S folder) ≡ None
+    unfolding check_of
+    passes_under is same none =
+        let placed = subst (λ all. ArePlaced S.run laws.makes values hand all (stages_run S laws values) (chain S laws values hand).visits) (sym same) (are_placed S laws values hand) in
+        ap (λ settings. found_under S settings (after S folder)) (settings_after S laws folder ∙ is)
+        ∙ by_run S laws (after S folder) values S.stages
+        ∙ all_pass S laws (after S folder) values hand (run_over S folder).files (stages_run S laws values) (chain S laws values hand).visits (all_visited S.run values hand [] (stages_run S laws values) none) placed
+        (left_by S laws folder values is same)
+
+  end_by : (folder : Folder) (trace : Trace) → trace_of S folder ≡ trace
+      → (made S folder).end ≡ end_of (cause_of trace.halt)
+  unfolding made
+  end_by folder trace same = ap (λ (trace : Trace). end_of (cause_of trace.halt)) same
+
+never : (reason : ConfigFault) → end.BadInput ≡ end.Done → ⊥
+never reason done = absurd (cc)
+
+module _ (S : StageParts) (laws : AreStages S) where
+  pub runs_pass : (folder : Folder) → RunsPass S folder
+  unfolding RunsPass
+  runs_pass folder = λ honest done. by honest (sym (from_scratch S laws folder honest).end ∙ done)
+    where
+      by : IsKeptHonest S folder → (made S (hand_of folder)).end ≡ end.Done
+          → check_of S (after S folder) ≡ None
+      by honest done = traced S laws (hand_of folder) (λ trace. trace_of S (hand_of folder) ≡ trace → check_of S (after S folder) ≡ None)
+          (λ reason is same. absurd (never reason (sym (end_by S laws (hand_of folder) (trace_under S (Err reason) (hand_of folder)) same) ∙ done)))
+          (λ values is same. passes_under S laws folder values is (run_files S laws folder honest (chain S laws values (hand_of folder)) same) (no_cause (chain S laws values (hand_of folder)).halt (sym (end_by S laws (hand_of folder) (chain S laws values (hand_of folder)) same) ∙ done)))
+          refl

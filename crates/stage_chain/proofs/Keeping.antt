@@ -1,0 +1,120 @@
+-- What a chain over a keep makes: files of its stages, and over an honest keep what is made from scratch.
+use Rattle.std.proofs.Common.{◌≡◌, ℕ, ℤ, cond, is_some, List, [], ◌∷◌, ◌++◌, Option, Some, None, Result, Ok, Err}
+use Rattle.std.proofs.Common.{refl, ap, sym, ◌∙◌}
+use Rattle.std.specs.FinMap as files
+use Rattle.plan_files.specs.Folder.{Folder}
+use Rattle.giv_files.specs.declared.made.Made.{Made}
+use Rattle.giv_files.specs.declared.made.MadeFile.{MadeFile}
+use Rattle.giv_files.specs.declared.stage.Stage.{Stage}
+use Rattle.giv_files.specs.MadeLists.{MakesAs, ids_of}
+use Rattle.giv_files.specs.Settings.{BundleParts, Fits}
+use Rattle.giv_files.specs.Stages.{stage_inputs}
+use Rattle.config_keys.specs.declared.config_fault.ConfigFault.{ConfigFault}
+use Rattle.config_keys.specs.Config.{AreSettings}
+use Rattle.config_keys.specs.Items.{look_in}
+use Rattle.config_keys.specs.Values.{effective}
+use Rattle.config_keys.proofs.Settling.{effective_settings}
+use Rattle.stage_keep.specs.Entries.{keep_name}
+use Rattle.stage_keep.specs.Honest.{kept_for}
+use Rattle.stage_keep.proofs.Honesty.{honest_is_made, kept_makes}
+use Rattle.stage_chain.specs.declared.cause.Cause.{Cause}
+use Rattle.stage_chain.specs.Built.{chain_under, files_of, cause_of, made}
+use Rattle.stage_chain.specs.Built.{told_by, trace_of}
+use Rattle.stage_chain.specs.Chain.{Trace, bundle_told, chain_from, go_on, input_text, texts_of, to_run}
+use Rattle.stage_chain.specs.Chain.{tried, visit_of}
+use Rattle.stage_chain.specs.Hand.{hand_of}
+use Rattle.stage_chain.specs.Kept.{IsKeptHonest, kept_in, kept_or, made_over, solve_over, trace_over, work_over}
+use Rattle.stage_chain.specs.Reports.{end_of, last_line, stage_lines}
+use Rattle.stage_chain.specs.Runs.{IsFromScratch, run_over}
+use Rattle.stage_chain.proofs.MadeRight.{given_fits}
+use Rattle.stage_chain.specs.StageParts.{StageParts}
+use Rattle.stage_chain.specs.Laws.{AreStages}
+
+module _ (S : StageParts) (laws : AreStages S) where
+  -- what a stage gives over a keep are files that it may make
+  pub solve_makes : (keep : Folder) (bundle : BundleParts) (made : Made)
+      → solve_over S keep bundle ≡ Ok made → MakesAs bundle.stage (ids_of made.files)
+  unfolding solve_over
+  solve_makes keep bundle made = by (kept_in keep bundle) refl
+    where
+      by : (kept : Option Made) → kept_in keep bundle ≡ kept → kept_or kept (S.run bundle) ≡ Ok made
+          → MakesAs bundle.stage (ids_of made.files)
+      by (Some some) is e =
+          let same : some ≡ made = cc in
+          kept_makes bundle (files.get keep (keep_name bundle.stage)) made (is ∙ ap Some same)
+      by None is e = laws.makes bundle made e
+
+  -- over an honest keep a stage gives what it makes
+  honest_solve : (keep : Folder) → IsKeptHonest S keep → (bundle : BundleParts) → Fits bundle
+      → solve_over S keep bundle ≡ S.run bundle
+  unfolding solve_over
+  honest_solve keep honest bundle fits = by (kept_in keep bundle) refl
+    where
+      by : (kept : Option Made) → kept_in keep bundle ≡ kept
+          → kept_or kept (S.run bundle) ≡ S.run bundle
+      by (Some some) is = sym (honest_is_made S.run (λ stage. files.get keep (keep_name stage)) honest bundle some fits is)
+      by None is = refl
+
+  module _ (keep : Folder) (honest : IsKeptHonest S keep) (hand : Folder) where
+    module _ (values : List ℤ) (are : AreSettings values) where
+      -- so the chain is that which makes each stage
+      honest_visit : (before : List MadeFile) (stage : Stage)
+          → visit_of (solve_over S keep) values hand before stage ≡ visit_of S.run values hand before stage
+      unfolding visit_of
+      honest_visit before stage = by (bundle_told values stage (texts_of values hand before (stage_inputs stage))) refl
+        where
+          by : (told : Result BundleParts Cause)
+              → bundle_told values stage (texts_of values hand before (stage_inputs stage)) ≡ told
+              → tried (solve_over S keep) values hand told ≡ tried S.run values hand told
+          by (Err why) is = refl
+          by (Ok bundle) is = ap (λ result. tried (λ _. result) values hand (Ok bundle)) (honest_solve keep honest bundle (given_fits (input_text hand before) values stage bundle are is))
+
+      honest_chain : (before : List MadeFile) (stages : List Stage)
+          → chain_from (solve_over S keep) values hand before stages ≡ chain_from S.run values hand before stages
+      honest_chain before [] = refl
+      honest_chain before (stage ∷ stages) =
+          ap (λ visit. go_on visit (λ visit. chain_from (solve_over S keep) values hand (before ++ visit.made.files) stages)) (honest_visit before stage)
+          ∙ ap (go_on (visit_of S.run values hand before stage)) (λ i visit. honest_chain (before ++ visit.made.files) stages i)
+
+    -- The chain over an honest keep does what is done from scratch.
+    pub honest_trace : trace_over S keep hand ≡ trace_of S hand
+    unfolding trace_over trace_of
+    honest_trace = by (effective (look_in hand)) refl
+      where
+        by : (settings : Result (List ℤ) ConfigFault) → effective (look_in hand) ≡ settings
+            → chain_under S (solve_over S keep) settings hand ≡ chain_under S S.run settings hand
+        by (Err reason) is = refl
+        by (Ok values) is =
+            honest_chain values (effective_settings (look_in hand) values is) [] (to_run values S.stages)
+
+  -- a run over a folder whose keep is honest makes what is made from scratch
+  pub from_scratch : (folder : Folder) → IsKeptHonest S folder
+      → IsFromScratch S (run_over S folder) (hand_of folder)
+  unfolding made made_over
+  from_scratch folder honest =
+      let same = honest_trace folder honest (hand_of folder) in
+      record {
+        files = ap (λ (trace : Trace). files_of trace.visits) same;
+        report = ap (λ (trace : Trace). stage_lines trace.visits ++ last_line (cause_of trace.halt)) same;
+        end = ap (λ (trace : Trace). end_of (cause_of trace.halt)) same;
+      }
+
+  -- ---- where nothing is kept
+
+  module _ (folder : Folder) (none : (stage : Stage) → files.get folder (keep_name stage) ≡ None) where
+    none_kept : (bundle : BundleParts) → kept_in folder bundle ≡ None
+    none_kept bundle = ap (kept_for bundle) (none bundle.stage)
+
+    all_work : (bundle : BundleParts) → work_over S folder bundle ≡ S.work bundle
+    unfolding work_over
+    all_work bundle = ap (λ kept. cond (is_some kept) 0 (S.work bundle)) (none_kept bundle)
+
+    -- a run makes what is made from scratch, by the same work
+    pub nothing_kept : run_over S folder ≡ made S (hand_of folder)
+    unfolding made made_over
+    nothing_kept =
+        ap (told_by (work_over S folder)) (honest_trace folder (λ stage bytes there. absurd (never bytes (sym (none stage) ∙ there))) (hand_of folder))
+        ∙ ap (λ work. told_by work (trace_of S (hand_of folder))) (λ i bundle. all_work bundle i)
+      where
+        never : (bytes : List ℕ) → None ≡ Some bytes → ⊥
+        never bytes is = cc

@@ -1,0 +1,71 @@
+-- What holds of each list of files that a stage may make.
+use Rattle.std.proofs.Common.{◌≡◌, ℕ, zero, suc, ◌<◌, Bool, true, List, [], ◌∷◌, length, map}
+use Rattle.std.proofs.Common.{filter, ◌⊎◌, inl, inr, refl, subst, arith, ⊎_elim}
+use Rattle.std.specs.Prelude.{slice_index_or}
+use Rattle.std.specs.List.{list_all, Contains}
+use Rattle.std.proofs.lemmas.Bool.{and_parts, and_from}
+use Rattle.giv_files.specs.declared.file_id.FileId.{FileId}
+use Rattle.giv_files.specs.declared.file_id.FileId.TheVariants as file
+use Rattle.giv_files.specs.declared.stage.Stage.{Stage}
+use Rattle.giv_files.specs.declared.stage.Stage.TheVariants as stage
+use Rattle.giv_files.specs.FileNames.{file_name}
+use Rattle.giv_files.specs.MadeLists.{MakesAs}
+use Rattle.giv_files.specs.Stages.{stage_makes}
+use Rattle.stage_chain.specs.Hand.{is_among}
+use Rattle.stage_chain.specs.StageLists.{differing}
+use Rattle.stage_chain.specs.StageLists.{always_made}
+
+-- files that a stage may make: they are among those that it makes, in their order; their names
+-- differ; some of them are always there
+pub record IsMadeList (stage : Stage) (files : List FileId) : Type 0 where
+  pub within : (p : FileId → Bool) → list_all p (stage_makes stage) ≡ true → list_all p files ≡ true
+  pub always : (p : FileId → Bool) → list_all p files ≡ true → list_all p (always_made stage) ≡ true
+  pub differ : differing (map file_name files) ≡ true
+  pub kept : filter (λ file. is_among (file_name file) (map file_name files)) (stage_makes stage) ≡ files
+
+pub only_one : (list files : List FileId) → Contains (list ∷ []) files → list ≡ files
+only_one list files at = by at.0 at.1 at.2
+  where
+    by : (k : ℕ) → k < length (list ∷ []) → slice_index_or (list ∷ []) k files ≡ files
+        → list ≡ files
+    by zero inside is = is
+    by (suc k) inside is = absurd (omega (arith, inside))
+
+pub one_of_two : (list other files : List FileId) → Contains (list ∷ other ∷ []) files
+    → (list ≡ files) ⊎ (other ≡ files)
+one_of_two list other files at = by at.0 at.1 at.2
+  where
+    by : (k : ℕ) → k < length (list ∷ other ∷ [])
+        → slice_index_or (list ∷ other ∷ []) k files ≡ files → (list ≡ files) ⊎ (other ≡ files)
+    by zero inside is = inl is
+    by (suc zero) inside is = inr is
+    by (suc (suc k)) inside is = absurd (omega (arith, inside))
+
+-- the one list of a stage that has one
+the_list : (stage : Stage) (files : List FileId) → Contains (stage_makes stage ∷ []) files
+    → ((p : FileId → Bool) → list_all p (stage_makes stage) ≡ true → list_all p (always_made stage) ≡ true)
+    → differing (map file_name (stage_makes stage)) ≡ true
+    → filter (λ file. is_among (file_name file) (map file_name (stage_makes stage))) (stage_makes stage) ≡ stage_makes stage
+    → IsMadeList stage files
+the_list stage files at always differ kept =
+    subst (IsMadeList stage) (only_one (stage_makes stage) files at) (record {
+      within =
+          λ p h. h;
+      always = always;
+      differ = differ;
+      kept = kept;
+    })
+
+pub made_list : (stage : Stage) (files : List FileId) → MakesAs stage files → IsMadeList stage files
+made_list stage.Load files at = the_list stage.Load files at (λ p h. h) refl refl
+made_list stage.Cost files at = the_list stage.Cost files at (λ p h. h) refl refl
+made_list stage.Concept files at = ⊎_elim
+    (λ both. subst (IsMadeList stage.Concept) both (record { within = λ p h. h; always = λ p h. and_from _ _ (and_parts _ _ h).0 refl; differ = refl; kept = refl }))
+    (λ alone. subst (IsMadeList stage.Concept) alone (record { within = λ p h. and_from _ _ (and_parts _ _ h).0 refl; always = λ p h. h; differ = refl; kept = refl }))
+    (one_of_two (stage_makes stage.Concept) (file.Concept ∷ []) files at)
+made_list stage.Ean files at = the_list stage.Ean files at (λ p h. h) refl refl
+made_list stage.Timetable files at = the_list stage.Timetable files at (λ p h. h) refl refl
+made_list stage.Rollout files at = the_list stage.Rollout files at (λ p h. h) refl refl
+made_list stage.Vehicles files at = the_list stage.Vehicles files at (λ p h. h) refl refl
+made_list stage.Disposition files at = the_list stage.Disposition files at (λ p h. h) refl refl
+made_list stage.Statistic files at = the_list stage.Statistic files at (λ p h. h) refl refl

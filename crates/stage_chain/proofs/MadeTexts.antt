@@ -1,0 +1,114 @@
+-- The texts of files that were made.
+use Rattle.std.proofs.Common.{◌≡◌, ℕ, Bool, true, false, cond, ◌||◌, List, [], ◌∷◌, ◌++◌, map}
+use Rattle.std.proofs.Common.{filter, Result, Ok, Err, refl, ap, subst, sym, ◌∙◌, append_assoc}
+use Rattle.std.proofs.lemmas.Bool.{false≢true, and_parts}
+use Rattle.std.proofs.lemmas.List.{map-append}
+use Rattle.std.proofs.lemmas.Slice.Eq.{bytes_eq-Decides}
+use Rattle.giv_files.specs.declared.file_id.FileId.{FileId}
+use Rattle.giv_files.specs.declared.made.MadeFile.{MadeFile}
+use Rattle.giv_files.specs.FileNames.{file_name}
+use Rattle.giv_files.specs.MadeLists.{ids_of}
+use Rattle.stage_chain.specs.declared.cause.Cause.{Cause}
+use Rattle.stage_chain.specs.declared.cause.Cause.TheVariants as cause
+use Rattle.stage_chain.specs.Chain.{is_file, made_text}
+use Rattle.stage_chain.specs.Hand.{is_among}
+use Rattle.stage_chain.specs.Right.{found_file, files_by}
+use Rattle.stage_chain.specs.Runs.{name_of}
+use Rattle.stage_chain.proofs.Differing.{differ_swap, same_way}
+use Rattle.stage_chain.proofs.Differing.{differing_parts, not_among}
+use Rattle.stage_chain.specs.StageLists.{differing, differs_from}
+
+-- the names of made files
+abbrev pub names_of : List MadeFile → List (List ℕ)
+names_of made = map name_of made
+
+neither : (a b : Bool) → (a || b) ≡ false → (a ≡ false) × (b ≡ false)
+neither true b e = absurd (false≢true (sym e))
+neither false b e = (refl, e)
+
+-- a file that is not among those that were made has no text there
+pub text_nowhere : (made : List MadeFile) (file : FileId)
+    → is_among (file_name file) (names_of made) ≡ false
+    → made_text made file ≡ Err (cause.Missing file)
+text_nowhere [] file out = refl
+text_nowhere (other ∷ made) file out =
+    ap (λ b. cond b (Ok other.text) (made_text made file)) (same_way (name_of other) (file_name file) ∙ (neither _ _ out).0) ∙ text_nowhere made file (neither _ _ out).1
+
+-- and one among those behind has the text there
+pub text_behind : (made more : List MadeFile) (file : FileId)
+    → is_among (file_name file) (names_of made) ≡ false
+    → made_text (made ++ more) file ≡ made_text more file
+text_behind [] more file out = refl
+text_behind (other ∷ made) more file out =
+    ap (λ b. cond b (Ok other.text) (made_text (made ++ more) file)) (same_way (name_of other) (file_name file) ∙ (neither _ _ out).0) ∙ text_behind made more file (neither _ _ out).1
+
+pub text_front : (made more : List MadeFile) (file : FileId)
+    → is_among (file_name file) (names_of more) ≡ false
+    → made_text (made ++ more) file ≡ made_text made file
+text_front [] more file out = text_nowhere more file out
+text_front (other ∷ made) more file out =
+    ap (λ rest. cond (is_file other.file file) (Ok other.text) rest) (text_front made more file out)
+
+-- what is found among made files stays found when files are appended
+pub text_stays : (made more : List MadeFile) (file : FileId) (text : List ℕ)
+    → made_text made file ≡ Ok text → made_text (made ++ more) file ≡ Ok text
+text_stays [] more file text e = absurd (cc)
+text_stays (other ∷ made) more file text e =
+    by (is_file other.file file) (text_stays made more file text) e
+  where
+    by : (here : Bool) → (made_text made file ≡ Ok text → made_text (made ++ more) file ≡ Ok text)
+        → cond here (Ok other.text) (made_text made file) ≡ Ok text
+        → cond here (Ok other.text) (made_text (made ++ more) file) ≡ Ok text
+    by true rest e = e
+    by false rest e = rest e
+
+-- ---- files by what is found of each
+
+-- two ways to look find the same of each of some files
+abbrev pub Agree : (FileId → Result (List ℕ) Cause) → (FileId → Result (List ℕ) Cause) → List FileId
+    → Type 0
+Agree look other [] = Unit {0}
+Agree look other (file ∷ files) = (look file ≡ other file) × Agree look other files
+
+pub files_same : (look other : FileId → Result (List ℕ) Cause) (files : List FileId)
+    → Agree look other files → files_by look files ≡ files_by other files
+files_same look other [] h = refl
+files_same look other (file ∷ files) h =
+    ap (λ found. found_file file found (files_by look files)) h.0 ∙ ap (found_file file (other file)) (files_same look other files h.1)
+
+-- files that are not found can be left out
+found_kept : (made : List MadeFile) (files : List FileId)
+    → files_by (made_text made) files ≡ files_by (made_text made) (filter (λ file. is_among (file_name file) (names_of made)) files)
+found_kept made [] = refl
+found_kept made (file ∷ files) =
+    by (is_among (file_name file) (names_of made)) refl (found_kept made files)
+  where
+    kept : List FileId
+    kept = filter (λ file. is_among (file_name file) (names_of made)) files
+
+    by : (b : Bool) → is_among (file_name file) (names_of made) ≡ b
+        → files_by (made_text made) files ≡ files_by (made_text made) kept
+        → found_file file (made_text made file) (files_by (made_text made) files) ≡ files_by (made_text made) (cond b (file ∷ kept) kept)
+    by true is rest = ap (found_file file (made_text made file)) rest
+    by false is rest =
+        ap (λ found. found_file file found (files_by (made_text made) files)) (text_nowhere made file is)
+        ∙ rest
+
+found_from : (front made : List MadeFile) → differing (names_of (front ++ made)) ≡ true
+    → files_by (made_text (front ++ made)) (ids_of made) ≡ made
+found_from front [] h = refl
+found_from front (file ∷ made) h =
+    let parts = differing_parts (names_of front) (names_of (file ∷ made)) (ap differing (sym (map-append name_of front (file ∷ made))) ∙ h) in
+    let out = not_among (names_of front) (name_of file) (and_parts (differs_from (names_of front) (name_of file)) _ (differ_swap (names_of front) (name_of file ∷ names_of made) parts.apart)).0 in
+    let here : made_text (front ++ file ∷ made) file.file ≡ Ok file.text =
+    text_behind front (file ∷ made) file.file out ∙ ap (λ b. cond b (Ok file.text) (made_text made file.file)) ((bytes_eq-Decides (name_of file) (name_of file)).1 refl) in
+    let joined : (front ++ file ∷ []) ++ made ≡ front ++ file ∷ made = append_assoc front (file ∷ []) made in
+    ap (λ found. found_file file.file found (files_by (made_text (front ++ file ∷ made)) (ids_of made))) here
+    ∙ ap (λ more. file ∷ more) (subst (λ all. files_by (made_text all) (ids_of made) ≡ made) joined (found_from (front ++ file ∷ []) made (ap (λ all. differing (names_of all)) joined ∙ h)))
+
+-- of the files that a stage may make, those that it made are found among them
+pub found_own : (made : List MadeFile) (files : List FileId) → differing (names_of made) ≡ true
+    → filter (λ file. is_among (file_name file) (names_of made)) files ≡ ids_of made
+    → files_by (made_text made) files ≡ made
+found_own made files apart kept =
+    found_kept made files ∙ ap (files_by (made_text made)) kept ∙ found_from [] made apart

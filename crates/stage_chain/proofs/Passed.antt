@@ -1,0 +1,152 @@
+-- Files of which a check finds nothing satisfy the models of their stages.
+use Rattle.std.proofs.Common.{◌≡◌, ℕ, ℤ, Bool, true, false, cond, is_some, ◌+◌, ◌<◌, ◌≤◌, List, length, get_or, drop, Option, Some, None, IfSome, IfOk, IfNone, Result, Ok, Err, refl, ap, subst, sym, ◌∙◌}
+use Rattle.std.proofs.lemmas.List.{at_drop_more, at_drop_all}
+use Rattle.plan_files.specs.Folder.{Folder}
+use Rattle.giv_files.specs.declared.made.MadeFile.{MadeFile}
+use Rattle.giv_files.specs.declared.stage.Stage.{Stage}
+use Rattle.giv_files.specs.MadeLists.{MakesAs, ids_of}
+use Rattle.giv_files.specs.Settings.{BundleParts}
+use Rattle.config_keys.specs.declared.config_end.ConfigEnd.{ConfigEnd}
+use Rattle.config_keys.specs.declared.config_end.ConfigEnd.TheVariants as config
+use Rattle.config_keys.specs.Effective.{ConfigGives}
+use Rattle.config_keys.specs.Items.{look_in}
+use Rattle.config_keys.specs.Values.{effective}
+use Rattle.stage_chain.specs.declared.chain_end.ChainEnd.{ChainEnd}
+use Rattle.stage_chain.specs.declared.chain_end.ChainEnd.TheVariants as end
+use Rattle.stage_chain.specs.declared.checked.CheckEnd.{CheckEnd}
+use Rattle.stage_chain.specs.declared.checked.CheckEnd.TheVariants as checks
+use Rattle.stage_chain.specs.declared.finding.Finding.{Finding}
+use Rattle.stage_chain.specs.declared.finding.Finding.TheVariants.{BadInput, Broken}
+use Rattle.stage_chain.specs.declared.outcome.ChainFault.{ChainFault}
+use Rattle.stage_chain.specs.Chain.{bundle_by}
+use Rattle.stage_chain.specs.Checks.{EndedAs, UnsettledAs, check_end}
+use Rattle.stage_chain.specs.Checks.{lacks_file}
+use Rattle.stage_chain.specs.Checks.{standing}
+use Rattle.stage_chain.specs.Passing.{AllStand, PassesIn, RunsStand, StageStands}
+use Rattle.stage_chain.specs.Right.{text_in}
+use Rattle.stage_chain.specs.StageParts.{StageParts}
+use Rattle.stage_chain.specs.Laws.{AreStages}
+
+-- what holds of what is found where nothing is found
+where_none : (P : Type 0) {Q : Type 0} (found : Option Finding) → (found ≡ None → Q) → (Q → IfNone found P)
+    → IfNone found P
+where_none P None there right = right (there refl)
+where_none P (Some finding) there right = tt
+
+module _ (S : StageParts) (laws : AreStages S) where
+  -- what a stage found of files that stand there says of them
+  stands_right : (folder : Folder) (bundle : BundleParts) (found : Option Finding) (stage : Stage)
+      → lacks_file folder stage ≡ false
+      → found ≡ S.verdict stage bundle (standing folder stage)
+      → (MakesAs stage (ids_of (standing folder stage)) → IfNone found (S.Satisfies stage bundle (standing folder stage)))
+      → IfNone found (S.Satisfies stage bundle (standing folder stage))
+  stands_right folder bundle found stage lacks is right =
+      where_none (S.Satisfies stage bundle (standing folder stage)) found (λ none. laws.stand folder bundle stage lacks (sym is ∙ none)) right
+
+  there_right : (folder : Folder) (stage : Stage) (bundle : BundleParts) (some : List MadeFile)
+      (found : Option Finding) (lacks : Bool) → lacks_file folder stage ≡ lacks
+      → Some some ≡ cond lacks None (Some (standing folder stage))
+      → found ≡ S.verdict stage bundle some
+      → (MakesAs stage (ids_of some) → IfNone found (S.Satisfies stage bundle some))
+      → IfNone found (S.Satisfies stage bundle (standing folder stage))
+  there_right folder stage bundle some found true lacks there is right = absurd (cc)
+  there_right folder stage bundle some found false lacks there is right =
+      let same : some ≡ standing folder stage = cc in
+      stands_right folder bundle found stage lacks (is ∙ ap (S.verdict stage bundle) same) (subst (λ files. MakesAs stage (ids_of files) → IfNone found (S.Satisfies stage bundle files)) same right)
+
+  -- the files that were found satisfy the model where nothing is found of them
+  pub told_there : (contents : Option Folder) (stage : Stage) (bundle : BundleParts)
+      (told : Option (List MadeFile)) (some : List MadeFile) (found : Option Finding)
+      (result : Result (Option Finding) ChainFault) → told ≡ Some some
+      → IfSome contents (λ folder. told ≡ cond (lacks_file folder stage) None (Some (standing folder stage)))
+      → found ≡ S.verdict stage bundle some
+      → (MakesAs stage (ids_of some) → IfNone found (S.Satisfies stage bundle some))
+      → result ≡ Ok found
+      → IfSome contents (λ folder. IfOk result (λ found. IfNone found (S.Satisfies stage bundle (standing folder stage))))
+  told_there None stage bundle told some found result same h is right e = tt
+  told_there (Some folder) stage bundle told some found result same h is right e =
+      subst (λ result. IfOk result (λ found. IfNone found (S.Satisfies stage bundle (standing folder stage)))) (sym e)
+      (there_right folder stage bundle some found (lacks_file folder stage) refl (sym same ∙ h) is right)
+
+  -- and so the stage stands
+  pub told_stands : (contents now : Option Folder) (values : List ℤ) (stage : Stage)
+      (bundle : BundleParts) (result : Result (Option Finding) ChainFault) → now ≡ contents
+      → IfSome contents (λ folder. bundle_by (text_in folder) values stage ≡ Ok bundle)
+      → IfSome now (λ folder. IfOk result (λ found. IfNone found (S.Satisfies stage bundle (standing folder stage))))
+      → IfSome contents (λ folder. IfOk result (λ found. IfNone found (StageStands S folder values stage)))
+  told_stands None now values stage bundle result same given right = tt
+  told_stands (Some folder) now values stage bundle (Err fault) same given right = tt
+  told_stands (Some folder) now values stage bundle (Ok (Some found)) same given right = tt
+  told_stands (Some folder) now values stage bundle (Ok None) same given right =
+      record {
+        bundle = bundle;
+        given = given;
+        model = subst (λ now. IfSome now (λ folder. S.Satisfies stage bundle (standing folder stage))) same right;
+      }
+
+  module _ (values : List ℤ) where
+    -- where the rest of some stages stand, all of them do
+    abbrev pub RestStands : List Stage → List Stage → Folder → Type 0
+    RestStands stages rest folder = AllStand S folder values rest → AllStand S folder values stages
+
+    pub rest_start : (contents : Option Folder) (stages : List Stage)
+        → IfSome contents (RestStands stages stages)
+    rest_start None stages = tt
+    rest_start (Some folder) stages = λ stand. stand
+
+    pub rest_next : (contents now : Option Folder) (stages : List Stage) (i : ℕ) (d : Stage)
+        (found : Option Finding) → i < length stages → now ≡ contents
+        → IfSome now (λ folder. IfNone found (RunsStand S folder values (get_or stages i d)))
+        → is_some found ≡ false → IfSome contents (RestStands stages (drop i stages))
+        → IfSome contents (RestStands stages (drop (i + 1) stages))
+    rest_next contents now stages i d (Some found) inside same stands none rest = absurd (cc)
+    rest_next None now stages i d None inside same stands none rest = tt
+    rest_next (Some folder) now stages i d None inside same stands none rest =
+        let here : RunsStand S folder values (get_or stages i d) = subst (λ now. IfSome now (λ folder. RunsStand S folder values (get_or stages i d))) same stands in
+        λ more. rest (subst (AllStand S folder values) (sym (at_drop_more (λ rest. rest) stages i d inside)) (here, more))
+
+    pub rest_end : (contents : Option Folder) (stages all : List Stage) (i : ℕ) → length stages ≤ i
+        → stages ≡ all → IfSome contents (RestStands stages (drop i stages))
+        → IfSome contents (λ folder. AllStand S folder values all)
+    rest_end None stages all i past own rest = tt
+    rest_end (Some folder) stages all i past own rest =
+        subst (AllStand S folder values) own (rest (subst (AllStand S folder values) (sym (at_drop_all (λ rest. rest) stages i past)) tt))
+
+  pub told_passes : (contents now : Option Folder) (values : List ℤ)
+      (result : Result (Option Finding) ChainFault) → now ≡ contents
+      → IfSome contents (λ folder. ConfigGives (effective (look_in folder)) (Ok values))
+      → IfSome now (λ folder. IfOk result (λ found. IfNone found (AllStand S folder values S.stages)))
+      → IfSome contents (λ folder. IfOk result (λ found. IfNone found (PassesIn S folder)))
+  told_passes None now values result same told h = tt
+  told_passes (Some folder) now values (Err fault) same told h = tt
+  told_passes (Some folder) now values (Ok (Some found)) same told h = tt
+  told_passes (Some folder) now values (Ok None) same told h = record {
+    values = values;
+    settled = told;
+    stand = subst (λ now. IfSome now (λ folder. AllStand S folder values S.stages)) same h;
+  }
+
+  pub unsettled_passes : (contents : Option Folder) (end : ConfigEnd)
+      (result : Result (Option Finding) ChainFault) → UnsettledAs end result
+      → IfSome contents (λ folder. IfOk result (λ found. IfNone found (PassesIn S folder)))
+  unsettled_passes None end result is = tt
+  unsettled_passes (Some folder) (config.Refused reason) result is = rw is tt
+  unsettled_passes (Some folder) config.FileFault result is = rw is tt
+  unsettled_passes (Some folder) config.NoMemory result is = rw is tt
+
+  pub ended_stands : (contents : Option Folder) (values : List ℤ) (stage : Stage) (ended : ChainEnd)
+      (result : Result (Option Finding) ChainFault) → EndedAs stage ended result
+      → IfSome contents (λ folder. IfOk result (λ found. IfNone found (StageStands S folder values stage)))
+  ended_stands None values stage ended result is = tt
+  ended_stands (Some folder) values stage (end.Stopped why) result is = rw is tt
+  ended_stands (Some folder) values stage end.FileFault result is = rw is tt
+  ended_stands (Some folder) values stage end.NoMemory result is = rw is tt
+
+  -- a check that ends as passed found nothing
+  pub passed_none : (contents : Option Folder) (found : Option Finding) (end : CheckEnd)
+      → end ≡ check_end found → IfSome contents (λ folder. IfNone found (PassesIn S folder))
+      → IfSome contents (λ folder. end ≡ checks.Passed → PassesIn S folder)
+  passed_none None found end is passes = tt
+  passed_none (Some folder) None end is passes = λ passed. passes
+  passed_none (Some folder) (Some (BadInput why)) end is passes = λ passed. absurd (cc)
+  passed_none (Some folder) (Some (Broken stage rule)) end is passes = λ passed. absurd (cc)

@@ -1,0 +1,412 @@
+-- Why a chain ends early names a file that people write.
+use Rattle.std.proofs.Common.{◌≡◌, ℕ, ℤ, ltb, leb, Bool, true, false, cond, not, ◌||◌, List}
+use Rattle.std.proofs.Common.{[], ◌∷◌, ◌++◌, map, filter, Option, Some, None, IfErr, Result}
+use Rattle.std.proofs.Common.{Ok, Err, refl, ap, subst, sym, ◌∙◌, append_assoc, append-nil, arith}
+use Rattle.std.proofs.Common.{⊎_elim}
+use Rattle.std.specs.List.{list_all, flat_map}
+use Rattle.std.specs.Str.{bytes_eq}
+use Rattle.std.proofs.lemmas.Bool.{false≢true, and_parts, and_from, ltb-true, leb-true, le-leb}
+use Rattle.std.proofs.lemmas.Bool.{le-ltb}
+use Rattle.std.proofs.lemmas.Slice.Eq.{bytes_eq-Decides}
+use Rattle.plan_files.specs.declared.store.Got.{Got}
+use Rattle.plan_files.specs.declared.store.Got.TheVariants.{Bytes, Absent, TooLong as Long}
+use Rattle.plan_files.specs.Folder.{Folder}
+use Rattle.giv_files.specs.declared.made.MadeFile.{MadeFile}
+use Rattle.giv_files.specs.declared.file_id.FileId.{FileId}
+use Rattle.giv_files.specs.declared.file_id.FileId.TheVariants as file
+use Rattle.giv_files.specs.declared.stage.Stage.{Stage}
+use Rattle.giv_files.specs.FileNames.{file_name}
+use Rattle.giv_files.specs.MadeLists.{ids_of}
+use Rattle.giv_files.specs.Settings.{BundleParts}
+use Rattle.giv_files.specs.Stages.{stage_inputs, stage_makes}
+use Rattle.config_keys.specs.Config.{last_stage_of}
+use Rattle.config_keys.specs.Items.{look_in}
+use Rattle.config_keys.specs.NamedConfigs.{ConfigNames}
+use Rattle.config_keys.proofs.NamedConfigs.{config_names}
+use Rattle.config_keys.proofs.Settling.{effective_settings}
+use Rattle.stage_chain.specs.declared.cause.Cause.{Cause}
+use Rattle.stage_chain.specs.declared.cause.Cause.TheVariants as cause
+use Rattle.stage_chain.specs.Hand.{is_among, is_hand, is_hand_file}
+use Rattle.stage_chain.specs.Chain.{Visit, Halt, origin_of, hand_text, made_text, input_text}
+use Rattle.stage_chain.specs.Chain.{chosen, with_text, texts_by, bundle_for, bundle_told}
+use Rattle.stage_chain.specs.Chain.{stage_place}
+use Rattle.stage_chain.specs.Built.{cause_of, files_of}
+use Rattle.stage_chain.specs.Right.{NamesHand, RefusesHand, files_by, found_file}
+use Rattle.stage_chain.specs.Right.{AllStandRight}
+use Rattle.stage_chain.specs.Runs.{name_of}
+use Rattle.stage_chain.proofs.Differing.{all_both, all_parts, all_filter, same_way}
+use Rattle.stage_chain.proofs.HandAlone.{path_is_hand, config_is_hand}
+use Rattle.stage_chain.proofs.MadeLists.{made_list}
+use Rattle.stage_chain.proofs.MadeRight.{visits_right}
+use Rattle.stage_chain.proofs.MadeTexts.{names_of, text_nowhere}
+use Rattle.stage_chain.proofs.Placed.{ArePlaced, made_looks}
+use Rattle.stage_chain.proofs.Traces.{traced, chain, stages_run, are_visits, are_placed}
+use Rattle.stage_chain.proofs.Visits.{IsHalt, AreVisits}
+use Rattle.stage_chain.specs.Laws.{AreRightOver, bundle_over, files_over}
+use Rattle.stage_chain.specs.StageLists.{always_made}
+use Rattle.stage_chain.specs.StageParts.{StageParts}
+use Rattle.stage_chain.specs.Laws.{AreStages}
+use Rattle.stage_chain.specs.StageLists.{before_stage, is_earlier, needs, rising}
+
+-- ---- an input that is not there
+
+-- why a text is not there names a hand file
+abbrev NoText : {T : Type 0} → Result T Cause → Type 0
+NoText told = IfErr told (λ why. NamesHand (Some why))
+
+hand_names : (optional : Bool) (file : FileId) → is_hand_file file ≡ true → (got : Got)
+    → NoText (hand_text optional file got)
+hand_names optional file is (Bytes text) = tt
+hand_names true file is Absent = tt
+hand_names false file is Absent = is
+hand_names optional file is Long = is
+
+there_text : (made : List MadeFile) (file : FileId)
+    → is_among (file_name file) (names_of made) ≡ true → NoText (made_text made file)
+there_text [] file h = absurd (false≢true h)
+there_text (other ∷ made) file h = by (bytes_eq (name_of other) (file_name file)) (same_way (file_name file) (name_of other)) (there_text made file) h
+  where
+    by : (here : Bool) → bytes_eq (file_name file) (name_of other) ≡ here
+        → (is_among (file_name file) (names_of made) ≡ true → NoText (made_text made file))
+        → (bytes_eq (file_name file) (name_of other) || is_among (file_name file) (names_of made)) ≡ true
+        → NoText (cond here (Ok other.text) (made_text made file))
+    by true is rest h = tt
+    by false is rest h =
+        rest (sym (ap (λ b. b || is_among (file_name file) (names_of made)) is) ∙ h)
+
+-- people write a file, or it was made
+abbrev is_there : List MadeFile → FileId → Bool
+is_there made file = not (is_earlier (origin_of file)) || is_among (file_name file) (names_of made)
+
+there_names : (hand : Folder) (made : List MadeFile) (file : FileId) → is_there made file ≡ true
+    → NoText (input_text hand made file)
+unfolding is_hand is_earlier
+there_names hand made file.Stop h =
+    hand_names false file.Stop refl (look_in hand (file_name file.Stop))
+there_names hand made file.Edge h =
+    hand_names false file.Edge refl (look_in hand (file_name file.Edge))
+there_names hand made file.LoadGiven h =
+    hand_names false file.LoadGiven refl (look_in hand (file_name file.LoadGiven))
+there_names hand made file.Od h = hand_names false file.Od refl (look_in hand (file_name file.Od))
+there_names hand made file.Pool h =
+    hand_names false file.Pool refl (look_in hand (file_name file.Pool))
+there_names hand made file.EventDelays h =
+    hand_names true file.EventDelays refl (look_in hand (file_name file.EventDelays))
+there_names hand made file.ActivityDelays h =
+    hand_names true file.ActivityDelays refl (look_in hand (file_name file.ActivityDelays))
+there_names hand made other h = there_text made other h
+
+chosen_there : (values : List ℤ) (made : List MadeFile) (file : FileId) → is_there made file ≡ true
+    → is_there made (chosen values file) ≡ true
+unfolding is_earlier
+chosen_there values made file.Od h = by _
+  where
+    by : (b : Bool) → is_there made (cond b file.LoadGiven file.Od) ≡ true
+    by true = refl
+    by false = refl
+chosen_there values made other h = h
+
+both_names : (text : Result (List ℕ) Cause) (texts : Result (List (List ℕ)) Cause) → NoText text
+    → NoText texts → NoText (with_text text texts)
+both_names (Err why) texts h k = h
+both_names (Ok text) (Err why) h k = k
+both_names (Ok text) (Ok texts) h k = tt
+
+texts_names : (values : List ℤ) (hand : Folder) (made : List MadeFile) (inputs : List FileId)
+    → list_all (is_there made) inputs ≡ true
+    → NoText (texts_by (input_text hand made) values inputs)
+texts_names values hand made [] h = tt
+texts_names values hand made (file ∷ inputs) h =
+    let parts = and_parts _ _ h in
+    both_names (input_text hand made (chosen values file)) (texts_by (input_text hand made) values inputs) (there_names hand made (chosen values file) (chosen_there values made file parts.0)) (texts_names values hand made inputs parts.1)
+
+told_names : (values : List ℤ) (stage : Stage) (texts : Result (List (List ℕ)) Cause) (why : Cause)
+    → NoText texts → bundle_told values stage texts ≡ Err why → NamesHand (Some why)
+told_names values stage (Ok texts) why h e = absurd (cc)
+told_names values stage (Err reason) why h e =
+    let same : reason ≡ why = cc in subst (λ why. NamesHand (Some why)) same h
+
+-- ---- the stages that were made before a chain ended
+
+abbrev done_of : List Stage → List Visit → List Stage
+done_of (stage ∷ stages) (visit ∷ visits) = stage ∷ done_of stages visits
+done_of _ _ = []
+
+module _ (S : StageParts) (laws : AreStages S) where
+  record IsEnded (values : List ℤ) (hand : Folder) (before : List MadeFile) (stages : List Stage) (visits : List Visit) (halt : Halt) : Type 0 where
+    stage : Stage
+    rest : List Stage
+    split : stages ≡ done_of stages visits ++ stage ∷ rest
+    halts : IsHalt S.run values hand (before ++ files_of visits) stage halt
+
+  ended_by : (values : List ℤ) (hand : Folder) (before : List MadeFile) (stages : List Stage)
+      (visits : List Visit) (halt : Halt)
+      → AreVisits S.run values hand before stages visits (Some halt)
+      → IsEnded values hand before stages visits halt
+  ended_by values hand before [] [] halt are = absurd are
+  ended_by values hand before [] (visit ∷ visits) halt are = absurd are
+  ended_by values hand before (stage ∷ stages) [] halt are = record { stage = stage; rest = stages; split = refl; halts = subst (λ made. IsHalt S.run values hand made stage halt) (sym (append-nil before)) are }
+  ended_by values hand before (stage ∷ stages) (visit ∷ visits) halt are =
+      let more = ended_by values hand (before ++ visit.made.files) stages visits halt are.1 in
+      record {
+        stage = more.stage;
+        rest = more.rest;
+        split = ap (λ some. stage ∷ some) more.split;
+        halts = subst (λ made. IsHalt S.run values hand made more.stage halt) (append_assoc before visit.made.files (files_of visits)) more.halts;
+      }
+
+none_before : (stage : Stage) (stages : List Stage)
+    → list_all (λ other. ltb (stage_place stage) (stage_place other)) stages ≡ true
+    → filter (λ other. ltb (stage_place other) (stage_place stage)) stages ≡ []
+none_before stage [] h = refl
+none_before stage (other ∷ stages) h =
+    let parts = and_parts _ _ h in
+    let not : ltb (stage_place other) (stage_place stage) ≡ false = le-ltb _ _ (let below = ltb-true (stage_place stage) (stage_place other) parts.0 in omega (arith, below)) in
+    rw not (none_before stage stages parts.1)
+
+all_pass : (p : Stage → Bool) (stages : List Stage) → list_all p (filter p stages) ≡ true
+all_pass p [] = refl
+all_pass p (stage ∷ stages) = by (p stage) refl (all_pass p stages)
+  where
+    by : (b : Bool) → p stage ≡ b → list_all p (filter p stages) ≡ true
+        → list_all p (cond b (stage ∷ filter p stages) (filter p stages)) ≡ true
+    by true is rest = rw is rest
+    by false is rest = rest
+
+of_middle : (p : Stage → Bool) (done : List Stage) (stage : Stage) (rest : List Stage)
+    → list_all p (done ++ stage ∷ rest) ≡ true → p stage ≡ true
+of_middle p done stage rest h =
+    (and_parts (p stage) (list_all p rest) (all_parts p done (stage ∷ rest) h).1).0
+
+module _ (values : List ℤ) where
+  abbrev in_time : Stage → Bool
+  in_time stage = leb (stage_place stage) (stage_place (last_stage_of values))
+
+  -- a stage before one that runs does run
+  not_late : (first : Stage) (stages done : List Stage) (stage : Stage) (rest : List Stage)
+      → list_all (λ other. ltb (stage_place first) (stage_place other)) stages ≡ true
+      → filter in_time stages ≡ done ++ stage ∷ rest
+      → (ltb (stage_place first) (stage_place stage) ≡ true) × (in_time first ≡ true)
+  not_late first stages done stage rest above e =
+      let below : list_all (λ other. ltb (stage_place first) (stage_place other)) (done ++ stage ∷ rest) ≡ true = ap (list_all (λ other. ltb (stage_place first) (stage_place other))) (sym e) ∙ all_filter (λ other. ltb (stage_place first) (stage_place other)) in_time stages above in
+      let runs : list_all in_time (done ++ stage ∷ rest) ≡ true = ap (list_all in_time) (sym e) ∙ all_pass in_time stages in
+      let lower = of_middle (λ other. ltb (stage_place first) (stage_place other)) done stage rest below in
+      let less = ltb-true (stage_place first) (stage_place stage) lower in
+      let last = leb-true (stage_place stage) (stage_place (last_stage_of values)) (of_middle in_time done stage rest runs) in
+      (lower, le-leb (stage_place first) (stage_place (last_stage_of values)) (omega (arith, less, last)))
+
+  ran_before : (stages done : List Stage) (stage : Stage) (rest : List Stage) → rising stages ≡ true
+      → filter in_time stages ≡ done ++ stage ∷ rest
+      → filter (λ other. ltb (stage_place other) (stage_place stage)) stages ≡ done
+  unfolding rising
+  ran_before [] [] stage rest h e = absurd (cc)
+  ran_before [] (other ∷ done) stage rest h e = absurd (cc)
+  ran_before (first ∷ stages) done stage rest h e =
+      let parts = and_parts _ _ h in
+      by (in_time first) refl parts.0 done e (λ done e. ran_before stages done stage rest parts.1 e)
+    where
+      kept : List Stage
+      kept = filter in_time stages
+
+      before : List Stage
+      before = filter (λ other. ltb (stage_place other) (stage_place stage)) stages
+
+      by : (b : Bool) → in_time first ≡ b
+          → list_all (λ other. ltb (stage_place first) (stage_place other)) stages ≡ true
+          → (done : List Stage) → cond b (first ∷ kept) kept ≡ done ++ stage ∷ rest
+          → ((done : List Stage) → kept ≡ done ++ stage ∷ rest → before ≡ done)
+          → cond (ltb (stage_place first) (stage_place stage)) (first ∷ before) before ≡ done
+      by false is above done e more =
+          absurd (false≢true (sym is ∙ (not_late first stages done stage rest above e).1))
+      by true is above [] e more =
+          let same : first ≡ stage = cc in
+          let not : ltb (stage_place first) (stage_place stage) ≡ false = ap (λ s. ltb (stage_place first) (stage_place s)) (sym same) ∙ le-ltb (stage_place first) (stage_place first) (omega arith) in
+          ap (λ b. cond b (first ∷ before) before) not ∙ ap (λ s. filter (λ other. ltb (stage_place other) (stage_place s)) stages) (sym same) ∙ none_before first stages above
+      by true is above (other ∷ done) e more =
+          let same : first ≡ other = cc in
+          let later : kept ≡ done ++ stage ∷ rest = cc in
+          ap (λ b. cond b (first ∷ before) before) (not_late first stages done stage rest above later).0 ∙ ap (λ s. s ∷ before) same ∙ ap (λ some. other ∷ some) (more done later)
+
+-- ---- one look of texts, in which each file has one
+
+text_or : Result (List ℕ) Cause → List ℕ
+text_or (Ok text) = text
+text_or (Err why) = []
+
+module _ (look : FileId → Result (List ℕ) Cause) where
+  abbrev looked : FileId → List ℕ
+  looked file = text_or (look file)
+
+  one_looked : (text : Result (List ℕ) Cause) (rest : Result (List (List ℕ)) Cause)
+      (some texts : List (List ℕ)) → ((found : List (List ℕ)) → rest ≡ Ok found → some ≡ found)
+      → with_text text rest ≡ Ok texts → text_or text ∷ some ≡ texts
+  unfolding text_or
+  one_looked (Err why) rest some texts h e = absurd (cc)
+  one_looked (Ok text) (Err why) some texts h e = absurd (cc)
+  one_looked (Ok text) (Ok found) some texts h e =
+      let same : text ∷ found ≡ texts = cc in ap (λ more. text ∷ more) (h found refl) ∙ same
+
+  texts_looked : (values : List ℤ) (inputs : List FileId) (texts : List (List ℕ))
+      → texts_by look values inputs ≡ Ok texts
+      → map (λ file. looked (chosen values file)) inputs ≡ texts
+  texts_looked values [] texts e = cc
+  texts_looked values (file ∷ inputs) texts e = one_looked (look (chosen values file)) (texts_by look values inputs) (map (λ file. looked (chosen values file)) inputs) texts (texts_looked values inputs) e
+
+  told_looked : (values : List ℤ) (stage : Stage) (texts : Result (List (List ℕ)) Cause)
+      (some : List (List ℕ)) (bundle : BundleParts)
+      → ((found : List (List ℕ)) → texts ≡ Ok found → some ≡ found)
+      → bundle_told values stage texts ≡ Ok bundle → bundle_for values stage some ≡ bundle
+  told_looked values stage (Err why) some bundle h e = absurd (cc)
+  told_looked values stage (Ok texts) some bundle h e =
+      let same : bundle_for values stage texts ≡ bundle = cc in ap (bundle_for values stage) (h texts refl)
+      ∙ same
+
+  bundle_looked : (values : List ℤ) (stage : Stage) (bundle : BundleParts)
+      → bundle_told values stage (texts_by look values (stage_inputs stage)) ≡ Ok bundle
+      → bundle_over values looked stage ≡ bundle
+  bundle_looked values stage bundle e = told_looked values stage (texts_by look values (stage_inputs stage)) (map (λ file. looked (chosen values file)) (stage_inputs stage)) bundle (texts_looked values (stage_inputs stage)) e
+
+  files_looked : (some : List FileId)
+      → files_over looked (ids_of (files_by look some)) ≡ files_by look some
+  unfolding text_or
+  files_looked [] = refl
+  files_looked (file ∷ some) = by (look file) refl (files_looked some)
+    where
+      by : (found : Result (List ℕ) Cause) → look file ≡ found
+          → files_over looked (ids_of (files_by look some)) ≡ files_by look some
+          → files_over looked (ids_of (found_file file found (files_by look some))) ≡ found_file file found (files_by look some)
+      by (Ok text) is rest =
+          ap (λ t. record { file = file; text = text_or t } ∷ files_over looked (ids_of (files_by look some))) is
+          ∙ ap (λ more. record { file = file; text = text } ∷ more) rest
+      by (Err why) is rest = rest
+
+module _ (S : StageParts) (laws : AreStages S) where
+  -- ---- what the stages before one made
+
+  module _ (values : List ℤ) (hand : Folder) (all : List MadeFile) where
+    abbrev Placed : List Stage → List Visit → Type 0
+    Placed stages visits = ArePlaced S.run laws.makes values hand all stages visits
+
+    -- it is right over one look of texts
+    done_right : (stages : List Stage) (visits : List Visit) → Placed stages visits
+        → AllStandRight S (input_text hand all) values visits
+        → AreRightOver S values (looked (input_text hand all)) (done_of stages visits)
+    done_right [] [] placed right = tt
+    done_right [] (visit ∷ visits) placed right = tt
+    done_right (stage ∷ stages) [] placed right = tt
+    done_right (stage ∷ stages) (visit ∷ visits) placed right =
+        let look = input_text hand all in
+        let own = placed.0 in
+        let here : S.IsRight stage visit.bundle visit.made.files = subst (λ own. S.IsRight own visit.bundle visit.made.files) own.own right.0.right in
+        let over : S.IsRight stage (bundle_over values (looked look) stage) visit.made.files = subst (λ bundle. S.IsRight stage bundle visit.made.files) (sym (bundle_looked look values stage visit.bundle own.given)) here in
+        let same : visit.made.files ≡ files_over (looked look) (ids_of visit.made.files) = sym own.found ∙ sym (files_looked look (stage_makes stage)) ∙ ap (λ some. files_over (looked look) (ids_of some)) own.found in (
+          record { ids = ids_of visit.made.files; makes = own.made_as; right = subst (S.IsRight stage (bundle_over values (looked look) stage)) same over },
+          done_right stages visits placed.1 right.1,
+        )
+
+    -- and those files that each stage makes are there
+    abbrev is_made : FileId → Bool
+    is_made file = is_among (file_name file) (names_of all)
+
+    text_made : (file : FileId) (text : List ℕ) → made_text all file ≡ Ok text → is_made file ≡ true
+    text_made file text e = by (is_made file) refl
+      where
+        by : (b : Bool) → is_made file ≡ b → b ≡ true
+        by true is = refl
+        by false is =
+            let none : Err (cause.Missing file) ≡ Ok text = sym (text_nowhere all file is)
+            ∙ e in absurd (cc)
+
+    found_made : (some : List FileId)
+        → list_all is_made (ids_of (files_by (made_text all) some)) ≡ true
+    found_made [] = refl
+    found_made (file ∷ some) = by (made_text all file) refl (found_made some)
+      where
+        by : (found : Result (List ℕ) Cause) → made_text all file ≡ found
+            → list_all is_made (ids_of (files_by (made_text all) some)) ≡ true
+            → list_all is_made (ids_of (found_file file found (files_by (made_text all) some))) ≡ true
+        by (Ok text) is rest = and_from (is_made file) _ (text_made file text is) rest
+        by (Err why) is rest = rest
+
+    done_there : (stages : List Stage) (visits : List Visit) → Placed stages visits
+        → list_all is_made (flat_map always_made (done_of stages visits)) ≡ true
+    done_there [] [] placed = refl
+    done_there [] (visit ∷ visits) placed = refl
+    done_there (stage ∷ stages) [] placed = refl
+    done_there (stage ∷ stages) (visit ∷ visits) placed =
+        let own = placed.0 in
+        let ids : list_all is_made (ids_of visit.made.files) ≡ true = ap (λ some. list_all is_made (ids_of some)) (sym own.found ∙ made_looks hand all stage) ∙ found_made (stage_makes stage) in
+        all_both is_made (always_made stage) (flat_map always_made (done_of stages visits)) ((made_list stage (ids_of visit.made.files) own.made_as).always is_made ids) (done_there stages visits placed.1)
+
+-- ---- what one stage takes of those before it
+
+among_through : (some : List FileId) (names : List (List ℕ)) (name : List ℕ)
+    → is_among name (map file_name some) ≡ true
+    → list_all (λ file. is_among (file_name file) names) some ≡ true → is_among name names ≡ true
+among_through [] names name h k = absurd (false≢true h)
+among_through (file ∷ some) names name h k =
+    let parts = and_parts _ _ k in
+    by (bytes_eq name (file_name file)) refl h parts.0 (λ h. among_through some names name h parts.1)
+  where
+    by : (b : Bool) → bytes_eq name (file_name file) ≡ b
+        → (b || is_among name (map file_name some)) ≡ true → is_among (file_name file) names ≡ true
+        → (is_among name (map file_name some) ≡ true → is_among name names ≡ true)
+        → is_among name names ≡ true
+    by true is h here rest =
+        ap (λ n. is_among n names) ((bytes_eq-Decides name (file_name file)).0 is) ∙ here
+    by false is h here rest = rest h
+
+all_there : (made : List MadeFile) (some inputs : List FileId)
+    → list_all (λ file. not (is_earlier (origin_of file)) || is_among (file_name file) (map file_name some)) inputs ≡ true
+    → list_all (λ file. is_among (file_name file) (names_of made)) some ≡ true
+    → list_all (is_there made) inputs ≡ true
+all_there made some [] h k = refl
+all_there made some (file ∷ inputs) h k =
+    let parts = and_parts _ _ h in
+    and_from _ _ (either (not (is_earlier (origin_of file))) (λ h. among_through some (names_of made) (file_name file) h k) parts.0) (all_there made some inputs parts.1 k)
+  where
+    either : {b c : Bool} (a : Bool) → (b ≡ true → c ≡ true) → (a || b) ≡ true → (a || c) ≡ true
+    either true h e = refl
+    either false h e = h e
+
+module _ (S : StageParts) (laws : AreStages S) where
+  -- ---- why a chain ends early
+
+  halt_names : (values : List ℤ) (hand : Folder) (all : List MadeFile) (stage : Stage) (halt : Halt)
+      → needs S.stages stage ≡ true
+      → list_all (λ file. is_among (file_name file) (names_of all)) (flat_map always_made (before_stage S.stages stage)) ≡ true
+      → AreRightOver S values (looked (input_text hand all)) (before_stage S.stages stage)
+      → IsHalt S.run values hand all stage halt → NamesHand (Some halt.cause)
+  halt_names values hand all stage halt need there right halts =
+      let look = input_text hand all in
+      ⊎_elim (λ none. told_names values stage (texts_by look values (stage_inputs stage)) halt.cause (texts_names values hand all (stage_inputs stage) (all_there all (flat_map always_made (before_stage S.stages stage)) (stage_inputs stage) need there)) none)
+      (λ refused.
+      let same = bundle_looked look values stage refused.bundle refused.given in
+      let names = laws.refuses values (looked look) stage refused.reason right (ap S.run same ∙ refused.solved) in
+      subst (λ why. NamesHand (Some why)) (sym refused.cause) names)
+      halts
+
+  chain_names : (values : List ℤ) (hand : Folder) (visits : List Visit) (halt : Option Halt)
+      → AllStandRight S (input_text hand (files_of visits)) values visits
+      → AreVisits S.run values hand [] (stages_run S laws values) visits halt
+      → ArePlaced S.run laws.makes values hand (files_of visits) (stages_run S laws values) visits
+      → NamesHand (cause_of halt)
+  chain_names values hand visits None right are placed = tt
+  chain_names values hand visits (Some halt) right are placed =
+      let all = files_of visits in
+      let stages = stages_run S laws values in
+      let ended = ended_by S laws values hand [] stages visits halt are in
+      let before : before_stage S.stages ended.stage ≡ done_of stages visits = ran_before values S.stages (done_of stages visits) ended.stage ended.rest laws.list.rise ended.split in
+      let need = of_middle (needs S.stages) (done_of stages visits) ended.stage ended.rest (ap (list_all (needs S.stages)) (sym ended.split) ∙ all_filter (needs S.stages) (in_time values) S.stages laws.list.given) in
+      halt_names values hand all ended.stage halt need
+      (ap (λ some. list_all (λ file. is_among (file_name file) (names_of all)) (flat_map always_made some)) before ∙ done_there S laws values hand all stages visits placed)
+      (subst (AreRightOver S values (looked (input_text hand all))) (sym before) (done_right S laws values hand all stages visits placed right)) ended.halts
+
+  pub refuses_hand : (hand : Folder) → RefusesHand S hand
+  unfolding RefusesHand
+  refuses_hand hand = traced S laws hand (λ trace. NamesHand (cause_of trace.halt))
+      (λ reason is. subst (λ settings. IfErr settings (ConfigNames is_hand)) is (config_names is_hand path_is_hand (look_in hand) config_is_hand))
+      (λ values is.
+      let visits = (chain S laws values hand).visits in
+      chain_names values hand visits (chain S laws values hand).halt (visits_right S laws values hand (effective_settings (look_in hand) values is) (files_of visits) (stages_run S laws values) visits (are_placed S laws values hand))
+      (are_visits S laws values hand) (are_placed S laws values hand))

@@ -1,0 +1,27 @@
+-- The puts of what was made and the removals of all else are the writes of a run.
+use Rattle.std.proofs.Common.{◌≡◌, List, ◌++◌, map, ap, ◌∙◌}
+use Rattle.plan_files.specs.declared.write.Write.{Write}
+use Rattle.plan_files.specs.declared.write.Write.TheVariants.{Removal}
+use Rattle.giv_files.specs.declared.made.MadeFile.{MadeFile}
+use Rattle.stage_chain.specs.Hand.{names_made_by}
+use Rattle.stage_chain.specs.Runs.{names_besides, put_of, writes_for}
+use Rattle.stage_chain.specs.StageParts.{StageParts}
+use Rattle.stage_chain.specs.Laws.{AreStages}
+
+-- told of any removals, since those of the built stages compute to a large term
+joined : (removals_of : List MadeFile → List Write) (made some : List MadeFile)
+    (puts removed writes : List Write) → some ≡ made → puts ≡ map put_of made
+    → removed ≡ removals_of some → writes ≡ puts ++ removed
+    → writes ≡ map put_of made ++ removals_of made
+joined removals_of made some puts removed writes same are gone all =
+    all ∙ ap (λ first. first ++ removed) are
+    ∙ ap (λ last. map put_of made ++ last) (gone ∙ ap removals_of same)
+
+module _ (S : StageParts) (laws : AreStages S) where
+  pub joined_writes : (made some : List MadeFile) (puts removed writes : List Write) → some ≡ made
+      → puts ≡ map put_of made → removed ≡ map Removal (names_besides some (names_made_by S.stages))
+      → writes ≡ puts ++ removed → writes ≡ writes_for S made
+  unfolding writes_for
+  joined_writes made some puts removed writes same are gone all =
+      joined (λ files. map Removal (names_besides files (names_made_by S.stages))) made some puts removed
+      writes same are gone all

@@ -1,0 +1,11 @@
+use Rattle.std.proofs.Common.{false, IfSome, drop}
+use Rattle.plan_files.specs.Reads.{OnlyReads}
+use Rattle.stage_chain.proofs.Stating.{LinesLeft}
+use Rattle.stage_chain.proofs.states.told.Given as goal
+
+-- the lines so far and those of the stages that are left make all of them, and no file has changed
+abbrev pub invariant-loop-stage : goal.invariant-loop-stage
+invariant-loop-stage g l = record {
+  reads : OnlyReads g.F.Files.contents g.F.Files.writes g.F.Files.faults l.initial.files l.files false;
+  lines : IfSome (g.F.Files.contents l.initial.files) (LinesLeft g.S.Stages.parts g.met.S.Stages.laws l.config l.stage-items (drop l.stage-index l.stage-items) l.known l.report.items);
+}

@@ -1,0 +1,9 @@
+use Rattle.std.proofs.Common.{◌≡◌, map, take}
+use Rattle.plan_files.specs.declared.write.Write.TheVariants.{Removal}
+use Rattle.stage_chain.specs.Hand.{names_made_by}
+use Rattle.stage_chain.specs.Runs.{names_besides}
+use Rattle.stage_chain.proofs.writes.removals.Given as goal
+
+-- a removal of each of the files of the stages so far that was not made
+abbrev pub invariant-loop-stage : goal.invariant-loop-stage
+invariant-loop-stage g l = l.writes.items ≡ map Removal (names_besides l.made (names_made_by (take l.stage-index l.stage-items)))

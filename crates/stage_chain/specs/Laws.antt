@@ -1,0 +1,61 @@
+-- What the stages of a chain owe to it.
+use Rattle.std.specs.Prelude.{ℕ, ℤ, ◌≡◌, false, List, [], ◌∷◌, map, None, Ok, Err}
+use Rattle.plan_files.specs.Folder.{Folder}
+use Rattle.giv_files.specs.declared.file_id.FileId.{FileId}
+use Rattle.giv_files.specs.declared.made.Made.{Made}
+use Rattle.giv_files.specs.declared.made.MadeFile.{MadeFile}
+use Rattle.giv_files.specs.declared.refusal.Refusal.{Refusal}
+use Rattle.giv_files.specs.declared.stage.Stage.{Stage}
+use Rattle.giv_files.specs.MadeLists.{MakesAs, ids_of}
+use Rattle.giv_files.specs.NamedFiles.{NamesOnly}
+use Rattle.giv_files.specs.Settings.{BundleParts, Fits}
+use Rattle.giv_files.specs.Stages.{stage_inputs}
+use Rattle.stage_chain.specs.Chain.{bundle_for, chosen}
+use Rattle.stage_chain.specs.Checks.{lacks_file, standing}
+use Rattle.stage_chain.specs.Hand.{is_hand_file}
+use Rattle.stage_chain.specs.StageLists.{IsStageList, before_stage}
+use Rattle.stage_chain.specs.StageParts.{StageParts}
+
+-- what a stage is given over one look of texts
+abbrev pub bundle_over : List ℤ → (FileId → List ℕ) → Stage → BundleParts
+bundle_over values look stage =
+    bundle_for values stage (map (λ file. look (chosen values file)) (stage_inputs stage))
+
+-- files with their texts there
+abbrev pub files_over : (FileId → List ℕ) → List FileId → List MadeFile
+files_over look ids = map (λ file. record { file = file; text = look file }) ids
+
+module _ (S : StageParts) where
+  -- files that a stage may make have texts in such a look that are right over it
+  pub record IsRightOver (values : List ℤ) (look : FileId → List ℕ) (stage : Stage) : Type 0 where
+    pub ids : List FileId
+    pub makes : MakesAs stage ids
+    pub right : S.IsRight stage (bundle_over values look stage) (files_over look ids)
+
+  abbrev pub AreRightOver : List ℤ → (FileId → List ℕ) → List Stage → Type 0
+  AreRightOver values look [] = Unit {0}
+  AreRightOver values look (stage ∷ stages) =
+      IsRightOver values look stage × AreRightOver values look stages
+
+  -- The stages can run one after the other. Each one makes files that it may make, and they are
+  -- right. Where those before it are right over one look of texts, it refuses over it no row of a
+  -- file but those that people write. Where no file lacks that has to be there, and nothing is found
+  -- of those that are, they are some that the stage may make. Nothing is found of what it makes.
+  pub record AreStages : Type 0 where
+    pub list : IsStageList S.stages
+    pub makes : (bundle : BundleParts) (made : Made) → S.run bundle ≡ Ok made
+        → MakesAs bundle.stage (ids_of made.files)
+    pub right : (bundle : BundleParts) (made : Made) → Fits bundle → S.run bundle ≡ Ok made
+        → S.IsRight bundle.stage bundle made.files
+    pub refuses : (values : List ℤ) (look : FileId → List ℕ) (stage : Stage) (reason : Refusal)
+        → AreRightOver values look (before_stage S.stages stage)
+        → S.run (bundle_over values look stage) ≡ Err reason → NamesOnly is_hand_file reason
+    pub stand : (folder : Folder) (bundle : BundleParts) (stage : Stage)
+        → lacks_file folder stage ≡ false
+        → S.verdict stage bundle (standing folder stage) ≡ None
+        → MakesAs stage (ids_of (standing folder stage))
+    pub pass : (folder : Folder) (bundle : BundleParts) (made : Made)
+        → S.run bundle ≡ Ok made → S.IsRight bundle.stage bundle made.files
+        → standing folder bundle.stage ≡ made.files
+        → (lacks_file folder bundle.stage ≡ false)
+        × (S.verdict bundle.stage bundle (standing folder bundle.stage) ≡ None)

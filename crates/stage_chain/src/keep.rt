@@ -1,0 +1,84 @@
+// What a folder keeps of the stages.
+ghost use Rattle.std.specs.Prelude.{◌≡◌, IfOk, IfSome, Some};
+ghost use Rattle.plan_files.specs.declared.write.Write.TheVariants.{Put};
+ghost use Rattle.plan_files.specs.Folder.{has_failed};
+ghost use Rattle.plan_files.specs.Reads.{OnlyReads};
+ghost use Rattle.giv_files.specs.MadeLists.{MakesAs, ids_of};
+ghost use Rattle.giv_files.specs.Settings.{Fits};
+ghost use Rattle.stage_keep.specs.Entries.{IsEntryOf, entry_bytes, entry_for, keep_name};
+ghost use Rattle.stage_keep.specs.Honest.{kept_for};
+ghost use Rattle.stage_chain.specs.Kept.{kept_in};
+
+use giv_files::{Bundle, Made, Stage};
+use plan_files::{FileFault, Files, Got, Name, Write};
+use plan_num::NoMemory;
+use stage_keep::{read_keep, write_keep};
+use std::alloc::Global;
+
+/// The name of the file in which the entry of a stage is kept.
+pub(crate) fn keep_name(stage: Stage) -> &'static str
+    ensures { result.now ≡ keep_name stage }
+{
+    match stage {
+        Stage::Load => "keep/load.keep",
+        Stage::Cost => "keep/cost.keep",
+        Stage::Concept => "keep/concept.keep",
+        Stage::Ean => "keep/ean.keep",
+        Stage::Timetable => "keep/timetable.keep",
+        Stage::Rollout => "keep/rollout.keep",
+        Stage::Vehicles => "keep/vehicles.keep",
+        Stage::Disposition => "keep/disposition.keep",
+        Stage::Statistic => "keep/statistic.keep",
+    }
+}
+
+/// What is kept of what a stage is given.
+pub(crate) fn kept<F: Files>(
+    alloc: Global,
+    files: &mut F,
+    bundle: &Bundle,
+) -> Result<Option<Made>, FileFault>
+    requires { Fits bundle.now }
+    ensures kept { IfSome (F.contents files.old) (λ folder.
+        IfOk result (λ made. made ≡ kept_in folder bundle.now)) }
+    ensures makes { IfOk result (λ made. IfSome made (λ made.
+        MakesAs bundle.now.stage (ids_of made.files))) }
+    ensures only_reads { OnlyReads F.contents F.writes F.faults files.old files.new
+        (has_failed result) }
+{
+    match files.get(alloc, keep_name(bundle.stage()), u64::MAX)? {
+        Got::Bytes(text) => Ok(kept_for(alloc, text.as_bytes(), bundle)?),
+        Got::Absent | Got::TooLong => Ok(None),
+    }
+}
+
+// What the bytes of a keep file hold for what its stage is given.
+fn kept_for(alloc: Global, bytes: &[u8], bundle: &Bundle) -> Result<Option<Made>, NoMemory>
+    requires { Fits bundle.now }
+    ensures kept { IfOk result (λ made. made ≡ kept_for bundle.now (Some bytes.now)) }
+    ensures makes { IfOk result (λ made. IfSome made (λ made.
+        MakesAs bundle.now.stage (ids_of made.files))) }
+{
+    let Some(entry) = read_keep(alloc, bundle.stage(), bytes)? else {
+        return Ok(None);
+    };
+    if entry.matches(alloc, bundle)? {
+        Ok(Some(entry.into_made()))
+    } else {
+        Ok(None)
+    }
+}
+
+/// The put of the entry of a stage that was made.
+pub(crate) fn new_entry(alloc: Global, bundle: &Bundle, made: &Made) -> Result<Write, NoMemory>
+    requires fits { Fits bundle.now }
+    requires made { MakesAs bundle.now.stage (ids_of made.now.files) }
+    ensures put { IfOk result (λ write. write ≡ Put (keep_name bundle.now.stage)
+        (entry_bytes bundle.now.stage (entry_for bundle.now made.now))) }
+    ensures entry { IfOk result (λ _.
+        IsEntryOf bundle.now.stage (entry_for bundle.now made.now)) }
+{
+    let text = write_keep(alloc, bundle, made)?;
+    let name = Name::copy(alloc, keep_name(bundle.stage()))?;
+    Ok(Write::Put(name, text))
+}

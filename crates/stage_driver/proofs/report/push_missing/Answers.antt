@@ -1,6 +1,0 @@
-use Rattle.std.proofs.Common.{codes}
-use Rattle.stage_driver.proofs.Pieces.{three_pieces}
-use Rattle.stage_driver.proofs.report.push_missing.Goals as goal
-
-pub returns : goal.returns
-returns c = three_pieces _ (codes "refused: ") _ (codes " is missing") _ _ _ c.in_ok-extend_from_slice.ensures.items c.in_ok-extend_from_slice-2.ensures.items c.in_ok-extend_from_slice-3.ensures.items

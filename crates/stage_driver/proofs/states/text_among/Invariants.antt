@@ -1,7 +1,0 @@
-use Rattle.std.proofs.Common.{◌≡◌, drop}
-use Rattle.stage_driver.specs.States.{text_among}
-use Rattle.stage_driver.proofs.states.text_among.Given as goal
-
--- the file is not among those so far
-abbrev pub invariant-loop-index : goal.invariant-loop-index
-invariant-loop-index l = text_among (drop l.index l.made) l.file ≡ text_among l.made l.file

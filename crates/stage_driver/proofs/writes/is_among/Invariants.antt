@@ -1,9 +1,0 @@
-use Rattle.std.proofs.Common.{◌≡◌, drop, map}
-use Rattle.giv_files.specs.FileNames.{file_name}
-use Rattle.stage_driver.specs.Hand.{is_among}
-use Rattle.stage_driver.specs.Runs.{name_of}
-use Rattle.stage_driver.proofs.writes.is_among.Given as goal
-
--- the name is not among those so far
-abbrev pub invariant-loop-other : goal.invariant-loop-other
-invariant-loop-other l = is_among (file_name l.file) (map name_of (drop l.other-index l.made)) ≡ is_among (file_name l.file) (map name_of l.made)
