@@ -1,6 +1,6 @@
 // The paths that are lines.
-ghost use Rattle.std.specs.Prelude.{◌≡◌, IfOk};
-ghost use Rattle.pool_maker.specs.TerminalPaths.{is_contained, uncontained};
+ghost use Rattle.std.specs.Prelude.{◌≡◌, ◌++◌, ◌∷◌, [], IfOk, OnOk};
+ghost use Rattle.pool_maker.specs.TerminalPaths.{is_contained, lines_among, uncontained};
 
 use crate::path::Path;
 use plan_num::NoMemory;
@@ -12,11 +12,26 @@ pub(crate) fn keep_lines(alloc: Global, paths: &[Path]) -> Result<Vec<Path>, NoM
 {
     let mut lines = Vec::new(alloc);
     for (place, path) in paths.iter().enumerate() {
-        if !is_contained(paths, place, path) {
-            lines.push(path.copy(alloc)?)?;
-        }
+        push_line(alloc, &mut lines, paths, place, path)?;
     }
     Ok(lines)
+}
+
+// The path at a place is put behind the lines, where it lies in no other one.
+fn push_line(
+    alloc: Global,
+    lines: &mut Vec<Path>,
+    paths: &[Path],
+    place: usize,
+    path: &Path,
+) -> Result<(), NoMemory>
+    ensures { OnOk result (lines.new.items ≡ lines.old.items
+        ++ lines_among paths.now ((place, path.now) ∷ [])) }
+{
+    if !is_contained(paths, place, path) {
+        lines.push(path.copy(alloc)?)?;
+    }
+    Ok(())
 }
 
 // Whether a path lies in one at another place.

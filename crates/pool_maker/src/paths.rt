@@ -1,7 +1,6 @@
 // The paths between terminals.
 ghost use Rattle.std.specs.Prelude.{◌≡◌, ◌<◌, ◌++◌, length, filter_map, option_to_list, All, IfOk, OnOk};
-ghost use Rattle.ptn_network.specs.Networks.{IsNetwork};
-ghost use Rattle.ptn_network.specs.Paths.{ArePaths};
+ghost use Rattle.ptn_network.specs.Paths.{way, ArePaths};
 ghost use Rattle.pool_maker.specs.Terminals.{AreStops, paths_over, way_between};
 
 use crate::path::Path;
@@ -69,10 +68,29 @@ fn path_between(
     requires to { to.now.stop < length network.now.stops }
     ensures { IfOk result (λ found. found ≡ way_between network.now from.now to.now) }
 {
-    if to.id <= from.id || !known.reaches(to.stop) {
+    if from.id < to.id {
+        way(alloc, network, known, from.stop, to.stop)
+    } else {
+        Ok(None)
+    }
+}
+
+// The path between two stops, where a walk joins them.
+fn way(
+    alloc: Global,
+    network: &Network,
+    known: &Paths,
+    from: usize,
+    to: usize,
+) -> Result<Option<Path>, NoMemory>
+    requires known { ArePaths network.now from known.now }
+    requires to { to < length network.now.stops }
+    ensures { IfOk result (λ found. found ≡ way network.now from to) }
+{
+    if !known.reaches(to) {
         return Ok(None);
     }
     let _edges = network.edge_count();
-    let edges = known.path_to(alloc, network, from.stop, to.stop)?;
+    let edges = known.path_to(alloc, network, from, to)?;
     Ok(Some(Path::new(alloc, network, edges)?))
 }

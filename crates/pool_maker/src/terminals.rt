@@ -1,6 +1,6 @@
 // Terminals: stops between which lines are to run.
-ghost use Rattle.std.specs.Prelude.{◌≡◌, ⊥, map, IfOk, MatchBool};
-ghost use Rattle.std.specs.List.{IsDistinct};
+ghost use Rattle.std.specs.Prelude.{◌≡◌, ℤ, Bool, map, option_map, position, IfOk, MatchBool};
+ghost use Rattle.std.specs.List.{IsDistinct, list_any};
 ghost use Rattle.std.specs.Ordering.{int_eq};
 ghost use Rattle.giv_files.specs.Inputs.{UnlessFault};
 ghost use Rattle.ptn_network.specs.Networks.{rising};
@@ -33,7 +33,7 @@ fn are_different(ids: &[i64]) -> bool
 }
 
 /// A terminal: the id of a stop, and its index.
-#[derive(Clone, Copy, Debug, PartialEq, Eq)]
+#[derive(Clone, Copy)]
 pub(crate) struct Terminal {
     pub(crate) id: i64,
     pub(crate) stop: usize,
@@ -50,31 +50,49 @@ pub(crate) fn find_terminals(
         (λ terminals. terminals.items ≡ map (terminal_of network.now.stops) (rising ids.now))
         result }
 {
+    let sorted = sorted(alloc, ids)?;
     let mut terminals = Vec::new(alloc);
-    for id in sorted(alloc, ids)? {
-        match network.stop_index(id) {
-            Some(stop) => terminals.push(Terminal { id, stop })?,
-            None => return Err(unknown_stop()),
+    for id in &sorted {
+        match terminal_at(network, id) {
+            Some(terminal) => terminals.push(terminal)?,
+            None => {
+                return Err(StageFault::Refused(Refusal::BadRow {
+                    file: FileId::Stop,
+                    row: 0,
+                    why: RowWhy::UnknownStop,
+                }));
+            }
         }
     }
     Ok(terminals)
 }
 
+// The terminal of an id, where it is a stop.
+fn terminal_at(network: &Network, id: &i64) -> Option<Terminal>
+    ensures { result ≡ option_map (λ stop. record { id = id.now; stop = stop })
+        (position (int_eq id.now) network.now.stops) }
+{
+    match stop_of(network, id) {
+        Some(stop) => Some(Terminal { id: *id, stop }),
+        None => None,
+    }
+}
+
+// The index of the stop of an id.
+fn stop_of(network: &Network, id: &i64) -> Option<usize>
+    ensures { result ≡ position (int_eq id.now) network.now.stops }
+{
+    network.stop_index(*id)
+}
+
 // Different ids, rising.
 fn sorted(alloc: Global, ids: &[i64]) -> Result<Vec<i64>, NoMemory>
     requires { IsDistinct int_eq ids.now }
-    ensures { IfOk result (λ sorted. sorted.items ≡ rising ids.now) }
+    ensures rising { IfOk result (λ sorted. sorted.items ≡ rising ids.now) }
+    ensures same { IfOk result (λ sorted. (p : ℤ → Bool)
+        → list_any p sorted.items ≡ list_any p ids.now) }
 {
     let mut sorted = Vec::from_slice(alloc, ids)?;
     sorted.sort()?;
     Ok(sorted)
-}
-
-// The refusal of a terminal that is no stop: it names no row.
-fn unknown_stop() -> StageFault {
-    StageFault::Refused(Refusal::BadRow {
-        file: FileId::Stop,
-        row: 0,
-        why: RowWhy::UnknownStop,
-    })
 }
