@@ -12,13 +12,18 @@ use Rattle.std.proofs.lemmas.List.{map-append}
 use Rattle.std.proofs.lemmas.List.Elements.{filter-append}
 use Rattle.std.proofs.lemmas.List.Folds.{list_any-append}
 use Rattle.std.proofs.lemmas.Simd.{map-map}
+use Rattle.giv_files.specs.Columns.{pool_columns}
+use Rattle.giv_files.specs.Reading.{table_of}
+use Rattle.giv_files.specs.Tables.{TableRow}
+use Rattle.giv_files.specs.Writing.{ReadsBack}
 use Rattle.ptn_network.specs.declared.edge.Edge.{Edge}
-use Rattle.ptn_network.specs.Networks.{rising}
+use Rattle.ptn_network.specs.Networks.{NetworkParts, rising}
 use Rattle.ptn_network.proofs.ById.{sorted_ids}
 use Rattle.line_pool.specs.declared.line_row.LineRow.{LineRow}
-use Rattle.line_pool.specs.Pools.{LineParts, index_of, line_of, lines_over, rows_of}
+use Rattle.line_pool.specs.Pools.{LineParts, index_of, line_of, line_row, lines_of, lines_over, pool_of}
+use Rattle.line_pool.specs.Pools.{rows_of}
 use Rattle.line_pool.proofs.WalkLines.{AreNew, IsWalked, RowsLine, distinct, ids_for, new_more}
-use Rattle.line_pool.proofs.WalkLines.{none_yet, rows_at, rows_for}
+use Rattle.line_pool.proofs.WalkLines.{none_yet, rows_at, rows_for, told_rows}
 use Rattle.line_pool.proofs.WalkRows.{above_differs, below_differs, id_at, later_above}
 use Rattle.line_pool.proofs.WalkRows.{other_rows, own_rows, rows_from}
 
@@ -194,3 +199,16 @@ module _ (edges : List Edge) (rise : IsStrictlySortedBy int_cmp (map (λ edge. e
       (rising (map (λ row. row.line) rows))
       ∙ ap (map (λ id. edges_in edges rise (rows_of id rows))) ids_rising
       ∙ all_edges edges rise [] lines up (none_yet edges rise (ids_for lines)) good
+
+-- the lines of a pool whose text is read back as rows of lines
+pub pool_back : (network : NetworkParts) (lines : List RowsLine) (table : List TableRow)
+    (text : List ℕ) → told_rows table ≡ rows_for network.edges lines
+    → ReadsBack pool_columns table text
+    → pool_of network text ≡ lines_over network.edges (rows_for network.edges lines)
+unfolding lines_of
+pool_back network lines table text are back =
+    ap (lines_over network.edges)
+    (sym (map-map line_row (λ (row : TableRow). row.cells) (table_of pool_columns text))
+    ∙ ap (map line_row) back.1
+    ∙ map-map line_row (λ (row : TableRow). row.cells) table
+    ∙ are)

@@ -10,10 +10,12 @@ use Rattle.std.proofs.lemmas.Bool.{le-ltb}
 use Rattle.std.proofs.lemmas.Bool.Decides.{Decides-int_eq}
 use Rattle.std.proofs.lemmas.Cmp.{int_eq_equiv}
 use Rattle.std.proofs.lemmas.List.{length-map, map-append}
-use Rattle.std.proofs.lemmas.List.Elements.{All-append, All-contains, All-cons, All-nil, filter-append}
+use Rattle.std.proofs.lemmas.List.Elements.{All-append, All-contains, All-cons}
+use Rattle.std.proofs.lemmas.List.Elements.{All-from_recursion, All-nil, filter-append}
 use Rattle.std.proofs.lemmas.Map.Made.{is_member-Decides, length-le_from_is_member}
 use Rattle.giv_files.specs.declared.counted.Counted.TheVariants as counted
 use Rattle.giv_files.specs.declared.refusal.Refusal.TheVariants as refusal
+use Rattle.giv_files.specs.Columns.{concept_columns, pool_columns}
 use Rattle.giv_files.specs.Inputs.{records}
 use Rattle.giv_files.specs.Tables.{TableRow}
 use Rattle.giv_files.specs.Writing.{ReadsBack}
@@ -23,8 +25,10 @@ use Rattle.ptn_network.specs.Networks.{NetworkParts, rising}
 use Rattle.ptn_network.specs.Paths.{edges_at}
 use Rattle.ptn_network.proofs.Sound.{rising_rises}
 use Rattle.line_pool.specs.declared.line_file.LineFile.{LineFile}
+use Rattle.line_pool.specs.declared.line_file.LineFile.TheVariants as kinds
 use Rattle.line_pool.specs.declared.line_row.LineRow.{LineRow}
-use Rattle.line_pool.specs.Pools.{columns_of, line_faults, line_input, line_rules}
+use Rattle.line_pool.specs.Pools.{columns_of, concept_faults, line_faults, line_input, line_row}
+use Rattle.line_pool.specs.Pools.{line_rules, pool_faults}
 use Rattle.line_pool.specs.Pools.{rows_of, walk_of}
 use Rattle.line_pool.proofs.SoundLines.{all_rising}
 use Rattle.line_pool.proofs.WalkRows.{above_differs, below_differs, line_kept, other_rows}
@@ -49,6 +53,13 @@ rows_at edges line = rows_from edges line.id line.frequency 1 line.edges
 abbrev pub rows_for : List Edge → List RowsLine → List LineRow
 rows_for edges lines = flat_map (rows_at edges) lines
 
+-- what rows of a table stand for, each of them and all
+abbrev pub told_row : TableRow → LineRow
+told_row row = line_row row.cells
+
+abbrev pub told_rows : List TableRow → List LineRow
+told_rows rows = map told_row rows
+
 abbrev pub ids_for : List RowsLine → List ℤ
 ids_for lines = map (λ line. line.id) lines
 
@@ -71,6 +82,12 @@ few_ids all ids each =
     (λ id is. All-contains (λ id. is_member int_eq all id ≡ true) (rising ids) id
     (all_rising (λ id. is_member int_eq all id ≡ true) ids each)
     ((is_member-Decides Decides-int_eq (rising ids) id).0 is))
+
+-- there are not more ids after they were sorted
+pub rising_length : (ids : List ℤ) → length (rising ids) ≤ length ids
+rising_length ids =
+    few_ids ids ids (All-from_recursion (λ id. is_member int_eq ids id ≡ true) ids
+    (each_known ids ids (λ p h. h)))
 
 -- ---- the rows of all lines
 
@@ -151,24 +168,31 @@ few_lines edges lines =
       length-map lines (λ line. line.id),
     )
 
--- a text that is read back as the rows of some lines that are walks has no fault
-pub lines_accepted : (kind : LineFile) (network : NetworkParts) (lines : List RowsLine)
-    (table : List TableRow) (text : List ℕ)
-    → IsStrictlySortedBy int_cmp (map (λ edge. edge.id) network.edges)
-    → IsStrictlySortedBy int_cmp (ids_for lines) → AllByRecursion (IsWalked network.edges) lines
-    → length lines ≤ 200
-    → records (line_input kind network.edges) table ≡ rows_for network.edges lines
-    → ReadsBack (columns_of kind) table text → line_faults kind network text ≡ []
-unfolding line_faults
-lines_accepted kind network lines table text rise up good few are back =
-    let edges = network.edges in
-    let input = line_input kind edges in
-    let all = length (rising (map (λ row. row.line) (records input table))) in
-    let some : all ≤ length lines =
-    subst (λ rows. length (rising (map (λ (row : LineRow). row.line) rows)) ≤ length lines) (sym are)
-    (few_lines edges lines) in
-    accepted input table text back
-    (ap (λ b. cond b (refusal.TooMany counted.Lines all ∷ []) [] ++ [])
-    (le-ltb 200 all (omega (arith, some, few))))
-    (subst (KeepRules (line_rules edges) []) (sym are) (rows_kept edges rise lines up good))
-    (λ at same. refl)
+module _ (network : NetworkParts) (lines : List RowsLine) (table : List TableRow) (text : List ℕ)
+    (rise : IsStrictlySortedBy int_cmp (map (λ edge. edge.id) network.edges))
+    (up : IsStrictlySortedBy int_cmp (ids_for lines))
+    (good : AllByRecursion (IsWalked network.edges) lines) (few : length lines ≤ 200)
+    (are : told_rows table ≡ rows_for network.edges lines) where
+  lines_accepted : (kind : LineFile) → ReadsBack (columns_of kind) table text
+      → line_faults kind network text ≡ []
+  unfolding line_faults
+  lines_accepted kind back =
+      let edges = network.edges in
+      let input = line_input kind edges in
+      let all = length (rising (map (λ row. row.line) (records input table))) in
+      let some : all ≤ length lines =
+      subst (λ rows. length (rising (map (λ (row : LineRow). row.line) rows)) ≤ length lines) (sym are)
+      (few_lines edges lines) in
+      accepted input table text back
+      (ap (λ b. cond b (refusal.TooMany counted.Lines all ∷ []) [] ++ [])
+      (le-ltb 200 all (omega (arith, some, few))))
+      (subst (KeepRules (line_rules edges) []) (sym are) (rows_kept edges rise lines up good))
+      (λ at same. refl)
+
+  -- a text that is read back as the rows of some lines that are walks has no fault as a pool
+  pub pool_accepted : ReadsBack pool_columns table text → pool_faults network text ≡ []
+  pool_accepted back = lines_accepted kinds.Pool back
+
+  -- nor as a line concept
+  pub concept_accepted : ReadsBack concept_columns table text → concept_faults network text ≡ []
+  concept_accepted back = lines_accepted kinds.Concept back

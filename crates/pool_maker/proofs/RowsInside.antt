@@ -27,7 +27,7 @@ pub header_plain : IsHeader pool_header
 header_plain = (refl, plain_header pool_header refl)
 
 module _ (network : NetworkParts) (ids : All (λ edge. IsRowId edge.id) network.edges) where
-  own_id : (edge : ℕ) → edge < length network.edges → IsRowId (edge_id network edge)
+  pub own_id : (edge : ℕ) → edge < length network.edges → IsRowId (edge_id network edge)
   own_id edge there =
       subst (λ (found : Option Edge). IsRowId (unwrap_or (option_map (λ at. at.id) found) (pos 0)))
       (sym (slice_get-get_or network.edges edge no_edge there))
