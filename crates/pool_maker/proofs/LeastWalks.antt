@@ -1,9 +1,9 @@
 -- The least sum of the definition is the least over all walks: a walk that comes to a stop twice can
 -- be cut short.
-use Rattle.std.proofs.Common.{◌≡◌, ◌≢◌, ℕ, ℤ, pos, suc, ◌+◌, ◌<◌, ◌≤◌, Bool, true, false, ◌||◌, nat_eq, List, [], ◌∷◌, length, map, get_or, refl, ap, subst, sym, ◌∙◌, arith, Option, Some, None, option_map, unsigned_abs, unwrap_or, All, Contains}
+use Rattle.std.proofs.Common.{◌≡◌, ℕ, ℤ, pos, suc, ◌+◌, ◌<◌, ◌≤◌, Bool, true, false, ◌||◌, nat_eq, List, [], ◌∷◌, length, map, refl, ap, subst, sym, ◌∙◌, arith, Option, Some, None, option_map, unsigned_abs, unwrap_or, All, Contains}
 use Rattle.std.specs.List.{AllByRecursion, IsDistinct, list_any}
 use Rattle.std.proofs.lemmas.Bool.{eqb-true}
-use Rattle.std.proofs.lemmas.List.Elements.{All-contains, All-nil}
+use Rattle.std.proofs.lemmas.List.Elements.{All-contains}
 use Rattle.std.proofs.lemmas.List.FromFn.{get_or-map-range_with_len}
 use Rattle.std.proofs.lemmas.Map.Steps.{length-le_from_distinct_below}
 use Rattle.ptn_network.specs.declared.edge.Edge.{Edge}
@@ -172,18 +172,24 @@ least_of_all_walks network weight from to sound = by (least_of sums) refl
         let some = plain network.edges weight to from walk is in
         let few = short network.edges weight to (length network.stops) sound.edges from
         (walk_sum weight walk) some in
-        let there = within_there network.edges (length network.stops) from to some.walk few some.is in
-        (walk_sum weight some.walk, some.less,
+        let there = within_there network.edges (length network.stops) from to some.walk few some.is in (
+          walk_sum weight some.walk,
+          some.less,
           All-contains (λ number. IsUpTo number (least_of sums)) sums (walk_sum weight some.walk)
-          (least_of_all sums)
-          (Contains-map (walk_sum weight) walks some.walk there))
+              (least_of_all sums)
+              (Contains-map (walk_sum weight) walks some.walk there),
+        )
 
     by : (least : Option ℕ) → least_of sums ≡ least → IsLeastSum network.edges weight from to least
     by None is = λ walk on. subst (IsUpTo (below walk on).0) is (below walk on).2
     by (Some least) is =
         let own = mapped_from (walk_sum weight) walks least (least_of_there sums least is) in (
-          (own.own, All-contains (IsWalk network.edges from to) walks own.own
-          (within_all network.edges (length network.stops) from to) own.there, own.is),
+          (
+            own.own,
+            All-contains (IsWalk network.edges from to) walks own.own
+                (within_all network.edges (length network.stops) from to) own.there,
+            own.is,
+          ),
           λ walk on.
               let own = below walk on in
               let least_is : least ≤ own.0 = subst (IsUpTo own.0) is own.2 in

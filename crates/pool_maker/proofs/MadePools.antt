@@ -1,6 +1,5 @@
 -- What the parts of a pool give together.
-use Rattle.std.proofs.Common.{◌≡◌, ℕ, ℤ, List, [], ◌++◌, map, refl, ap, subst, sym, ◌∙◌}
-use Rattle.giv_files.specs.declared.refusal.Refusal.{Refusal}
+use Rattle.std.proofs.Common.{◌≡◌, ℕ, ℤ, List, [], ◌++◌, map, ap, subst, sym, ◌∙◌}
 use Rattle.giv_files.specs.declared.refusal.StageFault.{StageFault}
 use Rattle.giv_files.specs.declared.refusal.StageFault.TheVariants as stage
 use Rattle.giv_files.specs.Inputs.{Refuses}

@@ -1,5 +1,5 @@
 -- The pairs of terminals: each of them once, and not more than 190.
-use Rattle.std.proofs.Common.{◌≡◌, ℕ, ℤ, zero, suc, ◌+◌, ◌≤◌, ◌<ℤ◌, Bool, true, false, cond, int_lt, List, [], ◌∷◌, ◌++◌, length, map, filter, All, Contains, refl, ap, subst, sym, ◌∙◌, arith, append_assoc, append-nil}
+use Rattle.std.proofs.Common.{◌≡◌, ℕ, ℤ, zero, suc, ◌+◌, ◌≤◌, ◌<ℤ◌, Bool, true, false, cond, int_lt, List, [], ◌∷◌, ◌++◌, length, map, filter, All, refl, ap, subst, sym, ◌∙◌, arith, append_assoc}
 use Rattle.std.specs.List.{AllByRecursion, flat_map}
 use Rattle.std.specs.List.Sorted.{IsStrictlySortedBy}
 use Rattle.std.specs.Ordering.{MatchOrdering, int_cmp, ordering_reverse}

@@ -1,5 +1,5 @@
 -- The paths over terminals with their stops are the paths between their ids.
-use Rattle.std.proofs.Common.{◌≡◌, ℕ, ℤ, ◌<◌, Bool, true, false, cond, int_lt, List, [], ◌∷◌, ◌++◌, length, map, filter, filter_map, All, Option, None, refl, ap, subst, sym, ◌∙◌}
+use Rattle.std.proofs.Common.{◌≡◌, ℕ, ℤ, ◌<◌, Bool, true, false, cond, int_lt, List, [], ◌∷◌, ◌++◌, length, map, filter, filter_map, Option, None, refl, ap, sym, ◌∙◌}
 use Rattle.std.specs.List.{cons_option, flat_map}
 use Rattle.std.proofs.lemmas.List.Elements.{All-map, All-weaker, filter_map-append}
 use Rattle.ptn_network.specs.Networks.{NetworkParts, index_in, rising}
@@ -10,7 +10,7 @@ use Rattle.pool_maker.specs.TerminalPaths.{paths_of}
 use Rattle.pool_maker.specs.Terminals.{AreStops, paths_over, terminal_of, way_between}
 use Rattle.pool_maker.proofs.PoolsAreRight.{all_stops}
 use Rattle.pool_maker.proofs.TerminalWays.{is_index}
-use Rattle.std.specs.List.{list_all, list_any}
+use Rattle.std.specs.List.{list_any}
 use Rattle.std.specs.Ordering.{int_eq}
 use Rattle.std.proofs.lemmas.List.Sums.{AllPass-from_list_all}
 

@@ -1,5 +1,5 @@
 -- The text of the lines between terminals is right as a pool.
-use Rattle.std.proofs.Common.{◌≡◌, ◌≢◌, ℕ, ℤ, pos, ◌<◌, ◌≤◌, Bool, true, false, cond, not, ◌||◌, nat_eq, List, [], ◌∷◌, ◌++◌, length, map, All, codes, Result, Ok, Err, IfOk, refl, ap, subst, sym, ◌∙◌, arith, append_assoc}
+use Rattle.std.proofs.Common.{◌≡◌, ◌≢◌, ℕ, ℤ, pos, ◌<◌, ◌≤◌, Bool, true, false, cond, not, ◌||◌, nat_eq, List, [], ◌∷◌, ◌++◌, length, map, All, codes, refl, ap, subst, sym, ◌∙◌, arith, append_assoc}
 use Rattle.std.specs.Fmt.{signed_decimal}
 use Rattle.std.specs.List.{flat_map, list_all, list_any, range_with_len}
 use Rattle.std.specs.Ordering.{int_eq}
@@ -13,9 +13,7 @@ use Rattle.std.proofs.lemmas.Map.Steps.{length-le_from_distinct_below}
 use Rattle.plan_num.specs.Number.{is_number_byte}
 use Rattle.plan_num.proofs.ReadBack.{whole_bytes}
 use Rattle.giv_files.specs.declared.refusal.Refusal.{Refusal}
-use Rattle.giv_files.specs.declared.refusal.StageFault.{StageFault}
 use Rattle.giv_files.specs.Columns.{pool_columns}
-use Rattle.giv_files.specs.Inputs.{UnlessFault}
 use Rattle.giv_files.specs.Writing.{ReadsBack}
 use Rattle.giv_files.proofs.Headers.{plain_header}
 use Rattle.giv_files.proofs.Ranges.{back_none, front_none}
@@ -188,12 +186,10 @@ module _ (stops edges : List ℕ) (terminals : List ℤ) (none : terminal_faults
           (all k (f d) (omega (arith, h, length-map xs f)))
 
 -- a text that was made is right
-pub made_right : (stops edges : List ℕ) (terminals : List ℤ) → AreTerminals terminals
-    → (result : Result (List ℕ) StageFault)
-    → UnlessFault (terminal_faults stops edges terminals)
-    (λ text. text ≡ pool_text (network_of stops edges) terminals) result
-    → IfOk result (IsRightPool (network_of stops edges) terminals)
-made_right stops edges terminals are (Ok text) made =
-    subst (IsRightPool (network_of stops edges) terminals) (sym made.1)
-    (pool_is_right stops edges terminals made.0 are)
-made_right stops edges terminals are (Err fault) made = tt
+pub pool_right : (stops edges : List ℕ) (terminals : List ℤ) → AreTerminals terminals
+    → (text : List ℕ) → terminal_faults stops edges terminals ≡ []
+    → text ≡ pool_text (network_of stops edges) terminals
+    → IsRightPool (network_of stops edges) terminals text
+pool_right stops edges terminals are text none made =
+    subst (IsRightPool (network_of stops edges) terminals) (sym made)
+    (pool_is_right stops edges terminals none are)

@@ -1,5 +1,5 @@
 -- Ids that are sorted, and whether all of some ids are different or are known.
-use Rattle.std.proofs.Common.{◌≡◌, ℕ, ℤ, pos, ◌+◌, ◌-◌, ◌<◌, ◌≤◌, Bool, true, false, not, ◌||◌, ◌&&◌, List, [], ◌∷◌, ◌++◌, cond, length, map, take, drop, get_or, slice_get, position, is_some, unwrap_or, Option, Some, None, option_map, refl, ap, subst, sym, ◌∙◌, arith}
+use Rattle.std.proofs.Common.{◌≡◌, ℕ, ℤ, pos, ◌+◌, ◌-◌, ◌<◌, ◌≤◌, Bool, true, false, not, ◌||◌, ◌&&◌, List, [], ◌∷◌, ◌++◌, cond, length, map, take, drop, get_or, slice_get, position, is_some, unwrap_or, Option, Some, None, option_map, refl, ap, subst, sym, ◌∙◌}
 use Rattle.std.specs.List.{AllByRecursion, IsDistinct, list_all, list_any}
 use Rattle.std.specs.List.Sorted.{IsPermutation, IsSorted}
 use Rattle.std.specs.Ordering.{int_cmp, int_eq}
@@ -73,9 +73,11 @@ module _ (ids : List ℤ) where
     pub one_more : list_any (λ other. int_eq other id) behind ≡ false → AreDecided (place + 1)
     unfolding IsDistinct
     one_more none = record {
-      rest = λ apart. decided.rest (subst (IsDistinct int_eq) (sym here)
-          (none_alike id (drop (place + 1) ids)
-          (ap (list_any (λ other. int_eq other id)) (sym (take_rest ids (place + 1))) ∙ none), apart));
+      rest = λ apart. decided.rest (subst (IsDistinct int_eq) (sym here) (
+        none_alike id (drop (place + 1) ids)
+            (ap (list_any (λ other. int_eq other id)) (sym (take_rest ids (place + 1))) ∙ none),
+        apart,
+      ));
       whole = λ apart. (subst (IsDistinct int_eq) here (decided.whole apart)).1;
     }
 
@@ -167,9 +169,10 @@ module _ (stops : List ℤ) where
           → (found ≡ Some terminal.stop) × (terminal ≡ record { id = id; stop = terminal.stop })
       by None is = cc
       by (Some stop) is =
-          let same : terminal ≡ record { id = id; stop = stop } = same_Some _ _ is in
-          (ap (λ (at : Terminal). Some at.stop) (sym same),
-            same ∙ ap (λ (at : Terminal). record { id = id; stop = at.stop }) (sym same))
+          let same : terminal ≡ record { id = id; stop = stop } = same_Some _ _ is in (
+            ap (λ (at : Terminal). Some at.stop) (sym same),
+            same ∙ ap (λ (at : Terminal). record { id = id; stop = at.stop }) (sym same),
+          )
 
   pub found_nowhere : (id : ℤ) → None ≡ terminal_there id (position (int_eq id) stops)
       → position (int_eq id) stops ≡ None

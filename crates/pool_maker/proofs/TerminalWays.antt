@@ -1,18 +1,16 @@
 -- The paths between terminals are shortest lines, and there are not more than 190 of them.
-use Rattle.std.proofs.Common.{◌≡◌, ℕ, ℤ, pos, suc, ◌+◌, ◌<◌, ◌≤◌, Bool, true, false, cond, not, nat_eq, List, [], ◌∷◌, ◌++◌, length, map, filter, filter_map, get_or, position, All, Contains, Option, Some, None, option_map, is_some, unwrap_or, unsigned_abs, refl, ap, subst, sym, ◌∙◌, arith}
+use Rattle.std.proofs.Common.{◌≡◌, ℕ, ℤ, pos, ◌+◌, ◌<◌, ◌≤◌, Bool, true, false, cond, not, List, [], ◌∷◌, length, map, filter, filter_map, get_or, position, All, Contains, Option, Some, None, option_map, is_some, unwrap_or, unsigned_abs, refl, ap, subst, sym, ◌∙◌, arith}
 use Rattle.std.specs.List.{cons_option, enumerate_from, list_all, list_any}
 use Rattle.std.specs.Ordering.{int_eq}
 use Rattle.std.proofs.lemmas.Bool.Decides.{Decides-int_eq}
-use Rattle.std.proofs.lemmas.List.{length-map}
-use Rattle.std.proofs.lemmas.List.Elements.{All-cons, All-contains, All-contains_itself, All-head, All-map, All-nil, All-tail, All-weaker}
+use Rattle.std.proofs.lemmas.List.Elements.{All-cons, All-contains_itself, All-head, All-nil, All-tail}
 use Rattle.std.proofs.lemmas.List.FromFn.{get_or-map-range_with_len, length-enumerate_from}
 use Rattle.std.proofs.lemmas.List.Quantifiers.{position-Some}
 use Rattle.std.proofs.lemmas.List.Sums.{AllPass-from_list_all}
-use Rattle.std.proofs.lemmas.Map.Made.{is_member-Decides}
 use Rattle.std.proofs.lemmas.Option.{same_Some}
 use Rattle.giv_files.proofs.Found.{any_is}
 use Rattle.ptn_network.specs.Networks.{IsNetwork, NetworkParts, index_in, rising}
-use Rattle.ptn_network.specs.Paths.{IsShortest, IsSimple, edges_at, length_to, path, way}
+use Rattle.ptn_network.specs.Paths.{IsShortest, IsSimple, length_to, path, way}
 use Rattle.ptn_network.specs.Walks.{edge_length, least_sum, least_sums}
 use Rattle.ptn_network.proofs.PathEdges.{path_simple}
 use Rattle.ptn_network.proofs.ShortestPaths.{path_shortest}
@@ -21,9 +19,9 @@ use Rattle.ptn_network.proofs.Walks.{staying_end}
 use Rattle.line_pool.proofs.SoundLines.{all_rising}
 use Rattle.line_pool.proofs.WalkLines.{rising_length}
 use Rattle.pool_maker.specs.RightPools.{IsShortestLine}
-use Rattle.pool_maker.specs.TerminalPaths.{is_contained, lines_among, lines_between, pairs_of, paths_of, uncontained}
+use Rattle.pool_maker.specs.TerminalPaths.{is_contained, lines_among, pairs_of, paths_of, uncontained}
 use Rattle.pool_maker.proofs.LeastWalks.{least_of_stop}
-use Rattle.pool_maker.proofs.PairsOfIds.{AreInOrder, all_in_order, few_pairs, less_is, not_own, pairs_after, pairs_are}
+use Rattle.pool_maker.proofs.PairsOfIds.{AreInOrder, all_in_order, few_pairs, less_is, not_own, pairs_are}
 
 -- ---- the index of a stop
 

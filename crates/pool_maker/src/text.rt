@@ -29,11 +29,7 @@ pub(crate) fn text_of_lines(
 }
 
 // The rows of the lines.
-fn table_of_lines(
-    alloc: Global,
-    network: &Network,
-    lines: &[Path],
-) -> Result<Table<3>, NoMemory>
+fn table_of_lines(alloc: Global, network: &Network, lines: &[Path]) -> Result<Table<3>, NoMemory>
     requires { AreTellable network.now lines.now }
     ensures { IfOk result (λ table. table ≡ pool_rows network.now lines.now) }
 {
@@ -75,10 +71,7 @@ fn push_row(
     ensures { OnOk result (table.new ≡ table.old
         ++ row_at network.now number (place, edge) ∷ []) }
 {
-    table.push(
-        0,
-        &[number as i64, place as i64, edge_id(network, edge)],
-    )
+    table.push(0, &[number as i64, place as i64, edge_id(network, edge)])
 }
 
 // The id of an edge.

@@ -1,4 +1,4 @@
-use Rattle.std.proofs.Common.{◌+◌, ◌++◌, ap, ◌∙◌, arith, filter_map, get_or, take}
+use Rattle.std.proofs.Common.{◌+◌, filter_map, get_or, take}
 use Rattle.std.proofs.lemmas.List.{take_more}
 use Rattle.std.proofs.lemmas.List.Elements.{filter_map-append}
 use Rattle.pool_maker.specs.Terminals.{way_between}

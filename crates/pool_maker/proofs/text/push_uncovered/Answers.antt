@@ -1,4 +1,4 @@
-use Rattle.std.proofs.Common.{◌+◌, ◌∙◌, ap, arith}
+use Rattle.std.proofs.Common.{◌+◌}
 use Rattle.std.specs.List.{flat_map, range_with_len}
 use Rattle.pool_maker.specs.PoolTexts.{uncovered_line}
 use Rattle.pool_maker.specs.TerminalPaths.{uncovered_among}
