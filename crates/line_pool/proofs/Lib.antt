@@ -5,11 +5,15 @@ pub mod CostReads
 mod CostRows
 mod CostRules
 mod CostsAccepted
+pub mod EdgesOfTexts
 mod FirstRows
+pub mod LinesBack
 mod PoolTables
 mod RowsOfLines
 pub mod SoundCosts
 pub mod SoundLines
 mod Tried
+pub mod WalkLines
+pub mod WalkRows
 mod Walks
 pub mod WholeLines

@@ -7,22 +7,12 @@ use Rattle.std.specs.List.Sorted.{IsStrictlySortedBy}
 use Rattle.std.specs.Option.{option_or}
 use Rattle.std.specs.Ordering.{int_cmp, int_eq}
 use Rattle.std.specs.declared.cmp.Ordering.TheVariants.{Less}
-use Rattle.std.proofs.lemmas.Bool.Decides.{Decides-int_eq}
 use Rattle.std.proofs.lemmas.Cmp.{int_eq_equiv}
 use Rattle.giv_files.specs.Tables.{TableRow}
+use Rattle.line_pool.proofs.WalkRows.{above_differs}
 use Rattle.line_cost_model.specs.Problems.{CostedLine, IsCostedLine, IsProblem, ProblemParts}
 use Rattle.line_search.specs.ConceptTables.{concept_rows, frequencies_in, frequency_in, line_rows}
 use Rattle.line_search.specs.ConceptTables.{frequency_of_row, row_at}
-
--- an id above another one is not that one
-pub above_differs : (x y : ℤ) → int_cmp x y ≡ Less → int_eq y x ≡ false
-above_differs x y less = by (int_eq y x) refl
-  where
-    by : (b : Bool) → int_eq y x ≡ b → b ≡ false
-    by true is =
-        let same : y ≡ x = (Decides-int_eq y x).0 is in
-        absurd (cc)
-    by false is = refl
 
 find_both : {X : Type 0} (p : X → Bool) (xs ys : List X)
     → find p (xs ++ ys) ≡ option_or (find p xs) (find p ys)

@@ -1,5 +1,4 @@
 mod ConceptAccepted
-mod ConceptLineRows
 mod ConceptRows
 mod ConceptWritten
 mod DearestLines

@@ -1,0 +1,14 @@
+mod Comments
+mod LeastWalks
+mod LinesOfPaths
+mod MadePools
+mod OneMore
+mod PairsOfIds
+mod PathsOver
+mod PoolsAreRight
+mod PoolsRead
+mod RowsInside
+mod SortedIds
+mod TerminalWays
+mod UncoveredEdges
+mod Ways

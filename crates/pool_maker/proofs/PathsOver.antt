@@ -1,0 +1,68 @@
+-- The paths over terminals with their stops are the paths between their ids.
+use Rattle.std.proofs.Common.{◌≡◌, ℕ, ℤ, ◌<◌, Bool, true, false, cond, int_lt, List, [], ◌∷◌, ◌++◌, length, map, filter, filter_map, Option, None, refl, ap, sym, ◌∙◌}
+use Rattle.std.specs.List.{cons_option, flat_map}
+use Rattle.std.proofs.lemmas.List.Elements.{All-map, All-weaker, filter_map-append}
+use Rattle.ptn_network.specs.Networks.{NetworkParts, index_in, rising}
+use Rattle.ptn_network.specs.Paths.{way}
+use Rattle.line_pool.proofs.SoundLines.{all_rising}
+use Rattle.pool_maker.specs.PoolTexts.{unknown_terminals}
+use Rattle.pool_maker.specs.TerminalPaths.{paths_of}
+use Rattle.pool_maker.specs.Terminals.{AreStops, paths_over, terminal_of, way_between}
+use Rattle.pool_maker.proofs.PoolsAreRight.{all_stops}
+use Rattle.pool_maker.proofs.TerminalWays.{is_index}
+use Rattle.std.specs.List.{list_any}
+use Rattle.std.specs.Ordering.{int_eq}
+use Rattle.std.proofs.lemmas.List.Sums.{AllPass-from_list_all}
+
+module _ (network : NetworkParts) where
+  abbrev way_of : ℤ × ℤ → Option (List ℕ)
+  way_of pair = way network (index_in network.stops pair.0) (index_in network.stops pair.1)
+
+  ways_from : (from : ℤ) (ids : List ℤ)
+      → filter_map (way_between network (terminal_of network.stops from))
+      (map (terminal_of network.stops) ids)
+      ≡ filter_map way_of (map (λ to. (from, to)) (filter (int_lt from) ids))
+  ways_from from [] = refl
+  ways_from from (to ∷ ids) = by (int_lt from to) (ways_from from ids)
+    where
+      by : (b : Bool)
+          → filter_map (way_between network (terminal_of network.stops from))
+          (map (terminal_of network.stops) ids)
+          ≡ filter_map way_of (map (λ to. (from, to)) (filter (int_lt from) ids))
+          → cons_option (cond b (way_of (from, to)) None)
+          (filter_map (way_between network (terminal_of network.stops from))
+          (map (terminal_of network.stops) ids))
+          ≡ filter_map way_of (map (λ to. (from, to))
+          (cond b (to ∷ filter (int_lt from) ids) (filter (int_lt from) ids)))
+      by true rest = ap (cons_option (way_of (from, to))) rest
+      by false rest = rest
+
+  ways_over : (all ids : List ℤ)
+      → flat_map (λ from. filter_map (way_between network from) (map (terminal_of network.stops) all))
+      (map (terminal_of network.stops) ids)
+      ≡ filter_map way_of (flat_map (λ from. map (λ to. (from, to)) (filter (int_lt from) all)) ids)
+  ways_over all [] = refl
+  ways_over all (from ∷ ids) =
+      let rest = flat_map (λ from. map (λ to. (from, to)) (filter (int_lt from) all)) ids in
+      ap (λ some. some ++ flat_map (λ from. filter_map (way_between network from)
+      (map (terminal_of network.stops) all)) (map (terminal_of network.stops) ids)) (ways_from from all)
+      ∙ ap (λ more. filter_map way_of (map (λ to. (from, to)) (filter (int_lt from) all)) ++ more)
+      (ways_over all ids)
+      ∙ sym (filter_map-append way_of (map (λ to. (from, to)) (filter (int_lt from) all)) rest)
+
+  pub paths_are : (terminals : List ℤ)
+      → paths_over network (map (terminal_of network.stops) (rising terminals))
+      ≡ paths_of network terminals
+  paths_are terminals = ways_over (rising terminals) (rising terminals)
+
+  -- the terminals of known ids are stops
+  pub stops_there : (terminals : List ℤ) → unknown_terminals network.stops terminals ≡ []
+      → AreStops network (map (terminal_of network.stops) (rising terminals))
+  stops_there terminals none =
+      let IsThere : ℤ → Type 0 = λ id. index_in network.stops id < length network.stops in
+      let known = AllPass-from_list_all (λ id. list_any (int_eq id) network.stops) terminals
+      (all_stops network.stops terminals none) in
+      let there = All-weaker (λ id. list_any (int_eq id) network.stops ≡ true) IsThere
+      (λ id known. (is_index network.stops id known).within) terminals known in
+      All-map (λ terminal. terminal.stop < length network.stops) (terminal_of network.stops)
+      (rising terminals) (all_rising IsThere terminals there)

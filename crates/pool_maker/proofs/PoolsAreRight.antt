@@ -1,0 +1,195 @@
+-- The text of the lines between terminals is right as a pool.
+use Rattle.std.proofs.Common.{◌≡◌, ◌≢◌, ℕ, ℤ, pos, ◌<◌, ◌≤◌, Bool, true, false, cond, not, ◌||◌, nat_eq, List, [], ◌∷◌, ◌++◌, length, map, All, codes, refl, ap, subst, sym, ◌∙◌, arith, append_assoc}
+use Rattle.std.specs.Fmt.{signed_decimal}
+use Rattle.std.specs.List.{flat_map, list_all, list_any, range_with_len}
+use Rattle.std.specs.Ordering.{int_eq}
+use Rattle.std.proofs.lemmas.Bool.{eqb-true}
+use Rattle.std.proofs.lemmas.Int.{ints}
+use Rattle.std.proofs.lemmas.List.{get_or-map, length-map}
+use Rattle.std.proofs.lemmas.List.Elements.{All-append, All-filter, All-head, All-tail, All-weaker}
+use Rattle.std.proofs.lemmas.List.FromFn.{get_or-range_with_len, length-range_with_len}
+use Rattle.std.proofs.lemmas.List.Sums.{AllPass-from_list_all}
+use Rattle.std.proofs.lemmas.Map.Steps.{length-le_from_distinct_below}
+use Rattle.plan_num.specs.Number.{is_number_byte}
+use Rattle.plan_num.proofs.ReadBack.{whole_bytes}
+use Rattle.giv_files.specs.declared.refusal.Refusal.{Refusal}
+use Rattle.giv_files.specs.Columns.{pool_columns}
+use Rattle.giv_files.specs.Writing.{ReadsBack}
+use Rattle.giv_files.proofs.Headers.{plain_header}
+use Rattle.giv_files.proofs.Ranges.{back_none, front_none}
+use Rattle.giv_files.proofs.WrittenBack.{written_back}
+use Rattle.ptn_network.specs.Networks.{IsNetwork, NetworkParts, network_faults, network_of}
+use Rattle.ptn_network.proofs.Sound.{network_sound}
+use Rattle.line_pool.specs.Pools.{LineParts, pool_of}
+use Rattle.line_pool.proofs.EdgesOfTexts.{HasId, edge_ids}
+use Rattle.pool_maker.specs.PoolTexts.{edge_id, pool_header, pool_rows, pool_text, terminal_faults, text_of, uncovered_line, unknown_terminals}
+use Rattle.pool_maker.specs.RightPools.{AreTerminals, IsRightPool, IsShortestLine}
+use Rattle.pool_maker.specs.Tellable.{AreTellable, IsRowId, IsShort}
+use Rattle.pool_maker.specs.TerminalPaths.{is_covered, lines_between, paths_of, uncontained, uncovered}
+use Rattle.pool_maker.proofs.Comments.{AreComments, back_with_comments, comment_more, no_comments}
+use Rattle.pool_maker.proofs.PoolsRead.{lines_are, no_pool_faults, numbers_back}
+use Rattle.pool_maker.proofs.RowsInside.{columns_written, header_plain, own_id, rows_inside}
+use Rattle.pool_maker.proofs.TerminalWays.{IsTerminalPath, few_lines, few_paths, lines_too, paths_right}
+
+-- ---- the comments are comments
+
+number_no_feed : (byte : ℕ) → is_number_byte byte ≡ true → byte ≢ 10
+number_no_feed byte is same = let feed : is_number_byte 10 ≡ true = ap is_number_byte (sym same) ∙ is in cc
+
+id_plain : (id : ℤ) → IsRowId id → All (λ byte. byte ≢ 10) (signed_decimal id)
+id_plain id own =
+    let numbers = AllPass-from_list_all is_number_byte (signed_decimal id)
+    (whole_bytes id (omega (arith, ints, own.low)) (omega (arith, ints, own.high))) in
+    All-weaker (λ byte. is_number_byte byte ≡ true) (λ byte. byte ≢ 10) number_no_feed
+    (signed_decimal id) numbers
+
+module _ (network : NetworkParts) (ids : All (λ edge. IsRowId edge.id) network.edges) where
+  comments_are : (edges : List ℕ) → All (λ edge. edge < length network.edges) edges
+      → AreComments (flat_map (uncovered_line network) edges)
+  comments_are [] there = no_comments
+  comments_are (edge ∷ edges) there =
+      let id = edge_id network edge in
+      let told = codes "# uncovered; " ++ signed_decimal id in
+      let rest = flat_map (uncovered_line network) edges in
+      let own = own_id network ids edge (All-head (λ edge. edge < length network.edges) edge edges there) in
+      let plain = All-append (λ byte. byte ≢ 10) (codes "# uncovered; ") (signed_decimal id)
+      (plain_header (codes "# uncovered; ") refl) (id_plain id own) in
+      subst AreComments (sym (append_assoc told (10 ∷ []) rest))
+      (comment_more (codes " uncovered; " ++ signed_decimal id) rest plain
+      (comments_are edges (All-tail (λ edge. edge < length network.edges) edge edges there)))
+
+  -- the text of lines is read back as their rows
+  text_back : (lines : List (List ℕ)) → AreTellable network lines
+      → ReadsBack pool_columns (pool_rows network lines) (text_of network lines)
+  text_back lines tellable =
+      back_with_comments pool_header pool_columns (pool_rows network lines)
+      (flat_map (uncovered_line network) (uncovered network lines)) header_plain
+      (comments_are (uncovered network lines)
+      (All-filter (λ edge. not (is_covered lines edge)) (λ edge. edge < length network.edges)
+      (range_with_len 0 (length network.edges)) (range_below (length network.edges))))
+      (written_back pool_header pool_columns (pool_rows network lines) (omega arith) columns_written
+      (rows_inside network lines tellable) header_plain)
+    where
+      range_below : (n : ℕ) → All (λ edge. edge < n) (range_with_len 0 n)
+      range_below n k d h =
+          let within : k < n = omega (arith, h, length-range_with_len 0 n) in
+          omega (arith, within, get_or-range_with_len 0 n k d within)
+
+-- ---- lines between terminals can be told
+
+below_member : (edges : List ℕ) (n : ℕ) → All (λ edge. edge < n) edges → (edge : ℕ)
+    → list_any (nat_eq edge) edges ≡ true → edge < n
+below_member [] n all edge is = absurd (cc)
+below_member (first ∷ edges) n all edge is =
+    by (nat_eq edge first) refl is (λ is. below_member edges n (All-tail (λ edge. edge < n) first edges all) edge is)
+  where
+    by : (b : Bool) → nat_eq edge first ≡ b → (b || list_any (nat_eq edge) edges) ≡ true
+        → (list_any (nat_eq edge) edges ≡ true → edge < n) → edge < n
+    by true same is rest =
+        subst (λ at. at < n) (sym (eqb-true edge first same)) (All-head (λ edge. edge < n) first edges all)
+    by false other is rest = rest is
+
+module _ (network : NetworkParts) (sound : IsNetwork network) (terminals : List ℤ) where
+  path_short : (path : List ℕ) → IsTerminalPath network terminals path → IsShort network path
+  path_short path is =
+      let few = length-le_from_distinct_below path (length network.edges) is.simple.apart
+      (below_member path (length network.edges) is.simple.there) in
+      record { few = omega (arith, few, sound.few_edges); there = is.simple.there }
+
+  pub lines_tellable : (lines : List (List ℕ)) → All (λ edge. IsRowId edge.id) network.edges
+      → length lines ≤ 190 → All (IsTerminalPath network terminals) lines → AreTellable network lines
+  lines_tellable lines ids few right = record {
+    ids = ids;
+    few = few;
+    short = All-weaker (IsTerminalPath network terminals) (IsShort network) path_short lines right;
+  }
+
+-- ---- the terminals are stops
+
+known_by : (b : Bool) (fault : Refusal) → cond b [] (fault ∷ []) ≡ [] → b ≡ true
+known_by true fault none = refl
+known_by false fault none = cc
+
+pub all_stops : (stops terminals : List ℤ) → unknown_terminals stops terminals ≡ []
+    → list_all (λ id. list_any (int_eq id) stops) terminals ≡ true
+all_stops stops terminals none = known_by _ _ none
+
+-- ---- the pool
+
+module _ (stops edges : List ℕ) (terminals : List ℤ) (none : terminal_faults stops edges terminals ≡ [])
+    (are : AreTerminals terminals) where
+  abbrev network : NetworkParts
+  network = network_of stops edges
+
+  abbrev lines : List (List ℕ)
+  lines = uncontained (paths_of network terminals)
+
+  no_network_faults : network_faults stops edges ≡ []
+  unfolding terminal_faults
+  no_network_faults =
+      front_none (network_faults stops edges) (unknown_terminals network.stops terminals) none
+
+  none_unknown : unknown_terminals network.stops terminals ≡ []
+  unfolding terminal_faults
+  none_unknown = back_none (network_faults stops edges) (unknown_terminals network.stops terminals) none
+
+  sound : IsNetwork network
+  sound = network_sound stops edges no_network_faults
+
+  row_ids : All (λ edge. IsRowId edge.id) network.edges
+  row_ids = All-weaker HasId (λ edge. IsRowId edge.id)
+      (λ edge own. record { low = own.0; high = own.1 }) network.edges
+      (edge_ids stops edges no_network_faults)
+
+  right : All (IsTerminalPath network terminals) lines
+  right = lines_too (IsTerminalPath network terminals) (paths_of network terminals)
+      (paths_right network sound terminals (all_stops network.stops terminals none_unknown))
+
+  few : length lines ≤ 190
+  few = omega (
+    arith,
+    few_lines (paths_of network terminals),
+    few_paths network terminals are.few,
+  )
+
+  pub tellable : AreTellable network lines
+  tellable = lines_tellable network sound terminals lines row_ids few right
+
+  pub pool_is_right : IsRightPool network terminals (pool_text network terminals)
+  unfolding pool_text lines_between
+  pool_is_right =
+      let text = text_of network lines in
+      let back = text_back network row_ids lines tellable in
+      let rise = sound.edges_rise in
+      let same = lines_are network terminals lines right few rise text back in
+      let count : length (pool_of network text) ≡ length lines =
+      sym (length-map (pool_of network text) (λ (line : LineParts). line.edges)) ∙ ap length same in
+      let shortest : All (IsShortestLine network terminals) lines =
+      All-weaker (IsTerminalPath network terminals) (IsShortestLine network terminals)
+      (λ path is. is.line) lines right in
+      record {
+        accepted = no_pool_faults network terminals lines right few rise text back;
+        few = omega (arith, count, few);
+        numbered = numbers_back network terminals lines right few rise text back
+            ∙ ap (λ n. map pos (range_with_len 1 n)) (sym count);
+        lines = same;
+        shortest = unmapped_all (IsShortestLine network terminals) (λ (line : LineParts). line.edges)
+            (pool_of network text)
+            (subst (All (IsShortestLine network terminals)) (sym same) shortest);
+        told = ap (text_of network) (sym same);
+      }
+    where
+      unmapped_all : {X Y : Type 0} (P : Y → Type 0) (f : X → Y) (xs : List X) → All P (map f xs)
+          → All (λ x. P (f x)) xs
+      unmapped_all P f xs all k d h =
+          subst P (get_or-map f xs k d (f d) h)
+          (all k (f d) (omega (arith, h, length-map xs f)))
+
+-- a text that was made is right
+pub pool_right : (stops edges : List ℕ) (terminals : List ℤ) → AreTerminals terminals
+    → (text : List ℕ) → terminal_faults stops edges terminals ≡ []
+    → text ≡ pool_text (network_of stops edges) terminals
+    → IsRightPool (network_of stops edges) terminals text
+pool_right stops edges terminals are text none made =
+    subst (IsRightPool (network_of stops edges) terminals) (sym made)
+    (pool_is_right stops edges terminals none are)

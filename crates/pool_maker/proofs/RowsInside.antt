@@ -1,0 +1,68 @@
+-- The rows of a pool are within their columns.
+use Rattle.std.proofs.Common.{ℕ, pos, zero, suc, ◌+◌, ◌<◌, ◌≤◌, List, [], ◌∷◌, length, map, All, Option, option_map, unwrap_or, refl, subst, sym, arith}
+use Rattle.std.specs.List.{enumerate_from, flat_map}
+use Rattle.std.proofs.lemmas.Int.{ints}
+use Rattle.std.proofs.lemmas.List.Elements.{All-append, All-cons, All-get_or, All-nil}
+use Rattle.std.proofs.lemmas.Option.{slice_get-get_or}
+use Rattle.giv_files.specs.Columns.{pool_columns}
+use Rattle.giv_files.specs.Tables.{TableRow}
+use Rattle.giv_files.specs.Writing.{CanWrite, InColumns, IsHeader}
+use Rattle.giv_files.proofs.Headers.{plain_header}
+use Rattle.ptn_network.specs.declared.edge.Edge.{Edge}
+use Rattle.ptn_network.specs.Networks.{NetworkParts}
+use Rattle.ptn_network.proofs.PathSteps.{no_edge}
+use Rattle.pool_maker.specs.PoolTexts.{edge_id, line_rows, pool_header, pool_rows, row_at}
+use Rattle.pool_maker.specs.Tellable.{AreTellable, IsRowId, IsShort}
+
+abbrev InPool : TableRow → Type 0
+InPool row = InColumns pool_columns row.cells
+
+pub columns_written : All CanWrite pool_columns
+columns_written zero d h = (omega (arith, ints), omega (arith, ints))
+columns_written (suc zero) d h = (omega (arith, ints), omega (arith, ints))
+columns_written (suc (suc zero)) d h = (omega (arith, ints), omega (arith, ints))
+columns_written (suc (suc (suc k))) d h = absurd (omega arith)
+
+pub header_plain : IsHeader pool_header
+header_plain = (refl, plain_header pool_header refl)
+
+module _ (network : NetworkParts) (ids : All (λ edge. IsRowId edge.id) network.edges) where
+  pub own_id : (edge : ℕ) → edge < length network.edges → IsRowId (edge_id network edge)
+  own_id edge there =
+      subst (λ (found : Option Edge). IsRowId (unwrap_or (option_map (λ at. at.id) found) (pos 0)))
+      (sym (slice_get-get_or network.edges edge no_edge there))
+      (All-get_or (λ edge. IsRowId edge.id) network.edges edge no_edge there ids)
+
+  row_inside : (number place edge : ℕ) → 1 ≤ number → number ≤ 190 → 1 ≤ place → place ≤ 1000
+      → edge < length network.edges → InPool (row_at network number (place, edge))
+  row_inside number place edge some few low high there =
+      let own = own_id edge there in (
+        (omega (arith, ints, some), omega (arith, ints, few)),
+        ((omega (arith, ints, low), omega (arith, ints, high)), ((own.low, own.high), tt)),
+      )
+
+  line_inside : (number n : ℕ) (edges : List ℕ) → 1 ≤ number → number ≤ 190 → 1 ≤ n
+      → n + length edges ≤ 1001 → All (λ edge. edge < length network.edges) edges
+      → All InPool (map (row_at network number) (enumerate_from n edges))
+  line_inside number n [] some few low high there = All-nil InPool
+  line_inside number n (edge ∷ edges) some few low high there =
+      All-cons InPool _ _
+      (row_inside number n edge some few low (omega (arith, high)) (there 0 edge (omega arith)))
+      (line_inside number (n + 1) edges some few (omega (arith, low)) (omega (arith, high))
+      (λ k d h. there (suc k) d (omega (arith, h))))
+
+  lines_inside : (n : ℕ) (lines : List (List ℕ)) → 1 ≤ n → n + length lines ≤ 191
+      → All (IsShort network) lines
+      → All InPool (flat_map (line_rows network) (enumerate_from n lines))
+  lines_inside n [] some few short = All-nil InPool
+  lines_inside n (line ∷ lines) some few short =
+      let own = short 0 line (omega arith) in
+      All-append InPool (line_rows network (n, line)) _
+      (line_inside n 1 line some (omega (arith, few)) (omega arith) (omega (arith, own.few)) own.there)
+      (lines_inside (n + 1) lines (omega (arith, some)) (omega (arith, few))
+      (λ k d h. short (suc k) d (omega (arith, h))))
+
+pub rows_inside : (network : NetworkParts) (lines : List (List ℕ)) → AreTellable network lines
+    → All (λ row. InColumns pool_columns row.cells) (pool_rows network lines)
+rows_inside network lines tellable =
+    lines_inside network tellable.ids 1 lines (omega arith) (omega (arith, tellable.few)) tellable.short

@@ -1,0 +1,37 @@
+-- The comments of edges that no line has.
+use Rattle.std.proofs.Common.{◌≡◌, ℕ, ℤ, ◌+◌, false, List, [], ◌∷◌, ◌++◌, cond, not, codes, append_assoc, append-nil, ap, sym, ◌∙◌, arith, map-id}
+use Rattle.std.specs.Fmt.{signed_decimal}
+use Rattle.std.specs.List.{flat_map, range_with_len}
+use Rattle.std.proofs.lemmas.Grind.{flat_map-append}
+use Rattle.std.proofs.lemmas.List.Elements.{filter-append}
+use Rattle.std.proofs.lemmas.List.FromFn.{map-range_with_len_more}
+use Rattle.ptn_network.specs.Networks.{NetworkParts}
+use Rattle.pool_maker.specs.PoolTexts.{edge_id, uncovered_line}
+use Rattle.pool_maker.specs.TerminalPaths.{is_covered, uncovered_among}
+
+-- those of edges one behind another are those of each of them
+pub comments_both : (comment : ℕ → List ℕ) (lines : List (List ℕ)) (some more : List ℕ)
+    → flat_map comment (uncovered_among lines (some ++ more))
+    ≡ flat_map comment (uncovered_among lines some) ++ flat_map comment (uncovered_among lines more)
+comments_both comment lines some more =
+    ap (flat_map comment) (filter-append (λ edge. not (is_covered lines edge)) some more)
+    ∙ flat_map-append comment (uncovered_among lines some) (uncovered_among lines more)
+
+-- one index more
+pub one_edge_more : (edge : ℕ) → range_with_len 0 (edge + 1) ≡ range_with_len 0 edge ++ edge ∷ []
+one_edge_more edge =
+    sym (map-id (range_with_len 0 (edge + 1)))
+    ∙ map-range_with_len_more (λ at. at) 0 edge edge (omega arith)
+    ∙ ap (λ some. some ++ edge ∷ []) (map-id (range_with_len 0 edge))
+
+-- the comment of an edge that no line has
+pub comment_put : (network : NetworkParts) (lines : List (List ℕ)) (edge : ℕ)
+    (old new comment : List ℕ) (id : ℤ) → is_covered lines edge ≡ false → id ≡ edge_id network edge
+    → comment ≡ codes "# uncovered; " ++ (signed_decimal id ++ codes "\n") → new ≡ old ++ comment
+    → new ≡ old ++ flat_map (uncovered_line network) (uncovered_among lines (edge ∷ []))
+comment_put network lines edge old new comment id none is told put =
+    put ∙ ap (λ some. old ++ some) (told
+    ∙ sym (append_assoc (codes "# uncovered; ") (signed_decimal id) (codes "\n"))
+    ∙ ap (λ id. codes "# uncovered; " ++ signed_decimal id ++ codes "\n") is
+    ∙ sym (append-nil (uncovered_line network edge))
+    ∙ ap (λ b. flat_map (uncovered_line network) (cond (not b) (edge ∷ []) [])) (sym none))

@@ -1,0 +1,14 @@
+-- The terminals are those of the ids so far, each of which is a stop.
+use Rattle.std.proofs.Common.{◌≡◌, true, map, take}
+use Rattle.std.specs.List.{list_all, list_any}
+use Rattle.std.specs.Ordering.{int_eq}
+use Rattle.pool_maker.specs.Terminals.{terminal_of}
+use Rattle.pool_maker.proofs.terminals.find_terminals.Given as goal
+
+abbrev pub invariant-loop-id : goal.invariant-loop-id
+invariant-loop-id l =
+    record {
+      made : l.terminals.items ≡ map (terminal_of l.network.stops) (take l.id-index l.id-items);
+      known : list_all (λ id. list_any (int_eq id) l.network.stops) (take l.id-index l.id-items)
+          ≡ true;
+    }

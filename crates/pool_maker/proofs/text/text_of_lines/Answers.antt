@@ -1,0 +1,11 @@
+use Rattle.std.proofs.Common.{All, arith, subst, sym}
+use Rattle.giv_files.specs.Columns.{pool_columns}
+use Rattle.giv_files.specs.Writing.{InColumns}
+use Rattle.pool_maker.proofs.RowsInside.{columns_written, header_plain, rows_inside}
+use Rattle.pool_maker.proofs.text.text_of_lines.Goals as goal
+
+pub write_table-requires : goal.write_table-requires
+write_table-requires c =
+    let inside = rows_inside c.args.network.now c.args.lines.now c.requires in
+    let rows = subst (All (λ row. InColumns pool_columns row.cells)) (sym c.in_ok-table.ensures) inside in
+    (omega arith, (omega arith, (omega arith, (omega arith, (columns_written, (rows, header_plain))))))
