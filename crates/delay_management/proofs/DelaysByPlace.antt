@@ -8,9 +8,10 @@ use Rattle.event_tables.specs.declared.delay_row.DelayRow.{DelayRow}
 use Rattle.event_tables.specs.declared.expanded_activity.ExpandedActivity.{ExpandedActivity}
 use Rattle.event_tables.specs.declared.expanded_event.ExpandedEvent.{ExpandedEvent}
 use Rattle.event_tables.specs.Places.{AreNumbered, IsOneOf}
+use Rattle.event_tables.proofs.RanksRise.{id_at}
 use Rattle.delay_management.specs.declared.step.Activity.{Activity}
 use Rattle.delay_management.specs.Problems.{delay_of, delayed, earliest_of, is_of}
-use Rattle.delay_management.proofs.Places.{id_at, told_anew}
+use Rattle.delay_management.proofs.Places.{told_anew}
 
 abbrev pub by_place : ℕ → List DelayRow → List ℕ
 by_place count rows = map (delay_of rows) (range_with_len 1 count)

@@ -1,5 +1,5 @@
 -- Inputs without a fault go forward.
-use Rattle.std.proofs.Common.{◌≡◌, ◌∙◌, ℕ, ◌+◌, ◌<◌, ◌≤◌, Bool, true, false, not, List, [], ◌++◌, length, filter, get_or, All, Some, None, refl, ap, sym, subst, arith}
+use Rattle.std.proofs.Common.{◌≡◌, ◌∙◌, ℕ, ◌+◌, ◌<◌, ◌≤◌, Bool, true, false, not, List, ◌++◌, length, filter, get_or, All, Some, None, refl, ap, sym, subst, arith}
 use Rattle.std.specs.List.{enumerate_from}
 use Rattle.std.specs.List.Sorted.{IsNonDecreasingBy, IsPermutation}
 use Rattle.std.proofs.lemmas.List.{length-append, length-map}
@@ -11,29 +11,17 @@ use Rattle.event_tables.specs.declared.delay_row.DelayRow.{DelayRow}
 use Rattle.event_tables.specs.declared.expanded_activity.ExpandedActivity.{ExpandedActivity}
 use Rattle.event_tables.specs.declared.expanded_event.ExpandedEvent.{ExpandedEvent}
 use Rattle.event_tables.specs.declared.schedule_row.ScheduleRow.{ScheduleRow}
-use Rattle.event_tables.specs.Cells.{expanded_event}
 use Rattle.event_tables.specs.ExpandedFiles.{AreExpandedActivities, AreExpandedEvents, IsExpandedActivity}
-use Rattle.event_tables.specs.ForwardOrder.{both_pass, event_with, goes_forward, stands_before}
+use Rattle.event_tables.specs.ForwardOrder.{goes_forward, stands_before}
 use Rattle.event_tables.specs.Places.{AreNumbered, IsOneOf}
 use Rattle.event_tables.specs.Schedules.{AreScheduleRows, IsScheduleRow, is_empty_row}
-use Rattle.event_tables.proofs.Numbering.{find_numbered}
+use Rattle.event_tables.proofs.RanksRise.{at_places, id_at}
 use Rattle.delay_management.specs.declared.links.Link.{Link}
 use Rattle.delay_management.specs.declared.step.Activity.{Activity}
 use Rattle.delay_management.specs.declared.step.Step.{Step}
 use Rattle.delay_management.specs.Links.{IsLinked, change_links, link_of, links_of, ride_links, turn_links}
 use Rattle.delay_management.specs.Problems.{DelayProblem, GoesForward, IsForward, activities_of, delayed, earliest_of, event_at, index_of, is_of, problem_over, turn_of}
-use Rattle.delay_management.proofs.Places.{id_at}
 use Rattle.delay_management.proofs.PassIsLeast.{steps_all}
-
--- the event of an id that goes before that of another stands there
-at_places : (events : List ExpandedEvent) (from to : ℕ) → AreNumbered (λ event. event.id) events
-    → IsOneOf (length events) from → IsOneOf (length events) to → goes_forward events from to ≡ true
-    → stands_before (event_at events (index_of from)) (event_at events (index_of to)) ≡ true
-at_places events from to are one other goes =
-    sym (ap (λ first. both_pass stands_before first (event_with events to))
-    (find_numbered (λ event. event.id) from events (expanded_event []) are one)
-    ∙ ap (both_pass stands_before (Some (event_at events (index_of from))))
-    (find_numbered (λ event. event.id) to events (expanded_event []) are other)) ∙ goes
 
 forward_step : (events : List ExpandedEvent) (from to : ℕ) (step : Step)
     → AreNumbered (λ event. event.id) events → step.from ≡ index_of from → step.to ≡ index_of to

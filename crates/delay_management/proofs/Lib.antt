@@ -18,7 +18,6 @@ mod MarksTell
 mod PassIsLeast
 mod Passing
 mod Places
-mod Ranks
 pub mod ReasonsProve
 mod RefusedInputs
 mod ReportLine

@@ -7,15 +7,16 @@ use Rattle.std.proofs.lemmas.List.Elements.{All-append, All-cons, All-map, All-n
 use Rattle.std.proofs.lemmas.List.FromFn.{get_or-enumerate_from, length-enumerate_from}
 use Rattle.std.proofs.lemmas.List.Sorted.{All-permutation, IsPermutation-sym}
 use Rattle.event_tables.specs.declared.expanded_event.ExpandedEvent.{ExpandedEvent}
+use Rattle.event_tables.specs.ForwardRanks.{forward_rank}
+use Rattle.event_tables.proofs.RanksRise.{rank_rises}
 use Rattle.delay_management.specs.declared.links.Link.{Link}
 use Rattle.delay_management.specs.declared.step.Activity.{Activity}
 use Rattle.delay_management.specs.declared.step.Step.{Step}
 use Rattle.delay_management.specs.LeastTimes.{IsLeast, asked, least_times, time_at}
-use Rattle.delay_management.specs.Links.{IsLinked, change_links, forward_rank, link_of, links_of, pushed_along, ride_links, turn_links}
+use Rattle.delay_management.specs.Links.{IsLinked, change_links, link_of, links_of, pushed_along, ride_links, turn_links}
 use Rattle.delay_management.specs.Problems.{AreChanges, DelayProblem, GoesForward, steps_with}
 use Rattle.delay_management.specs.Waiting.{chosen_changes}
 use Rattle.delay_management.proofs.ForwardPass.{Holds, Joins, below, closed, grows, long}
-use Rattle.delay_management.proofs.Ranks.{rank_rises}
 use Rattle.delay_management.proofs.Rounds.{least_is_one, least_times_are_least}
 
 -- ---- what holds of parts of lists
@@ -152,7 +153,8 @@ module _ (problem : DelayProblem) (links : List Link) (linked : IsLinked problem
     from = goes.from;
     to = goes.to;
     own = refl;
-    rises = rank_rises problem.events step linked.numbered linked.few goes;
+    rises = rank_rises problem.events step.from step.to linked.numbered linked.few goes.from
+        goes.to goes.before;
   }
 
   pub all_join : All (Joins n ranks) links

@@ -2,9 +2,8 @@
 use Rattle.std.proofs.Common.{◌≡◌, ◌≢◌, ◌∙◌, ℕ, ◌+◌, ◌<◌, ◌++◌, append_assoc, true, false, eqb, List, [], ◌∷◌, length, map, get_or, slice_set, refl, ap, sym, arith}
 use Rattle.std.specs.List.{range_with_len}
 use Rattle.std.proofs.lemmas.Bool.{eqb-true, eqb-false}
-use Rattle.std.proofs.lemmas.List.{ext_get_or, get_or-map, get_or-set_same, get_or-set_other, length-set}
-use Rattle.std.proofs.lemmas.List.FromFn.{get_or-map-range_with_len, get_or-range_with_len, length-map-range_with_len, map-range_with_len_more}
-use Rattle.event_tables.specs.Places.{AreNumbered}
+use Rattle.std.proofs.lemmas.List.{ext_get_or, get_or-set_same, get_or-set_other, length-set}
+use Rattle.std.proofs.lemmas.List.FromFn.{get_or-map-range_with_len, length-map-range_with_len, map-range_with_len_more}
 
 -- what is told of a place changes at one of them
 pub told_anew : {X : Type 0} (f g : ℕ → X) (a n i : ℕ) (x : X) → i < n → g (a + i) ≡ x
@@ -29,16 +28,6 @@ told_anew f g a n i x inside here others =
           ∙ sym (others k in_n other)
           ∙ sym (get_or-map-range_with_len g a n k (a + k) x in_n refl)
     ] refl)
-
--- things that are numbered in their order have the ids of their places
-pub id_at : {X : Type 0} (id : X → ℕ) (rows : List X) (i : ℕ) (d : X) → AreNumbered id rows
-    → i < length rows → id (get_or rows i d) ≡ i + 1
-id_at id rows i d are inside =
-    let place : 1 + i ≡ i + 1 = omega arith in
-    sym (get_or-map id rows i d 0 inside)
-    ∙ ap (λ ids. get_or ids i 0) are
-    ∙ get_or-range_with_len 1 (length rows) i 0 inside
-    ∙ place
 
 -- one item more is done, and the others are left
 pub moved : {X : Type 0} (done new left rest all : List X) (x y : X) → left ≡ x ∷ rest

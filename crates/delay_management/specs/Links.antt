@@ -1,24 +1,15 @@
 -- Inner words: the steps in the forward order of their first events, and one pass along them.
-use Rattle.std.specs.Prelude.{ℕ, ◌+◌, ◌*◌, ◌≤◌, Bool, true, false, if◌then◌else◌, List, ◌++◌, length, map, get_or, slice_set, All, Option, Some, None}
+use Rattle.std.specs.Prelude.{ℕ, ◌≤◌, Bool, true, false, if◌then◌else◌, List, ◌++◌, length, map, get_or, slice_set, All, Option, Some, None}
 use Rattle.std.specs.List.{enumerate_from, fold}
 use Rattle.std.specs.List.Sorted.{IsNonDecreasingBy, IsPermutation}
 use Rattle.event_tables.specs.declared.expanded_event.ExpandedEvent.{ExpandedEvent}
-use Rattle.event_tables.specs.Kinds.{is_arrival}
+use Rattle.event_tables.specs.ForwardRanks.{forward_rank}
 use Rattle.event_tables.specs.Places.{AreNumbered}
 use Rattle.delay_management.specs.declared.links.Link.{Link}
 use Rattle.delay_management.specs.declared.step.Activity.{Activity}
 use Rattle.delay_management.specs.declared.step.Step.{Step}
 use Rattle.delay_management.specs.LeastTimes.{asked, later, time_at}
-use Rattle.delay_management.specs.Problems.{DelayProblem, IsForward, event_at, planned_at}
-
--- where an event stands in the forward order, as one number: its time, then arrivals, then its
--- index
-abbrev pub departs_later : ExpandedEvent → ℕ
-departs_later event = if is_arrival event.kind then 0 else 2147483648
-
-abbrev pub forward_rank : List ExpandedEvent → ℕ → ℕ
-forward_rank events event =
-    planned_at events event * 4294967296 + (departs_later (event_at events event) + event)
+use Rattle.delay_management.specs.Problems.{DelayProblem, IsForward}
 
 -- a step with the rank of its first event, and the index of its change, where it is that of one
 abbrev pub link_of : List ExpandedEvent → Option ℕ → Step → Link

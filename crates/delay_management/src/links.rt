@@ -1,10 +1,10 @@
 // Steps in the forward order of their first events.
 ghost use Rattle.std.specs.Prelude.{◌≡◌, ◌<◌, ◌≤◌, ◌++◌, length, All, IfOk, OnOk};
 ghost use Rattle.std.specs.List.Sorted.{IsNonDecreasingBy, IsPermutation};
-ghost use Rattle.delay_management.specs.Links.{change_links, departs_later, forward_rank, link_of, ride_links, turn_links};
+ghost use Rattle.delay_management.specs.Links.{change_links, link_of, ride_links, turn_links};
 
 use crate::step::{Activity, Step};
-use event_tables::{EventKind, ExpandedEvent};
+use event_tables::{ExpandedEvent, forward_rank};
 use plan_num::NoMemory;
 use std::alloc::Global;
 
@@ -124,26 +124,5 @@ fn link_of(events: &[ExpandedEvent], change: Option<u32>, step: &Step) -> Link
         rank: forward_rank(events, step.from),
         step: *step,
         change,
-    }
-}
-
-// Where an event stands in the forward order, as one number.
-fn forward_rank(events: &[ExpandedEvent], event: u32) -> u64
-    requires few { length events.now ≤ 100000 }
-    requires there { event < length events.now }
-    ensures { result ≡ forward_rank events.now event }
-{
-    let at = &events[event as usize];
-    u64::from(at.time) * 4_294_967_296 + (departs_later(at) + u64::from(event))
-}
-
-// What a departure comes later than an arrival of the same time.
-fn departs_later(event: &ExpandedEvent) -> u64
-    ensures value { result ≡ departs_later event.now }
-    ensures small { result ≤ 2147483648 }
-{
-    match event.kind {
-        EventKind::Arrival => 0,
-        EventKind::Departure => 2_147_483_648,
     }
 }

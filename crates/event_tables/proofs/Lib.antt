@@ -4,6 +4,7 @@ mod Files
 mod Fitting
 pub mod Numbering
 mod OwnRows
+pub mod RanksRise
 mod RowsTested
 mod ScheduleRows
 pub mod SoundFiles

@@ -3,6 +3,7 @@ pub mod Delays
 pub mod DisposedTimes
 pub mod ExpandedFiles
 pub mod ForwardOrder
+pub mod ForwardRanks
 pub mod Headers
 pub mod Kinds
 pub mod PeriodicFiles

@@ -1,18 +1,43 @@
 -- The forward order as one number.
-use Rattle.std.proofs.Common.{◌≡◌, ℕ, ◌+◌, ◌*◌, ◌<◌, ◌≤◌, ◌⊎◌, inl, inr, Bool, true, false, cond, eqb, ltb, List, [], ◌∷◌, length, refl, arith}
+use Rattle.std.proofs.Common.{◌≡◌, ◌∙◌, ℕ, ◌+◌, ◌*◌, ◌-◌, ◌<◌, ◌≤◌, ◌⊎◌, inl, inr, Bool, true, false, cond, eqb, ltb, List, [], ◌∷◌, length, get_or, Some, refl, ap, sym, arith}
 use Rattle.std.specs.Cmp.Lexicographic.{slice_cmp}
 use Rattle.std.specs.Ordering.{nat_cmp, is_lt, ordering_then}
 use Rattle.std.specs.declared.cmp.Ordering.{Ordering}
 use Rattle.std.specs.declared.cmp.Ordering.TheVariants.{Less, Equal, Greater}
 use Rattle.std.proofs.lemmas.Bool.{eqb-true, ltb-true, false≢true}
+use Rattle.std.proofs.lemmas.List.{get_or-map}
+use Rattle.std.proofs.lemmas.List.FromFn.{get_or-range_with_len}
 use Rattle.event_tables.specs.declared.expanded_event.ExpandedEvent.{ExpandedEvent}
 use Rattle.event_tables.specs.Cells.{expanded_event}
+use Rattle.event_tables.specs.ForwardOrder.{both_pass, event_with, goes_forward, stands_before}
+use Rattle.event_tables.specs.ForwardRanks.{forward_rank}
 use Rattle.event_tables.specs.Kinds.{is_arrival}
-use Rattle.event_tables.specs.Places.{AreNumbered}
-use Rattle.delay_management.specs.declared.step.Step.{Step}
-use Rattle.delay_management.specs.Links.{forward_rank}
-use Rattle.delay_management.specs.Problems.{GoesForward, event_at}
-use Rattle.delay_management.proofs.Places.{id_at}
+use Rattle.event_tables.specs.Places.{AreNumbered, IsOneOf}
+use Rattle.event_tables.proofs.Numbering.{find_numbered}
+
+-- things that are numbered in their order have the ids of their places
+pub id_at : {X : Type 0} (id : X → ℕ) (rows : List X) (i : ℕ) (d : X) → AreNumbered id rows
+    → i < length rows → id (get_or rows i d) ≡ i + 1
+id_at id rows i d are inside =
+    let place : 1 + i ≡ i + 1 = omega arith in
+    sym (get_or-map id rows i d 0 inside)
+    ∙ ap (λ ids. get_or ids i 0) are
+    ∙ get_or-range_with_len 1 (length rows) i 0 inside
+    ∙ place
+
+-- the event at an index
+abbrev pub at : List ExpandedEvent → ℕ → ExpandedEvent
+at events event = get_or events event (expanded_event [])
+
+-- the event of an id that goes before that of another stands there
+pub at_places : (events : List ExpandedEvent) (from to : ℕ) → AreNumbered (λ event. event.id) events
+    → IsOneOf (length events) from → IsOneOf (length events) to → goes_forward events from to ≡ true
+    → stands_before (at events (from - 1)) (at events (to - 1)) ≡ true
+at_places events from to are one other goes =
+    sym (ap (λ first. both_pass stands_before first (event_with events to))
+    (find_numbered (λ event. event.id) from events (expanded_event []) are one)
+    ∙ ap (both_pass stands_before (Some (at events (from - 1))))
+    (find_numbered (λ event. event.id) to events (expanded_event []) are other)) ∙ goes
 
 -- the first of two numbers that differ decides
 decided : (x y : ℕ) (rest : Ordering) → is_lt (ordering_then (nat_cmp x y) rest) ≡ true
@@ -56,41 +81,42 @@ most_late true = omega arith
 most_late false = omega arith
 
 -- of two events in the forward order the second has the greater rank
-pub rank_rises : (events : List ExpandedEvent) (step : Step) → AreNumbered (λ event. event.id) events
-    → length events ≤ 100000 → GoesForward events step
-    → forward_rank events step.from < forward_rank events step.to
+pub rank_rises : (events : List ExpandedEvent) (from to : ℕ)
+    → AreNumbered (λ event. event.id) events → length events ≤ 100000 → from < length events
+    → to < length events → stands_before (at events from) (at events to) ≡ true
+    → forward_rank events from < forward_rank events to
 unfolding lateness place_of
-rank_rises events step are few goes =
-    by (decided a.time b.time _ goes.before)
+rank_rises events from to are few from_there to_there before =
+    by (decided a.time b.time _ before)
   where
     a : ExpandedEvent
-    a = event_at events step.from
+    a = at events from
 
     b : ExpandedEvent
-    b = event_at events step.to
+    b = at events to
 
     rank : ℕ → Bool → ℕ → ℕ
     rank time arrives event = time * 4294967296 + (lateness arrives + event)
 
     by_id : a.time ≡ b.time → place_of (is_arrival a.kind) ≡ place_of (is_arrival b.kind)
         → (a.id < b.id) ⊎ ((a.id ≡ b.id) × (is_lt Equal ≡ true))
-        → rank a.time (is_arrival a.kind) step.from < rank b.time (is_arrival b.kind) step.to
+        → rank a.time (is_arrival a.kind) from < rank b.time (is_arrival b.kind) to
     by_id time kind (inl less) =
-        let first = id_at (λ event. event.id) events step.from (expanded_event []) are goes.from in
-        let second = id_at (λ event. event.id) events step.to (expanded_event []) are goes.to in
+        let first = id_at (λ event. event.id) events from (expanded_event []) are from_there in
+        let second = id_at (λ event. event.id) events to (expanded_event []) are to_there in
         omega (arith, time, same_place (is_arrival a.kind) (is_arrival b.kind) kind, less, first, second)
     by_id time kind (inr both) = absurd (false≢true both.1)
 
     by_kind : a.time ≡ b.time
         → (place_of (is_arrival a.kind) < place_of (is_arrival b.kind))
         ⊎ ((place_of (is_arrival a.kind) ≡ place_of (is_arrival b.kind)) × (is_lt (slice_cmp nat_cmp (a.id ∷ []) (b.id ∷ [])) ≡ true))
-        → rank a.time (is_arrival a.kind) step.from < rank b.time (is_arrival b.kind) step.to
+        → rank a.time (is_arrival a.kind) from < rank b.time (is_arrival b.kind) to
     by_kind time (inl less) =
-        omega (arith, time, later_place (is_arrival a.kind) (is_arrival b.kind) less, goes.from, few)
+        omega (arith, time, later_place (is_arrival a.kind) (is_arrival b.kind) less, from_there, few)
     by_kind time (inr both) = by_id time both.0 (decided a.id b.id Equal both.1)
 
     by : (a.time < b.time) ⊎ ((a.time ≡ b.time) × (is_lt (slice_cmp nat_cmp (place_of (is_arrival a.kind) ∷ a.id ∷ []) (place_of (is_arrival b.kind) ∷ b.id ∷ [])) ≡ true))
-        → rank a.time (is_arrival a.kind) step.from < rank b.time (is_arrival b.kind) step.to
-    by (inl less) = omega (arith, less, most_late (is_arrival a.kind), goes.from, few)
+        → rank a.time (is_arrival a.kind) from < rank b.time (is_arrival b.kind) to
+    by (inl less) = omega (arith, less, most_late (is_arrival a.kind), from_there, few)
     by (inr both) =
         by_kind both.0 (decided (place_of (is_arrival a.kind)) (place_of (is_arrival b.kind)) _ both.1)
