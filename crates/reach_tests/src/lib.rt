@@ -1,5 +1,14 @@
-//! Tests of the calls of the further reach: pools of shortest lines.
+//! Tests of the calls that answer questions beside the stages: journeys and how they are judged, and
+//! pools of shortest lines.
 #![tactic(auto)]
 
+#[cfg(test)]
+mod journey_check;
+#[cfg(test)]
+mod journey_days;
+#[cfg(test)]
+mod journey_refused;
+#[cfg(test)]
+mod journey_told;
 #[cfg(test)]
 mod pool_rows;
