@@ -1,0 +1,7 @@
+use Rattle.std.proofs.Common.{drop}
+use Rattle.plan_queries.proofs.WordFacts.{IsIds}
+use Rattle.plan_queries.proofs.parse.ids_in.Given as goal
+
+-- all ids are those of the words so far, and then those of the words that are left
+abbrev pub invariant-loop-word : goal.invariant-loop-word
+invariant-loop-word l = IsIds l.words l.ids (drop l.word-index l.words)

@@ -1,0 +1,2 @@
+pub mod FormWords
+pub mod Queries

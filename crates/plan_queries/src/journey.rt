@@ -1,0 +1,82 @@
+// Journeys over a folder.
+ghost use Rattle.std.specs.Prelude.{◌≡◌, false, IfSome, Ok, None, option_copied};
+ghost use Rattle.plan_files.specs.Reads.{OnlyReads};
+ghost use Rattle.stage_chain.specs.Ends.{is_broken, Gives};
+ghost use Rattle.plan_queries.specs.Queries.{JourneyTells, Tells, TellsJourney, times_in};
+
+use crate::answer::{Answer, QueryEnd};
+use crate::fault::end_of_fault;
+use giv_files::{FileId, Stage};
+use journeys::{JourneyNet, print_journey};
+use plan_files::Files;
+use plan_num::Text;
+use stage_chain::{ChainEnd, standing_text};
+use std::alloc::Global;
+
+/// The journey from a stop to another one that starts at a time or later and arrives first, and what
+/// can be reached before it.
+pub(crate) fn journey<F: Files>(
+    alloc: Global,
+    files: &mut F,
+    from: i64,
+    to: i64,
+    start: i64,
+    disposed: bool,
+) -> Result<Answer, ChainEnd>
+    ensures tells { IfSome (F.contents files.old) (λ folder.
+        Tells (JourneyTells from to start disposed folder) result) }
+    ensures only_reads { OnlyReads F.contents F.writes F.faults files.old files.new
+        (is_broken result) }
+{
+    let events = standing_text(alloc, files, FileId::EventsX)?;
+    let activities = standing_text(alloc, files, FileId::ActivitiesX)?;
+    let times = times(alloc, files, disposed)?;
+    over(alloc, from, to, start, &events, &activities, &times)
+}
+
+// The disposed times, where they are asked for.
+fn times<F: Files>(
+    alloc: Global,
+    files: &mut F,
+    disposed: bool,
+) -> Result<Option<Text>, ChainEnd>
+    ensures times { IfSome (F.contents files.old) (λ folder.
+        Gives (times_in disposed folder) result) }
+    ensures only_reads { OnlyReads F.contents F.writes F.faults files.old files.new
+        (is_broken result) }
+{
+    if disposed {
+        Ok(Some(standing_text(alloc, files, FileId::Disposed)?))
+    } else {
+        Ok(None)
+    }
+}
+
+// The journey over the texts of a day.
+fn over(
+    alloc: Global,
+    from: i64,
+    to: i64,
+    start: i64,
+    events: &Text,
+    activities: &Text,
+    times: &Option<Text>,
+) -> Result<Answer, ChainEnd>
+    ensures tells { Tells (TellsJourney from to start events.now activities.now times.now) result }
+    ensures fault_free { is_broken result ≡ false }
+{
+    let times = match times {
+        Some(times) => Some(times.as_bytes()),
+        None => None,
+    };
+    match JourneyNet::from_texts(alloc, events.as_bytes(), activities.as_bytes(), times) {
+        Ok(net) => {
+            let found = net.earliest(alloc, from, to, start)?;
+            Ok(Answer {
+                end: QueryEnd::Done,
+                report: print_journey(alloc, &net, &found)?,
+            })
+        }
+        Err(fault) => Err(end_of_fault(Stage::Disposition, fault)),
+    }
+}

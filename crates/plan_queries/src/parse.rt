@@ -1,0 +1,165 @@
+// The words that ask for something.
+ghost use Rattle.std.specs.Prelude.{◌≡◌, IfOk, map, string_bytes};
+ghost use Rattle.plan_queries.specs.FormWords.{are_apart, check_form, five_words, form_of, ids_in};
+ghost use Rattle.plan_queries.specs.FormWords.{is_disposed, journey_form, pool_form, pool_of_ids};
+ghost use Rattle.plan_queries.specs.FormWords.{sized_form, three_words, two_words, waits_form};
+
+use crate::form::Form;
+use crate::terminals::Terminals;
+use crate::words::{amount_in, id_in, number_in};
+use plan_num::NoMemory;
+use std::alloc::Global;
+
+/// The question that words ask, if they ask one of these.
+pub fn form_of(alloc: Global, words: &[String]) -> Result<Option<Form>, NoMemory>
+    ensures { IfOk result (λ form. form ≡ form_of (map string_bytes words.now)) }
+{
+    match words {
+        [] => Ok(None),
+        [first, more @ ..] if first.as_str() == "pool" => pool_form(alloc, more),
+        [first, more @ ..] => Ok(sized_form(first.as_str(), more)),
+    }
+}
+
+// The question of a first word and of one, two or four after it.
+fn sized_form(first: &str, words: &[String]) -> Option<Form>
+    ensures { result ≡ sized_form first.now (map string_bytes words.now) }
+{
+    match words {
+        [penalty] => two_words(first, penalty.as_str()),
+        [penalty, budget] => three_words(first, penalty.as_str(), budget.as_str()),
+        [from, to, start, times] => five_words(
+            first,
+            from.as_str(),
+            to.as_str(),
+            start.as_str(),
+            times.as_str(),
+        ),
+        [] => None,
+        [_, _, _] => None,
+        [_, _, _, _, _, ..] => None,
+    }
+}
+
+fn two_words(first: &str, penalty: &str) -> Option<Form>
+    ensures { result ≡ two_words first.now penalty.now }
+{
+    if first == "check-waits" {
+        check_form(penalty)
+    } else {
+        None
+    }
+}
+
+fn three_words(first: &str, penalty: &str, budget: &str) -> Option<Form>
+    ensures { result ≡ three_words first.now penalty.now budget.now }
+{
+    if first == "waits" {
+        waits_form(penalty, budget)
+    } else {
+        None
+    }
+}
+
+fn five_words(first: &str, from: &str, to: &str, start: &str, times: &str) -> Option<Form>
+    ensures { result ≡ five_words first.now from.now to.now start.now times.now }
+{
+    if first == "journey" {
+        journey_form(from, to, start, times)
+    } else {
+        None
+    }
+}
+
+// A test of a waiting decision, at a penalty of 0 to 1,000,000 minutes.
+fn check_form(penalty: &str) -> Option<Form>
+    ensures { result ≡ check_form penalty.now }
+{
+    let penalty = amount_in(0, 1_000_000, penalty)?;
+    Some(Form::CheckWaits { penalty })
+}
+
+// A waiting decision, at such a penalty and within a budget of 1 to 20,000 entries.
+fn waits_form(penalty: &str, budget: &str) -> Option<Form>
+    ensures { result ≡ waits_form penalty.now budget.now }
+{
+    let penalty = amount_in(0, 1_000_000, penalty)?;
+    let budget = amount_in(1, 20_000, budget)?;
+    Some(Form::Waits { penalty, budget })
+}
+
+// A journey between two different stops.
+fn journey_form(from: &str, to: &str, start: &str, times: &str) -> Option<Form>
+    ensures { result ≡ journey_form from.now to.now start.now times.now }
+{
+    let from = id_in(from)?;
+    let to = id_in(to)?;
+    let start = number_in(0, 1_000_000_000, start)?;
+    let disposed = is_disposed(times)?;
+    if from == to {
+        None
+    } else {
+        Some(Form::Journey {
+            from,
+            to,
+            start,
+            disposed,
+        })
+    }
+}
+
+// Whether times are disposed, by a word.
+fn is_disposed(word: &str) -> Option<bool>
+    ensures { result ≡ is_disposed word.now }
+{
+    match word {
+        "planned" => Some(false),
+        "disposed" => Some(true),
+        _ => None,
+    }
+}
+
+// A pool of 2 to 20 different stops.
+fn pool_form(alloc: Global, words: &[String]) -> Result<Option<Form>, NoMemory>
+    ensures { IfOk result (λ form. form ≡ pool_form (map string_bytes words.now)) }
+{
+    match ids_in(alloc, words)? {
+        Some(ids) => Ok(pool_of_ids(ids)),
+        None => Ok(None),
+    }
+}
+
+fn pool_of_ids(ids: Terminals) -> Option<Form>
+    ensures { result ≡ pool_of_ids ids }
+{
+    let count = ids.as_slice().len();
+    if 2 <= count && count <= 20 && are_apart(ids.as_slice()) {
+        Some(Form::Pool(ids))
+    } else {
+        None
+    }
+}
+
+// The ids of some words, where each is one.
+fn ids_in(alloc: Global, words: &[String]) -> Result<Option<Terminals>, NoMemory>
+    ensures { IfOk result (λ ids. ids ≡ ids_in (map string_bytes words.now)) }
+{
+    let mut ids = Terminals::new(alloc);
+    for word in words {
+        match id_in(word.as_str()) {
+            Some(id) => ids.push(id)?,
+            None => return Ok(None),
+        }
+    }
+    Ok(Some(ids))
+}
+
+// Whether ids differ from one another.
+fn are_apart(ids: &[i64]) -> bool
+    ensures { result ≡ are_apart ids.now }
+{
+    match ids {
+        [] => true,
+        [id, more @ ..] => !more.contains(id) && are_apart(more),
+    }
+}

@@ -1,0 +1,52 @@
+// Pools of lines over a folder.
+ghost use Rattle.std.specs.Prelude.{◌≡◌, false, IfSome, Ok};
+ghost use Rattle.plan_files.specs.Reads.{OnlyReads};
+ghost use Rattle.pool_maker.specs.RightPools.{AreTerminals};
+ghost use Rattle.stage_chain.specs.Ends.{is_broken, Gives};
+ghost use Rattle.plan_queries.specs.Queries.{pool_over, pool_told};
+
+use crate::answer::{Answer, QueryEnd};
+use crate::fault::end_of_fault;
+use giv_files::{FileId, Stage};
+use plan_files::Files;
+use plan_num::Text;
+use pool_maker::make_pool;
+use stage_chain::{ChainEnd, standing_text};
+use std::alloc::Global;
+
+/// The pool of shortest lines between terminals.
+pub(crate) fn pool<F: Files>(
+    alloc: Global,
+    files: &mut F,
+    terminals: &[i64],
+) -> Result<Answer, ChainEnd>
+    requires { AreTerminals terminals.now }
+    ensures tells { IfSome (F.contents files.old) (λ folder.
+        Gives (pool_told terminals.now folder) result) }
+    ensures only_reads { OnlyReads F.contents F.writes F.faults files.old files.new
+        (is_broken result) }
+{
+    let stops = standing_text(alloc, files, FileId::Stop)?;
+    let edges = standing_text(alloc, files, FileId::Edge)?;
+    over(alloc, &stops, &edges, terminals)
+}
+
+// The pool over the texts of stops and of edges.
+fn over(
+    alloc: Global,
+    stops: &Text,
+    edges: &Text,
+    terminals: &[i64],
+) -> Result<Answer, ChainEnd>
+    requires { AreTerminals terminals.now }
+    ensures tells { Gives (pool_over terminals.now (Ok stops.now) (Ok edges.now)) result }
+    ensures fault_free { is_broken result ≡ false }
+{
+    match make_pool(alloc, stops.as_bytes(), edges.as_bytes(), terminals) {
+        Ok(report) => Ok(Answer {
+            end: QueryEnd::Done,
+            report,
+        }),
+        Err(fault) => Err(end_of_fault(Stage::Load, fault)),
+    }
+}
