@@ -90,7 +90,7 @@ below_member (first ∷ edges) n all edge is =
     by false other is rest = rest is
 
 module _ (network : NetworkParts) (sound : IsNetwork network) (terminals : List ℤ) where
-  path_short : (path : List ℕ) → IsTerminalPath network terminals path → IsShort network path
+  pub path_short : (path : List ℕ) → IsTerminalPath network terminals path → IsShort network path
   path_short path is =
       let few = length-le_from_distinct_below path (length network.edges) is.simple.apart
       (below_member path (length network.edges) is.simple.there) in

@@ -88,7 +88,7 @@ module _ (network : NetworkParts) (sound : IsNetwork network) where
       (some_length from to within way_is.0))
 
   module _ (terminals : List ℤ) where
-    way_of : (pair : ℤ × ℤ) → AreInOrder (IsKnown terminals) pair → (found : List ℕ)
+    pub way_of : (pair : ℤ × ℤ) → AreInOrder (IsKnown terminals) pair → (found : List ℕ)
         → way network (index_in network.stops pair.0) (index_in network.stops pair.1) ≡ Some found
         → IsTerminalPath network terminals found
     way_of pair are found is =
