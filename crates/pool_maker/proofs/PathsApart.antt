@@ -1,15 +1,14 @@
 -- No two paths between terminals lie in one another, so each path lies in a line.
-use Rattle.std.proofs.Common.{◌≡◌, ◌≢◌, ℕ, ℤ, pos, zero, suc, ◌+◌, ◌<◌, ◌≤◌, ◌<ℤ◌, Bool, true, false, not, ◌&&◌, ◌||◌, cond, int_lt, nat_eq, List, [], ◌∷◌, ◌++◌, length, map, filter, filter_map, get_or, All, Any, Contains, Option, Some, None, inl, inr, refl, ap, subst, sym, ◌∙◌, arith}
-use Rattle.std.specs.List.{AllByRecursion, IsDistinct, cons_option, enumerate_from, list_all, list_any}
+use Rattle.std.proofs.Common.{◌≡◌, ◌≢◌, ℕ, ℤ, pos, zero, suc, ◌<◌, Bool, true, false, ◌&&◌, ◌||◌, nat_eq, List, [], ◌∷◌, ◌++◌, length, map, filter_map, get_or, All, Option, Some, None, inl, inr, refl, ap, subst, sym, ◌∙◌, arith}
+use Rattle.std.specs.List.{AllByRecursion, IsDistinct, cons_option, list_all, list_any}
 use Rattle.std.specs.List.Sorted.{IsStrictlySortedBy}
 use Rattle.std.specs.Ordering.{int_cmp, int_eq}
 use Rattle.std.specs.declared.cmp.Ordering.TheVariants.{Less}
-use Rattle.std.proofs.lemmas.Bool.{cases_lt, eq-eqb, eqb-true, ne_eqb}
+use Rattle.std.proofs.lemmas.Bool.{cases_lt, eq-eqb, eqb-true}
 use Rattle.std.proofs.lemmas.Bool.Decides.{Decides-int_eq}
 use Rattle.std.proofs.lemmas.Cmp.{nat_eq_equiv}
 use Rattle.std.proofs.lemmas.Int.{ints}
-use Rattle.std.proofs.lemmas.List.Elements.{All-get_or, All-head, All-tail}
-use Rattle.std.proofs.lemmas.List.Folds.{Any-from_list_any, list_any_at}
+use Rattle.std.proofs.lemmas.List.Elements.{All-head, All-tail}
 use Rattle.std.proofs.lemmas.Map.Made.{length-le_from_is_member}
 use Rattle.ptn_network.specs.Networks.{IsNetwork, NetworkParts, index_in, rising}
 use Rattle.ptn_network.specs.Paths.{edges_at, way}
@@ -19,10 +18,9 @@ use Rattle.line_pool.proofs.WalkRows.{below_differs}
 use Rattle.pool_maker.specs.Laws.{PathsAreApart}
 use Rattle.pool_maker.specs.PoolTexts.{unknown_terminals}
 use Rattle.pool_maker.specs.TerminalPaths.{lies_in, pairs_of, paths_of}
-use Rattle.pool_maker.proofs.EndsOfWalks.{AreIn, members_in, paths_ends}
+use Rattle.pool_maker.proofs.EndsOfWalks.{members_in, paths_ends}
 use Rattle.pool_maker.proofs.PairsOfIds.{AreInOrder, less_is, not_own, pairs_after, pairs_are}
-use Rattle.pool_maker.proofs.PoolsAreRight.{all_stops}
-use Rattle.pool_maker.proofs.TerminalWays.{IsKnown, IsTerminalPath, in_order, is_index, way_of, way_shortest}
+use Rattle.pool_maker.proofs.TerminalWays.{IsKnown, all_stops, in_order, is_index, way_of, way_shortest}
 
 -- ---- the pairs differ
 
@@ -164,9 +162,10 @@ module _ (network : NetworkParts) (sound : IsNetwork network) (terminals : List 
       by : (found : Option (List ℕ)) → way_at pair ≡ found → AllApart (filter_map way_at pairs)
           → AllApart (cons_option found (filter_map way_at pairs))
       by None is rest = rest
-      by (Some path) is rest =
-          (one_apart pair path pairs (All-head Known pair pairs all) is (All-tail Known pair pairs all) apart.0,
-            rest)
+      by (Some path) is rest = (
+        one_apart pair path pairs (All-head Known pair pairs all) is (All-tail Known pair pairs all) apart.0,
+        rest,
+      )
 
   module _ (none : unknown_terminals network.stops terminals ≡ []) where
     pub paths_of_apart : AllApart (paths_of network terminals)
