@@ -1,13 +1,16 @@
 mod Comments
+mod EndsOfWalks
 mod LeastWalks
 mod LinesOfPaths
 mod MadePools
 mod OneMore
 mod PairsOfIds
+mod PathsApart
 mod PathsOver
 mod PoolsAreRight
 mod PoolsRead
 mod RowsInside
+mod ServedPaths
 mod SortedIds
 mod TerminalWays
 mod UncoveredEdges

@@ -57,7 +57,7 @@ not_own x y is same =
 
 -- ---- each id with those after it
 
-pub pairs_after : List ℤ → List (ℤ × ℤ)
+unfoldable pub pairs_after : List ℤ → List (ℤ × ℤ)
 pairs_after [] = []
 pairs_after (id ∷ ids) = map (λ to. (id, to)) ids ++ pairs_after ids
 

@@ -8,8 +8,7 @@ use Rattle.line_pool.proofs.SoundLines.{all_rising}
 use Rattle.pool_maker.specs.PoolTexts.{unknown_terminals}
 use Rattle.pool_maker.specs.TerminalPaths.{paths_of}
 use Rattle.pool_maker.specs.Terminals.{AreStops, paths_over, terminal_of, way_between}
-use Rattle.pool_maker.proofs.PoolsAreRight.{all_stops}
-use Rattle.pool_maker.proofs.TerminalWays.{is_index}
+use Rattle.pool_maker.proofs.TerminalWays.{all_stops, is_index}
 use Rattle.std.specs.List.{list_any}
 use Rattle.std.specs.Ordering.{int_eq}
 use Rattle.std.proofs.lemmas.List.Sums.{AllPass-from_list_all}

@@ -1,18 +1,14 @@
 -- The text of the lines between terminals is right as a pool.
-use Rattle.std.proofs.Common.{◌≡◌, ◌≢◌, ℕ, ℤ, pos, ◌<◌, ◌≤◌, Bool, true, false, cond, not, ◌||◌, nat_eq, List, [], ◌∷◌, ◌++◌, length, map, All, codes, refl, ap, subst, sym, ◌∙◌, arith, append_assoc}
+use Rattle.std.proofs.Common.{◌≡◌, ◌≢◌, ℕ, ℤ, pos, ◌<◌, ◌≤◌, true, not, List, [], ◌∷◌, ◌++◌, length, map, get_or, All, Any, codes, refl, ap, subst, sym, ◌∙◌, arith, append_assoc}
 use Rattle.std.specs.Fmt.{signed_decimal}
-use Rattle.std.specs.List.{flat_map, list_all, list_any, range_with_len}
-use Rattle.std.specs.Ordering.{int_eq}
-use Rattle.std.proofs.lemmas.Bool.{eqb-true}
+use Rattle.std.specs.List.{flat_map, range_with_len}
 use Rattle.std.proofs.lemmas.Int.{ints}
-use Rattle.std.proofs.lemmas.List.{get_or-map, length-map}
+use Rattle.std.proofs.lemmas.List.{get_or-map, get_or_default, length-map}
 use Rattle.std.proofs.lemmas.List.Elements.{All-append, All-filter, All-head, All-tail, All-weaker}
 use Rattle.std.proofs.lemmas.List.FromFn.{get_or-range_with_len, length-range_with_len}
 use Rattle.std.proofs.lemmas.List.Sums.{AllPass-from_list_all}
-use Rattle.std.proofs.lemmas.Map.Steps.{length-le_from_distinct_below}
 use Rattle.plan_num.specs.Number.{is_number_byte}
 use Rattle.plan_num.proofs.ReadBack.{whole_bytes}
-use Rattle.giv_files.specs.declared.refusal.Refusal.{Refusal}
 use Rattle.giv_files.specs.Columns.{pool_columns}
 use Rattle.giv_files.specs.Writing.{ReadsBack}
 use Rattle.giv_files.proofs.Headers.{plain_header}
@@ -25,11 +21,12 @@ use Rattle.line_pool.proofs.EdgesOfTexts.{HasId, edge_ids}
 use Rattle.pool_maker.specs.PoolTexts.{edge_id, pool_header, pool_rows, pool_text, terminal_faults, text_of, uncovered_line, unknown_terminals}
 use Rattle.pool_maker.specs.RightPools.{AreTerminals, IsRightPool, IsShortestLine}
 use Rattle.pool_maker.specs.Tellable.{AreTellable, IsRowId, IsShort}
-use Rattle.pool_maker.specs.TerminalPaths.{is_covered, lines_between, paths_of, uncontained, uncovered}
+use Rattle.pool_maker.specs.TerminalPaths.{is_covered, lies_in, lines_between, paths_of, uncontained, uncovered}
 use Rattle.pool_maker.proofs.Comments.{AreComments, back_with_comments, comment_more, no_comments}
 use Rattle.pool_maker.proofs.PoolsRead.{lines_are, no_pool_faults, numbers_back}
 use Rattle.pool_maker.proofs.RowsInside.{columns_written, header_plain, own_id, rows_inside}
-use Rattle.pool_maker.proofs.TerminalWays.{IsTerminalPath, few_lines, few_paths, lines_too, paths_right}
+use Rattle.pool_maker.proofs.TerminalWays.{IsTerminalPath, all_stops, few_lines, few_paths, lines_too, path_short, paths_right}
+use Rattle.pool_maker.proofs.ServedPaths.{each_path_is_served}
 
 -- ---- the comments are comments
 
@@ -77,42 +74,40 @@ module _ (network : NetworkParts) (ids : All (λ edge. IsRowId edge.id) network.
 
 -- ---- lines between terminals can be told
 
-below_member : (edges : List ℕ) (n : ℕ) → All (λ edge. edge < n) edges → (edge : ℕ)
-    → list_any (nat_eq edge) edges ≡ true → edge < n
-below_member [] n all edge is = absurd (cc)
-below_member (first ∷ edges) n all edge is =
-    by (nat_eq edge first) refl is (λ is. below_member edges n (All-tail (λ edge. edge < n) first edges all) edge is)
-  where
-    by : (b : Bool) → nat_eq edge first ≡ b → (b || list_any (nat_eq edge) edges) ≡ true
-        → (list_any (nat_eq edge) edges ≡ true → edge < n) → edge < n
-    by true same is rest =
-        subst (λ at. at < n) (sym (eqb-true edge first same)) (All-head (λ edge. edge < n) first edges all)
-    by false other is rest = rest is
-
 module _ (network : NetworkParts) (sound : IsNetwork network) (terminals : List ℤ) where
-  path_short : (path : List ℕ) → IsTerminalPath network terminals path → IsShort network path
-  path_short path is =
-      let few = length-le_from_distinct_below path (length network.edges) is.simple.apart
-      (below_member path (length network.edges) is.simple.there) in
-      record { few = omega (arith, few, sound.few_edges); there = is.simple.there }
-
   pub lines_tellable : (lines : List (List ℕ)) → All (λ edge. IsRowId edge.id) network.edges
       → length lines ≤ 190 → All (IsTerminalPath network terminals) lines → AreTellable network lines
   lines_tellable lines ids few right = record {
     ids = ids;
     few = few;
-    short = All-weaker (IsTerminalPath network terminals) (IsShort network) path_short lines right;
+    short = All-weaker (IsTerminalPath network terminals) (IsShort network)
+        (path_short network sound terminals) lines right;
   }
 
--- ---- the terminals are stops
+-- ---- paths lie in lines of the pool
 
-known_by : (b : Bool) (fault : Refusal) → cond b [] (fault ∷ []) ≡ [] → b ≡ true
-known_by true fault none = refl
-known_by false fault none = cc
+any_unmapped : {X Y : Type 0} (P : Y → Type 0) (f : X → Y) (xs : List X) → Any P (map f xs)
+    → Any (λ x. P (f x)) xs
+any_unmapped P f [] there = absurd (omega (arith, there.2))
+any_unmapped P f (x ∷ xs) there =
+    let all = x ∷ xs in
+    let k = there.0 in
+    let within : k < length all = omega (arith, there.2, length-map all f) in (
+      k,
+      get_or all k x,
+      within,
+      get_or_default all k (get_or all k x) x within,
+      subst P (sym there.3 ∙ get_or-map f all k x there.1 within) there.4,
+    )
 
-pub all_stops : (stops terminals : List ℤ) → unknown_terminals stops terminals ≡ []
-    → list_all (λ id. list_any (int_eq id) stops) terminals ≡ true
-all_stops stops terminals none = known_by _ _ none
+served_back : (paths : List (List ℕ)) (lines : List LineParts)
+    → All (λ path. Any (λ line. lies_in path line ≡ true) (map (λ line. line.edges) lines)) paths
+    → All (λ path. Any (λ line. lies_in path line.edges ≡ true) lines) paths
+served_back paths lines all =
+    All-weaker (λ path. Any (λ line. lies_in path line ≡ true) (map (λ (line : LineParts). line.edges) lines))
+    (λ path. Any (λ (line : LineParts). lies_in path line.edges ≡ true) lines)
+    (λ path there. any_unmapped (λ line. lies_in path line ≡ true) (λ (line : LineParts). line.edges) lines there)
+    paths all
 
 -- ---- the pool
 
@@ -176,6 +171,10 @@ module _ (stops edges : List ℕ) (terminals : List ℤ) (none : terminal_faults
         shortest = unmapped_all (IsShortestLine network terminals) (λ (line : LineParts). line.edges)
             (pool_of network text)
             (subst (All (IsShortestLine network terminals)) (sym same) shortest);
+        served = served_back (paths_of network terminals) (pool_of network text)
+            (subst (λ lines. All (λ path. Any (λ line. lies_in path line ≡ true) lines)
+            (paths_of network terminals)) (sym same)
+            (each_path_is_served network terminals sound none_unknown));
         told = ap (text_of network) (sym same);
       }
     where

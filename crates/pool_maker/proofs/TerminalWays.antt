@@ -1,13 +1,16 @@
 -- The paths between terminals are shortest lines, and there are not more than 190 of them.
-use Rattle.std.proofs.Common.{◌≡◌, ℕ, ℤ, pos, ◌+◌, ◌<◌, ◌≤◌, Bool, true, false, cond, not, List, [], ◌∷◌, length, map, filter, filter_map, get_or, position, All, Contains, Option, Some, None, option_map, is_some, unwrap_or, unsigned_abs, refl, ap, subst, sym, ◌∙◌, arith}
+use Rattle.std.proofs.Common.{◌≡◌, ℕ, ℤ, pos, ◌+◌, ◌<◌, ◌≤◌, Bool, true, false, cond, not, ◌||◌, nat_eq, List, [], ◌∷◌, length, map, filter, filter_map, get_or, position, All, Contains, Option, Some, None, option_map, is_some, unwrap_or, unsigned_abs, refl, ap, subst, sym, ◌∙◌, arith}
 use Rattle.std.specs.List.{cons_option, enumerate_from, list_all, list_any}
 use Rattle.std.specs.Ordering.{int_eq}
+use Rattle.std.proofs.lemmas.Bool.{eqb-true}
 use Rattle.std.proofs.lemmas.Bool.Decides.{Decides-int_eq}
 use Rattle.std.proofs.lemmas.List.Elements.{All-cons, All-contains_itself, All-head, All-nil, All-tail}
 use Rattle.std.proofs.lemmas.List.FromFn.{get_or-map-range_with_len, length-enumerate_from}
 use Rattle.std.proofs.lemmas.List.Quantifiers.{position-Some}
 use Rattle.std.proofs.lemmas.List.Sums.{AllPass-from_list_all}
+use Rattle.std.proofs.lemmas.Map.Steps.{length-le_from_distinct_below}
 use Rattle.std.proofs.lemmas.Option.{same_Some}
+use Rattle.giv_files.specs.declared.refusal.Refusal.{Refusal}
 use Rattle.giv_files.proofs.Found.{any_is}
 use Rattle.ptn_network.specs.Networks.{IsNetwork, NetworkParts, index_in, rising}
 use Rattle.ptn_network.specs.Paths.{IsShortest, IsSimple, length_to, path, way}
@@ -18,7 +21,9 @@ use Rattle.ptn_network.proofs.Sound.{rising_rises}
 use Rattle.ptn_network.proofs.Walks.{staying_end}
 use Rattle.line_pool.proofs.SoundLines.{all_rising}
 use Rattle.line_pool.proofs.WalkLines.{rising_length}
+use Rattle.pool_maker.specs.PoolTexts.{unknown_terminals}
 use Rattle.pool_maker.specs.RightPools.{IsShortestLine}
+use Rattle.pool_maker.specs.Tellable.{IsShort}
 use Rattle.pool_maker.specs.TerminalPaths.{is_contained, lines_among, pairs_of, paths_of, uncontained}
 use Rattle.pool_maker.proofs.LeastWalks.{least_of_stop}
 use Rattle.pool_maker.proofs.PairsOfIds.{AreInOrder, all_in_order, few_pairs, less_is, not_own, pairs_are}
@@ -88,7 +93,7 @@ module _ (network : NetworkParts) (sound : IsNetwork network) where
       (some_length from to within way_is.0))
 
   module _ (terminals : List ℤ) where
-    way_of : (pair : ℤ × ℤ) → AreInOrder (IsKnown terminals) pair → (found : List ℕ)
+    pub way_of : (pair : ℤ × ℤ) → AreInOrder (IsKnown terminals) pair → (found : List ℕ)
         → way network (index_in network.stops pair.0) (index_in network.stops pair.1) ≡ Some found
         → IsTerminalPath network terminals found
     way_of pair are found is =
@@ -224,3 +229,34 @@ few_among paths (at ∷ some) = by (is_contained paths at) (few_among paths some
 pub few_lines : (paths : List (List ℕ)) → length (uncontained paths) ≤ length paths
 few_lines paths =
     omega (arith, few_among paths (enumerate_from 0 paths), length-enumerate_from 0 paths)
+
+-- ---- they have few edges
+
+below_member : (edges : List ℕ) (n : ℕ) → All (λ edge. edge < n) edges → (edge : ℕ)
+    → list_any (nat_eq edge) edges ≡ true → edge < n
+below_member [] n all edge is = absurd (cc)
+below_member (first ∷ edges) n all edge is =
+    by (nat_eq edge first) refl is (λ is. below_member edges n (All-tail (λ edge. edge < n) first edges all) edge is)
+  where
+    by : (b : Bool) → nat_eq edge first ≡ b → (b || list_any (nat_eq edge) edges) ≡ true
+        → (list_any (nat_eq edge) edges ≡ true → edge < n) → edge < n
+    by true same is rest =
+        subst (λ at. at < n) (sym (eqb-true edge first same)) (All-head (λ edge. edge < n) first edges all)
+    by false other is rest = rest is
+
+module _ (network : NetworkParts) (sound : IsNetwork network) (terminals : List ℤ) where
+  pub path_short : (path : List ℕ) → IsTerminalPath network terminals path → IsShort network path
+  path_short path is =
+      let few = length-le_from_distinct_below path (length network.edges) is.simple.apart
+      (below_member path (length network.edges) is.simple.there) in
+      record { few = omega (arith, few, sound.few_edges); there = is.simple.there }
+
+-- ---- the terminals are stops
+
+known_by : (b : Bool) (fault : Refusal) → cond b [] (fault ∷ []) ≡ [] → b ≡ true
+known_by true fault none = refl
+known_by false fault none = cc
+
+pub all_stops : (stops terminals : List ℤ) → unknown_terminals stops terminals ≡ []
+    → list_all (λ id. list_any (int_eq id) stops) terminals ≡ true
+all_stops stops terminals none = known_by _ _ none

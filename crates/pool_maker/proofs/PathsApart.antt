@@ -1,0 +1,273 @@
+-- No two paths between terminals lie in one another, so each path lies in a line.
+use Rattle.std.proofs.Common.{◌≡◌, ◌≢◌, ℕ, ℤ, pos, zero, suc, ◌<◌, Bool, true, false, ◌&&◌, ◌||◌, nat_eq, List, [], ◌∷◌, ◌++◌, length, map, filter_map, get_or, All, Option, Some, None, inl, inr, refl, ap, subst, sym, ◌∙◌, arith}
+use Rattle.std.specs.List.{AllByRecursion, IsDistinct, cons_option, list_all, list_any}
+use Rattle.std.specs.List.Sorted.{IsStrictlySortedBy}
+use Rattle.std.specs.Ordering.{int_cmp, int_eq}
+use Rattle.std.specs.declared.cmp.Ordering.TheVariants.{Less}
+use Rattle.std.proofs.lemmas.Bool.{cases_lt, eq-eqb, eqb-true}
+use Rattle.std.proofs.lemmas.Bool.Decides.{Decides-int_eq}
+use Rattle.std.proofs.lemmas.Cmp.{nat_eq_equiv}
+use Rattle.std.proofs.lemmas.Int.{ints}
+use Rattle.std.proofs.lemmas.List.Elements.{All-head, All-tail}
+use Rattle.std.proofs.lemmas.Map.Made.{length-le_from_is_member}
+use Rattle.ptn_network.specs.Networks.{IsNetwork, NetworkParts, index_in, rising}
+use Rattle.ptn_network.specs.Paths.{edges_at, way}
+use Rattle.ptn_network.specs.Walks.{IsWalk}
+use Rattle.ptn_network.proofs.Sound.{rising_rises}
+use Rattle.line_pool.proofs.WalkRows.{below_differs}
+use Rattle.pool_maker.specs.Laws.{PathsAreApart}
+use Rattle.pool_maker.specs.PoolTexts.{unknown_terminals}
+use Rattle.pool_maker.specs.TerminalPaths.{lies_in, pairs_of, paths_of}
+use Rattle.pool_maker.proofs.EndsOfWalks.{members_in, paths_ends}
+use Rattle.pool_maker.proofs.PairsOfIds.{AreInOrder, less_is, not_own, pairs_after, pairs_are}
+use Rattle.pool_maker.proofs.TerminalWays.{IsKnown, all_stops, in_order, is_index, way_of, way_shortest}
+
+-- ---- the pairs differ
+
+less_differs : (x y : ℤ) → int_cmp x y ≡ Less → x ≢ y
+less_differs x y less same =
+    let none : int_eq x y ≡ false = below_differs x y less in
+    let own : int_eq x y ≡ true = (Decides-int_eq x y).1 same in
+    let both : true ≡ false = sym own ∙ none in
+    cc
+
+-- pairs, no two of which are one
+ArePairsApart : List (ℤ × ℤ) → Type 0
+ArePairsApart [] = Unit {0}
+ArePairsApart (pair ∷ pairs) = AllByRecursion (λ other. pair ≢ other) pairs × ArePairsApart pairs
+
+all_append : {X : Type 0} (P : X → Type 0) (xs ys : List X) → AllByRecursion P xs → AllByRecursion P ys
+    → AllByRecursion P (xs ++ ys)
+all_append P [] ys one two = two
+all_append P (x ∷ xs) ys one two = (one.0, all_append P xs ys one.1 two)
+
+other_first : (id first : ℤ) (to : ℤ) (ids : List ℤ) → int_cmp id first ≡ Less
+    → AllByRecursion {X = ℤ × ℤ} (λ other. (id, to) ≢ other) (map (λ to. (first, to)) ids)
+other_first id first to [] less = tt
+other_first id first to (next ∷ ids) less = (
+  λ same. less_differs id first less (ap (λ (pair : ℤ × ℤ). pair.0) same),
+  other_first id first to ids less,
+)
+
+none_after : (id to : ℤ) (ids : List ℤ) → AllByRecursion (λ other. int_cmp id other ≡ Less) ids
+    → AllByRecursion {X = ℤ × ℤ} (λ other. (id, to) ≢ other) (pairs_after ids)
+unfolding pairs_after
+none_after id to [] above = tt
+none_after id to (first ∷ ids) above =
+    all_append {X = ℤ × ℤ} (λ other. (id, to) ≢ other) (map (λ to. (first, to)) ids) (pairs_after ids)
+    (other_first id first to ids above.0) (none_after id to ids above.1)
+
+other_second : (id to : ℤ) (ids : List ℤ) → AllByRecursion (λ other. int_cmp to other ≡ Less) ids
+    → AllByRecursion {X = ℤ × ℤ} (λ other. (id, to) ≢ other) (map (λ to. (id, to)) ids)
+other_second id to [] above = tt
+other_second id to (next ∷ ids) above = (
+  λ same. less_differs to next above.0 (ap (λ (pair : ℤ × ℤ). pair.1) same),
+  other_second id to ids above.1,
+)
+
+-- the pairs of one id are apart from one another and from those behind them
+own_apart : (id : ℤ) (ids behind : List ℤ) → IsStrictlySortedBy int_cmp ids
+    → AllByRecursion (λ other. int_cmp id other ≡ Less) behind → ArePairsApart (pairs_after behind)
+    → ArePairsApart (map (λ to. (id, to)) ids ++ pairs_after behind)
+unfolding ArePairsApart IsStrictlySortedBy
+own_apart id [] behind rise above rest = rest
+own_apart id (to ∷ ids) behind rise above rest = (
+  all_append {X = ℤ × ℤ} (λ other. (id, to) ≢ other) (map (λ to. (id, to)) ids) (pairs_after behind)
+      (other_second id to ids rise.0) (none_after id to behind above),
+  own_apart id ids behind rise.1 above rest,
+)
+
+pairs_apart : (ids : List ℤ) → IsStrictlySortedBy int_cmp ids → ArePairsApart (pairs_after ids)
+unfolding ArePairsApart IsStrictlySortedBy pairs_after
+pairs_apart [] rise = tt
+pairs_apart (id ∷ ids) rise = own_apart id ids ids rise.1 rise.0 (pairs_apart ids rise.1)
+
+-- ---- no two paths lie in one another
+
+-- two paths do not both lie in the other
+abbrev AreApart : List ℕ → List ℕ → Type 0
+AreApart path other = lies_in path other ≡ true → lies_in other path ≡ true → ⊥
+
+pub AllApart : List (List ℕ) → Type 0
+AllApart [] = Unit {0}
+AllApart (path ∷ paths) = AllByRecursion (AreApart path) paths × AllApart paths
+
+module _ (network : NetworkParts) (sound : IsNetwork network) (terminals : List ℤ) where
+  abbrev Known : ℤ × ℤ → Type 0
+  Known pair = AreInOrder (IsKnown network sound terminals) pair
+
+  abbrev way_at : ℤ × ℤ → Option (List ℕ)
+  way_at pair = way network (index_in network.stops pair.0) (index_in network.stops pair.1)
+
+  same_index : (one other : ℤ) → IsKnown network sound terminals one
+      → IsKnown network sound terminals other
+      → index_in network.stops one ≡ index_in network.stops other → one ≡ other
+  same_index one other first second same =
+      (is_index network.stops one first.known).is
+      ∙ ap (λ index. get_or network.stops index (pos 0)) same
+      ∙ sym (is_index network.stops other second.known).is
+
+  -- the path of a pair is a walk between its stops
+  ends_of : (pair : ℤ × ℤ) → Known pair → (path : List ℕ) → way_at pair ≡ Some path
+      → IsWalk network.edges (index_in network.stops pair.0) (index_in network.stops pair.1)
+      (edges_at network.edges path)
+  ends_of pair are path is =
+      (way_shortest network sound (index_in network.stops pair.0) (index_in network.stops pair.1) path
+      (is_index network.stops pair.1 are.to.known).within is).joins
+
+  ways_apart : (pair other : ℤ × ℤ) (path more : List ℕ) → Known pair → Known other → pair ≢ other
+      → way_at pair ≡ Some path → way_at other ≡ Some more → AreApart path more
+  ways_apart pair other path more one two apart is own into back =
+      let first = way_of network sound terminals pair one path is in
+      let second = way_of network sound terminals other two more own in
+      elim (paths_ends network.edges (length network.stops) (index_in network.stops pair.0)
+      (index_in network.stops pair.1) (index_in network.stops other.0)
+      (index_in network.stops other.1) path more sound.edges first.simple second.simple
+      (ends_of pair one path is) (ends_of other two more own)
+      (λ same. not_own pair.0 pair.1 one.in_order (same_index pair.0 pair.1 one.from one.to same))
+      (members_in path more into) (members_in more path back)) [
+        | inl p ↦
+            let from = same_index pair.0 other.0 one.from two.from p.0 in
+            let to = same_index pair.1 other.1 one.to two.to p.1 in
+            apart (λ i. (from i, to i))
+        | inr p ↦
+            let from = same_index pair.0 other.1 one.from two.to p.0 in
+            let to = same_index pair.1 other.0 one.to two.from p.1 in
+            let up = less_is pair.0 pair.1 one.in_order in
+            let down = less_is other.0 other.1 two.in_order in
+            absurd (omega (arith, ints, from, to, up, down))
+      ]
+
+  one_apart : (pair : ℤ × ℤ) (path : List ℕ) (pairs : List (ℤ × ℤ)) → Known pair
+      → way_at pair ≡ Some path → All Known pairs → AllByRecursion (λ other. pair ≢ other) pairs
+      → AllByRecursion (AreApart path) (filter_map way_at pairs)
+  one_apart pair path [] known is all apart = tt
+  one_apart pair path (other ∷ pairs) known is all apart =
+      by (way_at other) refl (one_apart pair path pairs known is (All-tail Known other pairs all) apart.1)
+    where
+      by : (found : Option (List ℕ)) → way_at other ≡ found
+          → AllByRecursion (AreApart path) (filter_map way_at pairs)
+          → AllByRecursion (AreApart path) (cons_option found (filter_map way_at pairs))
+      by None own rest = rest
+      by (Some more) own rest =
+          (ways_apart pair other path more known (All-head Known other pairs all) apart.0 is own, rest)
+
+  all_apart : (pairs : List (ℤ × ℤ)) → All Known pairs → ArePairsApart pairs
+      → AllApart (filter_map way_at pairs)
+  unfolding ArePairsApart AllApart
+  all_apart [] all apart = tt
+  all_apart (pair ∷ pairs) all apart =
+      by (way_at pair) refl (all_apart pairs (All-tail Known pair pairs all) apart.1)
+    where
+      by : (found : Option (List ℕ)) → way_at pair ≡ found → AllApart (filter_map way_at pairs)
+          → AllApart (cons_option found (filter_map way_at pairs))
+      by None is rest = rest
+      by (Some path) is rest = (
+        one_apart pair path pairs (All-head Known pair pairs all) is (All-tail Known pair pairs all) apart.0,
+        rest,
+      )
+
+  module _ (none : unknown_terminals network.stops terminals ≡ []) where
+    pub paths_of_apart : AllApart (paths_of network terminals)
+    paths_of_apart =
+        all_apart (pairs_of terminals)
+        (in_order network sound terminals (all_stops network.stops terminals none))
+        (subst ArePairsApart (sym (pairs_are terminals))
+        (pairs_apart (rising terminals) (rising_rises terminals)))
+
+-- ---- by their places
+
+apart_from_first : (path : List ℕ) (paths : List (List ℕ)) → AllByRecursion (AreApart path) paths
+    → (place : ℕ) → place < length paths → AreApart path (get_or paths place [])
+apart_from_first path [] apart place h = absurd (omega (arith, h))
+apart_from_first path (other ∷ paths) apart zero h = apart.0
+apart_from_first path (other ∷ paths) apart (suc place) h =
+    apart_from_first path paths apart.1 place (omega (arith, h))
+
+apart_by_places : (paths : List (List ℕ)) → AllApart paths → (place other : ℕ) → place < other
+    → other < length paths → AreApart (get_or paths place []) (get_or paths other [])
+unfolding AllApart
+apart_by_places [] apart place other lt h = absurd (omega (arith, h))
+apart_by_places (path ∷ paths) apart place zero lt h = absurd (omega (arith, lt))
+apart_by_places (path ∷ paths) apart zero (suc other) lt h =
+    apart_from_first path paths apart.0 other (omega (arith, h))
+apart_by_places (path ∷ paths) apart (suc place) (suc other) lt h =
+    apart_by_places paths apart.1 place other (omega (arith, lt)) (omega (arith, h))
+
+pub same_place : (paths : List (List ℕ)) → AllApart paths → (place other : ℕ) → place < length paths
+    → other < length paths → lies_in (get_or paths place []) (get_or paths other []) ≡ true
+    → lies_in (get_or paths other []) (get_or paths place []) ≡ true → place ≡ other
+same_place paths apart place other h k into back =
+    elim (cases_lt place other) [
+      | inl lt ↦ absurd (apart_by_places paths apart place other lt k into back)
+      | inr ge ↦ elim (cases_lt other place) [
+        | inl lt ↦ absurd (apart_by_places paths apart other place lt h back into)
+        | inr le ↦ omega (arith, ge, le)
+      ]
+    ]
+
+pub paths_are_apart : PathsAreApart
+paths_are_apart network terminals place other sound none =
+    same_place (paths_of network terminals) (paths_of_apart network sound terminals none) place other
+
+-- ---- a path that lies in another one is shorter
+
+-- a number that fails a test of all
+record Fails (p : ℕ → Bool) (xs : List ℕ) : Type 0 where
+  one : ℕ
+  there : list_any (nat_eq one) xs ≡ true
+  fails : p one ≡ false
+
+fails_at : (p : ℕ → Bool) (xs : List ℕ) → list_all p xs ≡ false → Fails p xs
+fails_at p [] none = cc
+fails_at p (x ∷ xs) none = by (p x) refl none (λ none. fails_at p xs none)
+  where
+    by : (b : Bool) → p x ≡ b → (b && list_all p xs) ≡ false
+        → (list_all p xs ≡ false → Fails p xs) → Fails p (x ∷ xs)
+    by false is none rest = record {
+      one = x;
+      there = ap (λ b. b || list_any (nat_eq x) xs) (eq-eqb x x refl);
+      fails = is;
+    }
+    by true is none rest =
+        let later = rest none in
+        record {
+          one = later.one;
+          there = or_second (nat_eq later.one x) (list_any (nat_eq later.one) xs) later.there;
+          fails = later.fails;
+        }
+      where
+        or_second : (a b : Bool) → b ≡ true → (a || b) ≡ true
+        or_second true b is = refl
+        or_second false b is = is
+
+none_alike : (one : ℕ) (xs : List ℕ) → list_any (nat_eq one) xs ≡ false
+    → AllByRecursion (λ x. nat_eq one x ≡ false) xs
+none_alike one [] none = tt
+none_alike one (x ∷ xs) none = by (nat_eq one x) refl none (none_alike one xs)
+  where
+    by : (b : Bool) → nat_eq one x ≡ b → (b || list_any (nat_eq one) xs) ≡ false
+        → (list_any (nat_eq one) xs ≡ false → AllByRecursion (λ x. nat_eq one x ≡ false) xs)
+        → AllByRecursion (λ x. nat_eq one x ≡ false) (x ∷ xs)
+    by true is none rest = cc
+    by false is none rest = (is, rest none)
+
+pub longer : (path other : List ℕ) → IsDistinct nat_eq path → lies_in path other ≡ true
+    → lies_in other path ≡ false → length path < length other
+unfolding IsDistinct
+longer path other apart into back =
+    let more = fails_at (λ edge. list_any (nat_eq edge) path) other back in
+    let count = length-le_from_is_member nat_eq_equiv (more.one ∷ path) other
+    (none_alike more.one path more.fails, apart)
+    (λ x there. member x more.one more.there there) in
+    omega (arith, count)
+  where
+    member : (x one : ℕ) → list_any (nat_eq one) other ≡ true
+        → list_any (nat_eq x) (one ∷ path) ≡ true → list_any (nat_eq x) other ≡ true
+    member x one own there = by (nat_eq x one) refl there
+      where
+        by : (b : Bool) → nat_eq x one ≡ b → (b || list_any (nat_eq x) path) ≡ true
+            → list_any (nat_eq x) other ≡ true
+        by true same there =
+            subst (λ at. list_any (nat_eq at) other ≡ true) (sym (eqb-true x one same)) own
+        by false differs there = members_in path other into x there

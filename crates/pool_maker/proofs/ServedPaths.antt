@@ -1,0 +1,175 @@
+-- Each path between terminals lies in a line.
+use Rattle.std.proofs.Common.{◌≡◌, ◌≢◌, ℕ, zero, suc, ◌+◌, ◌<◌, ◌≤◌, ◌==◌, Bool, true, false, not, ◌&&◌, ◌||◌, cond, nat_eq, List, [], ◌∷◌, length, map, filter, get_or, All, Any, refl, ap, subst, sym, ◌∙◌, arith}
+use Rattle.std.specs.List.{IsDistinct, enumerate_from, list_any}
+use Rattle.std.proofs.lemmas.Bool.{and_parts, eq-eqb, eqb-false, not-true}
+use Rattle.std.proofs.lemmas.List.{get_or_default}
+use Rattle.std.proofs.lemmas.List.Elements.{All-get_or, All-weaker}
+use Rattle.std.proofs.lemmas.List.Folds.{Any-from_list_any}
+use Rattle.std.proofs.lemmas.List.FromFn.{get_or-enumerate_from, length-enumerate_from}
+use Rattle.pool_maker.specs.Laws.{EachPathIsServed}
+use Rattle.pool_maker.specs.TerminalPaths.{is_contained, lies_in, lines_among, lines_between, paths_of, uncontained}
+use Rattle.pool_maker.proofs.EndsOfWalks.{AreIn, members_in}
+use Rattle.pool_maker.proofs.PathsApart.{AllApart, longer, paths_of_apart, same_place}
+use Rattle.pool_maker.proofs.TerminalWays.{IsTerminalPath, all_stops, path_short, paths_right}
+
+-- ---- paths in one another
+
+all_in : (path other : List ℕ) → AreIn path other → lies_in path other ≡ true
+all_in [] other into = refl
+all_in (edge ∷ path) other into =
+    ap (λ b. b && lies_in path other)
+    (into edge (ap (λ b. b || list_any (nat_eq edge) path) (eq-eqb edge edge refl)))
+    ∙ all_in path other (λ x there. into x (or_second (nat_eq x edge) (list_any (nat_eq x) path) there))
+  where
+    or_second : (a b : Bool) → b ≡ true → (a || b) ≡ true
+    or_second true b is = refl
+    or_second false b is = is
+
+lies_in_itself : (path : List ℕ) → lies_in path path ≡ true
+lies_in_itself path = all_in path path (λ x there. there)
+
+lies_on : (path other more : List ℕ) → lies_in path other ≡ true → lies_in other more ≡ true
+    → lies_in path more ≡ true
+lies_on path other more first second =
+    all_in path more (λ x there. members_in other more second x (members_in path other first x there))
+
+any_too : {X : Type 0} (p q : X → Bool) (xs : List X) → ((x : X) → p x ≡ true → q x ≡ true)
+    → list_any p xs ≡ true → list_any q xs ≡ true
+any_too p q [] too there = cc
+any_too p q (x ∷ xs) too there = by (p x) refl there (any_too p q xs too)
+  where
+    by : (b : Bool) → p x ≡ b → (b || list_any p xs) ≡ true
+        → (list_any p xs ≡ true → list_any q xs ≡ true) → list_any q (x ∷ xs) ≡ true
+    by true is there rest = ap (λ b. b || list_any q xs) (too x is)
+    by false is there rest = or_second (q x) (list_any q xs) (rest there)
+      where
+        or_second : (a b : Bool) → b ≡ true → (a || b) ≡ true
+        or_second true b is = refl
+        or_second false b is = is
+
+-- ---- a path that lies in no other one is a line
+
+module _ (paths : List (List ℕ)) (q : List ℕ → Bool) where
+  kept : (some : List (ℕ × List ℕ)) (i : ℕ) (at : ℕ × List ℕ) → i < length some
+      → get_or some i at ≡ at → is_contained paths at ≡ false → q at.1 ≡ true
+      → list_any q (lines_among paths some) ≡ true
+  kept [] i at h is none passes = absurd (omega (arith, h))
+  kept (first ∷ some) zero at h is none passes =
+      ap (λ b. list_any q (map (λ (at : ℕ × List ℕ). at.1)
+      (cond (not b) (first ∷ filter (λ at. not (is_contained paths at)) some)
+      (filter (λ at. not (is_contained paths at)) some))))
+      (ap (is_contained paths) is ∙ none)
+      ∙ ap (λ b. b || list_any q (lines_among paths some))
+      (ap (λ (at : ℕ × List ℕ). q at.1) is ∙ passes)
+  kept (first ∷ some) (suc i) at h is none passes =
+      by (is_contained paths first) (kept some i at (omega (arith, h)) is none passes)
+    where
+      by : (b : Bool) → list_any q (lines_among paths some) ≡ true
+          → list_any q (map (λ (at : ℕ × List ℕ). at.1)
+          (cond (not b) (first ∷ filter (λ at. not (is_contained paths at)) some)
+          (filter (λ at. not (is_contained paths at)) some))) ≡ true
+      by true rest = rest
+      by false rest = or_second (q first.1) (list_any q (lines_among paths some)) rest
+        where
+          or_second : (a b : Bool) → b ≡ true → (a || b) ≡ true
+          or_second true b is = refl
+          or_second false b is = is
+
+-- ---- each path lies in a line
+
+-- a path at another place in which one lies
+record Holder (paths : List (List ℕ)) (place : ℕ) : Type 0 where
+  other : ℕ
+  within : other < length paths
+  apart : other ≢ place
+  holds : lies_in (get_or paths place []) (get_or paths other []) ≡ true
+
+module _ (paths : List (List ℕ)) where
+  abbrev path_at : ℕ → List ℕ
+  path_at place = get_or paths place []
+
+  holder : (place : ℕ) → is_contained paths (place, path_at place) ≡ true → Holder paths place
+  holder place is =
+      let found = Any-from_list_any
+      (λ (other : ℕ × List ℕ). not (other.0 == place) && lies_in (path_at place) other.1)
+      (enumerate_from 0 paths) is in
+      let k = found.0 in
+      let within : k < length paths = omega (arith, found.2, length-enumerate_from 0 paths) in
+      let at : found.1 ≡ (0 + k, get_or paths k found.1.1) =
+      sym found.3 ∙ get_or-enumerate_from 0 paths k found.1 within in
+      let tests = and_parts (not (found.1.0 == place)) (lies_in (path_at place) found.1.1) found.4 in
+      let number : found.1.0 ≡ 0 + k = ap (λ (one : ℕ × List ℕ). one.0) at in
+      let path : found.1.1 ≡ get_or paths k [] =
+      ap (λ (one : ℕ × List ℕ). one.1) at ∙ get_or_default paths k found.1.1 [] within in
+      let differs = eqb-false found.1.0 place (not-true (found.1.0 == place) tests.0) in
+      record {
+        other = k;
+        within = within;
+        apart = λ same. differs (omega (arith, number, same));
+        holds = ap (lies_in (path_at place)) (sym path) ∙ tests.1;
+      }
+
+  -- the item at a place
+  here : (place : ℕ) → place < length paths
+      → get_or (enumerate_from 0 paths) place (place, path_at place) ≡ (place, path_at place)
+  here place h =
+      let number : 0 + place ≡ place = omega arith in
+      get_or-enumerate_from 0 paths place (place, path_at place) h
+      ∙ (λ i. (number i, get_or_default paths place (path_at place) [] h i))
+
+  module _ (apart : AllApart paths) (distinct : All (IsDistinct nat_eq) paths) where
+    -- a path that lies in another one lies in a line where that one does
+    through : (place : ℕ) → place < length paths → (hold : Holder paths place)
+        → (length (path_at place) < length (path_at hold.other)
+        → list_any (lies_in (path_at hold.other)) (uncontained paths) ≡ true)
+        → list_any (lies_in (path_at place)) (uncontained paths) ≡ true
+    through place h hold rest = by (lies_in (path_at hold.other) (path_at place)) refl
+      where
+        by : (b : Bool) → lies_in (path_at hold.other) (path_at place) ≡ b
+            → list_any (lies_in (path_at place)) (uncontained paths) ≡ true
+        by true back =
+            absurd (hold.apart (sym (same_place paths apart place hold.other h hold.within hold.holds back)))
+        by false back =
+            any_too (lies_in (path_at hold.other)) (lies_in (path_at place)) (uncontained paths)
+            (λ line is. lies_on (path_at place) (path_at hold.other) line hold.holds is)
+            (rest (longer (path_at place) (path_at hold.other)
+            (All-get_or (IsDistinct nat_eq) paths place [] h distinct) hold.holds back))
+
+    module _ (most : ℕ) (few : All (λ path. length path ≤ most) paths) where
+      serves : (left place : ℕ) → place < length paths → most < length (path_at place) + left
+          → list_any (lies_in (path_at place)) (uncontained paths) ≡ true
+      serves zero place h bound =
+          absurd (omega (arith, bound, All-get_or (λ path. length path ≤ most) paths place [] h few))
+      serves (suc left) place h bound =
+          by (is_contained paths (place, path_at place)) refl
+          (λ other k more. serves left other k more)
+        where
+          by : (b : Bool) → is_contained paths (place, path_at place) ≡ b
+              → ((other : ℕ) → other < length paths → most < length (path_at other) + left
+              → list_any (lies_in (path_at other)) (uncontained paths) ≡ true)
+              → list_any (lies_in (path_at place)) (uncontained paths) ≡ true
+          by false none rest =
+              kept paths (lies_in (path_at place)) (enumerate_from 0 paths) place
+              (place, path_at place) (omega (arith, h, length-enumerate_from 0 paths)) (here place h)
+              none (lies_in_itself (path_at place))
+          by true some rest =
+              let hold = holder place some in
+              through place h hold (λ longer. rest hold.other hold.within (omega (arith, longer, bound)))
+
+      all_served : All (λ path. Any (λ line. lies_in path line ≡ true) (uncontained paths)) paths
+      all_served k d h =
+          subst (λ path. Any (λ line. lies_in path line ≡ true) (uncontained paths))
+          (get_or_default paths k [] d h)
+          (Any-from_list_any (lies_in (path_at k)) (uncontained paths)
+          (serves (suc most) k h (omega arith)))
+
+pub each_path_is_served : EachPathIsServed
+unfolding lines_between
+each_path_is_served network terminals sound none =
+    let right = paths_right network sound terminals (all_stops network.stops terminals none) in
+    let paths = paths_of network terminals in
+    all_served paths (paths_of_apart network sound terminals none)
+    (All-weaker (IsTerminalPath network terminals) (IsDistinct nat_eq) (λ path is. is.simple.apart) paths
+    right) 1000
+    (All-weaker (IsTerminalPath network terminals) (λ path. length path ≤ 1000)
+    (λ path is. (path_short network sound terminals path is).few) paths right)
