@@ -6,6 +6,10 @@ use Rattle.stage_chain.specs.declared.outcome.RunEnd.{RunEnd}
 use Rattle.stage_chain.specs.declared.outcome.RunEnd.TheVariants as end
 use Rattle.stage_chain.specs.declared.state.StatesEnd.{StatesEnd}
 use Rattle.stage_chain.specs.declared.state.StatesEnd.TheVariants as states
+use Rattle.plan_queries.specs.declared.answer.QueryEnd.{QueryEnd}
+use Rattle.plan_queries.specs.declared.answer.QueryEnd.TheVariants as query
+use Rattle.plan_queries.specs.declared.form.Form.{Form}
+use Rattle.plan_queries.specs.declared.form.Form.TheVariants as forms
 use Rattle.lintim_cli.specs.declared.answers.Status.{Status}
 use Rattle.lintim_cli.specs.declared.command.Command.{Command}
 use Rattle.lintim_cli.specs.declared.command.Command.TheVariants as command
@@ -43,6 +47,25 @@ abbrev pub status_of_states : StatesEnd → Status
 status_of_states states.Told = Done
 status_of_states states.BadInput = BadInput
 
+-- the answer to a question
+abbrev pub status_of_query : QueryEnd → Status
+status_of_query query.Done = Done
+status_of_query query.BadInput = BadInput
+status_of_query query.Spent = Spent
+status_of_query query.Uncertified = Uncertified
+
+-- the answers that a question has: only waiting decisions spend a budget, and only one that was saved
+-- breaks a rule
+abbrev pub AnswersForm : Form → Status → Type 0
+AnswersForm form Done = Unit {0}
+AnswersForm form BadInput = Unit {0}
+AnswersForm (forms.Waits penalty budget) Spent = Unit {0}
+AnswersForm (forms.CheckWaits penalty) Uncertified = Unit {0}
+AnswersForm form FileFault = Unit {0}
+AnswersForm form SinkFault = Unit {0}
+AnswersForm form NoMemory = Unit {0}
+AnswersForm form _ = ⊥
+
 -- the answers that a command has, by which one the words ask for, if they ask for one
 abbrev pub AnswersTo : Option Command → Status → Type 0
 AnswersTo (Some (command.Run by)) Done = Unit {0}
@@ -73,6 +96,7 @@ AnswersTo (Some (command.Demo number)) Spent = Unit {0}
 AnswersTo (Some (command.Demo number)) SinkFault = Unit {0}
 AnswersTo (Some (command.Demo number)) NoMemory = Unit {0}
 AnswersTo (Some (command.Demo number)) _ = ⊥
+AnswersTo (Some (command.Ask form)) status = AnswersForm form status
 AnswersTo None Usage = Unit {0}
 AnswersTo None SinkFault = Unit {0}
 AnswersTo None NoMemory = Unit {0}

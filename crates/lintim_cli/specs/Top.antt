@@ -1,8 +1,8 @@
 -- What the top call answers and leaves.
-use Rattle.std.specs.Prelude.{ℕ, ◌≡◌, ◌≤◌, ◌⊎◌, ◌+◌, ◌-◌, ◌&&◌, nat_le, if◌then◌else◌, List, [], ◌∷◌, ◌++◌, codes, Option}
+use Rattle.std.specs.Prelude.{map, ℕ, ◌≡◌, ◌≤◌, ◌⊎◌, ◌+◌, ◌-◌, ◌&&◌, nat_le, if◌then◌else◌, List, [], ◌∷◌, ◌++◌, codes, Option}
 use Rattle.std.specs.Prelude.{Some, None, IfSome, string_bytes, take, ⊤}
 use Rattle.std.specs.Str.{bytes_eq}
-use Rattle.std.specs.Option.{option_map}
+use Rattle.std.specs.Option.{option_map, option_or}
 use Rattle.std.specs.declared.string.String.{String}
 use Rattle.std.specs.declared.alloc.Global.{Global}
 use Rattle.plan_files.specs.declared.write.Write.{Write}
@@ -22,10 +22,14 @@ use Rattle.stage_driver.specs.PlanningChain.{made, check_of, IsLeftRight, IsKept
 use Rattle.stage_driver.specs.PlanningChain.{IsUnfinished, Trusts, made_part, run_over, writes_of}
 use Rattle.stage_driver.specs.PlanningChain.{states_of}
 use Rattle.lintim_cli.specs.declared.answers.Status.{Status}
-use Rattle.lintim_cli.specs.declared.answers.Status.TheVariants.{FileFault, SinkFault, NoMemory}
+use Rattle.lintim_cli.specs.declared.answers.Status.TheVariants.{Done, FileFault, SinkFault, NoMemory}
 use Rattle.lintim_cli.specs.declared.command.Command.{Command}
 use Rattle.lintim_cli.specs.declared.command.Command.TheVariants as command
-use Rattle.lintim_cli.specs.Answers.{status_of, status_of_check, status_of_states}
+use Rattle.plan_queries.specs.declared.answer.Answer.{Answer}
+use Rattle.plan_queries.specs.declared.form.Form.{Form}
+use Rattle.plan_queries.specs.FormWords.{IsInRange, form_of}
+use Rattle.plan_queries.specs.Queries.{AnswersIn, IsRightIn, steps_of}
+use Rattle.lintim_cli.specs.Answers.{status_of, status_of_check, status_of_query, status_of_states}
 use Rattle.lintim_cli.specs.Reports.{Whole, Broken, fault_report}
 
 -- the command of a word
@@ -46,17 +50,27 @@ abbrev pub command_words : List ℕ → List ℕ → Option Command
 command_words word number =
     if bytes_eq word (codes "demo") then option_map command.Demo (demo_number number) else None
 
--- the command that words ask for: they are one word, which is a command's, or that of the demo with
--- its number
+-- the command that words ask for which is about the stages: they are one word, which is a command's, or
+-- that of the demo with its number
+abbrev pub plain_command : List (String Global) → Option Command
+plain_command (word ∷ []) = command_word (string_bytes word)
+plain_command (word ∷ number ∷ []) = command_words (string_bytes word) (string_bytes number)
+plain_command _ = None
+
+-- the command that words ask for: one about the stages, or a question beside them
 abbrev pub command_of : List (String Global) → Option Command
-command_of (word ∷ []) = command_word (string_bytes word)
-command_of (word ∷ number ∷ []) = command_words (string_bytes word) (string_bytes number)
-command_of _ = None
+command_of words =
+    option_or (plain_command words) (option_map command.Ask (form_of (map string_bytes words)))
 
 -- a demo has a number from 1 to 8
 abbrev pub HasDemo : Command → Type 0
 HasDemo (command.Demo number) = (1 ≤ number) × (number ≤ 8)
 HasDemo _ = ⊤
+
+-- the numbers of a question lie in their ranges
+abbrev pub HasRanges : Command → Type 0
+HasRanges (command.Ask form) = IsInRange form
+HasRanges _ = ⊤
 
 abbrev pub Asks : Command → List (String Global) → Type 0
 Asks command words = command_of words ≡ Some command
@@ -173,3 +187,20 @@ DemoTells number old new before now SinkFault = ((kept : ℕ) × (new ≡ option
 DemoTells number old new before now FileFault = ⊥
 DemoTells number old new before now NoMemory = now ≤ before + (demo_run number).work
 DemoTells number old new before now result = (result ≡ status_of (demo_run number).end) × (new ≡ option_map (λ bytes. bytes ++ (demo_run number).report) old) × (now ≡ before + (demo_run number).work)
+
+-- What is told of a question over a folder, by the answer: without a fault the report is all of an answer
+-- of it. After a fault of the sink only a front part is out. The count of steps rises by what the question
+-- takes; by at most that where memory was refused, and not at all where a file could not be read.
+abbrev pub FormTells : Form → Folder → Option (List ℕ) → Option (List ℕ) → ℕ → ℕ → Status → Type 0
+FormTells form folder old new before now SinkFault = (answer : Answer) × AnswersIn form folder answer × ((kept : ℕ) × (new ≡ option_map (λ bytes. bytes ++ take kept answer.report) old)) × (now ≡ before + steps_of form folder)
+FormTells form folder old new before now FileFault = now ≡ before
+FormTells form folder old new before now NoMemory = now ≤ before + steps_of form folder
+FormTells form folder old new before now result = (answer : Answer) × AnswersIn form folder answer × (result ≡ status_of_query answer.end) × (new ≡ option_map (λ bytes. bytes ++ answer.report) old) × (now ≡ before + steps_of form folder)
+
+-- What an answered question proves: of waiting decisions, that a marked one costs no more than any other;
+-- of one that was saved, the same where it has a tree; of a journey, that none arrives earlier; of a pool,
+-- that it is accepted and each line is a shortest walk between terminals.
+abbrev pub FormProves : Form → Folder → Option (List ℕ) → Option (List ℕ) → Status → Type 0
+FormProves form folder old new Done = (report : List ℕ)
+    × (new ≡ option_map (λ bytes. bytes ++ report) old) × IsRightIn form folder report
+FormProves form folder old new _ = ⊤

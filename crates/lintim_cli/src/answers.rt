@@ -1,7 +1,9 @@
 // What a run ends with.
 ghost use Rattle.std.specs.Prelude.{◌≡◌};
-ghost use Rattle.lintim_cli.specs.Answers.{number_of, status_of, status_of_check, status_of_states};
+ghost use Rattle.lintim_cli.specs.Answers.{number_of, status_of, status_of_check, status_of_query};
+ghost use Rattle.lintim_cli.specs.Answers.{status_of_states};
 
+use plan_queries::QueryEnd;
 use stage_driver::{CheckEnd, RunEnd, StatesEnd};
 
 /// How a run of the program ended.
@@ -78,6 +80,19 @@ impl From<StatesEnd> for Status {
         match end {
             StatesEnd::Told => Status::Done,
             StatesEnd::BadInput => Status::BadInput,
+        }
+    }
+}
+
+impl From<QueryEnd> for Status {
+    ghost from_gives = { λ end status. status ≡ status_of_query end };
+
+    fn from(end: QueryEnd) -> Status {
+        match end {
+            QueryEnd::Done => Status::Done,
+            QueryEnd::BadInput => Status::BadInput,
+            QueryEnd::Spent => Status::Spent,
+            QueryEnd::Uncertified => Status::Uncertified,
         }
     }
 }

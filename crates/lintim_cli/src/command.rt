@@ -2,12 +2,13 @@
 ghost use Rattle.std.specs.Prelude.{◌≡◌, IfSome};
 ghost use Rattle.std.specs.Option.{option_map};
 ghost use Rattle.lintim_cli.specs.declared.command.Command.TheVariants as commands;
-ghost use Rattle.lintim_cli.specs.Top.{HasDemo, command_of, demo_number};
+ghost use Rattle.lintim_cli.specs.Top.{HasDemo, HasRanges, command_of, demo_number, plain_command};
 
+use plan_queries::{Form, form_of};
 use stage_driver::Mode;
 
 /// What the program is asked for.
-#[derive(Clone, Copy, Debug, PartialEq, Eq)]
+#[derive(Debug, Drop)]
 pub(crate) enum Command {
     /// To run the planning stages.
     Run(Mode),
@@ -17,12 +18,30 @@ pub(crate) enum Command {
     Status,
     /// To run the planning stages over a dataset that is made from a number.
     Demo(u8),
+    /// To answer a question beside the stages.
+    Ask(Form),
 }
 
 /// The command that words ask for.
 pub(crate) fn command_of(words: &[String]) -> Option<Command>
     ensures command { result ≡ command_of words.now }
     ensures demo { IfSome result HasDemo }
+    ensures ranges { IfSome result HasRanges }
+{
+    match plain_command(words) {
+        Some(command) => Some(command),
+        None => match form_of(words) {
+            Some(form) => Some(Command::Ask(form)),
+            None => None,
+        },
+    }
+}
+
+// The command of words that ask for the stages.
+fn plain_command(words: &[String]) -> Option<Command>
+    ensures command { result ≡ plain_command words.now }
+    ensures demo { IfSome result HasDemo }
+    ensures ranges { IfSome result HasRanges }
 {
     match words {
         [word] if word.as_str() == "make" => Some(Command::Run(Mode::Make)),
@@ -38,6 +57,7 @@ pub(crate) fn command_of(words: &[String]) -> Option<Command>
 fn demo_of(number: &str) -> Option<Command>
     ensures command { result ≡ option_map commands.Demo (demo_number number.now) }
     ensures demo { IfSome result HasDemo }
+    ensures ranges { IfSome result HasRanges }
 {
     match number.as_bytes() {
         [digit @ b'1'..=b'8'] => Some(Command::Demo(*digit - b'0')),

@@ -5,6 +5,7 @@ mod answers;
 mod check;
 mod command;
 mod demo;
+mod question;
 mod report;
 mod run;
 mod status;

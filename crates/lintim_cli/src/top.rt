@@ -9,16 +9,19 @@ ghost use Rattle.stage_chain.specs.Runs.{AddsNoHandFile, IsOnce, SameHand, start
 ghost use Rattle.stage_driver.specs.PlanningChain.{IsKeptHonest, PassesIn, RunsPass};
 ghost use Rattle.stage_driver.specs.PlanningChain.{MadeFilesAreRight, RefusesHand, Trusts};
 ghost use Rattle.stage_driver.specs.PlanningChain.{run_over, writes_of, StopsSafely};
+ghost use Rattle.plan_queries.specs.declared.form.Form.{Form};
 ghost use Rattle.lintim_cli.specs.declared.command.Command.TheVariants as commands;
 ghost use Rattle.lintim_cli.specs.Answers.{AnswersTo};
 ghost use Rattle.lintim_cli.specs.Reports.{Reported, usage_report};
 ghost use Rattle.lintim_cli.specs.Top.{Asks, ChangesNothing, CheckTells, DemoTells, FileBroke};
-ghost use Rattle.lintim_cli.specs.Top.{Headline, Leaves, StatusTells, command_of};
+ghost use Rattle.lintim_cli.specs.Top.{FormProves, FormTells, Headline, Leaves, StatusTells};
+ghost use Rattle.lintim_cli.specs.Top.{command_of};
 
 use crate::answers::Status;
 use crate::check::check;
 use crate::command::{Command, command_of};
 use crate::demo::demo;
+use crate::question::question;
 use crate::report;
 use crate::run::run;
 use crate::status::status;
@@ -33,8 +36,9 @@ use std::alloc::Global;
 /// folder `keep`. `fresh` first removes what is kept there, and then does the same. `check` judges
 /// the files that stand there, whoever made them, and changes none. `status` tells of each stage
 /// whether its files are those that are kept, and changes none. `demo` with a number from 1 to 8 runs
-/// the stages over a dataset in memory that is made from the number. Each writes its report by one
-/// call.
+/// the stages over a dataset in memory that is made from the number. `waits` chooses waiting
+/// decisions, `check-waits` judges one that was saved, `journey` tells the journey that arrives first,
+/// and `pool` makes lines between terminals; these change no file. Each writes its report by one call.
 #[tactic(auto, using(stage_driver::proofs::Planned::runs_pass, stage_driver::proofs::Planned::left_right, stage_driver::proofs::Planned::refuses_hand, stage_driver::proofs::Planned::writes_outside, stage_driver::proofs::Planned::writes_once))]
 pub fn lintim<F: Files, K: Sink, L: Ledger>(
     alloc: Global,
@@ -99,6 +103,19 @@ pub fn lintim<F: Files, K: Sink, L: Ledger>(
     ensures demo_calls_nothing { (number : ℕ) → Asks (commands.Demo number) words.now →
         files.new ≡ files.old }
 
+    // A question tells its answer over a told folder, and changes nothing. What it answers is right:
+    // no set of changes costs less than a marked waiting decision, or than one that was saved and
+    // passes with a tree; no journey arrives earlier; a pool is accepted, and each of its lines is a
+    // shortest walk between two terminals.
+    ensures form_tells { (form : Form) → Asks (commands.Ask form) words.now →
+        IfSome (F.contents files.old) (λ folder. FormTells form folder
+        (K.written out.old) (K.written out.new) steps.old steps.new result) }
+    ensures form_proves { (form : Form) → Asks (commands.Ask form) words.now →
+        IfSome (F.contents files.old) (λ folder. FormProves form folder
+        (K.written out.old) (K.written out.new) result) }
+    ensures form_changes_nothing { (form : Form) → Asks (commands.Ask form) words.now →
+        (F.contents files.new ≡ F.contents files.old) × (F.writes files.new ≡ F.writes files.old) }
+
     // Whatever a run answers, what is kept stays honest. Wherever the writes are stopped that it
     // added, the last of them perhaps made in part, the files that people write are as before, and
     // what is kept is honest: from an honest keep, and for a fresh run from any keep once all of it is
@@ -145,9 +162,11 @@ pub fn lintim<F: Files, K: Sink, L: Ledger>(
         Some(Command::Check) => check(alloc, files, out),
         Some(Command::Status) => status(alloc, files, out),
         Some(Command::Demo(number)) => demo(alloc, number, out, steps),
+        Some(Command::Ask(form)) => question(alloc, &form, files, out, steps),
         None => report::tell(
             out,
-            b"usage: lintim make | fresh | check | status | demo N\n",
+            b"usage: lintim make | fresh | check | status | demo N | waits P B | check-waits P | \
+              journey A B T planned | journey A B T disposed | pool S1 S2 ..\n",
             Status::Usage,
         ),
     }

@@ -1,10 +1,11 @@
 -- The words that ask for waiting decisions, journeys and pools.
-use Rattle.std.specs.Prelude.{ℕ, ℤ, pos, ◌&&◌, not, nat_le, int_le, if◌then◌else◌, Bool, true, false, List, [], ◌∷◌, ◌++◌, length, codes, unsigned_abs, Option, Some, None, option_map, option_and_then}
+use Rattle.std.specs.Prelude.{ℕ, ℤ, ◌≤◌, ⊤, pos, ◌&&◌, not, nat_le, int_le, if◌then◌else◌, Bool, true, false, List, [], ◌∷◌, ◌++◌, length, codes, unsigned_abs, Option, Some, None, option_map, option_and_then}
 use Rattle.std.specs.Fmt.{signed_decimal}
 use Rattle.std.specs.List.{list_any}
 use Rattle.std.specs.Ordering.{int_eq}
 use Rattle.std.specs.Str.{bytes_eq}
 use Rattle.plan_num.specs.Number.{whole_of}
+use Rattle.pool_maker.specs.RightPools.{AreTerminals}
 use Rattle.plan_queries.specs.declared.form.Form.{Form}
 use Rattle.plan_queries.specs.declared.form.Form.TheVariants.{CheckWaits, Journey, Pool, Waits}
 
@@ -99,3 +100,10 @@ abbrev pub form_of : List (List ℕ) → Option Form
 form_of [] = None
 form_of (first ∷ words) =
     if bytes_eq first (codes "pool") then pool_form words else sized_form first words
+
+-- the numbers of a question lie in their ranges, and the terminals of a pool are 2 to 20 different ones
+abbrev pub IsInRange : Form → Type 0
+IsInRange (Waits penalty budget) = (penalty ≤ 1000000) × (1 ≤ budget) × (budget ≤ 20000)
+IsInRange (CheckWaits penalty) = penalty ≤ 1000000
+IsInRange (Journey from to start disposed) = ⊤
+IsInRange (Pool ids) = AreTerminals ids

@@ -1,8 +1,11 @@
 // Journeys over a folder.
-ghost use Rattle.std.specs.Prelude.{◌≡◌, false, IfSome, Ok, None, option_copied};
+ghost use Rattle.std.specs.Prelude.{◌≡◌, false, IfOk, IfSome};
 ghost use Rattle.plan_files.specs.Reads.{OnlyReads};
 ghost use Rattle.stage_chain.specs.Ends.{is_broken, Gives};
-ghost use Rattle.plan_queries.specs.Queries.{JourneyTells, Tells, TellsJourney, times_in};
+ghost use Rattle.plan_queries.specs.declared.answer.QueryEnd.TheVariants as ends;
+ghost use Rattle.plan_queries.specs.declared.form.Form.TheVariants as forms;
+ghost use Rattle.plan_queries.specs.Queries.{AnswersRight, IsRightIn, JourneyIsRight, JourneyTells};
+ghost use Rattle.plan_queries.specs.Queries.{Tells, TellsJourney, times_in};
 
 use crate::answer::{Answer, QueryEnd};
 use crate::fault::end_of_fault;
@@ -25,6 +28,9 @@ pub(crate) fn journey<F: Files>(
 ) -> Result<Answer, ChainEnd>
     ensures tells { IfSome (F.contents files.old) (λ folder.
         Tells (JourneyTells from to start disposed folder) result) }
+    ensures right { IfSome (F.contents files.old) (λ folder.
+        AnswersRight (IsRightIn (forms.Journey from to start disposed) folder) result) }
+    ensures ends { IfOk result (λ answer. answer.end ≡ ends.Done) }
     ensures only_reads { OnlyReads F.contents F.writes F.faults files.old files.new
         (is_broken result) }
 {
@@ -63,6 +69,9 @@ fn over(
     times: &Option<Text>,
 ) -> Result<Answer, ChainEnd>
     ensures tells { Tells (TellsJourney from to start events.now activities.now times.now) result }
+    ensures right { AnswersRight
+        (JourneyIsRight from to start events.now activities.now times.now) result }
+    ensures ends { IfOk result (λ answer. answer.end ≡ ends.Done) }
     ensures fault_free { is_broken result ≡ false }
 {
     let times = match times {

@@ -1,16 +1,20 @@
-//! Questions about a dataset beside the chain: journeys, and pools of lines.
+//! Questions about a dataset beside the chain: waiting decisions, journeys, and pools of lines.
 #![tactic(auto)]
 
 mod answer;
+mod ask;
+mod check;
 mod fault;
 mod form;
 mod journey;
 mod parse;
 mod pool;
 mod terminals;
+mod waits;
 mod words;
 
 pub use answer::{Answer, QueryEnd};
+pub use ask::ask;
 pub use form::Form;
 pub use parse::form_of;
 pub use terminals::Terminals;

@@ -1,29 +1,29 @@
 // The words that ask for something.
-ghost use Rattle.std.specs.Prelude.{◌≡◌, IfOk, map, string_bytes};
-ghost use Rattle.plan_queries.specs.FormWords.{are_apart, check_form, five_words, form_of, ids_in};
+ghost use Rattle.std.specs.Prelude.{◌≡◌, ◌≤◌, IfSome, length, map, string_bytes};
+ghost use Rattle.plan_queries.specs.FormWords.{IsInRange, are_apart, check_form, five_words, form_of, ids_in};
 ghost use Rattle.plan_queries.specs.FormWords.{is_disposed, journey_form, pool_form, pool_of_ids};
 ghost use Rattle.plan_queries.specs.FormWords.{sized_form, three_words, two_words, waits_form};
 
 use crate::form::Form;
 use crate::terminals::Terminals;
 use crate::words::{amount_in, id_in, number_in};
-use plan_num::NoMemory;
-use std::alloc::Global;
 
 /// The question that words ask, if they ask one of these.
-pub fn form_of(alloc: Global, words: &[String]) -> Result<Option<Form>, NoMemory>
-    ensures { IfOk result (λ form. form ≡ form_of (map string_bytes words.now)) }
+pub fn form_of(words: &[String]) -> Option<Form>
+    ensures form { result ≡ form_of (map string_bytes words.now) }
+    ensures in_range { IfSome result IsInRange }
 {
     match words {
-        [] => Ok(None),
-        [first, more @ ..] if first.as_str() == "pool" => pool_form(alloc, more),
-        [first, more @ ..] => Ok(sized_form(first.as_str(), more)),
+        [] => None,
+        [first, more @ ..] if first.as_str() == "pool" => pool_form(more),
+        [first, more @ ..] => sized_form(first.as_str(), more),
     }
 }
 
 // The question of a first word and of one, two or four after it.
 fn sized_form(first: &str, words: &[String]) -> Option<Form>
-    ensures { result ≡ sized_form first.now (map string_bytes words.now) }
+    ensures form { result ≡ sized_form first.now (map string_bytes words.now) }
+    ensures in_range { IfSome result IsInRange }
 {
     match words {
         [penalty] => two_words(first, penalty.as_str()),
@@ -42,7 +42,8 @@ fn sized_form(first: &str, words: &[String]) -> Option<Form>
 }
 
 fn two_words(first: &str, penalty: &str) -> Option<Form>
-    ensures { result ≡ two_words first.now penalty.now }
+    ensures form { result ≡ two_words first.now penalty.now }
+    ensures in_range { IfSome result IsInRange }
 {
     if first == "check-waits" {
         check_form(penalty)
@@ -52,7 +53,8 @@ fn two_words(first: &str, penalty: &str) -> Option<Form>
 }
 
 fn three_words(first: &str, penalty: &str, budget: &str) -> Option<Form>
-    ensures { result ≡ three_words first.now penalty.now budget.now }
+    ensures form { result ≡ three_words first.now penalty.now budget.now }
+    ensures in_range { IfSome result IsInRange }
 {
     if first == "waits" {
         waits_form(penalty, budget)
@@ -62,7 +64,8 @@ fn three_words(first: &str, penalty: &str, budget: &str) -> Option<Form>
 }
 
 fn five_words(first: &str, from: &str, to: &str, start: &str, times: &str) -> Option<Form>
-    ensures { result ≡ five_words first.now from.now to.now start.now times.now }
+    ensures form { result ≡ five_words first.now from.now to.now start.now times.now }
+    ensures in_range { IfSome result IsInRange }
 {
     if first == "journey" {
         journey_form(from, to, start, times)
@@ -73,7 +76,8 @@ fn five_words(first: &str, from: &str, to: &str, start: &str, times: &str) -> Op
 
 // A test of a waiting decision, at a penalty of 0 to 1,000,000 minutes.
 fn check_form(penalty: &str) -> Option<Form>
-    ensures { result ≡ check_form penalty.now }
+    ensures form { result ≡ check_form penalty.now }
+    ensures in_range { IfSome result IsInRange }
 {
     let penalty = amount_in(0, 1_000_000, penalty)?;
     Some(Form::CheckWaits { penalty })
@@ -81,7 +85,8 @@ fn check_form(penalty: &str) -> Option<Form>
 
 // A waiting decision, at such a penalty and within a budget of 1 to 20,000 entries.
 fn waits_form(penalty: &str, budget: &str) -> Option<Form>
-    ensures { result ≡ waits_form penalty.now budget.now }
+    ensures form { result ≡ waits_form penalty.now budget.now }
+    ensures in_range { IfSome result IsInRange }
 {
     let penalty = amount_in(0, 1_000_000, penalty)?;
     let budget = amount_in(1, 20_000, budget)?;
@@ -90,7 +95,8 @@ fn waits_form(penalty: &str, budget: &str) -> Option<Form>
 
 // A journey between two different stops.
 fn journey_form(from: &str, to: &str, start: &str, times: &str) -> Option<Form>
-    ensures { result ≡ journey_form from.now to.now start.now times.now }
+    ensures form { result ≡ journey_form from.now to.now start.now times.now }
+    ensures in_range { IfSome result IsInRange }
 {
     let from = id_in(from)?;
     let to = id_in(to)?;
@@ -120,17 +126,21 @@ fn is_disposed(word: &str) -> Option<bool>
 }
 
 // A pool of 2 to 20 different stops.
-fn pool_form(alloc: Global, words: &[String]) -> Result<Option<Form>, NoMemory>
-    ensures { IfOk result (λ form. form ≡ pool_form (map string_bytes words.now)) }
+#[tactic(auto, using(crate::proofs::WordFacts::no_pool))]
+fn pool_form(words: &[String]) -> Option<Form>
+    ensures form { result ≡ pool_form (map string_bytes words.now) }
+    ensures in_range { IfSome result IsInRange }
 {
-    match ids_in(alloc, words)? {
-        Some(ids) => Ok(pool_of_ids(ids)),
-        None => Ok(None),
+    if words.len() < 2 || words.len() > 20 {
+        return None;
     }
+    pool_of_ids(ids_in(words)?)
 }
 
+#[tactic(auto, using(crate::proofs::WordFacts::apart_terminals))]
 fn pool_of_ids(ids: Terminals) -> Option<Form>
-    ensures { result ≡ pool_of_ids ids }
+    ensures form { result ≡ pool_of_ids ids }
+    ensures in_range { IfSome result IsInRange }
 {
     let count = ids.as_slice().len();
     if 2 <= count && count <= 20 && are_apart(ids.as_slice()) {
@@ -141,17 +151,15 @@ fn pool_of_ids(ids: Terminals) -> Option<Form>
 }
 
 // The ids of some words, where each is one.
-fn ids_in(alloc: Global, words: &[String]) -> Result<Option<Terminals>, NoMemory>
-    ensures { IfOk result (λ ids. ids ≡ ids_in (map string_bytes words.now)) }
+fn ids_in(words: &[String]) -> Option<Terminals>
+    requires { length words.now ≤ 20 }
+    ensures { result ≡ ids_in (map string_bytes words.now) }
 {
-    let mut ids = Terminals::new(alloc);
+    let mut ids = Terminals::new();
     for word in words {
-        match id_in(word.as_str()) {
-            Some(id) => ids.push(id)?,
-            None => return Ok(None),
-        }
+        ids.push(id_in(word.as_str())?);
     }
-    Ok(Some(ids))
+    Some(ids)
 }
 
 // Whether ids differ from one another.

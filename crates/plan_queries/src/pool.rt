@@ -1,9 +1,12 @@
 // Pools of lines over a folder.
-ghost use Rattle.std.specs.Prelude.{◌≡◌, false, IfSome, Ok};
+ghost use Rattle.std.specs.Prelude.{◌≡◌, false, IfOk, IfSome, Ok};
 ghost use Rattle.plan_files.specs.Reads.{OnlyReads};
-ghost use Rattle.pool_maker.specs.RightPools.{AreTerminals};
+ghost use Rattle.ptn_network.specs.Networks.{network_of};
+ghost use Rattle.pool_maker.specs.RightPools.{AreTerminals, IsRightPool};
 ghost use Rattle.stage_chain.specs.Ends.{is_broken, Gives};
-ghost use Rattle.plan_queries.specs.Queries.{pool_over, pool_told};
+ghost use Rattle.plan_queries.specs.declared.answer.QueryEnd.TheVariants as ends;
+ghost use Rattle.plan_queries.specs.declared.form.Form.TheVariants as forms;
+ghost use Rattle.plan_queries.specs.Queries.{AnswersRight, IsRightIn, pool_over, pool_told};
 
 use crate::answer::{Answer, QueryEnd};
 use crate::fault::end_of_fault;
@@ -23,6 +26,9 @@ pub(crate) fn pool<F: Files>(
     requires { AreTerminals terminals.now }
     ensures tells { IfSome (F.contents files.old) (λ folder.
         Gives (pool_told terminals.now folder) result) }
+    ensures right { IfSome (F.contents files.old) (λ folder.
+        AnswersRight (IsRightIn (forms.Pool terminals.now) folder) result) }
+    ensures ends { IfOk result (λ answer. answer.end ≡ ends.Done) }
     ensures only_reads { OnlyReads F.contents F.writes F.faults files.old files.new
         (is_broken result) }
 {
@@ -40,6 +46,9 @@ fn over(
 ) -> Result<Answer, ChainEnd>
     requires { AreTerminals terminals.now }
     ensures tells { Gives (pool_over terminals.now (Ok stops.now) (Ok edges.now)) result }
+    ensures right { AnswersRight
+        (IsRightPool (network_of stops.now edges.now) terminals.now) result }
+    ensures ends { IfOk result (λ answer. answer.end ≡ ends.Done) }
     ensures fault_free { is_broken result ≡ false }
 {
     match make_pool(alloc, stops.as_bytes(), edges.as_bytes(), terminals) {

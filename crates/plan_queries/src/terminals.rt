@@ -1,46 +1,48 @@
 // The terminals of a pool.
-ghost use Rattle.std.specs.Prelude.{◌≡◌, ◌++◌, ◌∷◌, [], OnOk};
+ghost use Rattle.std.specs.Prelude.{◌≡◌, ◌++◌, ◌∷◌, ◌<◌, ◌≤◌, [], length};
 
-use plan_num::NoMemory;
-use std::alloc::Global;
 use std::marker::Model;
 
-/// Ids of stops. Contracts see them as a list.
+/// At most 20 ids of stops. Contracts see them as a list.
 #[derive(Debug, Drop)]
 pub struct Terminals {
-    ids: Vec<i64>,
+    ids: [i64; 20],
+    count: usize,
+    ghost few: { count ≤ 20 },
 }
 
 impl Model for Terminals {
-    ghost use Rattle.std.specs.Prelude.{ℤ, List};
+    ghost use Rattle.std.specs.Prelude.{ℤ, List, take};
 
     ghost Value = { List ℤ };
 
-    ghost view = { λ terminals. terminals.ids.items };
+    ghost view = { λ terminals. take terminals.count terminals.ids };
 }
 
 impl Terminals {
     /// No terminals.
-    pub(crate) fn new(alloc: Global) -> Terminals
+    pub(crate) fn new() -> Terminals
         ensures { result ≡ [] }
     {
         Terminals {
-            ids: Vec::new(alloc),
+            ids: [0; 20],
+            count: 0,
         }
     }
 
     /// One terminal more.
-    pub(crate) fn push(&mut self, id: i64) -> Result<(), NoMemory>
-        ensures { OnOk result (self.new ≡ self.old ++ id ∷ []) }
+    pub(crate) fn push(&mut self, id: i64)
+        requires { length self.old < 20 }
+        ensures { self.new ≡ self.old ++ id ∷ [] }
     {
-        self.ids.push(id)?;
-        Ok(())
+        self.ids[self.count] = id;
+        self.count += 1;
     }
 
     /// The ids.
     pub fn as_slice(&self) -> &[i64]
         ensures { result.now ≡ self.now }
     {
-        &self.ids
+        &self.ids[..self.count]
     }
 }

@@ -1,5 +1,5 @@
 // Numbers among words.
-ghost use Rattle.std.specs.Prelude.{◌≡◌};
+ghost use Rattle.std.specs.Prelude.{◌≡◌, ◌≤◌, ◌≤ℤ◌, IfSome};
 ghost use Rattle.plan_queries.specs.FormWords.{amount_in, id_in, number_in, spelled_in};
 
 use itoa::Buffer;
@@ -7,7 +7,9 @@ use plan_num::parse_whole;
 
 /// The number of a word that is spelled in its shortest way and lies in a range.
 pub(crate) fn number_in(least: i64, most: i64, word: &str) -> Option<i64>
-    ensures { result ≡ number_in least most word.now }
+    ensures number { result ≡ number_in least most word.now }
+    ensures low { IfSome result (λ number. least ≤ℤ number) }
+    ensures high { IfSome result (λ number. number ≤ℤ most) }
 {
     match parse_whole(word.as_bytes()) {
         Some(number) => spelled_in(least, most, word, number),
@@ -17,7 +19,9 @@ pub(crate) fn number_in(least: i64, most: i64, word: &str) -> Option<i64>
 
 // The same, where the word may spell that number.
 fn spelled_in(least: i64, most: i64, word: &str, number: i64) -> Option<i64>
-    ensures { result ≡ spelled_in least most word.now number }
+    ensures number { result ≡ spelled_in least most word.now number }
+    ensures low { IfSome result (λ number. least ≤ℤ number) }
+    ensures high { IfSome result (λ number. number ≤ℤ most) }
 {
     let mut buffer = Buffer::new();
     if buffer.format(number).as_bytes() == word.as_bytes() && least <= number && number <= most {
@@ -29,7 +33,9 @@ fn spelled_in(least: i64, most: i64, word: &str, number: i64) -> Option<i64>
 
 /// The amount that a word is, from 0 on.
 pub(crate) fn amount_in(least: u32, most: u32, word: &str) -> Option<u32>
-    ensures { result ≡ amount_in least most word.now }
+    ensures amount { result ≡ amount_in least most word.now }
+    ensures low { IfSome result (λ amount. least ≤ amount) }
+    ensures high { IfSome result (λ amount. amount ≤ most) }
 {
     match number_in(i64::from(least), i64::from(most), word) {
         Some(number) => Some(number.unsigned_abs() as u32),

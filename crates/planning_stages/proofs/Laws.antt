@@ -40,7 +40,7 @@ use Rattle.giv_files.specs.declared.file_id.FileId.TheVariants as file
 use Rattle.giv_files.specs.declared.made.MadeFile.{MadeFile}
 use Rattle.giv_files.specs.FileNames.{file_name}
 use Rattle.giv_files.specs.MadeLists.{made_lists}
-use Rattle.giv_files.specs.Stages.{stage_makes}
+use Rattle.giv_files.specs.Stages.{all_stages, stage_makes}
 use Rattle.stage_chain.specs.declared.finding.Finding.{Finding}
 use Rattle.demand_load.specs.LoadStage.{load_stage}
 use Rattle.demand_load.specs.RightLoads.{LoadFilesAreRight}
@@ -58,7 +58,7 @@ use Rattle.stage_chain.specs.Checks.{is_certificate, lacks_file, standing}
 use Rattle.stage_chain.specs.Laws.{AreRightOver, AreStages, bundle_over}
 use Rattle.stage_chain.specs.StageLists.{before_stage, is_earlier, rising}
 use Rattle.stage_chain.proofs.RightOver.{one_right}
-use Rattle.planning_stages.specs.Planning.{StageModel, all_planning, by_content, planning, stage_model}
+use Rattle.planning_stages.specs.Planning.{StageModel, by_content, planning, stage_model}
 use Rattle.planning_stages.proofs.AllPlans.{all_accepted}
 use Rattle.planning_stages.proofs.ContentFiles.{content_passes, content_right, content_stands}
 use Rattle.planning_stages.proofs.OneLook.{concept_accepted, costs_accepted, day_accepted, loads_accepted}
@@ -77,7 +77,7 @@ pub record StageLaws (at : Stage) (model : StageModel) : Type 0 where
   pub right : (bundle : BundleParts) (made : Made) → bundle.stage ≡ at → Fits bundle
       → model.run bundle ≡ Ok made → model.IsRight bundle made.files
   pub refuses : (values : List ℤ) (look : FileId → List ℕ) (reason : Refusal)
-      → AreRightOver planning values look (before_stage all_planning at)
+      → AreRightOver planning values look (before_stage all_stages at)
       → model.run (bundle_over values look at) ≡ Err reason → NamesOnly is_hand_file reason
   pub stand : (folder : Folder) (bundle : BundleParts) → lacks_file folder at ≡ false
       → model.verdict bundle (standing folder at) ≡ None → MakesAs at (ids_of (standing folder at))
@@ -92,7 +92,7 @@ record MakingLaws (at : Stage) (model : StageModel) : Type 0 where
   right : (bundle : BundleParts) (made : Made) → bundle.stage ≡ at → Fits bundle
       → model.run bundle ≡ Ok made → model.IsRight bundle made.files
   refuses : (values : List ℤ) (look : FileId → List ℕ) (reason : Refusal)
-      → AreRightOver planning values look (before_stage all_planning at)
+      → AreRightOver planning values look (before_stage all_stages at)
       → model.run (bundle_over values look at) ≡ Err reason → NamesOnly is_hand_file reason
 
 -- the laws of a stage whose files are judged by what it makes: it makes one list of files, none of
@@ -124,45 +124,45 @@ stage_laws stage.Cost = content_laws stage.Cost _ _ refl refl (record {
 stage_laws stage.Concept = record {
   makes = concept_stage_makes;
   right = concept_is_right;
-  refuses = λ values look reason right. let was = one_right planning values look (before_stage all_planning stage.Concept) right in concept_stage_names is_hand_file refl refl refl (bundle_over values look stage.Concept) (loads_accepted values look (was stage.Load refl)) (costs_accepted values look (was stage.Cost refl)) reason;
+  refuses = λ values look reason right. let was = one_right planning values look (before_stage all_stages stage.Concept) right in concept_stage_names is_hand_file refl refl refl (bundle_over values look stage.Concept) (loads_accepted values look (was stage.Load refl)) (costs_accepted values look (was stage.Cost refl)) reason;
   stand = λ folder bundle lacks none. concept_stands (map.get folder (file_name file.Concept)) (map.get folder (file_name file.Tree)) lacks;
   pass = λ folder bundle made solved right found. (concept_there (map.get folder (file_name file.Concept)) (map.get folder (file_name file.Tree)) right.text right.tree (found ∙ right.each), ap (concept_verdict bundle) found ∙ concept_none bundle made.files right);
 }
 stage_laws stage.Ean = content_laws stage.Ean _ _ refl refl (record {
   makes = ean_stage_makes;
   right = ean_is_right;
-  refuses = λ values look reason right. let was = one_right planning values look (before_stage all_planning stage.Ean) right in ean_names_network is_hand_file refl refl (bundle_over values look stage.Ean) reason (concept_accepted values look (was stage.Concept refl));
+  refuses = λ values look reason right. let was = one_right planning values look (before_stage all_stages stage.Ean) right in ean_names_network is_hand_file refl refl (bundle_over values look stage.Ean) reason (concept_accepted values look (was stage.Concept refl));
 })
 stage_laws stage.Timetable = record {
   makes = timetable_stage_makes;
   right = timetable_is_right;
-  refuses = λ values look reason right. let was = one_right planning values look (before_stage all_planning stage.Timetable) right in timetable_names_none is_hand_file (bundle_over values look stage.Timetable) reason (periodic_accepted values look (was stage.Ean refl));
+  refuses = λ values look reason right. let was = one_right planning values look (before_stage all_stages stage.Timetable) right in timetable_names_none is_hand_file (bundle_over values look stage.Timetable) reason (periodic_accepted values look (was stage.Ean refl));
   stand = λ folder bundle lacks none. times_stand (map.get folder (file_name file.TimesP)) lacks;
   pass = λ folder bundle made solved right found. (times_there (map.get folder (file_name file.TimesP)) right.text (found ∙ right.one), ap (timetable_verdict bundle) found ∙ timetable_none bundle made.files right);
 }
 stage_laws stage.Rollout = content_laws stage.Rollout _ _ refl refl (record {
   makes = rollout_stage_makes;
   right = rollout_is_right;
-  refuses = λ values look reason right. let was = one_right planning values look (before_stage all_planning stage.Rollout) right in rollout_names_none is_hand_file (bundle_over values look stage.Rollout) reason (day_accepted values look (was stage.Ean refl) (was stage.Timetable refl));
+  refuses = λ values look reason right. let was = one_right planning values look (before_stage all_stages stage.Rollout) right in rollout_names_none is_hand_file (bundle_over values look stage.Rollout) reason (day_accepted values look (was stage.Ean refl) (was stage.Timetable refl));
 })
 stage_laws stage.Vehicles = record {
   makes = vehicles_stage_makes;
   right = λ bundle made own fits is. vehicles_are_right bundle own fits made is;
-  refuses = λ values look reason right. let was = one_right planning values look (before_stage all_planning stage.Vehicles) right in vehicles_stage_names is_hand_file refl refl (bundle_over values look stage.Vehicles) reason (trips_accepted values look (was stage.Ean refl) (was stage.Rollout refl));
+  refuses = λ values look reason right. let was = one_right planning values look (before_stage all_stages stage.Vehicles) right in vehicles_stage_names is_hand_file refl refl (bundle_over values look stage.Vehicles) reason (trips_accepted values look (was stage.Ean refl) (was stage.Rollout refl));
   stand = λ folder bundle lacks none. schedule_stands bundle _ (map.get folder (file_name file.Schedule)) (map.get folder (file_name file.Potential)) lacks refl none;
   pass = λ folder bundle made solved right found. (schedule_there (map.get folder (file_name file.Schedule)) (map.get folder (file_name file.Potential)) right.right.schedule right.right.potentials (found ∙ right.right.both), ap (schedule_verdict bundle) found ∙ schedule_none bundle made.files right);
 }
 stage_laws stage.Disposition = record {
   makes = disposition_stage_makes;
   right = disposition_is_right;
-  refuses = λ values look reason right. let was = one_right planning values look (before_stage all_planning stage.Disposition) right in disposition_names_delays is_hand_file refl refl (bundle_over values look stage.Disposition) reason (plans_accepted values look (was stage.Rollout refl) (was stage.Vehicles refl));
+  refuses = λ values look reason right. let was = one_right planning values look (before_stage all_stages stage.Disposition) right in disposition_names_delays is_hand_file refl refl (bundle_over values look stage.Disposition) reason (plans_accepted values look (was stage.Rollout refl) (was stage.Vehicles refl));
   stand = λ folder bundle lacks none. disposition_stands bundle _ (map.get folder (file_name file.Disposed)) (map.get folder (file_name file.Reasons)) lacks refl none;
   pass = λ folder bundle made solved right found. (disposition_there (map.get folder (file_name file.Disposed)) (map.get folder (file_name file.Reasons)) right.times_text right.reasons_text (found ∙ right.both), ap (disposition_verdict bundle) found ∙ disposition_none bundle made.files right);
 }
 stage_laws stage.Statistic = content_laws stage.Statistic _ _ refl refl (record {
   makes = statistic_stage_makes;
   right = statistic_is_right;
-  refuses = λ values look reason right. let was = one_right planning values look (before_stage all_planning stage.Statistic) right in statistic_names_none is_hand_file (bundle_over values look stage.Statistic) reason (all_accepted values look (was stage.Cost refl) (was stage.Concept refl) (was stage.Ean refl) (was stage.Timetable refl) (was stage.Rollout refl) (was stage.Vehicles refl) (was stage.Disposition refl));
+  refuses = λ values look reason right. let was = one_right planning values look (before_stage all_stages stage.Statistic) right in statistic_names_none is_hand_file (bundle_over values look stage.Statistic) reason (all_accepted values look (was stage.Cost refl) (was stage.Concept refl) (was stage.Ean refl) (was stage.Timetable refl) (was stage.Rollout refl) (was stage.Vehicles refl) (was stage.Disposition refl));
 })
 
 -- the stages are a chain's

@@ -1,11 +1,12 @@
 -- The nine planning stages: what each one is, and the chain of them.
-use Rattle.std.specs.Prelude.{ℕ, List, [], ◌∷◌, Option, Result}
+use Rattle.std.specs.Prelude.{ℕ, List, Option, Result}
 use Rattle.giv_files.specs.declared.made.Made.{Made}
 use Rattle.giv_files.specs.declared.made.MadeFile.{MadeFile}
 use Rattle.giv_files.specs.declared.refusal.Refusal.{Refusal}
 use Rattle.giv_files.specs.declared.stage.Stage.{Stage}
 use Rattle.giv_files.specs.declared.stage.Stage.TheVariants as stage
 use Rattle.giv_files.specs.Settings.{BundleParts}
+use Rattle.giv_files.specs.Stages.{all_stages}
 use Rattle.demand_load.specs.LoadStage.{load_stage}
 use Rattle.demand_load.specs.RightLoads.{LoadFilesAreRight}
 use Rattle.line_pool.specs.CostStage.{cost_stage}
@@ -87,16 +88,10 @@ stage_model stage.Disposition = record {
 }
 stage_model stage.Statistic = by_content stage.Statistic statistic_stage StatisticFilesAreRight
 
--- the stages, in the order in which they run
-abbrev pub all_planning : List Stage
-all_planning =
-    stage.Load ∷ stage.Cost ∷ stage.Concept ∷ stage.Ean ∷ stage.Timetable
-    ∷ stage.Rollout ∷ stage.Vehicles ∷ stage.Disposition ∷ stage.Statistic ∷ []
-
--- the chain of them
+-- the chain of them, in their order
 unfoldable pub planning : StageParts
 planning = record {
-  stages = all_planning;
+  stages = all_stages;
   run = λ bundle. (stage_model bundle.stage).run bundle;
   work = λ bundle. (stage_model bundle.stage).work bundle;
   verdict = λ stage. (stage_model stage).verdict;

@@ -22,17 +22,7 @@ use vehicle_flow::make_vehicles;
 pub fn planning_stages() -> &'static [Stage]
     ensures { result.now ≡ planning.stages }
 {
-    &[
-        Stage::Load,
-        Stage::Cost,
-        Stage::Concept,
-        Stage::Ean,
-        Stage::Timetable,
-        Stage::Rollout,
-        Stage::Vehicles,
-        Stage::Disposition,
-        Stage::Statistic,
-    ]
+    Stage::all()
 }
 
 /// Makes what the stage of a bundle makes of it.

@@ -43,14 +43,7 @@ own_no_hand : (stage : Stage)
     → list_all (λ file. not (is_hand_file file)) (stage_makes stage) ≡ true
 unfolding is_hand
 own_no_hand stage.Load = refl
-own_no_hand stage.Cost = refl
-own_no_hand stage.Concept = refl
-own_no_hand stage.Ean = refl
-own_no_hand stage.Timetable = refl
-own_no_hand stage.Rollout = refl
-own_no_hand stage.Vehicles = refl
-own_no_hand stage.Disposition = refl
-own_no_hand stage.Statistic = refl
+own_no_hand _ = refl
 
 pub makes_no_hand : (stage : Stage) (files : List MadeFile) → MakesAs stage (ids_of files)
     → AreNoHandFiles files

@@ -63,14 +63,7 @@ named_stage name (at ∷ stages) = cond (bytes_eq name (keep_name at)) at (named
 stage_named : (at : Stage) → named_stage (keep_name at) all_stages ≡ at
 unfolding named_stage
 stage_named stage.Load = refl
-stage_named stage.Cost = refl
-stage_named stage.Concept = refl
-stage_named stage.Ean = refl
-stage_named stage.Timetable = refl
-stage_named stage.Rollout = refl
-stage_named stage.Vehicles = refl
-stage_named stage.Disposition = refl
-stage_named stage.Statistic = refl
+stage_named _ = refl
 
 pub same_stage : (at other : Stage) → keep_name at ≡ keep_name other → at ≡ other
 same_stage at other same =

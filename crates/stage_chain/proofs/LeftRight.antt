@@ -107,14 +107,7 @@ module _ (S : StageParts) (laws : AreStages S) where
 pub looks_there : (folder : Folder) (stage : Stage)
     → files_by (text_in folder) (stage_makes stage) ≡ standing folder stage
 looks_there folder stage.Load = refl
-looks_there folder stage.Cost = refl
-looks_there folder stage.Concept = refl
-looks_there folder stage.Ean = refl
-looks_there folder stage.Timetable = refl
-looks_there folder stage.Rollout = refl
-looks_there folder stage.Vehicles = refl
-looks_there folder stage.Disposition = refl
-looks_there folder stage.Statistic = refl
+looks_there folder _ = refl
 
 module _ (S : StageParts) (laws : AreStages S) where
   module _ (folder : Folder) where

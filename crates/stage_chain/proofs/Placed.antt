@@ -78,14 +78,7 @@ from_stays origin.Earlier hand made more file text e = text_stays made more file
 pub made_looks : (hand : Folder) (made : List MadeFile) (stage : Stage)
     → files_by (input_text hand made) (stage_makes stage) ≡ files_by (made_text made) (stage_makes stage)
 made_looks hand made stage.Load = refl
-made_looks hand made stage.Cost = refl
-made_looks hand made stage.Concept = refl
-made_looks hand made stage.Ean = refl
-made_looks hand made stage.Timetable = refl
-made_looks hand made stage.Rollout = refl
-made_looks hand made stage.Vehicles = refl
-made_looks hand made stage.Disposition = refl
-made_looks hand made stage.Statistic = refl
+made_looks hand made _ = refl
 
 names_are : (made : List MadeFile) → map file_name (ids_of made) ≡ names_of made
 names_are made = map-map file_name (λ (file : MadeFile). file.file) made

@@ -79,14 +79,7 @@ file_no_keep _ = refl
 -- each stage has one
 pub own_keep : (stage : Stage) → is_kept_name (keep_name stage) ≡ true
 own_keep stage.Load = refl
-own_keep stage.Cost = refl
-own_keep stage.Concept = refl
-own_keep stage.Ean = refl
-own_keep stage.Timetable = refl
-own_keep stage.Rollout = refl
-own_keep stage.Vehicles = refl
-own_keep stage.Disposition = refl
-own_keep stage.Statistic = refl
+own_keep _ = refl
 
 -- people write no file under one
 pub kept_no_hand : (name : List ℕ) → is_kept_name name ≡ true → is_hand name ≡ false

@@ -1,7 +1,10 @@
-use Rattle.std.proofs.Common.{drop}
+use Rattle.std.proofs.Common.{◌≡◌, drop, length}
 use Rattle.plan_queries.proofs.WordFacts.{IsIds}
 use Rattle.plan_queries.proofs.parse.ids_in.Given as goal
 
 -- all ids are those of the words so far, and then those of the words that are left
 abbrev pub invariant-loop-word : goal.invariant-loop-word
-invariant-loop-word l = IsIds l.words l.ids (drop l.word-index l.words)
+invariant-loop-word l = record {
+  ids : IsIds l.words l.ids (drop l.word-index l.words);
+  count : length l.ids ≡ l.word-index;
+}
