@@ -11,7 +11,7 @@ use Rattle.event_tables.specs.Kinds.{is_arrival}
 use Rattle.event_tables.specs.Places.{AreNumbered}
 use Rattle.delay_management.specs.declared.step.Step.{Step}
 use Rattle.delay_management.specs.Links.{forward_rank}
-use Rattle.delay_management.specs.Problems.{GoesForward, event_at}
+use Rattle.delay_management.specs.Problems.{GoesForward, event_at, planned_at}
 use Rattle.delay_management.proofs.Places.{id_at}
 
 -- the first of two numbers that differ decides
@@ -94,3 +94,18 @@ rank_rises events step are few goes =
     by (inl less) = omega (arith, less, most_late (is_arrival a.kind), goes.from, few)
     by (inr both) =
         by_kind both.0 (decided (place_of (is_arrival a.kind)) (place_of (is_arrival b.kind)) _ both.1)
+
+-- of two events in the forward order the second is planned no earlier
+pub planned_rises : (events : List ExpandedEvent) (step : Step) → GoesForward events step
+    → planned_at events step.from ≤ planned_at events step.to
+planned_rises events step goes = by (decided a.time b.time _ goes.before)
+  where
+    a : ExpandedEvent
+    a = event_at events step.from
+
+    b : ExpandedEvent
+    b = event_at events step.to
+
+    by : {P : Type 0} → (a.time < b.time) ⊎ ((a.time ≡ b.time) × P) → a.time ≤ b.time
+    by (inl less) = omega (arith, less)
+    by (inr same) = omega (arith, same.0)
