@@ -23,10 +23,14 @@ mod RefusedInputs
 mod ReportLine
 pub mod Rounds
 mod SmallTimes
+mod SoonInputs
+mod SoonTimes
 mod StageResults
-mod TableParts
+pub mod TableParts
 mod TextsBack
 mod TightMore
+mod TrialDelay
+pub mod TrialFacts
 mod Tried
 mod WrittenBy
 pub mod WrittenReasons

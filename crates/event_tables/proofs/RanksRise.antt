@@ -120,3 +120,15 @@ rank_rises events from to are few from_there to_there before =
     by (inl less) = omega (arith, less, most_late (is_arrival a.kind), from_there, few)
     by (inr both) =
         by_kind both.0 (decided (place_of (is_arrival a.kind)) (place_of (is_arrival b.kind)) _ both.1)
+
+-- of two events in the forward order the second is planned no earlier
+pub planned_rises : (events : List ExpandedEvent) (from to : ℕ)
+    → stands_before (at events from) (at events to) ≡ true
+    → (at events from).time ≤ (at events to).time
+planned_rises events from to before =
+    by (decided (at events from).time (at events to).time _ before)
+  where
+    by : {P : Type 0} → ((at events from).time < (at events to).time) ⊎ (((at events from).time ≡ (at events to).time) × P)
+        → (at events from).time ≤ (at events to).time
+    by (inl less) = omega (arith, less)
+    by (inr same) = omega (arith, same.0)
