@@ -2,7 +2,7 @@
 #![tactic(auto)]
 
 mod answer;
-mod ask;
+mod asking;
 mod check;
 mod fault;
 mod form;
@@ -14,7 +14,7 @@ mod waits;
 mod words;
 
 pub use answer::{Answer, QueryEnd};
-pub use ask::ask;
+pub use asking::ask;
 pub use form::Form;
 pub use parse::form_of;
 pub use terminals::Terminals;
