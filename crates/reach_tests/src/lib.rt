@@ -2,4 +2,6 @@
 #![tactic(auto)]
 
 #[cfg(test)]
+mod pool_large;
+#[cfg(test)]
 mod pool_rows;
