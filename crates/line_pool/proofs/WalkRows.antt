@@ -1,7 +1,9 @@
 -- The rows of one line that is a walk keep the rules of a file of lines.
-use Rattle.std.proofs.Common.{◌≡◌, ◌≢◌, ℕ, zero, suc, ℤ, pos, ◌+◌, ◌<◌, Bool, true, false, cond, not, ◌||◌}
+use Rattle.std.proofs.Common.{◌≡◌, ◌≢◌, ℕ, zero, suc, ℤ, pos, ◌+◌, ◌<◌, Bool, true, false, cond}
+use Rattle.std.proofs.Common.{not, ◌||◌}
 use Rattle.std.proofs.Common.{List, [], ◌∷◌, ◌++◌, filter_map, length, map, slice_get, Option, Some}
-use Rattle.std.proofs.Common.{None, option_map, is_some, All, nat_eq, refl, ap, sym, subst, ◌∙◌, arith}
+use Rattle.std.proofs.Common.{None, option_map, is_some, All, nat_eq, refl, ap, sym, subst, ◌∙◌}
+use Rattle.std.proofs.Common.{arith}
 use Rattle.std.proofs.Common.{append_assoc, append-nil, unwrap_or}
 use Rattle.std.specs.List.{AllByRecursion, IsDistinct, cons_option, enumerate_from, list_any}
 use Rattle.std.specs.List.Sorted.{IsStrictlySortedBy}

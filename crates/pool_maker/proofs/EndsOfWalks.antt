@@ -1,6 +1,8 @@
 -- A walk tells its two ends by the edges that it has: at each other stop it has an even number of
 -- them.
-use Rattle.std.proofs.Common.{◌≡◌, ◌≢◌, ℕ, ◌<◌, Bool, true, false, not, ◌||◌, cond, nat_eq, List, [], ◌∷◌, length, get_or, All, inl, inr, ◌⊎◌, refl, ap, subst, sym, ◌∙◌, Some}
+use Rattle.std.proofs.Common.{◌≡◌, ◌≢◌, ℕ, ◌<◌, Bool, true, false, not, ◌||◌, cond, nat_eq, List}
+use Rattle.std.proofs.Common.{[], ◌∷◌, length, get_or, All, inl, inr, ◌⊎◌, refl, ap, subst, sym}
+use Rattle.std.proofs.Common.{◌∙◌, Some}
 use Rattle.std.specs.List.{AllByRecursion, IsDistinct, cons_option, list_all, list_any}
 use Rattle.std.proofs.lemmas.Bool.{and_parts, eq-eqb, eqb-true, ne_eqb}
 use Rattle.std.proofs.lemmas.List.Elements.{All-contains, All-head, All-tail}

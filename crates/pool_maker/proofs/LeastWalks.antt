@@ -1,6 +1,8 @@
 -- The least sum of the definition is the least over all walks: a walk that comes to a stop twice can
 -- be cut short.
-use Rattle.std.proofs.Common.{◌≡◌, ℕ, ℤ, pos, suc, ◌+◌, ◌<◌, ◌≤◌, Bool, true, false, ◌||◌, nat_eq, List, [], ◌∷◌, length, map, refl, ap, subst, sym, ◌∙◌, arith, Option, Some, None, option_map, unsigned_abs, unwrap_or, All, Contains}
+use Rattle.std.proofs.Common.{◌≡◌, ℕ, ℤ, pos, suc, ◌+◌, ◌<◌, ◌≤◌, Bool, true, false, ◌||◌, nat_eq}
+use Rattle.std.proofs.Common.{List, [], ◌∷◌, length, map, refl, ap, subst, sym, ◌∙◌, arith, Option}
+use Rattle.std.proofs.Common.{Some, None, option_map, unsigned_abs, unwrap_or, All, Contains}
 use Rattle.std.specs.List.{AllByRecursion, IsDistinct, list_any}
 use Rattle.std.proofs.lemmas.Bool.{eqb-true}
 use Rattle.std.proofs.lemmas.List.Elements.{All-contains}
@@ -8,9 +10,12 @@ use Rattle.std.proofs.lemmas.List.FromFn.{get_or-map-range_with_len}
 use Rattle.std.proofs.lemmas.Map.Steps.{length-le_from_distinct_below}
 use Rattle.ptn_network.specs.declared.edge.Edge.{Edge}
 use Rattle.ptn_network.specs.Networks.{IsEdge, IsNetwork, NetworkParts}
-use Rattle.ptn_network.specs.Walks.{AreLeastSums, IsLeastSum, IsWalk, across, least_of, least_sum, least_sums, walk_sum, walks_within}
+use Rattle.ptn_network.specs.Walks.{AreLeastSums, IsLeastSum, IsWalk, across, least_of, least_sum}
+use Rattle.ptn_network.specs.Walks.{least_sums, walk_sum, walks_within}
 use Rattle.ptn_network.proofs.LastWalks.{starts_within}
-use Rattle.ptn_network.proofs.Walks.{Begins, Contains-cons, Contains-head, Contains-map, Contains-rec, IsUpTo, begins, edge_first, least_of_all, least_of_there, walk_sum-cons, within_all, within_there}
+use Rattle.ptn_network.proofs.Walks.{Begins, Contains-cons, Contains-head, Contains-map}
+use Rattle.ptn_network.proofs.Walks.{Contains-rec, IsUpTo, begins, edge_first, least_of_all}
+use Rattle.ptn_network.proofs.Walks.{least_of_there, walk_sum-cons, within_all, within_there}
 
 -- ---- the stops from which a walk goes on
 

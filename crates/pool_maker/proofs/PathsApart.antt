@@ -1,5 +1,7 @@
 -- No two paths between terminals lie in one another, so each path lies in a line.
-use Rattle.std.proofs.Common.{◌≡◌, ◌≢◌, ℕ, ℤ, pos, zero, suc, ◌<◌, Bool, true, false, ◌&&◌, ◌||◌, nat_eq, List, [], ◌∷◌, ◌++◌, length, map, filter_map, get_or, All, Option, Some, None, inl, inr, refl, ap, subst, sym, ◌∙◌, arith}
+use Rattle.std.proofs.Common.{◌≡◌, ◌≢◌, ℕ, ℤ, pos, zero, suc, ◌<◌, Bool, true, false, ◌&&◌, ◌||◌}
+use Rattle.std.proofs.Common.{nat_eq, List, [], ◌∷◌, ◌++◌, length, map, filter_map, get_or, All}
+use Rattle.std.proofs.Common.{Option, Some, None, inl, inr, refl, ap, subst, sym, ◌∙◌, arith}
 use Rattle.std.specs.List.{AllByRecursion, IsDistinct, cons_option, list_all, list_any}
 use Rattle.std.specs.List.Sorted.{IsStrictlySortedBy}
 use Rattle.std.specs.Ordering.{int_cmp, int_eq}
@@ -20,7 +22,8 @@ use Rattle.pool_maker.specs.PoolTexts.{unknown_terminals}
 use Rattle.pool_maker.specs.TerminalPaths.{lies_in, pairs_of, paths_of}
 use Rattle.pool_maker.proofs.EndsOfWalks.{members_in, paths_ends}
 use Rattle.pool_maker.proofs.PairsOfIds.{AreInOrder, less_is, not_own, pairs_after, pairs_are}
-use Rattle.pool_maker.proofs.TerminalWays.{IsKnown, all_stops, in_order, is_index, way_of, way_shortest}
+use Rattle.pool_maker.proofs.TerminalWays.{IsKnown, all_stops, in_order, is_index, way_of}
+use Rattle.pool_maker.proofs.TerminalWays.{way_shortest}
 
 -- ---- the pairs differ
 

@@ -1,5 +1,6 @@
 -- The paths over terminals with their stops are the paths between their ids.
-use Rattle.std.proofs.Common.{◌≡◌, ℕ, ℤ, ◌<◌, Bool, true, false, cond, int_lt, List, [], ◌∷◌, ◌++◌, length, map, filter, filter_map, Option, None, refl, ap, sym, ◌∙◌}
+use Rattle.std.proofs.Common.{◌≡◌, ℕ, ℤ, ◌<◌, Bool, true, false, cond, int_lt, List, [], ◌∷◌, ◌++◌}
+use Rattle.std.proofs.Common.{length, map, filter, filter_map, Option, None, refl, ap, sym, ◌∙◌}
 use Rattle.std.specs.List.{cons_option, flat_map}
 use Rattle.std.proofs.lemmas.List.Elements.{All-map, All-weaker, filter_map-append}
 use Rattle.ptn_network.specs.Networks.{NetworkParts, index_in, rising}

@@ -1,5 +1,7 @@
 -- The text of the lines between terminals is right as a pool.
-use Rattle.std.proofs.Common.{◌≡◌, ◌≢◌, ℕ, ℤ, pos, ◌<◌, ◌≤◌, true, not, List, [], ◌∷◌, ◌++◌, length, map, get_or, All, Any, codes, refl, ap, subst, sym, ◌∙◌, arith, append_assoc}
+use Rattle.std.proofs.Common.{◌≡◌, ◌≢◌, ℕ, ℤ, pos, ◌<◌, ◌≤◌, true, not, List, [], ◌∷◌, ◌++◌, length}
+use Rattle.std.proofs.Common.{map, get_or, All, Any, codes, refl, ap, subst, sym, ◌∙◌, arith}
+use Rattle.std.proofs.Common.{append_assoc}
 use Rattle.std.specs.Fmt.{signed_decimal}
 use Rattle.std.specs.List.{flat_map, range_with_len}
 use Rattle.std.proofs.lemmas.Int.{ints}
@@ -18,14 +20,17 @@ use Rattle.ptn_network.specs.Networks.{IsNetwork, NetworkParts, network_faults, 
 use Rattle.ptn_network.proofs.Sound.{network_sound}
 use Rattle.line_pool.specs.Pools.{LineParts, pool_of}
 use Rattle.line_pool.proofs.EdgesOfTexts.{HasId, edge_ids}
-use Rattle.pool_maker.specs.PoolTexts.{edge_id, pool_header, pool_rows, pool_text, terminal_faults, text_of, uncovered_line, unknown_terminals}
+use Rattle.pool_maker.specs.PoolTexts.{edge_id, pool_header, pool_rows, pool_text, terminal_faults}
+use Rattle.pool_maker.specs.PoolTexts.{text_of, uncovered_line, unknown_terminals}
 use Rattle.pool_maker.specs.RightPools.{AreTerminals, IsRightPool, IsShortestLine}
 use Rattle.pool_maker.specs.Tellable.{AreTellable, IsRowId, IsShort}
-use Rattle.pool_maker.specs.TerminalPaths.{is_covered, lies_in, lines_between, paths_of, uncontained, uncovered}
+use Rattle.pool_maker.specs.TerminalPaths.{is_covered, lies_in, lines_between, paths_of}
+use Rattle.pool_maker.specs.TerminalPaths.{uncontained, uncovered}
 use Rattle.pool_maker.proofs.Comments.{AreComments, back_with_comments, comment_more, no_comments}
 use Rattle.pool_maker.proofs.PoolsRead.{lines_are, no_pool_faults, numbers_back}
 use Rattle.pool_maker.proofs.RowsInside.{columns_written, header_plain, own_id, rows_inside}
-use Rattle.pool_maker.proofs.TerminalWays.{IsTerminalPath, all_stops, few_lines, few_paths, lines_too, path_short, paths_right}
+use Rattle.pool_maker.proofs.TerminalWays.{IsTerminalPath, all_stops, few_lines, few_paths}
+use Rattle.pool_maker.proofs.TerminalWays.{lines_too, path_short, paths_right}
 use Rattle.pool_maker.proofs.ServedPaths.{each_path_is_served}
 
 -- ---- the comments are comments

@@ -1,5 +1,7 @@
 -- Each path between terminals lies in a line.
-use Rattle.std.proofs.Common.{◌≡◌, ◌≢◌, ℕ, zero, suc, ◌+◌, ◌<◌, ◌≤◌, ◌==◌, Bool, true, false, not, ◌&&◌, ◌||◌, cond, nat_eq, List, [], ◌∷◌, length, map, filter, get_or, All, Any, refl, ap, subst, sym, ◌∙◌, arith}
+use Rattle.std.proofs.Common.{◌≡◌, ◌≢◌, ℕ, zero, suc, ◌+◌, ◌<◌, ◌≤◌, ◌==◌, Bool, true, false, not}
+use Rattle.std.proofs.Common.{◌&&◌, ◌||◌, cond, nat_eq, List, [], ◌∷◌, length, map, filter, get_or}
+use Rattle.std.proofs.Common.{All, Any, refl, ap, subst, sym, ◌∙◌, arith}
 use Rattle.std.specs.List.{IsDistinct, enumerate_from, list_any}
 use Rattle.std.proofs.lemmas.Bool.{and_parts, eq-eqb, eqb-false, not-true}
 use Rattle.std.proofs.lemmas.List.{get_or_default}
@@ -7,7 +9,8 @@ use Rattle.std.proofs.lemmas.List.Elements.{All-get_or, All-weaker}
 use Rattle.std.proofs.lemmas.List.Folds.{Any-from_list_any}
 use Rattle.std.proofs.lemmas.List.FromFn.{get_or-enumerate_from, length-enumerate_from}
 use Rattle.pool_maker.specs.Laws.{EachPathIsServed}
-use Rattle.pool_maker.specs.TerminalPaths.{is_contained, lies_in, lines_among, lines_between, paths_of, uncontained}
+use Rattle.pool_maker.specs.TerminalPaths.{is_contained, lies_in, lines_among, lines_between}
+use Rattle.pool_maker.specs.TerminalPaths.{paths_of, uncontained}
 use Rattle.pool_maker.proofs.EndsOfWalks.{AreIn, members_in}
 use Rattle.pool_maker.proofs.PathsApart.{AllApart, longer, paths_of_apart, same_place}
 use Rattle.pool_maker.proofs.TerminalWays.{IsTerminalPath, all_stops, path_short, paths_right}

@@ -1,10 +1,14 @@
 -- The paths between terminals are shortest lines, and there are not more than 190 of them.
-use Rattle.std.proofs.Common.{◌≡◌, ℕ, ℤ, pos, ◌+◌, ◌<◌, ◌≤◌, Bool, true, false, cond, not, ◌||◌, nat_eq, List, [], ◌∷◌, length, map, filter, filter_map, get_or, position, All, Contains, Option, Some, None, option_map, is_some, unwrap_or, unsigned_abs, refl, ap, subst, sym, ◌∙◌, arith}
+use Rattle.std.proofs.Common.{◌≡◌, ℕ, ℤ, pos, ◌+◌, ◌<◌, ◌≤◌, Bool, true, false, cond, not, ◌||◌}
+use Rattle.std.proofs.Common.{nat_eq, List, [], ◌∷◌, length, map, filter, filter_map, get_or}
+use Rattle.std.proofs.Common.{position, All, Contains, Option, Some, None, option_map, is_some}
+use Rattle.std.proofs.Common.{unwrap_or, unsigned_abs, refl, ap, subst, sym, ◌∙◌, arith}
 use Rattle.std.specs.List.{cons_option, enumerate_from, list_all, list_any}
 use Rattle.std.specs.Ordering.{int_eq}
 use Rattle.std.proofs.lemmas.Bool.{eqb-true}
 use Rattle.std.proofs.lemmas.Bool.Decides.{Decides-int_eq}
-use Rattle.std.proofs.lemmas.List.Elements.{All-cons, All-contains_itself, All-head, All-nil, All-tail}
+use Rattle.std.proofs.lemmas.List.Elements.{All-cons, All-contains_itself, All-head, All-nil}
+use Rattle.std.proofs.lemmas.List.Elements.{All-tail}
 use Rattle.std.proofs.lemmas.List.FromFn.{get_or-map-range_with_len, length-enumerate_from}
 use Rattle.std.proofs.lemmas.List.Quantifiers.{position-Some}
 use Rattle.std.proofs.lemmas.List.Sums.{AllPass-from_list_all}
@@ -24,9 +28,11 @@ use Rattle.line_pool.proofs.WalkLines.{rising_length}
 use Rattle.pool_maker.specs.PoolTexts.{unknown_terminals}
 use Rattle.pool_maker.specs.RightPools.{IsShortestLine}
 use Rattle.pool_maker.specs.Tellable.{IsShort}
-use Rattle.pool_maker.specs.TerminalPaths.{is_contained, lines_among, pairs_of, paths_of, uncontained}
+use Rattle.pool_maker.specs.TerminalPaths.{is_contained, lines_among, pairs_of, paths_of}
+use Rattle.pool_maker.specs.TerminalPaths.{uncontained}
 use Rattle.pool_maker.proofs.LeastWalks.{least_of_stop}
-use Rattle.pool_maker.proofs.PairsOfIds.{AreInOrder, all_in_order, few_pairs, less_is, not_own, pairs_are}
+use Rattle.pool_maker.proofs.PairsOfIds.{AreInOrder, all_in_order, few_pairs, less_is, not_own}
+use Rattle.pool_maker.proofs.PairsOfIds.{pairs_are}
 
 -- ---- the index of a stop
 

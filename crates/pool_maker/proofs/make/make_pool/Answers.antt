@@ -1,5 +1,7 @@
-use Rattle.std.proofs.Common.{◌∙◌}
+use Rattle.std.proofs.Common.{subst, ◌∙◌}
 use Rattle.std.proofs.lemmas.Result.{err_from_is_err_and}
+use Rattle.ptn_network.specs.Networks.{IsNetwork}
+use Rattle.ptn_network.proofs.Sound.{network_sound}
 use Rattle.pool_maker.proofs.MadePools.{no_faults, pool_of_text, stops_of_terminals}
 use Rattle.pool_maker.proofs.MadePools.{tellable_lines, text_faults, unknown_faults}
 use Rattle.pool_maker.proofs.PoolsAreRight.{pool_right}
@@ -22,8 +24,13 @@ pub paths_between-requires : goal.paths_between-requires
 paths_between-requires c =
     let read = c.in_ok-network.ensures in
     let found = c.in_ok-terminals.ensures in
-    stops_of_terminals c.args.stops.now c.args.edges.now c.args.terminals.now c.in_ok-network.network
-    read.0 read.1 c.deref.result.now found.0 (c.deref.ensures.value ∙ found.1)
+    record {
+      network = subst IsNetwork (sym read.1)
+          (network_sound c.args.stops.now c.args.edges.now read.0);
+      stops = stops_of_terminals c.args.stops.now c.args.edges.now c.args.terminals.now
+          c.in_ok-network.network read.0 read.1 c.deref.result.now found.0
+          (c.deref.ensures.value ∙ found.1);
+    }
 
 pub text_of_lines-requires : goal.text_of_lines-requires
 text_of_lines-requires c =
