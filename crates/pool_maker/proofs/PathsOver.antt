@@ -38,14 +38,16 @@ module _ (network : NetworkParts) where
       by false rest = rest
 
   ways_over : (all ids : List ℤ)
-      → flat_map (λ from. filter_map (way_between network from) (map (terminal_of network.stops) all))
+      → flat_map (λ from. filter_map (way_between network from)
+      (map (terminal_of network.stops) all))
       (map (terminal_of network.stops) ids)
       ≡ filter_map way_of (flat_map (λ from. map (λ to. (from, to)) (filter (int_lt from) all)) ids)
   ways_over all [] = refl
   ways_over all (from ∷ ids) =
       let rest = flat_map (λ from. map (λ to. (from, to)) (filter (int_lt from) all)) ids in
       ap (λ some. some ++ flat_map (λ from. filter_map (way_between network from)
-      (map (terminal_of network.stops) all)) (map (terminal_of network.stops) ids)) (ways_from from all)
+      (map (terminal_of network.stops) all)) (map (terminal_of network.stops) ids))
+      (ways_from from all)
       ∙ ap (λ more. filter_map way_of (map (λ to. (from, to)) (filter (int_lt from) all)) ++ more)
       (ways_over all ids)
       ∙ sym (filter_map-append way_of (map (λ to. (from, to)) (filter (int_lt from) all)) rest)

@@ -36,7 +36,8 @@ use Rattle.pool_maker.proofs.ServedPaths.{each_path_is_served}
 -- ---- the comments are comments
 
 number_no_feed : (byte : ℕ) → is_number_byte byte ≡ true → byte ≢ 10
-number_no_feed byte is same = let feed : is_number_byte 10 ≡ true = ap is_number_byte (sym same) ∙ is in cc
+number_no_feed byte is same = let feed : is_number_byte 10 ≡ true = ap is_number_byte (sym same)
+    ∙ is in cc
 
 id_plain : (id : ℤ) → IsRowId id → All (λ byte. byte ≢ 10) (signed_decimal id)
 id_plain id own =
@@ -53,7 +54,8 @@ module _ (network : NetworkParts) (ids : All (λ edge. IsRowId edge.id) network.
       let id = edge_id network edge in
       let told = codes "# uncovered; " ++ signed_decimal id in
       let rest = flat_map (uncovered_line network) edges in
-      let own = own_id network ids edge (All-head (λ edge. edge < length network.edges) edge edges there) in
+      let own = own_id network ids edge (All-head (λ edge. edge < length network.edges) edge edges
+      there) in
       let plain = All-append (λ byte. byte ≢ 10) (codes "# uncovered; ") (signed_decimal id)
       (plain_header (codes "# uncovered; ") refl) (id_plain id own) in
       subst AreComments (sym (append_assoc told (10 ∷ []) rest))
@@ -81,7 +83,8 @@ module _ (network : NetworkParts) (ids : All (λ edge. IsRowId edge.id) network.
 
 module _ (network : NetworkParts) (sound : IsNetwork network) (terminals : List ℤ) where
   pub lines_tellable : (lines : List (List ℕ)) → All (λ edge. IsRowId edge.id) network.edges
-      → length lines ≤ 190 → All (IsTerminalPath network terminals) lines → AreTellable network lines
+      → length lines ≤ 190 → All (IsTerminalPath network terminals) lines
+      → AreTellable network lines
   lines_tellable lines ids few right = record {
     ids = ids;
     few = few;
@@ -109,14 +112,17 @@ served_back : (paths : List (List ℕ)) (lines : List LineParts)
     → All (λ path. Any (λ line. lies_in path line ≡ true) (map (λ line. line.edges) lines)) paths
     → All (λ path. Any (λ line. lies_in path line.edges ≡ true) lines) paths
 served_back paths lines all =
-    All-weaker (λ path. Any (λ line. lies_in path line ≡ true) (map (λ (line : LineParts). line.edges) lines))
+    All-weaker (λ path. Any (λ line. lies_in path line ≡ true)
+    (map (λ (line : LineParts). line.edges) lines))
     (λ path. Any (λ (line : LineParts). lies_in path line.edges ≡ true) lines)
-    (λ path there. any_unmapped (λ line. lies_in path line ≡ true) (λ (line : LineParts). line.edges) lines there)
+    (λ path there. any_unmapped (λ line. lies_in path line ≡ true)
+    (λ (line : LineParts). line.edges) lines there)
     paths all
 
 -- ---- the pool
 
-module _ (stops edges : List ℕ) (terminals : List ℤ) (none : terminal_faults stops edges terminals ≡ [])
+module _ (stops edges : List ℕ) (terminals : List ℤ) (none : terminal_faults stops edges terminals
+    ≡ [])
     (are : AreTerminals terminals) where
   abbrev network : NetworkParts
   network = network_of stops edges
@@ -131,7 +137,8 @@ module _ (stops edges : List ℕ) (terminals : List ℤ) (none : terminal_faults
 
   none_unknown : unknown_terminals network.stops terminals ≡ []
   unfolding terminal_faults
-  none_unknown = back_none (network_faults stops edges) (unknown_terminals network.stops terminals) none
+  none_unknown = back_none (network_faults stops edges) (unknown_terminals network.stops terminals)
+      none
 
   sound : IsNetwork network
   sound = network_sound stops edges no_network_faults
@@ -173,7 +180,8 @@ module _ (stops edges : List ℕ) (terminals : List ℤ) (none : terminal_faults
         numbered = numbers_back network terminals lines right few rise text back
             ∙ ap (λ n. map pos (range_with_len 1 n)) (sym count);
         lines = same;
-        shortest = unmapped_all (IsShortestLine network terminals) (λ (line : LineParts). line.edges)
+        shortest = unmapped_all (IsShortestLine network terminals)
+            (λ (line : LineParts). line.edges)
             (pool_of network text)
             (subst (All (IsShortestLine network terminals)) (sym same) shortest);
         served = served_back (paths_of network terminals) (pool_of network text)

@@ -38,7 +38,8 @@ walk_there edges from to (edge ∷ walk) is =
     (walk_from next walk)) over)) start.over
     ∙ mapped (walk_from start.next walk) ∙ walk_there edges start.next to walk start.on
   where
-    mapped : (stops : Option (List ℕ)) → is_some (option_map (λ more. from ∷ more) stops) ≡ is_some stops
+    mapped : (stops : Option (List ℕ)) → is_some (option_map (λ more. from ∷ more) stops)
+        ≡ is_some stops
     mapped None = refl
     mapped (Some stops) = refl
 
@@ -52,7 +53,8 @@ first_walk : (first second : Option (List ℕ)) → is_some first ≡ true
 first_walk None second is = cc
 first_walk (Some stops) second is = refl
 
-pub walk_has_stops : (edges : List Edge) (from to : ℕ) (walk : List Edge) → IsWalk edges from to walk
+pub walk_has_stops : (edges : List Edge) (from to : ℕ) (walk : List Edge)
+    → IsWalk edges from to walk
     → is_some (walk_of walk) ≡ true
 walk_has_stops edges from to [] is = refl
 walk_has_stops edges from to (edge ∷ walk) is =
@@ -113,7 +115,8 @@ numbers_are : (n : ℕ) (lines : List (List ℕ))
 numbers_are n [] = refl
 numbers_are n (line ∷ lines) = ap (λ ids. pos n ∷ ids) (numbers_are (n + 1) lines)
 
-edges_are : (n : ℕ) (lines : List (List ℕ)) → map (λ line. line.edges) (numbered_lines n lines) ≡ lines
+edges_are : (n : ℕ) (lines : List (List ℕ)) → map (λ line. line.edges) (numbered_lines n lines)
+    ≡ lines
 edges_are n [] = refl
 edges_are n (line ∷ lines) = ap (λ rest. line ∷ rest) (edges_are (n + 1) lines)
 

@@ -45,7 +45,8 @@ pub is_index : (stops : List ℤ) (id : ℤ) → list_any (int_eq id) stops ≡ 
     → IsIndex stops id (index_in stops id)
 is_index stops id known = by (position (int_eq id) stops) refl
   where
-    by : (found : Option ℕ) → position (int_eq id) stops ≡ found → IsIndex stops id (unwrap_or found 0)
+    by : (found : Option ℕ) → position (int_eq id) stops ≡ found → IsIndex stops id
+        (unwrap_or found 0)
     by None at =
         let no : true ≡ false = sym known ∙ any_is (int_eq id) stops ∙ ap is_some at in
         cc
@@ -56,10 +57,11 @@ is_index stops id known = by (position (int_eq id) stops) refl
 -- ---- one path
 
 -- a path between two terminals
-pub record IsTerminalPath (network : NetworkParts) (terminals : List ℤ) (path : List ℕ) : Type 0 where
-  pub line : IsShortestLine network terminals path
-  pub simple : IsSimple network.edges path
-  pub some : 0 < length path
+pub record IsTerminalPath (network : NetworkParts) (terminals : List ℤ) (path : List ℕ) : Type 0
+  where
+    pub line : IsShortestLine network terminals path
+    pub simple : IsSimple network.edges path
+    pub some : 0 < length path
 
 module _ (network : NetworkParts) (sound : IsNetwork network) where
   -- a terminal that is a stop
@@ -85,7 +87,8 @@ module _ (network : NetworkParts) (sound : IsNetwork network) where
       (length network.stops) to to None within (omega arith))
       ∙ mapped (least_sum network edge_length from to) ∙ there
     where
-      mapped : (sum : Option ℕ) → is_some (option_map unsigned_abs (option_map pos sum)) ≡ is_some sum
+      mapped : (sum : Option ℕ) → is_some (option_map unsigned_abs (option_map pos sum))
+          ≡ is_some sum
       mapped None = refl
       mapped (Some sum) = refl
 
@@ -117,13 +120,16 @@ module _ (network : NetworkParts) (sound : IsNetwork network) where
             shortest = shortest;
           };
           simple = subst (IsSimple network.edges)
-              (sym (joined (index_in network.stops pair.0) (index_in network.stops pair.1) found is).1)
-              (path_simple network (index_in network.stops pair.0) (index_in network.stops pair.1) sound);
+              (sym (joined (index_in network.stops pair.0) (index_in network.stops pair.1) found
+              is).1)
+              (path_simple network (index_in network.stops pair.0) (index_in network.stops pair.1)
+              sound);
           some = by found shortest;
         }
       where
         by : (found : List ℕ)
-            → IsShortest network (index_in network.stops pair.0) (index_in network.stops pair.1) found
+            → IsShortest network (index_in network.stops pair.0) (index_in network.stops pair.1)
+            found
             → 0 < length found
         by (edge ∷ found) shortest = omega arith
         by [] shortest =
@@ -158,7 +164,8 @@ module _ (network : NetworkParts) (sound : IsNetwork network) where
     module _ (known : list_all (λ id. list_any (int_eq id) network.stops) terminals ≡ true) where
       all_known : All (IsKnown terminals) terminals
       all_known =
-          let stops = AllPass-from_list_all (λ id. list_any (int_eq id) network.stops) terminals known in
+          let stops = AllPass-from_list_all (λ id. list_any (int_eq id) network.stops) terminals
+          known in
           λ k d h. record { there = All-contains_itself terminals k d h; known = stops k d h }
 
       pub in_order : All (AreInOrder (IsKnown terminals)) (pairs_of terminals)
@@ -171,7 +178,8 @@ module _ (network : NetworkParts) (sound : IsNetwork network) where
 
 -- ---- how many paths there are
 
-length_found : {X Y : Type 0} (f : X → Option Y) (xs : List X) → length (filter_map f xs) ≤ length xs
+length_found : {X Y : Type 0} (f : X → Option Y) (xs : List X) → length (filter_map f xs) ≤ length
+    xs
 length_found f [] = omega arith
 length_found f (x ∷ xs) = by (f x) (length_found f xs)
   where
@@ -185,7 +193,8 @@ pub few_paths : (network : NetworkParts) (terminals : List ℤ) → length termi
 few_paths network terminals few =
     omega (
       arith,
-      length_found (λ pair. way network (index_in network.stops pair.0) (index_in network.stops pair.1))
+      length_found (λ pair. way network (index_in network.stops pair.0)
+          (index_in network.stops pair.1))
           (pairs_of terminals),
       ap length (pairs_are terminals),
       few_pairs (rising terminals) (omega (arith, few, rising_length terminals)),
@@ -242,12 +251,14 @@ below_member : (edges : List ℕ) (n : ℕ) → All (λ edge. edge < n) edges �
     → list_any (nat_eq edge) edges ≡ true → edge < n
 below_member [] n all edge is = absurd (cc)
 below_member (first ∷ edges) n all edge is =
-    by (nat_eq edge first) refl is (λ is. below_member edges n (All-tail (λ edge. edge < n) first edges all) edge is)
+    by (nat_eq edge first) refl is (λ is. below_member edges n
+    (All-tail (λ edge. edge < n) first edges all) edge is)
   where
     by : (b : Bool) → nat_eq edge first ≡ b → (b || list_any (nat_eq edge) edges) ≡ true
         → (list_any (nat_eq edge) edges ≡ true → edge < n) → edge < n
     by true same is rest =
-        subst (λ at. at < n) (sym (eqb-true edge first same)) (All-head (λ edge. edge < n) first edges all)
+        subst (λ at. at < n) (sym (eqb-true edge first same))
+        (All-head (λ edge. edge < n) first edges all)
     by false other is rest = rest is
 
 module _ (network : NetworkParts) (sound : IsNetwork network) (terminals : List ℤ) where

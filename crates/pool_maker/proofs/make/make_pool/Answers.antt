@@ -1,4 +1,4 @@
-use Rattle.std.proofs.Common.{subst, ◌∙◌}
+use Rattle.std.proofs.Common.{subst, sym, ◌∙◌}
 use Rattle.std.proofs.lemmas.Result.{err_from_is_err_and}
 use Rattle.ptn_network.specs.Networks.{IsNetwork}
 use Rattle.ptn_network.proofs.Sound.{network_sound}
@@ -15,7 +15,8 @@ returns-in_err-network-clause-made c =
 
 pub returns-in_err-terminals-clause-made : goal.returns-in_err-terminals-clause-made
 returns-in_err-terminals-clause-made c =
-    let p = err_from_is_err_and c.from_residual-in_err-terminals.result c.from_residual-in_err-terminals.ensures.1 in
+    let back = c.from_residual-in_err-terminals in
+    let p = err_from_is_err_and back.result back.ensures.1 in
     let read = c.in_ok-network.ensures in
     rw (p.1, p.2) (unknown_faults c.args.stops.now c.args.edges.now c.args.terminals.now
     c.in_ok-network.network read.0 read.1 _ c.in_err-terminals.ensures)
@@ -49,7 +50,8 @@ returns-clause-made c =
           read.0 read.1 c.deref.result.now found.0 (c.deref.ensures.value ∙ found.1),
       pool_of_text c.args.stops.now c.args.edges.now c.args.terminals.now c.in_ok-network.network
           read.0 read.1 c.deref.result.now found.0 (c.deref.ensures.value ∙ found.1)
-          c.deref-2.result.now c.deref-3.result.now (c.deref-2.ensures.value ∙ c.in_ok-paths.ensures)
+          c.deref-2.result.now c.deref-3.result.now
+          (c.deref-2.ensures.value ∙ c.in_ok-paths.ensures)
           (c.deref-3.ensures.value ∙ c.in_ok-lines.ensures) _
           c.in_ok-text_of_lines.ensures,
     )
