@@ -1,7 +1,9 @@
 -- The rows of lines give back these lines.
-use Rattle.std.proofs.Common.{◌≡◌, ℕ, ℤ, zero, suc, ◌+◌, ◌<◌, Bool, true, false, ◌||◌, cond, List, []}
+use Rattle.std.proofs.Common.{◌≡◌, ℕ, ℤ, zero, suc, ◌+◌, ◌<◌, Bool, true, false, ◌||◌, cond, List}
+use Rattle.std.proofs.Common.{[]}
 use Rattle.std.proofs.Common.{◌∷◌, ◌++◌, length, map, All, refl, ap, subst, sym, ◌∙◌, arith, Some}
-use Rattle.std.proofs.Common.{None, append-nil, append_assoc, get_or, map-id, nat_lt, not, unwrap_or}
+use Rattle.std.proofs.Common.{None, append-nil, append_assoc, get_or, map-id, nat_lt, not}
+use Rattle.std.proofs.Common.{unwrap_or}
 use Rattle.std.specs.List.{AllByRecursion, list_any, position_or_len}
 use Rattle.std.specs.List.Sorted.{IsSorted, IsStrictlySortedBy}
 use Rattle.std.specs.Ordering.{int_cmp, int_eq, is_lt, ordering_reverse}
@@ -20,7 +22,8 @@ use Rattle.ptn_network.specs.declared.edge.Edge.{Edge}
 use Rattle.ptn_network.specs.Networks.{NetworkParts, rising}
 use Rattle.ptn_network.proofs.ById.{sorted_ids}
 use Rattle.line_pool.specs.declared.line_row.LineRow.{LineRow}
-use Rattle.line_pool.specs.Pools.{LineParts, index_of, line_of, line_row, lines_of, lines_over, pool_of}
+use Rattle.line_pool.specs.Pools.{LineParts, index_of, line_of, line_row, lines_of, lines_over}
+use Rattle.line_pool.specs.Pools.{pool_of}
 use Rattle.line_pool.specs.Pools.{rows_of}
 use Rattle.line_pool.proofs.WalkLines.{AreNew, IsWalked, RowsLine, distinct, ids_for, new_more}
 use Rattle.line_pool.proofs.WalkLines.{none_yet, rows_at, rows_for, told_rows}

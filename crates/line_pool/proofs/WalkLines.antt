@@ -1,5 +1,6 @@
 -- A text whose rows are those of lines that are walks has no fault by the rules of its kind.
-use Rattle.std.proofs.Common.{◌≡◌, ℕ, ℤ, ◌+◌, ◌≤◌, ◌<◌, true, false, is_some, List, [], ◌∷◌, ◌++◌, length}
+use Rattle.std.proofs.Common.{◌≡◌, ℕ, ℤ, ◌+◌, ◌≤◌, ◌<◌, true, false, is_some, List, [], ◌∷◌, ◌++◌}
+use Rattle.std.proofs.Common.{length}
 use Rattle.std.proofs.Common.{map, append-nil, All, nat_eq, cond, refl, ap, sym, subst, ◌∙◌, arith}
 use Rattle.std.specs.List.{AllByRecursion, IsDistinct, flat_map, list_any}
 use Rattle.std.specs.List.Sorted.{IsStrictlySortedBy}
@@ -78,7 +79,8 @@ distinct (id ∷ ids) rise = (apart id ids rise.0, distinct ids rise.1)
 few_ids : (all ids : List ℤ) → All (λ id. is_member int_eq all id ≡ true) ids
     → length (rising ids) ≤ length all
 few_ids all ids each =
-    length-le_from_is_member int_eq_equiv (rising ids) all (distinct (rising ids) (rising_rises ids))
+    length-le_from_is_member int_eq_equiv (rising ids) all
+    (distinct (rising ids) (rising_rises ids))
     (λ id is. All-contains (λ id. is_member int_eq all id ≡ true) (rising ids) id
     (all_rising (λ id. is_member int_eq all id ≡ true) ids each)
     ((is_member-Decides Decides-int_eq (rising ids) id).0 is))
@@ -181,7 +183,8 @@ module _ (network : NetworkParts) (lines : List RowsLine) (table : List TableRow
       let input = line_input kind edges in
       let all = length (rising (map (λ row. row.line) (records input table))) in
       let some : all ≤ length lines =
-      subst (λ rows. length (rising (map (λ (row : LineRow). row.line) rows)) ≤ length lines) (sym are)
+      subst (λ rows. length (rising (map (λ (row : LineRow). row.line) rows)) ≤ length lines)
+      (sym are)
       (few_lines edges lines) in
       accepted input table text back
       (ap (λ b. cond b (refusal.TooMany counted.Lines all ∷ []) [] ++ [])

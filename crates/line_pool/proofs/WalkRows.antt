@@ -1,7 +1,9 @@
 -- The rows of one line that is a walk keep the rules of a file of lines.
-use Rattle.std.proofs.Common.{◌≡◌, ◌≢◌, ℕ, zero, suc, ℤ, pos, ◌+◌, ◌<◌, Bool, true, false, cond, not, ◌||◌}
+use Rattle.std.proofs.Common.{◌≡◌, ◌≢◌, ℕ, zero, suc, ℤ, pos, ◌+◌, ◌<◌, Bool, true, false, cond}
+use Rattle.std.proofs.Common.{not, ◌||◌}
 use Rattle.std.proofs.Common.{List, [], ◌∷◌, ◌++◌, filter_map, length, map, slice_get, Option, Some}
-use Rattle.std.proofs.Common.{None, option_map, is_some, All, nat_eq, refl, ap, sym, subst, ◌∙◌, arith}
+use Rattle.std.proofs.Common.{None, option_map, is_some, All, nat_eq, refl, ap, sym, subst, ◌∙◌}
+use Rattle.std.proofs.Common.{arith}
 use Rattle.std.proofs.Common.{append_assoc, append-nil, unwrap_or}
 use Rattle.std.specs.List.{AllByRecursion, IsDistinct, cons_option, enumerate_from, list_any}
 use Rattle.std.specs.List.Sorted.{IsStrictlySortedBy}
@@ -33,14 +35,18 @@ front_from stop [] back is = refl
 front_from stop (edge ∷ front) back is =
     one (across edge stop) (λ next. front_from next front back) is
   where
-    joined : (stops : Option (List ℕ)) → is_some (option_map (λ more. stop ∷ more) stops) ≡ is_some stops
+    joined : (stops : Option (List ℕ)) → is_some (option_map (λ more. stop ∷ more) stops)
+        ≡ is_some stops
     joined None = refl
     joined (Some stops) = refl
 
     one : (next : Option ℕ)
-        → ((next : ℕ) → is_some (walk_from next (front ++ back)) ≡ true → is_some (walk_from next front) ≡ true)
-        → is_some (option_and_then (λ next. option_map (λ more. stop ∷ more) (walk_from next (front ++ back))) next) ≡ true
-        → is_some (option_and_then (λ next. option_map (λ more. stop ∷ more) (walk_from next front)) next) ≡ true
+        → ((next : ℕ) → is_some (walk_from next (front ++ back)) ≡ true
+        → is_some (walk_from next front) ≡ true)
+        → is_some (option_and_then (λ next. option_map (λ more. stop ∷ more)
+        (walk_from next (front ++ back))) next) ≡ true
+        → is_some (option_and_then (λ next. option_map (λ more. stop ∷ more) (walk_from next front))
+        next) ≡ true
     one None rest is = absurd (cc)
     one (Some next) rest is =
         joined (walk_from next front)
@@ -313,5 +319,6 @@ module _ (edges : List Edge) (rise : IsStrictlySortedBy int_cmp (map (λ edge. e
                 (new_more done index rest (IsDistinct-head nat_eq index rest apart) new.1)
                 (IsDistinct-tail nat_eq index rest apart)
                 (ap (λ indexes. is_some (walk_of (edges_at edges indexes))) (sym all) ∙ walk)
-                (subst (λ indexes. KeepRules (line_rules edges) (with_rows indexes) behind) all kept)),
+                (subst (λ indexes. KeepRules (line_rules edges) (with_rows indexes) behind) all
+                kept)),
           )

@@ -1,5 +1,7 @@
 -- A table is read back where comments stand behind it.
-use Rattle.std.proofs.Common.{◌≡◌, ◌≢◌, ℕ, suc, ◌+◌, ◌-◌, ◌==◌, Bool, true, false, cond, List, [], ◌∷◌, ◌++◌, length, map, filter, take, All, refl, ap, sym, subst, ◌∙◌, arith, append_assoc, ne_eqb}
+use Rattle.std.proofs.Common.{◌≡◌, ◌≢◌, ℕ, suc, ◌+◌, ◌-◌, ◌==◌, Bool, true, false, cond, List, []}
+use Rattle.std.proofs.Common.{◌∷◌, ◌++◌, length, map, filter, take, All, refl, ap, sym, subst, ◌∙◌}
+use Rattle.std.proofs.Common.{arith, append_assoc, ne_eqb}
 use Rattle.std.specs.List.{AllByRecursion, enumerate_from, flat_map, onto_first}
 use Rattle.std.specs.Str.Lines.{strip_carriage_return}
 use Rattle.std.proofs.lemmas.List.{map-append}
@@ -36,12 +38,14 @@ has_part (byte ∷ text) = by (byte == 10) (has_part text)
       is = ap (onto_first byte) part.is;
     }
 
-pub parts_both : (text more : List ℕ) → parts_of (text ++ 10 ∷ more) ≡ parts_of text ++ parts_of more
+pub parts_both : (text more : List ℕ) → parts_of (text ++ 10 ∷ more) ≡ parts_of text ++ parts_of
+    more
 parts_both [] more = refl
 parts_both (byte ∷ text) more = by (byte == 10) (parts_both text more)
   where
     by : (ends : Bool) → parts_of (text ++ 10 ∷ more) ≡ parts_of text ++ parts_of more
-        → cond ends ([] ∷ parts_of (text ++ 10 ∷ more)) (onto_first byte (parts_of (text ++ 10 ∷ more)))
+        → cond ends ([] ∷ parts_of (text ++ 10 ∷ more))
+        (onto_first byte (parts_of (text ++ 10 ∷ more)))
         ≡ cond ends ([] ∷ parts_of text) (onto_first byte (parts_of text)) ++ parts_of more
     by true rest = ap (λ parts. [] ∷ parts) rest
     by false rest =
@@ -69,7 +73,8 @@ none_from number (line ∷ some) none =
     by : (b : Bool) → ((number : ℕ) → rows_from number some ≡ [])
         → flat_map (λ line. row_of line.0 line.1)
         (enumerate_from number (cond b (line ∷ filter has_byte some) (filter has_byte some))) ≡ []
-    by true rest = ap (λ own. own ++ rows_from (number + 1) some) (none.0 number) ∙ rest (number + 1)
+    by true rest = ap (λ own. own ++ rows_from (number + 1) some) (none.0 number)
+        ∙ rest (number + 1)
     by false rest = rest number
 
 rows_front : (number : ℕ) (some more : List (List ℕ)) → AllByRecursion IsRowless more
@@ -80,7 +85,8 @@ rows_front number (line ∷ some) more none =
   where
     by : (b : Bool) → ((number : ℕ) → rows_from number (some ++ more) ≡ rows_from number some)
         → flat_map (λ line. row_of line.0 line.1)
-        (enumerate_from number (cond b (line ∷ filter has_byte (some ++ more)) (filter has_byte (some ++ more))))
+        (enumerate_from number (cond b (line ∷ filter has_byte (some ++ more))
+        (filter has_byte (some ++ more))))
         ≡ flat_map (λ line. row_of line.0 line.1)
         (enumerate_from number (cond b (line ∷ filter has_byte some) (filter has_byte some)))
     by true front = ap (λ rest. row_of number line ++ rest) (front (number + 1))
@@ -106,12 +112,14 @@ cut_first : (line : List ℕ) (cut : Bool)
     → IsRowless (cond cut (take (length (35 ∷ line) - 1) (35 ∷ line)) (35 ∷ line))
 cut_first line false = sign_first line
 cut_first [] true = λ number. refl
-cut_first (byte ∷ line) true = rw (last_place (length line)) (sign_first (take (length line) (byte ∷ line)))
+cut_first (byte ∷ line) true = rw (last_place (length line))
+    (sign_first (take (length line) (byte ∷ line)))
 
 stripped : (line : List ℕ) → IsRowless (strip_carriage_return (35 ∷ line))
 stripped line = cut_first line _
 
-both_rowless : (some more : List (List ℕ)) → AllByRecursion IsRowless some → AllByRecursion IsRowless more
+both_rowless : (some more : List (List ℕ)) → AllByRecursion IsRowless some
+    → AllByRecursion IsRowless more
     → AllByRecursion IsRowless (some ++ more)
 both_rowless [] more first second = second
 both_rowless (line ∷ some) more first second = (first.0, both_rowless some more first.1 second)
@@ -129,7 +137,8 @@ comment_more line more plain rest =
     (both_rowless (lines (35 ∷ line)) (lines more) (alone (one_part (35 ∷ line) plain)) rest)
   where
     one_part : (text : List ℕ) → All (λ byte. byte ≢ 10) text → parts_of text ≡ text ∷ []
-    one_part text plain = slice_split_none (λ byte. byte == 10) text (λ k d h. ne_eqb _ 10 (plain k d h))
+    one_part text plain = slice_split_none (λ byte. byte == 10) text
+        (λ k d h. ne_eqb _ 10 (plain k d h))
 
     alone : parts_of (35 ∷ line) ≡ (35 ∷ line) ∷ [] → AllByRecursion IsRowless (lines (35 ∷ line))
     alone is = subst (λ parts. AllByRecursion IsRowless (map strip_carriage_return parts)) (sym is)
@@ -187,7 +196,8 @@ back_with_comments header kinds table comments is none back =
           ∙ ap (map (table_row kinds)) same ∙ table_is kinds text) ∙ back.1,
     )
   where
-    unmarked : (header : List ℕ) → IsHeader header → (more : List ℕ) → has_mark (header ++ more) ≡ false
+    unmarked : (header : List ℕ) → IsHeader header → (more : List ℕ) → has_mark (header ++ more)
+        ≡ false
     unmarked [] is more = absurd (let first = is.0 in cc)
     unmarked (byte ∷ header) is more =
         let first : byte ≡ 35 = let found = is.0 in cc in

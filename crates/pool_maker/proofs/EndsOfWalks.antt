@@ -1,6 +1,8 @@
 -- A walk tells its two ends by the edges that it has: at each other stop it has an even number of
 -- them.
-use Rattle.std.proofs.Common.{◌≡◌, ◌≢◌, ℕ, ◌<◌, Bool, true, false, not, ◌||◌, cond, nat_eq, List, [], ◌∷◌, length, get_or, All, inl, inr, ◌⊎◌, refl, ap, subst, sym, ◌∙◌, Some}
+use Rattle.std.proofs.Common.{◌≡◌, ◌≢◌, ℕ, ◌<◌, Bool, true, false, not, ◌||◌, cond, nat_eq, List}
+use Rattle.std.proofs.Common.{[], ◌∷◌, length, get_or, All, inl, inr, ◌⊎◌, refl, ap, subst, sym}
+use Rattle.std.proofs.Common.{◌∙◌, Some}
 use Rattle.std.specs.List.{AllByRecursion, IsDistinct, cons_option, list_all, list_any}
 use Rattle.std.proofs.lemmas.Bool.{and_parts, eq-eqb, eqb-true, ne_eqb}
 use Rattle.std.proofs.lemmas.List.Elements.{All-contains, All-head, All-tail}
@@ -94,7 +96,8 @@ module _ (edges : List Edge) (n : ℕ) (sound : All (IsEdge n) edges) where
   odd_ends from to stop (edge ∷ walk) is =
       let start = begins edges from to edge walk is in
       let own = All-contains (IsEdge n) edges edge sound start.there in
-      ap (λ b. differ b (odd_at stop walk)) (touches_ends edge from start.next stop own.apart start.over)
+      ap (λ b. differ b (odd_at stop walk))
+      (touches_ends edge from start.next stop own.apart start.over)
       ∙ ap (differ (differ (nat_eq from stop) (nat_eq start.next stop)))
       (odd_ends start.next to stop walk start.on)
       ∙ differ_chain (nat_eq from stop) (nat_eq start.next stop) (nat_eq to stop)
@@ -107,12 +110,14 @@ odd_by test [] = false
 odd_by test (x ∷ xs) = differ (test x) (odd_by test xs)
 
 odd_told : (edges : List Edge) (stop : ℕ) (path : List ℕ) → All (λ index. index < length edges) path
-    → odd_at stop (edges_at edges path) ≡ odd_by (λ index. touches stop (get_or edges index no_edge)) path
+    → odd_at stop (edges_at edges path)
+    ≡ odd_by (λ index. touches stop (get_or edges index no_edge)) path
 unfolding odd_at odd_by
 odd_told edges stop [] there = refl
 odd_told edges stop (index ∷ path) there =
     ap (λ found. odd_at stop (cons_option found (edges_at edges path)))
-    (slice_get-get_or edges index no_edge (All-head (λ index. index < length edges) index path there))
+    (slice_get-get_or edges index no_edge
+    (All-head (λ index. index < length edges) index path there))
     ∙ ap (differ (touches stop (get_or edges index no_edge)))
     (odd_told edges stop path (All-tail (λ index. index < length edges) index path there))
 
@@ -128,11 +133,14 @@ odd_without : (test : ℕ → Bool) (x : ℕ) (ys : List ℕ) → is_in x ys ≡
     → odd_by test ys ≡ differ (test x) (odd_by test (without x ys))
 unfolding odd_by without
 odd_without test x [] there = cc
-odd_without test x (y ∷ ys) there = by (nat_eq x y) refl there (λ there. odd_without test x ys there)
+odd_without test x (y ∷ ys) there = by (nat_eq x y) refl there
+    (λ there. odd_without test x ys there)
   where
     by : (b : Bool) → nat_eq x y ≡ b → (b || list_any (nat_eq x) ys) ≡ true
-        → (list_any (nat_eq x) ys ≡ true → odd_by test ys ≡ differ (test x) (odd_by test (without x ys)))
-        → differ (test y) (odd_by test ys) ≡ differ (test x) (odd_by test (cond b ys (y ∷ without x ys)))
+        → (list_any (nat_eq x) ys ≡ true → odd_by test ys ≡ differ (test x)
+        (odd_by test (without x ys)))
+        → differ (test y) (odd_by test ys) ≡ differ (test x)
+        (odd_by test (cond b ys (y ∷ without x ys)))
     by true same there rest = ap (λ at. differ (test at) (odd_by test ys)) (sym (eqb-true x y same))
     by false other there rest =
         ap (differ (test y)) (rest there)
@@ -144,7 +152,8 @@ still_in x p [] apart = refl
 still_in x p (y ∷ ys) apart = by (nat_eq x y) refl (still_in x p ys apart)
   where
     by : (b : Bool) → nat_eq x y ≡ b → list_any (nat_eq p) (without x ys) ≡ list_any (nat_eq p) ys
-        → list_any (nat_eq p) (cond b ys (y ∷ without x ys)) ≡ (nat_eq p y || list_any (nat_eq p) ys)
+        → list_any (nat_eq p) (cond b ys (y ∷ without x ys))
+        ≡ (nat_eq p y || list_any (nat_eq p) ys)
     by true same rest =
         ap (λ b. b || list_any (nat_eq p) ys)
         (sym (ne_eqb p y (λ own. apart (own ∙ sym (eqb-true x y same)))))
@@ -162,7 +171,8 @@ not_in x (y ∷ ys) apart = by (nat_eq x y) refl (not_in x ys apart.1)
     by : (b : Bool) → nat_eq x y ≡ b → list_any (nat_eq x) (without x ys) ≡ false
         → list_any (nat_eq x) (cond b ys (y ∷ without x ys)) ≡ false
     by true same rest =
-        subst (λ at. list_any (nat_eq at) ys ≡ false) (sym (eqb-true x y same)) (none_of y ys apart.0)
+        subst (λ at. list_any (nat_eq at) ys ≡ false) (sym (eqb-true x y same))
+        (none_of y ys apart.0)
     by false other rest = ap (λ b. b || list_any (nat_eq x) (without x ys)) other ∙ rest
 
 all_without : (P : ℕ → Type 0) (x : ℕ) (ys : List ℕ) → AllByRecursion P ys
@@ -171,7 +181,8 @@ unfolding without
 all_without P x [] all = tt
 all_without P x (y ∷ ys) all = by (nat_eq x y) (all_without P x ys all.1)
   where
-    by : (b : Bool) → AllByRecursion P (without x ys) → AllByRecursion P (cond b ys (y ∷ without x ys))
+    by : (b : Bool) → AllByRecursion P (without x ys) → AllByRecursion P
+        (cond b ys (y ∷ without x ys))
     by true rest = all.1
     by false rest = (all.0, rest)
 
@@ -203,7 +214,8 @@ same_odd : (test : ℕ → Bool) (xs ys : List ℕ) → IsDistinct nat_eq xs →
 unfolding odd_by IsDistinct
 same_odd test [] ys one two into back = ap (odd_by test) (sym (no_members ys back))
 same_odd test (x ∷ xs) ys one two into back =
-    let there : is_in x ys ≡ true = into x (ap (λ b. b || list_any (nat_eq x) xs) (eq-eqb x x refl)) in
+    let there : is_in x ys ≡ true = into x (ap (λ b. b || list_any (nat_eq x) xs) (eq-eqb x x refl))
+    in
     let own : is_in x xs ≡ false = none_of x xs one.0 in
     let gone : is_in x (without x ys) ≡ false = not_in x ys two in
     ap (differ (test x)) (same_odd test xs (without x ys) one.1 (distinct_without x ys two)
@@ -211,7 +223,8 @@ same_odd test (x ∷ xs) ys one two into back =
     let apart : p ≢ x = λ same. false_of _ _ own h (ap (λ at. is_in at xs) (sym same)) in
     still_in x p ys apart ∙ into p (or_second (nat_eq p x) (is_in p xs) h))
     (λ p h.
-    let apart : p ≢ x = λ same. false_of _ _ gone h (ap (λ at. is_in at (without x ys)) (sym same)) in
+    let apart : p ≢ x = λ same. false_of _ _ gone h (ap (λ at. is_in at (without x ys)) (sym same))
+    in
     let in_ys : is_in p ys ≡ true = sym (still_in x p ys apart) ∙ h in
     sym (ap (λ b. b || is_in p xs) (ne_eqb p x apart)) ∙ back p in_ys))
     ∙ sym (odd_without test x ys there)
@@ -227,7 +240,8 @@ abbrev pub AreEnds : ℕ → ℕ → ℕ → ℕ → Type 0
 AreEnds a b c d = ((a ≡ c) × (b ≡ d)) ⊎ ((a ≡ d) × (b ≡ c))
 
 module _ (a b c d : ℕ) (apart : a ≢ b)
-    (same : (stop : ℕ) → differ (nat_eq a stop) (nat_eq b stop) ≡ differ (nat_eq c stop) (nat_eq d stop)) where
+    (same : (stop : ℕ) → differ (nat_eq a stop) (nat_eq b stop) ≡ differ (nat_eq c stop)
+    (nat_eq d stop)) where
   at_first : differ (nat_eq c a) (nat_eq d a) ≡ true
   unfolding differ
   at_first = sym (same a) ∙ ap (λ t. differ t (nat_eq b a)) (eq-eqb a a refl)
@@ -247,7 +261,8 @@ module _ (a b c d : ℕ) (apart : a ≢ b)
       by true false one two is =
           let first : c ≡ a = eqb-true c a one in
           let last : nat_eq d b ≡ true =
-          sym (ap (λ t. differ t (nat_eq d b)) (ap (λ at. nat_eq at b) first ∙ ne_eqb a b apart)) ∙ at_second in
+          sym (ap (λ t. differ t (nat_eq d b)) (ap (λ at. nat_eq at b) first ∙ ne_eqb a b apart))
+          ∙ at_second in
           inl (sym first, sym (eqb-true d b last))
       by false true one two is =
           let last : d ≡ a = eqb-true d a two in
@@ -270,7 +285,8 @@ paths_ends edges n a b c d path other sound one two first second apart into back
     same_ends a b c d apart (λ stop.
     sym (odd_ends edges n sound a b stop (edges_at edges path) first)
     ∙ odd_told edges stop path one.there
-    ∙ same_odd (λ index. touches stop (get_or edges index no_edge)) path other one.apart two.apart into back
+    ∙ same_odd (λ index. touches stop (get_or edges index no_edge)) path other one.apart two.apart
+    into back
     ∙ sym (odd_told edges stop other two.there)
     ∙ odd_ends edges n sound c d stop (edges_at edges other) second)
 
@@ -285,5 +301,6 @@ members_in (edge ∷ path) other all x there =
         → (list_any (nat_eq x) path ≡ true → list_any (nat_eq x) other ≡ true)
         → list_any (nat_eq x) other ≡ true
     by true same there rest =
-        subst (λ at. list_any (nat_eq at) other ≡ true) (sym (eqb-true x edge same)) (and_parts _ _ all).0
+        subst (λ at. list_any (nat_eq at) other ≡ true) (sym (eqb-true x edge same))
+        (and_parts _ _ all).0
     by false apart there rest = rest there

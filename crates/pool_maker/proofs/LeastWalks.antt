@@ -1,6 +1,8 @@
--- The least sum of the definition is the least over all walks: a walk that comes to a stop twice can
--- be cut short.
-use Rattle.std.proofs.Common.{◌≡◌, ℕ, ℤ, pos, suc, ◌+◌, ◌<◌, ◌≤◌, Bool, true, false, ◌||◌, nat_eq, List, [], ◌∷◌, length, map, refl, ap, subst, sym, ◌∙◌, arith, Option, Some, None, option_map, unsigned_abs, unwrap_or, All, Contains}
+-- The least sum of the definition is the least over all walks: a walk that comes to a stop twice
+-- can be cut short.
+use Rattle.std.proofs.Common.{◌≡◌, ℕ, ℤ, pos, suc, ◌+◌, ◌<◌, ◌≤◌, Bool, true, false, ◌||◌, nat_eq}
+use Rattle.std.proofs.Common.{List, [], ◌∷◌, length, map, refl, ap, subst, sym, ◌∙◌, arith, Option}
+use Rattle.std.proofs.Common.{Some, None, option_map, unsigned_abs, unwrap_or, All, Contains}
 use Rattle.std.specs.List.{AllByRecursion, IsDistinct, list_any}
 use Rattle.std.proofs.lemmas.Bool.{eqb-true}
 use Rattle.std.proofs.lemmas.List.Elements.{All-contains}
@@ -8,9 +10,12 @@ use Rattle.std.proofs.lemmas.List.FromFn.{get_or-map-range_with_len}
 use Rattle.std.proofs.lemmas.Map.Steps.{length-le_from_distinct_below}
 use Rattle.ptn_network.specs.declared.edge.Edge.{Edge}
 use Rattle.ptn_network.specs.Networks.{IsEdge, IsNetwork, NetworkParts}
-use Rattle.ptn_network.specs.Walks.{AreLeastSums, IsLeastSum, IsWalk, across, least_of, least_sum, least_sums, walk_sum, walks_within}
+use Rattle.ptn_network.specs.Walks.{AreLeastSums, IsLeastSum, IsWalk, across, least_of, least_sum}
+use Rattle.ptn_network.specs.Walks.{least_sums, walk_sum, walks_within}
 use Rattle.ptn_network.proofs.LastWalks.{starts_within}
-use Rattle.ptn_network.proofs.Walks.{Begins, Contains-cons, Contains-head, Contains-map, Contains-rec, IsUpTo, begins, edge_first, least_of_all, least_of_there, walk_sum-cons, within_all, within_there}
+use Rattle.ptn_network.proofs.Walks.{Begins, Contains-cons, Contains-head, Contains-map}
+use Rattle.ptn_network.proofs.Walks.{Contains-rec, IsUpTo, begins, edge_first, least_of_all}
+use Rattle.ptn_network.proofs.Walks.{least_of_there, walk_sum-cons, within_all, within_there}
 
 -- ---- the stops from which a walk goes on
 
@@ -34,7 +39,8 @@ none_alike stop [] none = tt
 none_alike stop (other ∷ stops) none = by (nat_eq stop other) refl none (none_alike stop stops)
   where
     by : (b : Bool) → nat_eq stop other ≡ b → (b || list_any (nat_eq stop) stops) ≡ false
-        → (list_any (nat_eq stop) stops ≡ false → AllByRecursion (λ other. nat_eq stop other ≡ false) stops)
+        → (list_any (nat_eq stop) stops ≡ false → AllByRecursion
+        (λ other. nat_eq stop other ≡ false) stops)
         → AllByRecursion (λ other. nat_eq stop other ≡ false) (other ∷ stops)
     by true is none rest = absurd (cc)
     by false is none rest = (is, rest none)
@@ -64,7 +70,8 @@ module _ (edges : List Edge) (weight : Edge → ℕ) (to : ℕ) where
           → walk_sum weight walk ≤ most → list_any (nat_eq from) (starts next walk) ≡ true
           → IsPlain from most)
           → IsPlain from most
-      by true same there start rest = subst (λ first. IsPlain first most) (sym (eqb-true from stop same))
+      by true same there start rest = subst (λ first. IsPlain first most)
+          (sym (eqb-true from stop same))
           (record { walk = edge ∷ walk; is = is; apart = apart; less = less })
       by false other there start rest =
           let on = ap (λ end. starts (unwrap_or end 0) walk) start.over in
@@ -172,7 +179,8 @@ least_of_all_walks network weight from to sound = by (least_of sums) refl
         let some = plain network.edges weight to from walk is in
         let few = short network.edges weight to (length network.stops) sound.edges from
         (walk_sum weight walk) some in
-        let there = within_there network.edges (length network.stops) from to some.walk few some.is in (
+        let there = within_there network.edges (length network.stops) from to some.walk few some.is
+        in (
           walk_sum weight some.walk,
           some.less,
           All-contains (λ number. IsUpTo number (least_of sums)) sums (walk_sum weight some.walk)

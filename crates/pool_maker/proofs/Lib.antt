@@ -13,5 +13,6 @@ mod RowsInside
 mod ServedPaths
 mod SortedIds
 mod TerminalWays
+mod Tried
 mod UncoveredEdges
 mod Ways

@@ -8,5 +8,6 @@ use Rattle.pool_maker.specs.TerminalPaths.{is_contained, lines_among}
 pub lines_both : (paths : List (List ℕ)) (some more : List (ℕ × List ℕ))
     → lines_among paths (some ++ more) ≡ lines_among paths some ++ lines_among paths more
 lines_both paths some more =
-    ap (map (λ (at : ℕ × List ℕ). at.1)) (filter-append (λ at. not (is_contained paths at)) some more)
+    ap (map (λ (at : ℕ × List ℕ). at.1))
+    (filter-append (λ at. not (is_contained paths at)) some more)
     ∙ map-append (λ (at : ℕ × List ℕ). at.1) _ _

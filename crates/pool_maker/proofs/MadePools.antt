@@ -30,7 +30,8 @@ module _ (stops edges : List ℕ) (terminals : List ℤ) where
     unfolding terminal_faults
     faults_are =
         ap (λ (network : NetworkParts). unknown_terminals network.stops terminals) is
-        ∙ ap (λ faults. faults ++ unknown_terminals (network_of stops edges).stops terminals) (sym none)
+        ∙ ap (λ faults. faults ++ unknown_terminals (network_of stops edges).stops terminals)
+        (sym none)
 
     -- without one, a terminal that is no stop is
     pub unknown_faults : (fault : StageFault)
@@ -49,12 +50,14 @@ module _ (stops edges : List ℕ) (terminals : List ℤ) where
       module _ (paths lines : List (List ℕ)) (found : paths ≡ paths_over network all)
           (kept : lines ≡ uncontained paths) where
         lines_are : lines ≡ uncontained (paths_of network terminals)
-        lines_are = kept ∙ ap uncontained (found ∙ ap (paths_over network) are ∙ paths_are network terminals)
+        lines_are = kept ∙ ap uncontained (found ∙ ap (paths_over network) are
+            ∙ paths_are network terminals)
 
         pub tellable_lines : AreTerminals terminals → AreTellable network lines
         tellable_lines some =
             subst (AreTellable network) (sym lines_are)
-            (subst (λ (at : NetworkParts). AreTellable at (uncontained (paths_of at terminals))) (sym is)
+            (subst (λ (at : NetworkParts). AreTellable at (uncontained (paths_of at terminals)))
+            (sym is)
             (tellable stops edges terminals no_faults some))
 
         -- the text of the lines is the pool

@@ -1,5 +1,7 @@
 -- The pairs of terminals: each of them once, and not more than 190.
-use Rattle.std.proofs.Common.{◌≡◌, ℕ, ℤ, zero, suc, ◌+◌, ◌≤◌, ◌<ℤ◌, Bool, true, false, cond, int_lt, List, [], ◌∷◌, ◌++◌, length, map, filter, All, refl, ap, subst, sym, ◌∙◌, arith, append_assoc}
+use Rattle.std.proofs.Common.{◌≡◌, ℕ, ℤ, zero, suc, ◌+◌, ◌≤◌, ◌<ℤ◌, Bool, true, false, cond, int_lt}
+use Rattle.std.proofs.Common.{List, [], ◌∷◌, ◌++◌, length, map, filter, All, refl, ap, subst, sym}
+use Rattle.std.proofs.Common.{◌∙◌, arith, append_assoc}
 use Rattle.std.specs.List.{AllByRecursion, flat_map}
 use Rattle.std.specs.List.Sorted.{IsStrictlySortedBy}
 use Rattle.std.specs.Ordering.{MatchOrdering, int_cmp, ordering_reverse}
@@ -8,7 +10,8 @@ use Rattle.std.specs.declared.cmp.Ordering.TheVariants.{Equal, Greater, Less}
 use Rattle.std.specs.Cmp.{int_ranks}
 use Rattle.std.proofs.lemmas.Cmp.{int_cmp_total}
 use Rattle.std.proofs.lemmas.List.{length-append, length-map}
-use Rattle.std.proofs.lemmas.List.Elements.{All-append, All-cons, All-head, All-nil, All-tail, filter-append}
+use Rattle.std.proofs.lemmas.List.Elements.{All-append, All-cons, All-head, All-nil, All-tail}
+use Rattle.std.proofs.lemmas.List.Elements.{filter-append}
 use Rattle.ptn_network.specs.Networks.{rising}
 use Rattle.ptn_network.proofs.Sound.{rising_rises}
 use Rattle.pool_maker.specs.TerminalPaths.{pairs_of}
@@ -91,10 +94,13 @@ after_it done id rest below above =
 -- those that are done are below what is left
 AreBelow : List ℤ → List ℤ → Type 0
 AreBelow done [] = Unit {0}
-AreBelow done (id ∷ rest) = AllByRecursion (λ before. int_cmp before id ≡ Less) done × AreBelow done rest
+AreBelow done (id ∷ rest) = AllByRecursion (λ before. int_cmp before id ≡ Less) done × AreBelow done
+    rest
 
-one_below : (done : List ℤ) (id next : ℤ) → AllByRecursion (λ before. int_cmp before next ≡ Less) done
-    → int_cmp id next ≡ Less → AllByRecursion (λ before. int_cmp before next ≡ Less) (done ++ id ∷ [])
+one_below : (done : List ℤ) (id next : ℤ) → AllByRecursion (λ before. int_cmp before next ≡ Less)
+    done
+    → int_cmp id next ≡ Less → AllByRecursion (λ before. int_cmp before next ≡ Less)
+    (done ++ id ∷ [])
 one_below [] id next below less = (less, tt)
 one_below (before ∷ done) id next below less = (below.0, one_below done id next below.1 less)
 
@@ -115,7 +121,8 @@ pairs_left done (id ∷ rest) below rise =
     λ all from. map (λ to. (from, to)) (filter (int_lt from) all) in
     let own : pairs_in (done ++ id ∷ rest) id ≡ map (λ to. (id, to)) rest =
     ap (map (λ to. (id, to))) (after_it done id rest below.0 rise.0) in
-    let turned : done ++ id ∷ rest ≡ done ++ id ∷ [] ++ rest = sym (append_assoc done (id ∷ []) rest) in
+    let turned : done ++ id ∷ rest ≡ done ++ id ∷ [] ++ rest =
+    sym (append_assoc done (id ∷ []) rest) in
     ap (λ some. some ++ flat_map (pairs_in (done ++ id ∷ rest)) rest) own
     ∙ ap (λ all. map (λ to. (id, to)) rest ++ flat_map (pairs_in all) rest) turned
     ∙ ap (λ more. map (λ to. (id, to)) rest ++ more)

@@ -1,5 +1,7 @@
 -- No two paths between terminals lie in one another, so each path lies in a line.
-use Rattle.std.proofs.Common.{◌≡◌, ◌≢◌, ℕ, ℤ, pos, zero, suc, ◌<◌, Bool, true, false, ◌&&◌, ◌||◌, nat_eq, List, [], ◌∷◌, ◌++◌, length, map, filter_map, get_or, All, Option, Some, None, inl, inr, refl, ap, subst, sym, ◌∙◌, arith}
+use Rattle.std.proofs.Common.{◌≡◌, ◌≢◌, ℕ, ℤ, pos, zero, suc, ◌<◌, Bool, true, false, ◌&&◌, ◌||◌}
+use Rattle.std.proofs.Common.{nat_eq, List, [], ◌∷◌, ◌++◌, length, map, filter_map, get_or, All}
+use Rattle.std.proofs.Common.{Option, Some, None, inl, inr, refl, ap, subst, sym, ◌∙◌, arith}
 use Rattle.std.specs.List.{AllByRecursion, IsDistinct, cons_option, list_all, list_any}
 use Rattle.std.specs.List.Sorted.{IsStrictlySortedBy}
 use Rattle.std.specs.Ordering.{int_cmp, int_eq}
@@ -20,7 +22,8 @@ use Rattle.pool_maker.specs.PoolTexts.{unknown_terminals}
 use Rattle.pool_maker.specs.TerminalPaths.{lies_in, pairs_of, paths_of}
 use Rattle.pool_maker.proofs.EndsOfWalks.{members_in, paths_ends}
 use Rattle.pool_maker.proofs.PairsOfIds.{AreInOrder, less_is, not_own, pairs_after, pairs_are}
-use Rattle.pool_maker.proofs.TerminalWays.{IsKnown, all_stops, in_order, is_index, way_of, way_shortest}
+use Rattle.pool_maker.proofs.TerminalWays.{IsKnown, all_stops, in_order, is_index, way_of}
+use Rattle.pool_maker.proofs.TerminalWays.{way_shortest}
 
 -- ---- the pairs differ
 
@@ -36,7 +39,8 @@ ArePairsApart : List (ℤ × ℤ) → Type 0
 ArePairsApart [] = Unit {0}
 ArePairsApart (pair ∷ pairs) = AllByRecursion (λ other. pair ≢ other) pairs × ArePairsApart pairs
 
-all_append : {X : Type 0} (P : X → Type 0) (xs ys : List X) → AllByRecursion P xs → AllByRecursion P ys
+all_append : {X : Type 0} (P : X → Type 0) (xs ys : List X) → AllByRecursion P xs
+    → AllByRecursion P ys
     → AllByRecursion P (xs ++ ys)
 all_append P [] ys one two = two
 all_append P (x ∷ xs) ys one two = (one.0, all_append P xs ys one.1 two)
@@ -54,7 +58,8 @@ none_after : (id to : ℤ) (ids : List ℤ) → AllByRecursion (λ other. int_cm
 unfolding pairs_after
 none_after id to [] above = tt
 none_after id to (first ∷ ids) above =
-    all_append {X = ℤ × ℤ} (λ other. (id, to) ≢ other) (map (λ to. (first, to)) ids) (pairs_after ids)
+    all_append {X = ℤ × ℤ} (λ other. (id, to) ≢ other) (map (λ to. (first, to)) ids)
+    (pairs_after ids)
     (other_first id first to ids above.0) (none_after id to ids above.1)
 
 other_second : (id to : ℤ) (ids : List ℤ) → AllByRecursion (λ other. int_cmp to other ≡ Less) ids
@@ -112,7 +117,8 @@ module _ (network : NetworkParts) (sound : IsNetwork network) (terminals : List 
       → IsWalk network.edges (index_in network.stops pair.0) (index_in network.stops pair.1)
       (edges_at network.edges path)
   ends_of pair are path is =
-      (way_shortest network sound (index_in network.stops pair.0) (index_in network.stops pair.1) path
+      (way_shortest network sound (index_in network.stops pair.0) (index_in network.stops pair.1)
+      path
       (is_index network.stops pair.1 are.to.known).within is).joins
 
   ways_apart : (pair other : ℤ × ℤ) (path more : List ℕ) → Known pair → Known other → pair ≢ other
@@ -143,14 +149,17 @@ module _ (network : NetworkParts) (sound : IsNetwork network) (terminals : List 
       → AllByRecursion (AreApart path) (filter_map way_at pairs)
   one_apart pair path [] known is all apart = tt
   one_apart pair path (other ∷ pairs) known is all apart =
-      by (way_at other) refl (one_apart pair path pairs known is (All-tail Known other pairs all) apart.1)
+      by (way_at other) refl (one_apart pair path pairs known is (All-tail Known other pairs all)
+      apart.1)
     where
       by : (found : Option (List ℕ)) → way_at other ≡ found
           → AllByRecursion (AreApart path) (filter_map way_at pairs)
           → AllByRecursion (AreApart path) (cons_option found (filter_map way_at pairs))
       by None own rest = rest
-      by (Some more) own rest =
-          (ways_apart pair other path more known (All-head Known other pairs all) apart.0 is own, rest)
+      by (Some more) own rest = (
+        ways_apart pair other path more known (All-head Known other pairs all) apart.0 is own,
+        rest,
+      )
 
   all_apart : (pairs : List (ℤ × ℤ)) → All Known pairs → ArePairsApart pairs
       → AllApart (filter_map way_at pairs)
@@ -163,7 +172,8 @@ module _ (network : NetworkParts) (sound : IsNetwork network) (terminals : List 
           → AllApart (cons_option found (filter_map way_at pairs))
       by None is rest = rest
       by (Some path) is rest = (
-        one_apart pair path pairs (All-head Known pair pairs all) is (All-tail Known pair pairs all) apart.0,
+        one_apart pair path pairs (All-head Known pair pairs all) is (All-tail Known pair pairs all)
+            apart.0,
         rest,
       )
 
@@ -208,7 +218,8 @@ same_place paths apart place other h k into back =
 
 pub paths_are_apart : PathsAreApart
 paths_are_apart network terminals place other sound none =
-    same_place (paths_of network terminals) (paths_of_apart network sound terminals none) place other
+    same_place (paths_of network terminals) (paths_of_apart network sound terminals none) place
+    other
 
 -- ---- a path that lies in another one is shorter
 

@@ -1,5 +1,6 @@
 -- The paths over terminals with their stops are the paths between their ids.
-use Rattle.std.proofs.Common.{◌≡◌, ℕ, ℤ, ◌<◌, Bool, true, false, cond, int_lt, List, [], ◌∷◌, ◌++◌, length, map, filter, filter_map, Option, None, refl, ap, sym, ◌∙◌}
+use Rattle.std.proofs.Common.{◌≡◌, ℕ, ℤ, ◌<◌, Bool, true, false, cond, int_lt, List, [], ◌∷◌, ◌++◌}
+use Rattle.std.proofs.Common.{length, map, filter, filter_map, Option, None, refl, ap, sym, ◌∙◌}
 use Rattle.std.specs.List.{cons_option, flat_map}
 use Rattle.std.proofs.lemmas.List.Elements.{All-map, All-weaker, filter_map-append}
 use Rattle.ptn_network.specs.Networks.{NetworkParts, index_in, rising}
@@ -37,14 +38,16 @@ module _ (network : NetworkParts) where
       by false rest = rest
 
   ways_over : (all ids : List ℤ)
-      → flat_map (λ from. filter_map (way_between network from) (map (terminal_of network.stops) all))
+      → flat_map (λ from. filter_map (way_between network from)
+      (map (terminal_of network.stops) all))
       (map (terminal_of network.stops) ids)
       ≡ filter_map way_of (flat_map (λ from. map (λ to. (from, to)) (filter (int_lt from) all)) ids)
   ways_over all [] = refl
   ways_over all (from ∷ ids) =
       let rest = flat_map (λ from. map (λ to. (from, to)) (filter (int_lt from) all)) ids in
       ap (λ some. some ++ flat_map (λ from. filter_map (way_between network from)
-      (map (terminal_of network.stops) all)) (map (terminal_of network.stops) ids)) (ways_from from all)
+      (map (terminal_of network.stops) all)) (map (terminal_of network.stops) ids))
+      (ways_from from all)
       ∙ ap (λ more. filter_map way_of (map (λ to. (from, to)) (filter (int_lt from) all)) ++ more)
       (ways_over all ids)
       ∙ sym (filter_map-append way_of (map (λ to. (from, to)) (filter (int_lt from) all)) rest)

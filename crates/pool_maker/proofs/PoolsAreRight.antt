@@ -1,5 +1,7 @@
 -- The text of the lines between terminals is right as a pool.
-use Rattle.std.proofs.Common.{◌≡◌, ◌≢◌, ℕ, ℤ, pos, ◌<◌, ◌≤◌, true, not, List, [], ◌∷◌, ◌++◌, length, map, get_or, All, Any, codes, refl, ap, subst, sym, ◌∙◌, arith, append_assoc}
+use Rattle.std.proofs.Common.{◌≡◌, ◌≢◌, ℕ, ℤ, pos, ◌<◌, ◌≤◌, true, not, List, [], ◌∷◌, ◌++◌, length}
+use Rattle.std.proofs.Common.{map, get_or, All, Any, codes, refl, ap, subst, sym, ◌∙◌, arith}
+use Rattle.std.proofs.Common.{append_assoc}
 use Rattle.std.specs.Fmt.{signed_decimal}
 use Rattle.std.specs.List.{flat_map, range_with_len}
 use Rattle.std.proofs.lemmas.Int.{ints}
@@ -18,20 +20,24 @@ use Rattle.ptn_network.specs.Networks.{IsNetwork, NetworkParts, network_faults, 
 use Rattle.ptn_network.proofs.Sound.{network_sound}
 use Rattle.line_pool.specs.Pools.{LineParts, pool_of}
 use Rattle.line_pool.proofs.EdgesOfTexts.{HasId, edge_ids}
-use Rattle.pool_maker.specs.PoolTexts.{edge_id, pool_header, pool_rows, pool_text, terminal_faults, text_of, uncovered_line, unknown_terminals}
+use Rattle.pool_maker.specs.PoolTexts.{edge_id, pool_header, pool_rows, pool_text, terminal_faults}
+use Rattle.pool_maker.specs.PoolTexts.{text_of, uncovered_line, unknown_terminals}
 use Rattle.pool_maker.specs.RightPools.{AreTerminals, IsRightPool, IsShortestLine}
 use Rattle.pool_maker.specs.Tellable.{AreTellable, IsRowId, IsShort}
-use Rattle.pool_maker.specs.TerminalPaths.{is_covered, lies_in, lines_between, paths_of, uncontained, uncovered}
+use Rattle.pool_maker.specs.TerminalPaths.{is_covered, lies_in, lines_between, paths_of}
+use Rattle.pool_maker.specs.TerminalPaths.{uncontained, uncovered}
 use Rattle.pool_maker.proofs.Comments.{AreComments, back_with_comments, comment_more, no_comments}
 use Rattle.pool_maker.proofs.PoolsRead.{lines_are, no_pool_faults, numbers_back}
 use Rattle.pool_maker.proofs.RowsInside.{columns_written, header_plain, own_id, rows_inside}
-use Rattle.pool_maker.proofs.TerminalWays.{IsTerminalPath, all_stops, few_lines, few_paths, lines_too, path_short, paths_right}
+use Rattle.pool_maker.proofs.TerminalWays.{IsTerminalPath, all_stops, few_lines, few_paths}
+use Rattle.pool_maker.proofs.TerminalWays.{lines_too, path_short, paths_right}
 use Rattle.pool_maker.proofs.ServedPaths.{each_path_is_served}
 
 -- ---- the comments are comments
 
 number_no_feed : (byte : ℕ) → is_number_byte byte ≡ true → byte ≢ 10
-number_no_feed byte is same = let feed : is_number_byte 10 ≡ true = ap is_number_byte (sym same) ∙ is in cc
+number_no_feed byte is same = let feed : is_number_byte 10 ≡ true = ap is_number_byte (sym same)
+    ∙ is in cc
 
 id_plain : (id : ℤ) → IsRowId id → All (λ byte. byte ≢ 10) (signed_decimal id)
 id_plain id own =
@@ -48,7 +54,8 @@ module _ (network : NetworkParts) (ids : All (λ edge. IsRowId edge.id) network.
       let id = edge_id network edge in
       let told = codes "# uncovered; " ++ signed_decimal id in
       let rest = flat_map (uncovered_line network) edges in
-      let own = own_id network ids edge (All-head (λ edge. edge < length network.edges) edge edges there) in
+      let own = own_id network ids edge (All-head (λ edge. edge < length network.edges) edge edges
+      there) in
       let plain = All-append (λ byte. byte ≢ 10) (codes "# uncovered; ") (signed_decimal id)
       (plain_header (codes "# uncovered; ") refl) (id_plain id own) in
       subst AreComments (sym (append_assoc told (10 ∷ []) rest))
@@ -76,7 +83,8 @@ module _ (network : NetworkParts) (ids : All (λ edge. IsRowId edge.id) network.
 
 module _ (network : NetworkParts) (sound : IsNetwork network) (terminals : List ℤ) where
   pub lines_tellable : (lines : List (List ℕ)) → All (λ edge. IsRowId edge.id) network.edges
-      → length lines ≤ 190 → All (IsTerminalPath network terminals) lines → AreTellable network lines
+      → length lines ≤ 190 → All (IsTerminalPath network terminals) lines
+      → AreTellable network lines
   lines_tellable lines ids few right = record {
     ids = ids;
     few = few;
@@ -104,14 +112,17 @@ served_back : (paths : List (List ℕ)) (lines : List LineParts)
     → All (λ path. Any (λ line. lies_in path line ≡ true) (map (λ line. line.edges) lines)) paths
     → All (λ path. Any (λ line. lies_in path line.edges ≡ true) lines) paths
 served_back paths lines all =
-    All-weaker (λ path. Any (λ line. lies_in path line ≡ true) (map (λ (line : LineParts). line.edges) lines))
+    All-weaker (λ path. Any (λ line. lies_in path line ≡ true)
+    (map (λ (line : LineParts). line.edges) lines))
     (λ path. Any (λ (line : LineParts). lies_in path line.edges ≡ true) lines)
-    (λ path there. any_unmapped (λ line. lies_in path line ≡ true) (λ (line : LineParts). line.edges) lines there)
+    (λ path there. any_unmapped (λ line. lies_in path line ≡ true)
+    (λ (line : LineParts). line.edges) lines there)
     paths all
 
 -- ---- the pool
 
-module _ (stops edges : List ℕ) (terminals : List ℤ) (none : terminal_faults stops edges terminals ≡ [])
+module _ (stops edges : List ℕ) (terminals : List ℤ) (none : terminal_faults stops edges terminals
+    ≡ [])
     (are : AreTerminals terminals) where
   abbrev network : NetworkParts
   network = network_of stops edges
@@ -126,7 +137,8 @@ module _ (stops edges : List ℕ) (terminals : List ℤ) (none : terminal_faults
 
   none_unknown : unknown_terminals network.stops terminals ≡ []
   unfolding terminal_faults
-  none_unknown = back_none (network_faults stops edges) (unknown_terminals network.stops terminals) none
+  none_unknown = back_none (network_faults stops edges) (unknown_terminals network.stops terminals)
+      none
 
   sound : IsNetwork network
   sound = network_sound stops edges no_network_faults
@@ -168,7 +180,8 @@ module _ (stops edges : List ℕ) (terminals : List ℤ) (none : terminal_faults
         numbered = numbers_back network terminals lines right few rise text back
             ∙ ap (λ n. map pos (range_with_len 1 n)) (sym count);
         lines = same;
-        shortest = unmapped_all (IsShortestLine network terminals) (λ (line : LineParts). line.edges)
+        shortest = unmapped_all (IsShortestLine network terminals)
+            (λ (line : LineParts). line.edges)
             (pool_of network text)
             (subst (All (IsShortestLine network terminals)) (sym same) shortest);
         served = served_back (paths_of network terminals) (pool_of network text)

@@ -1,5 +1,7 @@
 -- The text of a pool is read back as its lines.
-use Rattle.std.proofs.Common.{◌≡◌, ℕ, ℤ, pos, suc, ◌+◌, ◌<◌, ◌≤◌, true, cond, nat_lt, List, [], ◌∷◌, ◌++◌, length, map, All, Option, Some, None, is_some, option_map, option_and_then, inl, inr, refl, ap, ◌∙◌, arith}
+use Rattle.std.proofs.Common.{◌≡◌, ℕ, ℤ, pos, suc, ◌+◌, ◌<◌, ◌≤◌, true, cond, nat_lt, List, [], ◌∷◌}
+use Rattle.std.proofs.Common.{◌++◌, length, map, All, Option, Some, None, is_some, option_map}
+use Rattle.std.proofs.Common.{option_and_then, inl, inr, refl, ap, ◌∙◌, arith}
 use Rattle.std.specs.List.{AllByRecursion, enumerate_from, flat_map, range_with_len}
 use Rattle.std.specs.List.Sorted.{IsStrictlySortedBy}
 use Rattle.std.specs.Ordering.{int_cmp}
@@ -15,9 +17,11 @@ use Rattle.ptn_network.specs.Paths.{edges_at}
 use Rattle.ptn_network.specs.Walks.{IsWalk}
 use Rattle.ptn_network.proofs.PathEdges.{ends_are}
 use Rattle.ptn_network.proofs.Walks.{begins}
-use Rattle.line_pool.specs.Pools.{LineParts, lines_over, or_walk, pool_faults, pool_of, walk_from, walk_of}
+use Rattle.line_pool.specs.Pools.{LineParts, lines_over, or_walk, pool_faults, pool_of, walk_from}
+use Rattle.line_pool.specs.Pools.{walk_of}
 use Rattle.line_pool.proofs.LinesBack.{HasEdge, edges_back, ids_back, pool_back}
-use Rattle.line_pool.proofs.WalkLines.{IsWalked, RowsLine, ids_for, pool_accepted, rows_at, rows_for, told_row}
+use Rattle.line_pool.proofs.WalkLines.{IsWalked, RowsLine, ids_for, pool_accepted, rows_at}
+use Rattle.line_pool.proofs.WalkLines.{rows_for, told_row}
 use Rattle.line_pool.proofs.WalkRows.{row_to, rows_from}
 use Rattle.pool_maker.specs.PoolTexts.{line_rows, pool_rows, row_at}
 use Rattle.pool_maker.proofs.TerminalWays.{IsTerminalPath}
@@ -34,7 +38,8 @@ walk_there edges from to (edge ∷ walk) is =
     (walk_from next walk)) over)) start.over
     ∙ mapped (walk_from start.next walk) ∙ walk_there edges start.next to walk start.on
   where
-    mapped : (stops : Option (List ℕ)) → is_some (option_map (λ more. from ∷ more) stops) ≡ is_some stops
+    mapped : (stops : Option (List ℕ)) → is_some (option_map (λ more. from ∷ more) stops)
+        ≡ is_some stops
     mapped None = refl
     mapped (Some stops) = refl
 
@@ -48,7 +53,8 @@ first_walk : (first second : Option (List ℕ)) → is_some first ≡ true
 first_walk None second is = cc
 first_walk (Some stops) second is = refl
 
-pub walk_has_stops : (edges : List Edge) (from to : ℕ) (walk : List Edge) → IsWalk edges from to walk
+pub walk_has_stops : (edges : List Edge) (from to : ℕ) (walk : List Edge)
+    → IsWalk edges from to walk
     → is_some (walk_of walk) ≡ true
 walk_has_stops edges from to [] is = refl
 walk_has_stops edges from to (edge ∷ walk) is =
@@ -109,7 +115,8 @@ numbers_are : (n : ℕ) (lines : List (List ℕ))
 numbers_are n [] = refl
 numbers_are n (line ∷ lines) = ap (λ ids. pos n ∷ ids) (numbers_are (n + 1) lines)
 
-edges_are : (n : ℕ) (lines : List (List ℕ)) → map (λ line. line.edges) (numbered_lines n lines) ≡ lines
+edges_are : (n : ℕ) (lines : List (List ℕ)) → map (λ line. line.edges) (numbered_lines n lines)
+    ≡ lines
 edges_are n [] = refl
 edges_are n (line ∷ lines) = ap (λ rest. line ∷ rest) (edges_are (n + 1) lines)
 

@@ -1,5 +1,6 @@
 -- The rows of a pool are within their columns.
-use Rattle.std.proofs.Common.{ℕ, pos, zero, suc, ◌+◌, ◌<◌, ◌≤◌, List, [], ◌∷◌, length, map, All, Option, option_map, unwrap_or, refl, subst, sym, arith}
+use Rattle.std.proofs.Common.{ℕ, pos, zero, suc, ◌+◌, ◌<◌, ◌≤◌, List, [], ◌∷◌, length, map, All}
+use Rattle.std.proofs.Common.{Option, option_map, unwrap_or, refl, subst, sym, arith}
 use Rattle.std.specs.List.{enumerate_from, flat_map}
 use Rattle.std.proofs.lemmas.Int.{ints}
 use Rattle.std.proofs.lemmas.List.Elements.{All-append, All-cons, All-get_or, All-nil}
@@ -58,11 +59,13 @@ module _ (network : NetworkParts) (ids : All (λ edge. IsRowId edge.id) network.
   lines_inside n (line ∷ lines) some few short =
       let own = short 0 line (omega arith) in
       All-append InPool (line_rows network (n, line)) _
-      (line_inside n 1 line some (omega (arith, few)) (omega arith) (omega (arith, own.few)) own.there)
+      (line_inside n 1 line some (omega (arith, few)) (omega arith) (omega (arith, own.few))
+      own.there)
       (lines_inside (n + 1) lines (omega (arith, some)) (omega (arith, few))
       (λ k d h. short (suc k) d (omega (arith, h))))
 
 pub rows_inside : (network : NetworkParts) (lines : List (List ℕ)) → AreTellable network lines
     → All (λ row. InColumns pool_columns row.cells) (pool_rows network lines)
 rows_inside network lines tellable =
-    lines_inside network tellable.ids 1 lines (omega arith) (omega (arith, tellable.few)) tellable.short
+    lines_inside network tellable.ids 1 lines (omega arith) (omega (arith, tellable.few))
+    tellable.short

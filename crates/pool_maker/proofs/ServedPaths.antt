@@ -1,5 +1,7 @@
 -- Each path between terminals lies in a line.
-use Rattle.std.proofs.Common.{◌≡◌, ◌≢◌, ℕ, zero, suc, ◌+◌, ◌<◌, ◌≤◌, ◌==◌, Bool, true, false, not, ◌&&◌, ◌||◌, cond, nat_eq, List, [], ◌∷◌, length, map, filter, get_or, All, Any, refl, ap, subst, sym, ◌∙◌, arith}
+use Rattle.std.proofs.Common.{◌≡◌, ◌≢◌, ℕ, zero, suc, ◌+◌, ◌<◌, ◌≤◌, ◌==◌, Bool, true, false, not}
+use Rattle.std.proofs.Common.{◌&&◌, ◌||◌, cond, nat_eq, List, [], ◌∷◌, length, map, filter, get_or}
+use Rattle.std.proofs.Common.{All, Any, refl, ap, subst, sym, ◌∙◌, arith}
 use Rattle.std.specs.List.{IsDistinct, enumerate_from, list_any}
 use Rattle.std.proofs.lemmas.Bool.{and_parts, eq-eqb, eqb-false, not-true}
 use Rattle.std.proofs.lemmas.List.{get_or_default}
@@ -7,7 +9,8 @@ use Rattle.std.proofs.lemmas.List.Elements.{All-get_or, All-weaker}
 use Rattle.std.proofs.lemmas.List.Folds.{Any-from_list_any}
 use Rattle.std.proofs.lemmas.List.FromFn.{get_or-enumerate_from, length-enumerate_from}
 use Rattle.pool_maker.specs.Laws.{EachPathIsServed}
-use Rattle.pool_maker.specs.TerminalPaths.{is_contained, lies_in, lines_among, lines_between, paths_of, uncontained}
+use Rattle.pool_maker.specs.TerminalPaths.{is_contained, lies_in, lines_among, lines_between}
+use Rattle.pool_maker.specs.TerminalPaths.{paths_of, uncontained}
 use Rattle.pool_maker.proofs.EndsOfWalks.{AreIn, members_in}
 use Rattle.pool_maker.proofs.PathsApart.{AllApart, longer, paths_of_apart, same_place}
 use Rattle.pool_maker.proofs.TerminalWays.{IsTerminalPath, all_stops, path_short, paths_right}
@@ -19,7 +22,8 @@ all_in [] other into = refl
 all_in (edge ∷ path) other into =
     ap (λ b. b && lies_in path other)
     (into edge (ap (λ b. b || list_any (nat_eq edge) path) (eq-eqb edge edge refl)))
-    ∙ all_in path other (λ x there. into x (or_second (nat_eq x edge) (list_any (nat_eq x) path) there))
+    ∙ all_in path other (λ x there. into x
+    (or_second (nat_eq x edge) (list_any (nat_eq x) path) there))
   where
     or_second : (a b : Bool) → b ≡ true → (a || b) ≡ true
     or_second true b is = refl
@@ -31,7 +35,8 @@ lies_in_itself path = all_in path path (λ x there. there)
 lies_on : (path other more : List ℕ) → lies_in path other ≡ true → lies_in other more ≡ true
     → lies_in path more ≡ true
 lies_on path other more first second =
-    all_in path more (λ x there. members_in other more second x (members_in path other first x there))
+    all_in path more (λ x there. members_in other more second x
+    (members_in path other first x there))
 
 any_too : {X : Type 0} (p q : X → Bool) (xs : List X) → ((x : X) → p x ≡ true → q x ≡ true)
     → list_any p xs ≡ true → list_any q xs ≡ true
@@ -97,7 +102,8 @@ module _ (paths : List (List ℕ)) where
       let within : k < length paths = omega (arith, found.2, length-enumerate_from 0 paths) in
       let at : found.1 ≡ (0 + k, get_or paths k found.1.1) =
       sym found.3 ∙ get_or-enumerate_from 0 paths k found.1 within in
-      let tests = and_parts (not (found.1.0 == place)) (lies_in (path_at place) found.1.1) found.4 in
+      let tests = and_parts (not (found.1.0 == place)) (lies_in (path_at place) found.1.1) found.4
+      in
       let number : found.1.0 ≡ 0 + k = ap (λ (one : ℕ × List ℕ). one.0) at in
       let path : found.1.1 ≡ get_or paths k [] =
       ap (λ (one : ℕ × List ℕ). one.1) at ∙ get_or_default paths k found.1.1 [] within in
@@ -128,7 +134,8 @@ module _ (paths : List (List ℕ)) where
         by : (b : Bool) → lies_in (path_at hold.other) (path_at place) ≡ b
             → list_any (lies_in (path_at place)) (uncontained paths) ≡ true
         by true back =
-            absurd (hold.apart (sym (same_place paths apart place hold.other h hold.within hold.holds back)))
+            absurd (hold.apart (sym (same_place paths apart place hold.other h hold.within
+            hold.holds back)))
         by false back =
             any_too (lies_in (path_at hold.other)) (lies_in (path_at place)) (uncontained paths)
             (λ line is. lies_on (path_at place) (path_at hold.other) line hold.holds is)
@@ -139,7 +146,12 @@ module _ (paths : List (List ℕ)) where
       serves : (left place : ℕ) → place < length paths → most < length (path_at place) + left
           → list_any (lies_in (path_at place)) (uncontained paths) ≡ true
       serves zero place h bound =
-          absurd (omega (arith, bound, All-get_or (λ path. length path ≤ most) paths place [] h few))
+          absurd (omega (
+            arith,
+            bound,
+            All-get_or (λ path. length path ≤ most) paths place [] h
+                few,
+          ))
       serves (suc left) place h bound =
           by (is_contained paths (place, path_at place)) refl
           (λ other k more. serves left other k more)
@@ -150,11 +162,13 @@ module _ (paths : List (List ℕ)) where
               → list_any (lies_in (path_at place)) (uncontained paths) ≡ true
           by false none rest =
               kept paths (lies_in (path_at place)) (enumerate_from 0 paths) place
-              (place, path_at place) (omega (arith, h, length-enumerate_from 0 paths)) (here place h)
+              (place, path_at place) (omega (arith, h, length-enumerate_from 0 paths))
+              (here place h)
               none (lies_in_itself (path_at place))
           by true some rest =
               let hold = holder place some in
-              through place h hold (λ longer. rest hold.other hold.within (omega (arith, longer, bound)))
+              through place h hold (λ longer. rest hold.other hold.within
+              (omega (arith, longer, bound)))
 
       all_served : All (λ path. Any (λ line. lies_in path line ≡ true) (uncontained paths)) paths
       all_served k d h =
@@ -169,7 +183,8 @@ each_path_is_served network terminals sound none =
     let right = paths_right network sound terminals (all_stops network.stops terminals none) in
     let paths = paths_of network terminals in
     all_served paths (paths_of_apart network sound terminals none)
-    (All-weaker (IsTerminalPath network terminals) (IsDistinct nat_eq) (λ path is. is.simple.apart) paths
+    (All-weaker (IsTerminalPath network terminals) (IsDistinct nat_eq) (λ path is. is.simple.apart)
+    paths
     right) 1000
     (All-weaker (IsTerminalPath network terminals) (λ path. length path ≤ 1000)
     (λ path is. (path_short network sound terminals path is).few) paths right)

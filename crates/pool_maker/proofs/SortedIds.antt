@@ -1,5 +1,8 @@
 -- Ids that are sorted, and whether all of some ids are different or are known.
-use Rattle.std.proofs.Common.{◌≡◌, ℕ, ℤ, pos, ◌+◌, ◌-◌, ◌<◌, ◌≤◌, Bool, true, false, not, ◌||◌, ◌&&◌, List, [], ◌∷◌, ◌++◌, cond, length, map, take, drop, get_or, slice_get, position, is_some, unwrap_or, Option, Some, None, option_map, refl, ap, subst, sym, ◌∙◌}
+use Rattle.std.proofs.Common.{◌≡◌, ℕ, ℤ, pos, ◌+◌, ◌-◌, ◌<◌, ◌≤◌, Bool, true, false, not, ◌||◌}
+use Rattle.std.proofs.Common.{◌&&◌, List, [], ◌∷◌, ◌++◌, cond, length, map, take, drop, get_or}
+use Rattle.std.proofs.Common.{slice_get, position, is_some, unwrap_or, Option, Some, None}
+use Rattle.std.proofs.Common.{option_map, refl, ap, subst, sym, ◌∙◌}
 use Rattle.std.specs.List.{AllByRecursion, IsDistinct, list_all, list_any}
 use Rattle.std.specs.List.Sorted.{IsPermutation, IsSorted}
 use Rattle.std.specs.Ordering.{int_cmp, int_eq}
@@ -45,7 +48,8 @@ module _ (ids : List ℤ) where
   none_alike id [] none = tt
   none_alike id (other ∷ rest) none = by (int_eq other id) refl none (none_alike id rest)
     where
-      by : (b : Bool) → int_eq other id ≡ b → (b || list_any (λ other. int_eq other id) rest) ≡ false
+      by : (b : Bool) → int_eq other id ≡ b → (b || list_any (λ other. int_eq other id) rest)
+          ≡ false
           → (list_any (λ other. int_eq other id) rest ≡ false
           → AllByRecursion (λ other. int_eq id other ≡ false) rest)
           → AllByRecursion (λ other. int_eq id other ≡ false) (other ∷ rest)
@@ -102,7 +106,8 @@ all_done ids place past decided =
 all_by_any : {X : Type 0} (p : X → Bool) (xs : List X)
     → list_all p xs ≡ not (list_any (λ x. not (p x)) xs)
 all_by_any p [] = refl
-all_by_any p (x ∷ xs) = ap (λ b. p x && b) (all_by_any p xs) ∙ by (p x) (list_any (λ x. not (p x)) xs)
+all_by_any p (x ∷ xs) = ap (λ b. p x && b) (all_by_any p xs)
+    ∙ by (p x) (list_any (λ x. not (p x)) xs)
   where
     by : (a b : Bool) → (a && not b) ≡ not (not a || b)
     by true b = refl
@@ -127,7 +132,8 @@ module _ (stops : List ℤ) where
     own_id = get_or ids i (pos 0)
 
     -- one terminal more
-    pub terminal_more : (stop : ℕ) (old new : List Terminal) → position (int_eq own_id) stops ≡ Some stop
+    pub terminal_more : (stop : ℕ) (old new : List Terminal) → position (int_eq own_id) stops
+        ≡ Some stop
         → old ≡ map (terminal_of stops) (take i ids)
         → new ≡ old ++ record { id = own_id; stop = stop } ∷ []
         → new ≡ map (terminal_of stops) (take (i + 1) ids)
@@ -188,5 +194,6 @@ module _ (stops : List ℤ) where
       → unknown_terminals stops others ≡ []
   all_known ids others i past so_far same =
       let all : list_all known others ≡ true =
-      sym (same_all known ids others same) ∙ ap (list_all known) (sym (take_all i ids past)) ∙ so_far in
+      sym (same_all known ids others same) ∙ ap (list_all known) (sym (take_all i ids past))
+      ∙ so_far in
       ap (λ b. cond b [] (refusal.BadRow file.Stop 0 why.UnknownStop ∷ [])) all

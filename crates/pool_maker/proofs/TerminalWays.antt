@@ -1,10 +1,14 @@
 -- The paths between terminals are shortest lines, and there are not more than 190 of them.
-use Rattle.std.proofs.Common.{◌≡◌, ℕ, ℤ, pos, ◌+◌, ◌<◌, ◌≤◌, Bool, true, false, cond, not, ◌||◌, nat_eq, List, [], ◌∷◌, length, map, filter, filter_map, get_or, position, All, Contains, Option, Some, None, option_map, is_some, unwrap_or, unsigned_abs, refl, ap, subst, sym, ◌∙◌, arith}
+use Rattle.std.proofs.Common.{◌≡◌, ℕ, ℤ, pos, ◌+◌, ◌<◌, ◌≤◌, Bool, true, false, cond, not, ◌||◌}
+use Rattle.std.proofs.Common.{nat_eq, List, [], ◌∷◌, length, map, filter, filter_map, get_or}
+use Rattle.std.proofs.Common.{position, All, Contains, Option, Some, None, option_map, is_some}
+use Rattle.std.proofs.Common.{unwrap_or, unsigned_abs, refl, ap, subst, sym, ◌∙◌, arith}
 use Rattle.std.specs.List.{cons_option, enumerate_from, list_all, list_any}
 use Rattle.std.specs.Ordering.{int_eq}
 use Rattle.std.proofs.lemmas.Bool.{eqb-true}
 use Rattle.std.proofs.lemmas.Bool.Decides.{Decides-int_eq}
-use Rattle.std.proofs.lemmas.List.Elements.{All-cons, All-contains_itself, All-head, All-nil, All-tail}
+use Rattle.std.proofs.lemmas.List.Elements.{All-cons, All-contains_itself, All-head, All-nil}
+use Rattle.std.proofs.lemmas.List.Elements.{All-tail}
 use Rattle.std.proofs.lemmas.List.FromFn.{get_or-map-range_with_len, length-enumerate_from}
 use Rattle.std.proofs.lemmas.List.Quantifiers.{position-Some}
 use Rattle.std.proofs.lemmas.List.Sums.{AllPass-from_list_all}
@@ -24,9 +28,11 @@ use Rattle.line_pool.proofs.WalkLines.{rising_length}
 use Rattle.pool_maker.specs.PoolTexts.{unknown_terminals}
 use Rattle.pool_maker.specs.RightPools.{IsShortestLine}
 use Rattle.pool_maker.specs.Tellable.{IsShort}
-use Rattle.pool_maker.specs.TerminalPaths.{is_contained, lines_among, pairs_of, paths_of, uncontained}
+use Rattle.pool_maker.specs.TerminalPaths.{is_contained, lines_among, pairs_of, paths_of}
+use Rattle.pool_maker.specs.TerminalPaths.{uncontained}
 use Rattle.pool_maker.proofs.LeastWalks.{least_of_stop}
-use Rattle.pool_maker.proofs.PairsOfIds.{AreInOrder, all_in_order, few_pairs, less_is, not_own, pairs_are}
+use Rattle.pool_maker.proofs.PairsOfIds.{AreInOrder, all_in_order, few_pairs, less_is, not_own}
+use Rattle.pool_maker.proofs.PairsOfIds.{pairs_are}
 
 -- ---- the index of a stop
 
@@ -39,7 +45,8 @@ pub is_index : (stops : List ℤ) (id : ℤ) → list_any (int_eq id) stops ≡ 
     → IsIndex stops id (index_in stops id)
 is_index stops id known = by (position (int_eq id) stops) refl
   where
-    by : (found : Option ℕ) → position (int_eq id) stops ≡ found → IsIndex stops id (unwrap_or found 0)
+    by : (found : Option ℕ) → position (int_eq id) stops ≡ found → IsIndex stops id
+        (unwrap_or found 0)
     by None at =
         let no : true ≡ false = sym known ∙ any_is (int_eq id) stops ∙ ap is_some at in
         cc
@@ -50,10 +57,11 @@ is_index stops id known = by (position (int_eq id) stops) refl
 -- ---- one path
 
 -- a path between two terminals
-pub record IsTerminalPath (network : NetworkParts) (terminals : List ℤ) (path : List ℕ) : Type 0 where
-  pub line : IsShortestLine network terminals path
-  pub simple : IsSimple network.edges path
-  pub some : 0 < length path
+pub record IsTerminalPath (network : NetworkParts) (terminals : List ℤ) (path : List ℕ) : Type 0
+  where
+    pub line : IsShortestLine network terminals path
+    pub simple : IsSimple network.edges path
+    pub some : 0 < length path
 
 module _ (network : NetworkParts) (sound : IsNetwork network) where
   -- a terminal that is a stop
@@ -79,7 +87,8 @@ module _ (network : NetworkParts) (sound : IsNetwork network) where
       (length network.stops) to to None within (omega arith))
       ∙ mapped (least_sum network edge_length from to) ∙ there
     where
-      mapped : (sum : Option ℕ) → is_some (option_map unsigned_abs (option_map pos sum)) ≡ is_some sum
+      mapped : (sum : Option ℕ) → is_some (option_map unsigned_abs (option_map pos sum))
+          ≡ is_some sum
       mapped None = refl
       mapped (Some sum) = refl
 
@@ -111,13 +120,16 @@ module _ (network : NetworkParts) (sound : IsNetwork network) where
             shortest = shortest;
           };
           simple = subst (IsSimple network.edges)
-              (sym (joined (index_in network.stops pair.0) (index_in network.stops pair.1) found is).1)
-              (path_simple network (index_in network.stops pair.0) (index_in network.stops pair.1) sound);
+              (sym (joined (index_in network.stops pair.0) (index_in network.stops pair.1) found
+              is).1)
+              (path_simple network (index_in network.stops pair.0) (index_in network.stops pair.1)
+              sound);
           some = by found shortest;
         }
       where
         by : (found : List ℕ)
-            → IsShortest network (index_in network.stops pair.0) (index_in network.stops pair.1) found
+            → IsShortest network (index_in network.stops pair.0) (index_in network.stops pair.1)
+            found
             → 0 < length found
         by (edge ∷ found) shortest = omega arith
         by [] shortest =
@@ -152,7 +164,8 @@ module _ (network : NetworkParts) (sound : IsNetwork network) where
     module _ (known : list_all (λ id. list_any (int_eq id) network.stops) terminals ≡ true) where
       all_known : All (IsKnown terminals) terminals
       all_known =
-          let stops = AllPass-from_list_all (λ id. list_any (int_eq id) network.stops) terminals known in
+          let stops = AllPass-from_list_all (λ id. list_any (int_eq id) network.stops) terminals
+          known in
           λ k d h. record { there = All-contains_itself terminals k d h; known = stops k d h }
 
       pub in_order : All (AreInOrder (IsKnown terminals)) (pairs_of terminals)
@@ -165,7 +178,8 @@ module _ (network : NetworkParts) (sound : IsNetwork network) where
 
 -- ---- how many paths there are
 
-length_found : {X Y : Type 0} (f : X → Option Y) (xs : List X) → length (filter_map f xs) ≤ length xs
+length_found : {X Y : Type 0} (f : X → Option Y) (xs : List X) → length (filter_map f xs) ≤ length
+    xs
 length_found f [] = omega arith
 length_found f (x ∷ xs) = by (f x) (length_found f xs)
   where
@@ -179,7 +193,8 @@ pub few_paths : (network : NetworkParts) (terminals : List ℤ) → length termi
 few_paths network terminals few =
     omega (
       arith,
-      length_found (λ pair. way network (index_in network.stops pair.0) (index_in network.stops pair.1))
+      length_found (λ pair. way network (index_in network.stops pair.0)
+          (index_in network.stops pair.1))
           (pairs_of terminals),
       ap length (pairs_are terminals),
       few_pairs (rising terminals) (omega (arith, few, rising_length terminals)),
@@ -236,12 +251,14 @@ below_member : (edges : List ℕ) (n : ℕ) → All (λ edge. edge < n) edges �
     → list_any (nat_eq edge) edges ≡ true → edge < n
 below_member [] n all edge is = absurd (cc)
 below_member (first ∷ edges) n all edge is =
-    by (nat_eq edge first) refl is (λ is. below_member edges n (All-tail (λ edge. edge < n) first edges all) edge is)
+    by (nat_eq edge first) refl is (λ is. below_member edges n
+    (All-tail (λ edge. edge < n) first edges all) edge is)
   where
     by : (b : Bool) → nat_eq edge first ≡ b → (b || list_any (nat_eq edge) edges) ≡ true
         → (list_any (nat_eq edge) edges ≡ true → edge < n) → edge < n
     by true same is rest =
-        subst (λ at. at < n) (sym (eqb-true edge first same)) (All-head (λ edge. edge < n) first edges all)
+        subst (λ at. at < n) (sym (eqb-true edge first same))
+        (All-head (λ edge. edge < n) first edges all)
     by false other is rest = rest is
 
 module _ (network : NetworkParts) (sound : IsNetwork network) (terminals : List ℤ) where

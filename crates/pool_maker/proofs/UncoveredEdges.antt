@@ -1,5 +1,6 @@
 -- The comments of edges that no line has.
-use Rattle.std.proofs.Common.{◌≡◌, ℕ, ℤ, ◌+◌, false, List, [], ◌∷◌, ◌++◌, cond, not, codes, append_assoc, append-nil, ap, sym, ◌∙◌, arith, map-id}
+use Rattle.std.proofs.Common.{◌≡◌, ℕ, ℤ, ◌+◌, false, List, [], ◌∷◌, ◌++◌, cond, not, codes}
+use Rattle.std.proofs.Common.{append_assoc, append-nil, ap, sym, ◌∙◌, arith, map-id}
 use Rattle.std.specs.Fmt.{signed_decimal}
 use Rattle.std.specs.List.{flat_map, range_with_len}
 use Rattle.std.proofs.lemmas.Grind.{flat_map-append}

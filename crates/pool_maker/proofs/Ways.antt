@@ -1,5 +1,7 @@
 -- Paths between stops, where a walk joins them.
-use Rattle.std.proofs.Common.{◌≡◌, ℕ, pos, ◌<◌, true, false, cond, List, [], ◌++◌, length, get_or, refl, ap, sym, ◌∙◌, arith, Option, Some, None, option_map, option_to_list, is_some}
+use Rattle.std.proofs.Common.{◌≡◌, ℕ, pos, ◌<◌, true, false, cond, List, [], ◌++◌, length, get_or}
+use Rattle.std.proofs.Common.{refl, ap, sym, ◌∙◌, arith, Option, Some, None, option_map}
+use Rattle.std.proofs.Common.{option_to_list, is_some}
 use Rattle.std.specs.List.{cons_option}
 use Rattle.std.proofs.lemmas.List.FromFn.{get_or-map-range_with_len}
 use Rattle.ptn_network.specs.Networks.{NetworkParts}

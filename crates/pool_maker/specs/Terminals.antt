@@ -1,5 +1,6 @@
 -- Inner words: terminals with the indexes of their stops, and the paths between them.
-use Rattle.std.specs.Prelude.{ℕ, ℤ, ◌<◌, if◌then◌else◌, int_lt, List, length, filter_map, Option, None, All}
+use Rattle.std.specs.Prelude.{ℕ, ℤ, ◌<◌, if◌then◌else◌, int_lt, List, length, filter_map, Option}
+use Rattle.std.specs.Prelude.{None, All}
 use Rattle.std.specs.List.{flat_map}
 use Rattle.ptn_network.specs.Networks.{NetworkParts, index_in}
 use Rattle.ptn_network.specs.Paths.{way}

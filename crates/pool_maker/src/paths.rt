@@ -1,5 +1,6 @@
 // The paths between terminals.
 ghost use Rattle.std.specs.Prelude.{◌≡◌, ◌<◌, ◌++◌, length, filter_map, option_to_list, All, IfOk, OnOk};
+ghost use Rattle.ptn_network.specs.Networks.{IsNetwork};
 ghost use Rattle.ptn_network.specs.Paths.{way, ArePaths};
 ghost use Rattle.pool_maker.specs.Terminals.{AreStops, paths_over, way_between};
 
@@ -16,7 +17,8 @@ pub(crate) fn paths_between(
     network: &Network,
     terminals: &[Terminal],
 ) -> Result<Vec<Path>, NoMemory>
-    requires { AreStops network.now terminals.now }
+    requires network { IsNetwork network.now }
+    requires stops { AreStops network.now terminals.now }
     ensures { IfOk result (λ paths. paths.items ≡ paths_over network.now terminals.now) }
 {
     let mut paths = Vec::new(alloc);
@@ -34,6 +36,7 @@ fn push_paths(
     terminals: &[Terminal],
     paths: &mut Vec<Path>,
 ) -> Result<(), NoMemory>
+    requires network { IsNetwork network.now }
     requires from { from.now.stop < length network.now.stops }
     requires stops { AreStops network.now terminals.now }
     ensures { OnOk result (paths.new.items ≡ paths.old.items
@@ -64,6 +67,7 @@ fn path_between(
     from: &Terminal,
     to: &Terminal,
 ) -> Result<Option<Path>, NoMemory>
+    requires network { IsNetwork network.now }
     requires known { ArePaths network.now from.now.stop known.now }
     requires to { to.now.stop < length network.now.stops }
     ensures { IfOk result (λ found. found ≡ way_between network.now from.now to.now) }
@@ -83,6 +87,7 @@ fn way(
     from: usize,
     to: usize,
 ) -> Result<Option<Path>, NoMemory>
+    requires network { IsNetwork network.now }
     requires known { ArePaths network.now from known.now }
     requires to { to < length network.now.stops }
     ensures { IfOk result (λ found. found ≡ way network.now from to) }
@@ -90,7 +95,6 @@ fn way(
     if !known.reaches(to) {
         return Ok(None);
     }
-    let _edges = network.edge_count();
     let edges = known.path_to(alloc, network, from, to)?;
     Ok(Some(Path::new(alloc, network, edges)?))
 }

@@ -13,4 +13,6 @@ mod journey_refused;
 #[cfg(test)]
 mod journey_told;
 #[cfg(test)]
+mod pool_large;
+#[cfg(test)]
 mod pool_rows;

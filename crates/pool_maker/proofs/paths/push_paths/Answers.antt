@@ -15,6 +15,7 @@ loop-to-preserved c =
     made_more (filter_map found) (filter_map-append found) c.args.paths.now.items (take i terminals)
     (take (i + 1) terminals) to c.loop-to.paths.items c.push_found.new.paths.items
     (take_more terminals i no_terminal c.loop-to-test.true) c.loop-to.invariant
-    (listed c.loop-to.paths.items c.push_found.new.paths.items c.in_ok-path_between.field-0 (found to)
+    (listed c.loop-to.paths.items c.push_found.new.paths.items c.in_ok-path_between.field-0
+    (found to)
     c.in_ok-path_between.ensures
     c.in_ok-push_found.ensures)
