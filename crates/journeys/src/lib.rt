@@ -1,0 +1,24 @@
+//! Journeys over a day: which of them arrives as early as any, and a proof that none arrives earlier.
+#![tactic(auto)]
+
+mod check;
+mod connection;
+mod earliest;
+mod event;
+mod event_list;
+mod found;
+mod links;
+mod net;
+mod print;
+mod read;
+mod rule;
+mod timed_event;
+mod way;
+mod ways;
+
+pub use event::JourneyEvent;
+pub use event_list::EventList;
+pub use found::Found;
+pub use net::JourneyNet;
+pub use print::print_journey;
+pub use rule::JourneyRule;

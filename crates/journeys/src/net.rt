@@ -1,0 +1,210 @@
+// Events of a day with the connections between them.
+ghost use Rattle.std.specs.Prelude.{◌≡◌, ◌<◌, ◌≤◌, length, slice_get, option_map, option_copied, All, Some, None, IfOk, IfNone};
+ghost use Rattle.giv_files.specs.Inputs.{UnlessFault};
+ghost use Rattle.event_tables.specs.ExpandedFiles.{AreExpandedActivities, AreExpandedEvents};
+ghost use Rattle.journeys.specs.Earliest.{IsAnswer};
+ghost use Rattle.journeys.specs.JourneyNets.{IsConnection, IsNet, event_told, journey_faults, net_of, net_over};
+ghost use Rattle.journeys.specs.Judged.{NoneEarlier, first_broken_rule};
+ghost use Rattle.journeys.specs.Links.{AreLinks};
+
+use crate::check::first_broken;
+use crate::connection::Connection;
+use crate::earliest::{first_end, reached_before};
+use crate::event::JourneyEvent;
+use crate::event_list::EventList;
+use crate::found::Found;
+use crate::links::{Link, links_in_order};
+use crate::read::{timed_events, times_of, usable_connections};
+use crate::rule::JourneyRule;
+use crate::timed_event::TimedEvent;
+use crate::way::Way;
+use crate::ways::ways_from;
+use event_tables::{
+    EventKind, ExpandedActivity, ExpandedEvent, expanded_activities, expanded_events,
+};
+use giv_files::StageFault;
+use plan_num::NoMemory;
+use std::alloc::Global;
+use std::marker::Model;
+
+/// The events of a day at their planned or disposed times, and the connections between them.
+/// Contracts see it as these two lists.
+#[derive(Debug, Drop)]
+pub struct JourneyNet {
+    events: Vec<TimedEvent>,
+    connections: Vec<Connection>,
+    links: Vec<Link>,
+}
+
+impl Model for JourneyNet {
+    ghost use Rattle.journeys.specs.JourneyNets.{JourneyParts};
+    ghost use Rattle.journeys.specs.Links.{IsLinked};
+
+    ghost Value = { JourneyParts };
+
+    ghost view = { λ net. record { events = net.events.items; connections = net.connections.items } };
+
+    ghost invariant = { λ net. IsLinked
+        (record { events = net.events.items; connections = net.connections.items })
+        net.links.items };
+}
+
+impl JourneyNet {
+    /// The events and activities of a day by their texts, at the times of a disposition where these
+    /// are given; or the first fault of the texts.
+    pub fn from_texts(
+        alloc: Global,
+        events: &[u8],
+        activities: &[u8],
+        times: Option<&[u8]>,
+    ) -> Result<JourneyNet, StageFault>
+        ensures read { UnlessFault
+            (journey_faults events.now activities.now (option_copied times.entry)) (λ net.
+            net ≡ net_of events.now activities.now (option_copied times.entry)) result }
+        ensures net { IfOk result IsNet }
+    {
+        let events = expanded_events(alloc, events)?;
+        let activities = expanded_activities(alloc, &events, activities)?;
+        let times = times_of(alloc, &events, times)?;
+        let net = JourneyNet::of_rows(alloc, &events, &activities, &times)?;
+        Ok(net)
+    }
+
+    // The net of the rows of a day.
+    fn of_rows(
+        alloc: Global,
+        events: &[ExpandedEvent],
+        activities: &[ExpandedActivity],
+        times: &[u64],
+    ) -> Result<JourneyNet, NoMemory>
+        requires events { AreExpandedEvents events.now }
+        requires activities { AreExpandedActivities events.now activities.now }
+        requires each { length times.now ≡ length events.now }
+        requires soon { All (λ time. time ≤ 1000000000000000000) times.now }
+        ensures value { IfOk result (λ net. net ≡ net_over events.now times.now activities.now) }
+        ensures net { IfOk result IsNet }
+    {
+        let connections = usable_connections(alloc, activities, times)?;
+        let links = links_in_order(alloc, events, &connections)?;
+        Ok(JourneyNet {
+            events: timed_events(alloc, events, times)?,
+            connections,
+            links,
+        })
+    }
+
+    /// How many events there are.
+    pub fn event_count(&self) -> usize
+        ensures { result ≡ length self.now.events }
+    {
+        self.events.len()
+    }
+
+    /// The event at an index.
+    pub fn event(&self, event: usize) -> JourneyEvent
+        requires { event < length self.now.events }
+        ensures { option_map (event_told event) (slice_get self.now.events event) ≡ Some result }
+    {
+        let at = self.events[event];
+        JourneyEvent {
+            id: event as i64 + 1,
+            stop: i64::from(at.stop),
+            time: at.time as i64,
+        }
+    }
+
+    /// A journey from one stop to another that starts at a time or later and arrives as early as any,
+    /// with the events that can be reached before it arrives; without a journey an empty one, with all
+    /// events that can be reached.
+    pub fn earliest(&self, alloc: Global, from: i64, to: i64, start: i64) -> Result<Found, NoMemory>
+        ensures found { IfOk result (IsAnswer self.now from to start) }
+        ensures none_earlier { IfOk result
+            (λ found. NoneEarlier self.now from to start found.journey) }
+        ensures passes { IfOk result
+            (λ found. first_broken_rule self.now from to start found ≡ None) }
+    {
+        let ways = ways_from(alloc, self, from, start)?;
+        let end = first_end(self.events(), &ways, to);
+        Ok(Found {
+            journey: self.journey_to(alloc, &ways, end)?,
+            reached: reached_before(alloc, self.events(), &ways, end)?,
+        })
+    }
+
+    // The journey that ends with an event, or an empty one where there is no end.
+    fn journey_to(
+        &self,
+        alloc: Global,
+        ways: &[Way],
+        end: Option<usize>,
+    ) -> Result<EventList, NoMemory> {
+        match end {
+            None => Ok(EventList::new(alloc)),
+            Some(end) => self.way_back(alloc, ways, end),
+        }
+    }
+
+    // The journey that ends with an event, built backward along the ways.
+    fn way_back(&self, alloc: Global, ways: &[Way], end: usize) -> Result<EventList, NoMemory> {
+        let mut journey = Vec::new(alloc);
+        let mut event = end;
+        journey.push(event)?;
+        while let Way::By { connection } = ways[event] {
+            event = self.connections[connection as usize].from as usize;
+            journey.push(event)?;
+        }
+        journey.reverse();
+        Ok(EventList::from_vec(journey))
+    }
+
+    /// The first rule that a journey breaks, or the events that are to prove that none arrives
+    /// earlier; none exactly where they pass, and then none does. It takes no memory.
+    pub fn check_reached(
+        &self,
+        from: i64,
+        to: i64,
+        start: i64,
+        found: &Found,
+    ) -> Option<JourneyRule>
+        ensures first { result ≡ first_broken_rule self.now from to start found.now }
+        ensures none_earlier { IfNone result
+            (NoneEarlier self.now from to start found.now.journey) }
+    {
+        first_broken(self, from, to, start, found)
+    }
+
+    /// The events at their times.
+    pub(crate) fn events(&self) -> &[TimedEvent]
+        ensures value { result.now ≡ self.now.events }
+        ensures net { IsNet self.now }
+    {
+        &self.events
+    }
+
+    /// The event at an index, or a departure at no stop and time 0 where there is none.
+    pub(crate) fn event_or_none(&self, event: usize) -> TimedEvent {
+        match self.events.get(event) {
+            Some(at) => *at,
+            None => TimedEvent {
+                kind: EventKind::Departure,
+                stop: 0,
+                time: 0,
+            },
+        }
+    }
+
+    /// The connections by id.
+    pub(crate) fn connections(&self) -> &[Connection]
+        ensures value { result.now ≡ self.now.connections }
+        ensures sound { All (IsConnection self.now) self.now.connections }
+    {
+        &self.connections
+    }
+
+    /// The connections in the forward order of their tails.
+    pub(crate) fn links(&self) -> &[Link]
+        ensures { AreLinks self.now.connections result.now }
+    {
+        &self.links
+    }
+}

@@ -1,0 +1,55 @@
+// Events at their times.
+ghost use Rattle.std.specs.Prelude.{◌≡◌, pos, int_le};
+ghost use Rattle.std.specs.Ordering.{int_eq};
+ghost use Rattle.event_tables.specs.Kinds.{is_arrival};
+ghost use Rattle.journeys.specs.Journeys.{arrives_at, starts};
+
+use event_tables::EventKind;
+
+/// An event of a day: its kind, its stop, and its planned or disposed time in minutes.
+#[derive(Clone, Copy, Debug, PartialEq, Eq)]
+pub(crate) struct TimedEvent {
+    pub(crate) kind: EventKind,
+    pub(crate) stop: u32,
+    pub(crate) time: u64,
+}
+
+impl TimedEvent {
+    /// Whether it is a departure at a stop, at a time or later.
+    pub(crate) fn starts(&self, from: i64, start: i64) -> bool
+        ensures { result ≡ starts from start self.now }
+    {
+        !self.is_arrival() && self.is_at(from) && self.is_from(start)
+    }
+
+    /// Whether it is an arrival at a stop.
+    pub(crate) fn arrives_at(&self, to: i64) -> bool
+        ensures { result ≡ arrives_at to self.now }
+    {
+        self.is_arrival() && self.is_at(to)
+    }
+
+    // Whether it is an arrival.
+    fn is_arrival(&self) -> bool
+        ensures { result ≡ is_arrival self.now.kind }
+    {
+        match self.kind {
+            EventKind::Departure => false,
+            EventKind::Arrival => true,
+        }
+    }
+
+    // Whether it is at a stop.
+    fn is_at(&self, stop: i64) -> bool
+        ensures { result ≡ int_eq stop (pos self.now.stop) }
+    {
+        stop == i64::from(self.stop)
+    }
+
+    // Whether it is at a time or later.
+    fn is_from(&self, start: i64) -> bool
+        ensures { result ≡ int_le start (pos self.now.time) }
+    {
+        i128::from(start) <= i128::from(self.time)
+    }
+}

@@ -1,0 +1,63 @@
+// Which events can be reached, and how: a connection scan.
+ghost use Rattle.std.specs.Prelude.{◌≡◌, ◌<◌, length, map, All, IfOk};
+ghost use Rattle.journeys.specs.Ways.{AreWays, first_way, go_by, ways_along};
+
+use crate::links::Link;
+use crate::net::JourneyNet;
+use crate::timed_event::TimedEvent;
+use crate::way::Way;
+use plan_num::NoMemory;
+use std::alloc::Global;
+
+/// How each event can be reached from the starts at a stop, at a time or later.
+pub(crate) fn ways_from(
+    alloc: Global,
+    net: &JourneyNet,
+    from: i64,
+    start: i64,
+) -> Result<Vec<Way>, NoMemory>
+    ensures { IfOk result (λ ways. AreWays net.now from start ways.items) }
+{
+    let mut ways = first_ways(alloc, net.events(), from, start)?;
+    go_along(&mut ways, net.links());
+    Ok(ways)
+}
+
+// The ways before any connection is looked at.
+fn first_ways(
+    alloc: Global,
+    events: &[TimedEvent],
+    from: i64,
+    start: i64,
+) -> Result<Vec<Way>, NoMemory>
+    ensures { IfOk result (λ ways. ways.items ≡ map (first_way from start) events.now) }
+{
+    Ok(
+        events
+            .iter()
+            .map(|event| Way::first(event, from, start))
+            .collect(alloc)?,
+    )
+}
+
+// The ways after connections, one after the other.
+fn go_along(ways: &mut [Way], links: &[Link])
+    requires { All (λ link. (link.from < length ways.old) × (link.to < length ways.old)) links.now }
+    ensures { ways.new ≡ ways_along links.now ways.old }
+{
+    for link in links {
+        go_by(ways, link);
+    }
+}
+
+// The ways after one connection.
+fn go_by(ways: &mut [Way], link: &Link)
+    requires from { link.now.from < length ways.old }
+    requires to { link.now.to < length ways.old }
+    ensures { ways.new ≡ go_by ways.old link.now }
+{
+    if ways[link.from as usize].is_reached() {
+        let to = link.to as usize;
+        ways[to] = ways[to].or_by(link.index);
+    }
+}
