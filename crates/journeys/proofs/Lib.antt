@@ -1,2 +1,9 @@
 mod Answers
+mod FilteredRanges
+mod FirstEnds
+mod FirstRules
+mod FollowedRides
 mod Passing
+mod Rising
+mod WayBack
+mod WaysAlong

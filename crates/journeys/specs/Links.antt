@@ -1,5 +1,5 @@
 -- Inner words: the connections in the forward order of their tails.
-use Rattle.std.specs.Prelude.{ℕ, ◌≡◌, ◌<◌, ◌≤◌, ◌+◌, ◌==◌, if◌then◌else◌, List, [], ◌∷◌, length, map, slice_get, slice_index_or, All, Contains, Some}
+use Rattle.std.specs.Prelude.{ℕ, ◌≡◌, ◌<◌, ◌≤◌, ◌+◌, ◌==◌, ◌&&◌, if◌then◌else◌, Bool, false, List, [], ◌∷◌, length, map, drop, slice_get, slice_index_or, All, Contains, Some}
 use Rattle.std.specs.List.{enumerate_from}
 use Rattle.event_tables.specs.declared.expanded_event.ExpandedEvent.{ExpandedEvent}
 use Rattle.event_tables.specs.ForwardRanks.{forward_rank}
@@ -33,11 +33,23 @@ pub record AreLinks (connections : List Connection) (links : List Link) : Type 0
 
 -- a day with its links
 pub record IsLinked (net : JourneyParts) (links : List Link) : Type 0 where
-  pub net : IsNet net
-  pub links : AreLinks net.connections links
+  pub is_net : IsNet net
+  pub are_links : AreLinks net.connections links
 
 -- how many links stand from the first one on that leads from an event
 abbrev pub links_behind : List Link → ℕ → ℕ
 links_behind [] event = 0
 links_behind (link ∷ links) event =
     if link.from == event then length links + 1 else links_behind links event
+
+-- a link leads from the first of some events to the second one
+abbrev pub leads_on : Link → List ℕ → Bool
+leads_on link [] = false
+leads_on link (event ∷ []) = false
+leads_on link (event ∷ next ∷ events) = (link.from == event) && (link.to == next)
+
+-- the events that are left where links are followed from the first one on
+abbrev pub followed : List Link → List ℕ → List ℕ
+followed [] events = events
+followed (link ∷ links) events =
+    followed links (if leads_on link events then drop 1 events else events)

@@ -1,65 +1,65 @@
 // Where the journey that arrives first ends, and what can be reached before it arrives.
-ghost use Rattle.std.specs.Prelude.{◌≡◌, ◌<◌, nat_lt, length, IfOk, IfSome};
-ghost use Rattle.journeys.specs.Ends.{IsFirstEnd, is_before_end, reached_before, time_in};
+ghost use Rattle.std.specs.Prelude.{◌≡◌, ◌&&◌, length, IfOk};
+ghost use Rattle.journeys.specs.Ends.{IsFirstEnd, earlier_end, is_before_end, reached_before};
+ghost use Rattle.journeys.specs.Ways.{is_reached, way_at};
 
 use crate::event_list::EventList;
-use crate::timed_event::TimedEvent;
-use crate::way::Way;
+use crate::net::JourneyNet;
+use crate::query::Query;
+use crate::way::{Way, way_at};
 use plan_num::NoMemory;
 use std::alloc::Global;
 
 /// The first arrival at a stop that can be reached: of least time, then of least index.
-pub(crate) fn first_end(events: &[TimedEvent], ways: &[Way], to: i64) -> Option<usize>
-    requires { length ways.now ≡ length events.now }
-    ensures { IsFirstEnd events.now ways.now to (length events.now) result }
+pub(crate) fn first_end(net: &JourneyNet, ways: &[Way], query: &Query) -> Option<usize>
+    ensures { IsFirstEnd net.now ways.now query.now.to (length ways.now) result }
 {
     let mut first = None;
-    for (index, event) in events.iter().enumerate() {
-        let is_end = event.arrives_at(to) && ways[index].is_reached();
-        if is_end && is_before_end(events, first, index) {
-            first = Some(index);
-        }
+    for event in 0..ways.len() {
+        first = earlier_end(net, ways, query, first, event);
     }
     first
 }
 
-/// Whether an event is before the one at an end; where there is no end, each is.
-pub(crate) fn is_before_end(events: &[TimedEvent], end: Option<usize>, event: usize) -> bool
-    requires end { IfSome end (λ end. end < length events.now) }
-    requires event { event < length events.now }
-    ensures { result ≡ is_before_end events.now end event }
+// An event, where it is an arrival at a stop that can be reached and is before another one, or else
+// that one.
+fn earlier_end(
+    net: &JourneyNet,
+    ways: &[Way],
+    query: &Query,
+    first: Option<usize>,
+    event: usize,
+) -> Option<usize>
+    ensures { result ≡ earlier_end net.now ways.now query.now.to first event }
 {
-    match end {
-        None => true,
-        Some(end) => is_before(events, event, end),
+    if net.is_arrival(query, event) && is_told(net, ways, first, event) {
+        Some(event)
+    } else {
+        first
     }
-}
-
-// Whether an event is before another.
-fn is_before(events: &[TimedEvent], event: usize, other: usize) -> bool
-    requires event { event < length events.now }
-    requires other { other < length events.now }
-    ensures { result ≡ nat_lt (time_in events.now event) (time_in events.now other) }
-{
-    events[event].time < events[other].time
 }
 
 /// The events that can be reached before an end.
 pub(crate) fn reached_before(
     alloc: Global,
-    events: &[TimedEvent],
+    net: &JourneyNet,
     ways: &[Way],
     end: Option<usize>,
 ) -> Result<EventList, NoMemory>
-    requires each { length ways.now ≡ length events.now }
-    requires end { IfSome end (λ end. end < length events.now) }
-    ensures { IfOk result (λ reached. reached ≡ reached_before events.now ways.now end) }
+    ensures { IfOk result (λ reached. reached ≡ reached_before net.now ways.now end) }
 {
     let mut reached = Vec::new(alloc);
-    for (index, way) in ways.iter().enumerate() {
-        if way.is_reached() && is_before_end(events, end, index) {
-            reached.push(index)?;
+    for event in 0..ways.len() {
+        if is_told(net, ways, end, event) {
+            reached.push(event)?;
         }
     }
     Ok(EventList::from_vec(reached))
+}
+
+// Whether an event can be reached and is before an end.
+fn is_told(net: &JourneyNet, ways: &[Way], end: Option<usize>, event: usize) -> bool
+    ensures { result ≡ is_reached (way_at ways.now event) && is_before_end net.now end event }
+{
+    way_at(ways, event).is_reached() && net.is_before(end, event)
 }

@@ -1,11 +1,13 @@
 // Events of a day with the connections between them.
-ghost use Rattle.std.specs.Prelude.{◌≡◌, ◌<◌, ◌≤◌, length, slice_get, option_map, option_copied, All, Some, None, IfOk, IfNone};
+ghost use Rattle.std.specs.Prelude.{◌≡◌, ◌<◌, ◌≤◌, length, slice_get, option_map, option_copied, All, true, Some, None, IfOk, IfNone, IfSome};
 ghost use Rattle.giv_files.specs.Inputs.{UnlessFault};
 ghost use Rattle.event_tables.specs.ExpandedFiles.{AreExpandedActivities, AreExpandedEvents};
 ghost use Rattle.journeys.specs.Earliest.{IsAnswer};
-ghost use Rattle.journeys.specs.JourneyNets.{IsConnection, IsNet, event_told, journey_faults, net_of, net_over};
+ghost use Rattle.journeys.specs.JourneyNets.{IsConnection, IsNet, event_at, event_told, journey_faults, net_of, net_over};
 ghost use Rattle.journeys.specs.Judged.{NoneEarlier, first_broken_rule};
+ghost use Rattle.journeys.specs.Ends.{AreLed, IsJourneyTo, IsWayBack};
 ghost use Rattle.journeys.specs.Links.{AreLinks};
+ghost use Rattle.journeys.specs.Ways.{is_reached, way_at};
 
 use crate::check::first_broken;
 use crate::connection::Connection;
@@ -14,6 +16,7 @@ use crate::event::JourneyEvent;
 use crate::event_list::EventList;
 use crate::found::Found;
 use crate::links::{Link, links_in_order};
+use crate::query::Query;
 use crate::read::{timed_events, times_of, usable_connections};
 use crate::rule::JourneyRule;
 use crate::timed_event::TimedEvent;
@@ -123,11 +126,12 @@ impl JourneyNet {
         ensures passes { IfOk result
             (λ found. first_broken_rule self.now from to start found ≡ None) }
     {
-        let ways = ways_from(alloc, self, from, start)?;
-        let end = first_end(self.events(), &ways, to);
+        let query = Query { from, to, start };
+        let ways = ways_from(alloc, self, &query)?;
+        let end = first_end(self, &ways, &query);
         Ok(Found {
             journey: self.journey_to(alloc, &ways, end)?,
-            reached: reached_before(alloc, self.events(), &ways, end)?,
+            reached: reached_before(alloc, self, &ways, end)?,
         })
     }
 
@@ -137,7 +141,13 @@ impl JourneyNet {
         alloc: Global,
         ways: &[Way],
         end: Option<usize>,
-    ) -> Result<EventList, NoMemory> {
+    ) -> Result<EventList, NoMemory>
+        requires each { length ways.now ≡ length self.now.events }
+        requires led { AreLed self.now.connections ways.now }
+        requires end { IfSome end (λ end. end < length self.now.events) }
+        requires reached { IfSome end (λ end. is_reached (way_at ways.now end) ≡ true) }
+        ensures { IfOk result (IsJourneyTo self.now.connections ways.now end) }
+    {
         match end {
             None => Ok(EventList::new(alloc)),
             Some(end) => self.way_back(alloc, ways, end),
@@ -145,7 +155,13 @@ impl JourneyNet {
     }
 
     // The journey that ends with an event, built backward along the ways.
-    fn way_back(&self, alloc: Global, ways: &[Way], end: usize) -> Result<EventList, NoMemory> {
+    fn way_back(&self, alloc: Global, ways: &[Way], end: usize) -> Result<EventList, NoMemory>
+        requires each { length ways.now ≡ length self.now.events }
+        requires led { AreLed self.now.connections ways.now }
+        requires end { end < length self.now.events }
+        requires reached { is_reached (way_at ways.now end) ≡ true }
+        ensures { IfOk result (IsWayBack self.now.connections ways.now end) }
+    {
         let mut journey = Vec::new(alloc);
         let mut event = end;
         journey.push(event)?;
@@ -170,7 +186,7 @@ impl JourneyNet {
         ensures none_earlier { IfNone result
             (NoneEarlier self.now from to start found.now.journey) }
     {
-        first_broken(self, from, to, start, found)
+        first_broken(self, &Query { from, to, start }, found)
     }
 
     /// The events at their times.
@@ -181,16 +197,22 @@ impl JourneyNet {
         &self.events
     }
 
+    /// The event at an index, where it is there.
+    pub(crate) fn at(&self, event: usize) -> Option<TimedEvent>
+        ensures { result ≡ slice_get self.now.events event }
+    {
+        self.events.get(event).copied()
+    }
+
     /// The event at an index, or a departure at no stop and time 0 where there is none.
-    pub(crate) fn event_or_none(&self, event: usize) -> TimedEvent {
-        match self.events.get(event) {
-            Some(at) => *at,
-            None => TimedEvent {
-                kind: EventKind::Departure,
-                stop: 0,
-                time: 0,
-            },
-        }
+    pub(crate) fn event_or_none(&self, event: usize) -> TimedEvent
+        ensures { result ≡ event_at self.now event }
+    {
+        self.at(event).unwrap_or(TimedEvent {
+            kind: EventKind::Departure,
+            stop: 0,
+            time: 0,
+        })
     }
 
     /// The connections by id.

@@ -4,6 +4,7 @@ ghost use Rattle.std.specs.Ordering.{int_eq};
 ghost use Rattle.event_tables.specs.Kinds.{is_arrival};
 ghost use Rattle.journeys.specs.Journeys.{arrives_at, starts};
 
+use crate::query::Query;
 use event_tables::EventKind;
 
 /// An event of a day: its kind, its stop, and its planned or disposed time in minutes.
@@ -15,18 +16,18 @@ pub(crate) struct TimedEvent {
 }
 
 impl TimedEvent {
-    /// Whether it is a departure at a stop, at a time or later.
-    pub(crate) fn starts(&self, from: i64, start: i64) -> bool
-        ensures { result ≡ starts from start self.now }
+    /// Whether it is a departure from which a journey may start.
+    pub(crate) fn starts(&self, query: &Query) -> bool
+        ensures { result ≡ starts query.now.from query.now.start self.now }
     {
-        !self.is_arrival() && self.is_at(from) && self.is_from(start)
+        !self.is_arrival() && self.is_at(query.from) && self.is_from(query.start)
     }
 
-    /// Whether it is an arrival at a stop.
-    pub(crate) fn arrives_at(&self, to: i64) -> bool
-        ensures { result ≡ arrives_at to self.now }
+    /// Whether it is an arrival with which a journey may end.
+    pub(crate) fn arrives_at(&self, query: &Query) -> bool
+        ensures { result ≡ arrives_at query.now.to self.now }
     {
-        self.is_arrival() && self.is_at(to)
+        self.is_arrival() && self.is_at(query.to)
     }
 
     // Whether it is an arrival.

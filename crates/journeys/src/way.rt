@@ -1,7 +1,8 @@
 // How events are reached.
 ghost use Rattle.std.specs.Prelude.{◌≡◌};
-ghost use Rattle.journeys.specs.Ways.{first_way, is_reached, or_by};
+ghost use Rattle.journeys.specs.Ways.{first_way, is_reached, or_by, way_at};
 
+use crate::query::Query;
 use crate::timed_event::TimedEvent;
 
 /// How an event is reached.
@@ -17,10 +18,10 @@ pub(crate) enum Way {
 
 impl Way {
     /// The way into an event before any connection is looked at.
-    pub(crate) fn first(event: &TimedEvent, from: i64, start: i64) -> Way
-        ensures { result ≡ first_way from start event.now }
+    pub(crate) fn first(event: &TimedEvent, query: &Query) -> Way
+        ensures { result ≡ first_way query.now.from query.now.start event.now }
     {
-        if event.starts(from, start) {
+        if event.starts(query) {
             Way::Start
         } else {
             Way::Unreached
@@ -46,4 +47,11 @@ impl Way {
             },
         }
     }
+}
+
+/// The way into the event at an index.
+pub(crate) fn way_at(ways: &[Way], event: usize) -> Way
+    ensures { result ≡ way_at ways.now event }
+{
+    ways.get(event).copied().unwrap_or(Way::Unreached)
 }

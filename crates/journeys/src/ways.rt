@@ -4,6 +4,7 @@ ghost use Rattle.journeys.specs.Ways.{AreWays, first_way, go_by, ways_along};
 
 use crate::links::Link;
 use crate::net::JourneyNet;
+use crate::query::Query;
 use crate::timed_event::TimedEvent;
 use crate::way::Way;
 use plan_num::NoMemory;
@@ -13,29 +14,23 @@ use std::alloc::Global;
 pub(crate) fn ways_from(
     alloc: Global,
     net: &JourneyNet,
-    from: i64,
-    start: i64,
+    query: &Query,
 ) -> Result<Vec<Way>, NoMemory>
-    ensures { IfOk result (λ ways. AreWays net.now from start ways.items) }
+    ensures { IfOk result (λ ways. AreWays net.now query.now.from query.now.start ways.items) }
 {
-    let mut ways = first_ways(alloc, net.events(), from, start)?;
+    let mut ways = first_ways(alloc, net.events(), query)?;
     go_along(&mut ways, net.links());
     Ok(ways)
 }
 
 // The ways before any connection is looked at.
-fn first_ways(
-    alloc: Global,
-    events: &[TimedEvent],
-    from: i64,
-    start: i64,
-) -> Result<Vec<Way>, NoMemory>
-    ensures { IfOk result (λ ways. ways.items ≡ map (first_way from start) events.now) }
+fn first_ways(alloc: Global, events: &[TimedEvent], query: &Query) -> Result<Vec<Way>, NoMemory>
+    ensures { IfOk result (λ ways. ways.items ≡ map (first_way query.now.from query.now.start) events.now) }
 {
     Ok(
         events
             .iter()
-            .map(|event| Way::first(event, from, start))
+            .map(|event| Way::first(event, query))
             .collect(alloc)?,
     )
 }
