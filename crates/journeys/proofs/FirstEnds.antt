@@ -1,9 +1,9 @@
 -- The first arrival that can be reached, event by event.
-use Rattle.std.proofs.Common.{◌≡◌, ℕ, ℤ, ◌+◌, ◌<◌, ◌≤◌, ◌⊎◌, ◌&&◌, inl, inr, nat_lt, Bool, true, false, cond, List, Option, Some, None, refl, sym, ap, ◌∙◌, subst, arith}
-use Rattle.std.proofs.lemmas.Bool.{and_from, and_left, and_parts, and_right, both_ways, cases_Bool, cases_eq, cases_order, cond_both, ltb-false, ltb-true}
+use Rattle.std.proofs.Common.{◌≡◌, ℕ, ℤ, ◌+◌, ◌<◌, ◌⊎◌, ◌&&◌, inl, inr, nat_lt, Bool, true, false, List, Option, Some, None, refl, sym, ap, subst, arith}
+use Rattle.std.proofs.lemmas.Bool.{and_from, and_parts, both_ways, cases_Bool, cases_eq, cases_order, cond_both, ltb-false, ltb-true}
 use Rattle.journeys.specs.declared.way.Way.{Way}
 use Rattle.journeys.specs.Earliest.{IsNoLater}
-use Rattle.journeys.specs.Ends.{IsFirstEnd, earlier_end, is_before_end, is_end}
+use Rattle.journeys.specs.Ends.{IsFirstEnd, earlier_end, is_end}
 use Rattle.journeys.specs.JourneyNets.{JourneyParts, time_at}
 use Rattle.journeys.specs.Journeys.{arrives_at, passes_at}
 use Rattle.journeys.specs.Ways.{is_reached, way_at}

@@ -1,5 +1,5 @@
 -- The first rule that is broken, by the tests of all.
-use Rattle.std.proofs.Common.{◌≡◌, ◌∙◌, ℤ, ◌||◌, Bool, true, false, cond, not, ◌++◌, Option, Some, None, refl}
+use Rattle.std.proofs.Common.{◌≡◌, ℤ, ◌||◌, Bool, true, false, not, ◌++◌, Option, Some, refl}
 use Rattle.std.specs.Bool.{then_some}
 use Rattle.std.specs.Prelude.{slice_get}
 use Rattle.std.proofs.lemmas.Bool.{both_ways}

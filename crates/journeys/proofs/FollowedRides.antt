@@ -1,8 +1,8 @@
 -- Links that are followed from the first one on get to the end of a list of events exactly where it is
 -- a ride.
-use Rattle.std.proofs.Common.{◌≡◌, ℕ, zero, suc, ◌<◌, ◌≤◌, ◌+◌, ◌&&◌, ◌||◌, ◌==◌, nat_le, Bool, true, false, cond, List, [], ◌∷◌, length, drop, get_or, slice_get, All, Some, refl, sym, ap, ◌∙◌, subst, arith}
+use Rattle.std.proofs.Common.{◌≡◌, ℕ, suc, ◌≤◌, ◌&&◌, ◌||◌, ◌==◌, nat_le, Bool, true, false, cond, List, [], ◌∷◌, length, get_or, All, refl, sym, ap, ◌∙◌, subst, arith}
 use Rattle.std.specs.List.{list_all, list_any}
-use Rattle.std.proofs.lemmas.Bool.{and_from, and_parts, both_ways, le-leb, leb-true, or_left, or_right}
+use Rattle.std.proofs.lemmas.Bool.{and_from, and_parts, both_ways, le-leb, leb-true}
 use Rattle.std.proofs.lemmas.Bool.Decides.{Decides-eqb}
 use Rattle.std.proofs.lemmas.List.Elements.{All-head, All-tail}
 use Rattle.std.proofs.lemmas.List.Folds.{Any-from_list_any, list_any_at}
@@ -11,7 +11,7 @@ use Rattle.std.proofs.lemmas.Option.{slice_get_read}
 use Rattle.journeys.specs.declared.connection.Connection.{Connection}
 use Rattle.journeys.specs.declared.links.Link.{Link}
 use Rattle.journeys.specs.Journeys.{leads, neighbours}
-use Rattle.journeys.specs.Links.{AreLinks, IsInTurn, followed, leads_on}
+use Rattle.journeys.specs.Links.{AreLinks, IsInTurn, followed}
 
 -- a link leads from one event to another
 abbrev joins : ℕ → ℕ → Link → Bool

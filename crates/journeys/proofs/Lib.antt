@@ -1,9 +1,13 @@
 mod Answers
+mod DayTexts
 mod FilteredRanges
 mod FirstEnds
 mod FirstRules
 mod FollowedRides
+mod FoundAnswers
+mod NetOfRows
 mod Passing
+mod PlannedTimes
 mod Rising
 mod WayBack
 mod WaysAlong

@@ -1,10 +1,9 @@
 -- Lists of events that rise, and the last event of a list.
-use Rattle.std.proofs.Common.{◌≡◌, ℕ, zero, suc, ◌+◌, ◌-◌, ◌<◌, ◌≤◌, ◌⊎◌, inl, inr, nat_lt, nat_eq, Bool, true, false, List, [], ◌∷◌, length, get_or, slice_get, All, Result, Ok, Err, refl, sym, ap, ◌∙◌, arith, is_ok}
-use Rattle.std.specs.List.{list_any}
-use Rattle.std.specs.List.Sorted.{IsBinarySearchResult, IsNonDecreasingBy}
+use Rattle.std.proofs.Common.{◌≡◌, ℕ, zero, suc, ◌+◌, ◌-◌, ◌<◌, ◌≤◌, ◌⊎◌, inl, inr, nat_lt, nat_eq, true, List, [], ◌∷◌, length, get_or, slice_get, Result, Ok, Err, refl, sym, ap, subst, ◌∙◌, arith, is_ok}
+use Rattle.std.specs.List.Sorted.{IsBinarySearchResult, IsNonDecreasingBy, IsStrictlyIncreasing}
 use Rattle.std.specs.Ordering.{nat_cmp}
 use Rattle.std.specs.Result.{MatchResult}
-use Rattle.std.proofs.lemmas.Bool.{and_parts, cases_lt, eq-eqb, ltb-true, ne_eqb}
+use Rattle.std.proofs.lemmas.Bool.{and_from, and_parts, cases_lt, eq-eqb, lt-ltb, ltb-true, ne_eqb}
 use Rattle.std.proofs.lemmas.List.{get_or_default}
 use Rattle.std.proofs.lemmas.List.Folds.{list_any_at, list_any_none}
 use Rattle.std.proofs.lemmas.List.Sorted.{IsNonDecreasingBy-from_all_adjacent, searched}
@@ -23,6 +22,16 @@ rising_at (x ∷ y ∷ more) is (suc k) d inside =
     let later : suc k + 1 ≡ suc (k + 1) = omega arith in
     rw later (rising_at (y ∷ more) (and_parts (nat_lt x y) (is_rising (y ∷ more)) is).1 k d
     (omega (arith, inside)))
+
+pub rising_from : (events : List ℕ) → IsStrictlyIncreasing events → is_rising events ≡ true
+rising_from [] rises = refl
+rising_from (x ∷ []) rises = refl
+rising_from (x ∷ y ∷ more) rises =
+    and_from (nat_lt x y) (is_rising (y ∷ more)) (lt-ltb x y (rises 0 (omega arith)))
+    (rising_from (y ∷ more)
+    (λ k inside. let later : suc k + 1 ≡ suc (k + 1) = omega arith in
+    subst (λ place. get_or (x ∷ y ∷ more) (suc k) 0 < get_or (x ∷ y ∷ more) place 0) later
+    (rises (suc k) (omega (arith, inside)))))
 
 in_order : (events : List ℕ) → is_rising events ≡ true → IsNonDecreasingBy (λ x. x) events
 in_order events is = IsNonDecreasingBy-from_all_adjacent (λ x. x) events

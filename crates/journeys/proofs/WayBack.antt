@@ -1,5 +1,5 @@
 -- A journey that is built backward along the ways.
-use Rattle.std.proofs.Common.{◌≡◌, ◌≢◌, ◌∙◌, ℕ, zero, suc, ◌+◌, ◌<◌, ◌≤◌, ◌⊎◌, ◌==◌, inl, inr, Bool, true, false, cond, List, [], ◌∷◌, ◌++◌, length, reverse, get_or, slice_get, All, Contains, Some, refl, ap, sym, subst, arith}
+use Rattle.std.proofs.Common.{◌≡◌, ◌∙◌, ℕ, zero, suc, ◌+◌, ◌<◌, ◌≤◌, ◌⊎◌, ◌==◌, inl, inr, true, false, List, [], ◌∷◌, ◌++◌, length, reverse, get_or, slice_get, All, Some, refl, ap, sym, subst, arith}
 use Rattle.std.proofs.lemmas.Bool.{both_ways, cases_lt, cond_both, eqb-false, eqb-true}
 use Rattle.std.proofs.lemmas.List.{get_or_past, reverse-append}
 use Rattle.std.proofs.lemmas.List.Elements.{All-cons, All-nil}

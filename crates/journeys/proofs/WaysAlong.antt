@@ -1,6 +1,5 @@
 -- One pass along the links finds the way into each event that can be reached, and the first one.
-use Rattle.std.proofs.Common.{◌≡◌, ◌≢◌, ◌∙◌, ℕ, ℤ, zero, suc, ◌<◌, ◌≤◌, ◌⊎◌, ◌&&◌, ◌==◌, inl, inr, nat_le, Bool, true, false, cond, eqb, List, [], ◌∷◌, length, map, get_or, slice_get, slice_set, All, Contains, Option, Some, None, refl, ap, sym, subst, arith}
-use Rattle.std.specs.List.{list_any}
+use Rattle.std.proofs.Common.{◌≡◌, ◌≢◌, ◌∙◌, ℕ, ℤ, ◌<◌, ◌≤◌, ◌⊎◌, ◌==◌, inl, inr, nat_le, true, false, eqb, List, [], ◌∷◌, length, map, get_or, slice_get, slice_set, All, Some, None, refl, ap, sym, subst, arith}
 use Rattle.std.specs.Option.{option_map_or}
 use Rattle.std.proofs.lemmas.Bool.{and_from, both_ways, cond_both, eqb-false, eqb-true, le-leb, leb-false, leb-true}
 use Rattle.std.proofs.lemmas.Bool.Decides.{Decides-eqb}
@@ -13,7 +12,7 @@ use Rattle.journeys.specs.declared.links.Link.{Link}
 use Rattle.journeys.specs.declared.timed_event.TimedEvent.{TimedEvent}
 use Rattle.journeys.specs.declared.way.Way.{Way}
 use Rattle.journeys.specs.declared.way.Way.TheVariants as way
-use Rattle.journeys.specs.JourneyNets.{IsConnection, IsNet, JourneyParts}
+use Rattle.journeys.specs.JourneyNets.{IsConnection, JourneyParts}
 use Rattle.journeys.specs.Journeys.{IsReached, leads, passes_at, starts}
 use Rattle.journeys.specs.Links.{AreLinks, IsInTurn}
 use Rattle.journeys.specs.Ways.{AreWays, IsBy, IsWay, first_way, go_by, is_by, is_reached, lesser, or_by, way_at, ways_along}
@@ -50,7 +49,7 @@ is_by_still (way.By other) index place is =
     le-leb (lesser other index) place (omega (arith, low, lesser_first other index))
 
 -- where a way is no later, the event can be reached
-by_reached : (w : Way) (place : ℕ) → is_by place w ≡ true → is_reached w ≡ true
+pub by_reached : (w : Way) (place : ℕ) → is_by place w ≡ true → is_reached w ≡ true
 by_reached way.Unreached place is = absurd (both_ways false refl is)
 by_reached way.Start place is = refl
 by_reached (way.By other) place is = refl
@@ -171,7 +170,7 @@ module _ (net : JourneyParts) (sound : All (IsConnection net) net.connections)
   abbrev Leads : ℕ → Way → Type 0
   Leads event w = IsWay net from start event w
 
-  reached_by_way : (event : ℕ) (w : Way) → Leads event w → is_reached w ≡ true
+  pub reached_by_way : (event : ℕ) (w : Way) → Leads event w → is_reached w ≡ true
       → IsReached net from start event
   reached_by_way event way.Unreached known is = absurd (both_ways false refl is)
   reached_by_way event way.Start known is =

@@ -1,9 +1,10 @@
 // The rules of a journey from any hand, and of the events that are to prove that none arrives
 // earlier.
-ghost use Rattle.std.specs.Prelude.{◌≡◌, ◌<◌, ◌==◌, ◌&&◌, ◌||◌, not, true, false, length};
+ghost use Rattle.std.specs.Prelude.{◌≡◌, ◌<◌, ◌==◌, ◌&&◌, ◌||◌, not, true, false, length, All, IfNone};
 ghost use Rattle.journeys.specs.Earliest.{is_rising};
+ghost use Rattle.journeys.specs.JourneyNets.{IsConnection};
 ghost use Rattle.journeys.specs.Journeys.{begins, ends, is_journey, is_ride, last_of};
-ghost use Rattle.journeys.specs.Judged.{first_broken_rule, has_arrival, is_astray, is_in, is_missed, is_no_journey, misses_start, misses_step};
+ghost use Rattle.journeys.specs.Judged.{NoneEarlier, first_broken_rule, has_arrival, is_astray, is_in, is_missed, is_no_journey, misses_start, misses_step};
 ghost use Rattle.journeys.specs.Links.{followed, leads_on};
 
 use crate::found::Found;
@@ -14,7 +15,10 @@ use crate::rule::JourneyRule;
 
 /// The first rule that a journey breaks, or the events that are to prove that none arrives earlier.
 pub(crate) fn first_broken(net: &JourneyNet, query: &Query, found: &Found) -> Option<JourneyRule>
-    ensures { result ≡ first_broken_rule net.now query.now.from query.now.to query.now.start found.now }
+    ensures first { result
+        ≡ first_broken_rule net.now query.now.from query.now.to query.now.start found.now }
+    ensures none_earlier { IfNone result (NoneEarlier net.now query.now.from query.now.to
+        query.now.start found.now.journey) }
 {
     if breaks_journey(net, query, found) {
         return Some(JourneyRule::Journey);
@@ -149,7 +153,8 @@ fn misses_start(net: &JourneyNet, query: &Query, found: &Found) -> bool
 // Whether the head of a connection from the set is missed.
 fn misses_step(net: &JourneyNet, found: &Found) -> bool
     requires { is_rising found.now.reached ≡ true }
-    ensures { result ≡ misses_step net.now found.now }
+    ensures missed { result ≡ misses_step net.now found.now }
+    ensures sound { All (IsConnection net.now) net.now.connections }
 {
     net.connections().iter().any(|connection| {
         is_in(found.reached.as_slice(), connection.from as usize)

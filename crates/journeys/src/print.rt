@@ -1,7 +1,7 @@
 // Journeys as text.
 ghost use Rattle.std.specs.Prelude.{◌≡◌, ◌++◌, ◌+◌, codes, decimal, IfOk, OnOk};
 ghost use Rattle.std.specs.List.{flat_map};
-ghost use Rattle.journeys.specs.JourneyTexts.{event_line, journey_text};
+ghost use Rattle.journeys.specs.JourneyTexts.{event_line, journey_lines, journey_text};
 
 use crate::event_list::EventList;
 use crate::found::Found;
@@ -12,16 +12,26 @@ use std::alloc::Global;
 
 /// What is told of a journey and of the events that can be reached before it arrives: a line for
 /// each of its events, or that there is none, and then a line for each of these.
+#[tactic(auto, unfolding(crate::specs::JourneyTexts::journey_text))]
 pub fn print_journey(alloc: Global, net: &JourneyNet, found: &Found) -> Result<Text, NoMemory>
     ensures { IfOk result (λ text. text ≡ journey_text net.now found.now) }
 {
     let mut text = Vec::from_slice(alloc, b"# kind; event; stop; time\n")?;
-    if found.journey.len() == 0 {
-        text.extend_from_slice(b"# no journey\n")?;
-    }
-    push_lines(&mut text, net, b"ride", &found.journey)?;
+    push_journey(&mut text, net, &found.journey)?;
     push_lines(&mut text, net, b"reached", &found.reached)?;
     Ok(Text::from_vec(text))
+}
+
+// Appends the lines of a journey, or that there is none.
+fn push_journey(text: &mut Vec<u8>, net: &JourneyNet, journey: &EventList) -> Result<(), NoMemory>
+    ensures { OnOk result
+        (text.new.items ≡ text.old.items ++ journey_lines net.now journey.now) }
+{
+    if journey.len() == 0 {
+        text.extend_from_slice(b"# no journey\n")?;
+        return Ok(());
+    }
+    push_lines(text, net, b"ride", journey)
 }
 
 // Appends the lines of events behind a word.

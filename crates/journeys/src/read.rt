@@ -1,8 +1,8 @@
 // Events and connections of the rows of a day.
 ghost use Rattle.std.specs.Prelude.{◌≡◌, ◌≤◌, length, map, filter, option_copied, zip, All, IfOk};
 ghost use Rattle.giv_files.specs.Inputs.{UnlessFault};
-ghost use Rattle.event_tables.specs.ExpandedFiles.{IsExpandedActivity};
-ghost use Rattle.event_tables.specs.Places.{AreNumbered, IsOneOf};
+ghost use Rattle.event_tables.specs.ExpandedFiles.{AreExpandedEvents};
+ghost use Rattle.event_tables.specs.Places.{IsOneOf};
 ghost use Rattle.journeys.specs.JourneyNets.{connection_of, is_usable, time_faults_over, timed, times_over};
 
 use crate::connection::Connection;
@@ -18,7 +18,7 @@ pub(crate) fn times_of(
     events: &[ExpandedEvent],
     times: Option<&[u8]>,
 ) -> Result<Vec<u64>, StageFault>
-    requires { AreNumbered (λ event. event.id) events.now }
+    requires { AreExpandedEvents events.now }
     ensures read { UnlessFault (time_faults_over events.now (option_copied times.entry))
         (λ all. all.items ≡ times_over events.now (option_copied times.entry)) result }
     ensures each { IfOk result (λ all. length all.items ≡ length events.now) }

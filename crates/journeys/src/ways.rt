@@ -1,5 +1,6 @@
 // Which events can be reached, and how: a connection scan.
 ghost use Rattle.std.specs.Prelude.{◌≡◌, ◌<◌, length, map, All, IfOk};
+ghost use Rattle.journeys.specs.JourneyNets.{IsNet};
 ghost use Rattle.journeys.specs.Ways.{AreWays, first_way, go_by, ways_along};
 
 use crate::links::Link;
@@ -16,7 +17,9 @@ pub(crate) fn ways_from(
     net: &JourneyNet,
     query: &Query,
 ) -> Result<Vec<Way>, NoMemory>
-    ensures { IfOk result (λ ways. AreWays net.now query.now.from query.now.start ways.items) }
+    ensures ways { IfOk result
+        (λ ways. AreWays net.now query.now.from query.now.start ways.items) }
+    ensures net { IsNet net.now }
 {
     let mut ways = first_ways(alloc, net.events(), query)?;
     go_along(&mut ways, net.links());

@@ -13,8 +13,8 @@ go_along-requires c =
     links_join c.args.net.now c.events.ensures.net.connections c.args.query.now.from
     c.args.query.now.start c.links.result.now c.links.ensures (length c.deref_mut.result.now) size
 
-pub returns : goal.returns
-returns c =
+pub returns-clause-ways : goal.returns-clause-ways
+returns-clause-ways c =
     let net = c.args.net.now in
     let from = c.args.query.now.from in
     let start = c.args.query.now.start in

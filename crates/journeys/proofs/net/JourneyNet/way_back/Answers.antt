@@ -1,5 +1,4 @@
-use Rattle.std.proofs.Common.{◌≡◌, ◌∙◌, ◌-◌, ◌<◌, ◌∷◌, [], ◌++◌, List, ℕ, length, reverse, sym, subst, ap, arith}
-use Rattle.journeys.specs.declared.connection.Connection.{Connection}
+use Rattle.std.proofs.Common.{◌∙◌, ◌-◌, ◌<◌, length, sym, subst, ap, arith}
 use Rattle.journeys.specs.Ends.{AreLed, IsWayBack}
 use Rattle.journeys.specs.JourneyNets.{JourneyParts}
 use Rattle.journeys.specs.Links.{links_behind}
