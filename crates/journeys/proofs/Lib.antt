@@ -9,5 +9,6 @@ mod NetOfRows
 mod Passing
 mod PlannedTimes
 mod Rising
+mod Tried
 mod WayBack
 mod WaysAlong

@@ -34,9 +34,10 @@ pub(crate) fn first_broken(net: &JourneyNet, query: &Query, found: &Found) -> Op
 
 // Whether there is a journey and it is none, an event is not there, or the set does not rise.
 fn breaks_journey(net: &JourneyNet, query: &Query, found: &Found) -> bool
-    ensures broken { result ≡ is_no_journey net.now query.now.from query.now.to query.now.start found.now.journey
-        || is_astray net.now found.now.journey || is_astray net.now found.now.reached
-        || not (is_rising found.now.reached) }
+    ensures broken { let asked = query.now in let told = found.now in
+        result ≡ is_no_journey net.now asked.from asked.to asked.start told.journey
+        || is_astray net.now told.journey || is_astray net.now told.reached
+        || not (is_rising told.reached) }
     ensures rising { result ≡ false → is_rising found.now.reached ≡ true }
 {
     is_unlisted(net, query, found) || !is_rising(found.reached.as_slice())
@@ -44,8 +45,9 @@ fn breaks_journey(net: &JourneyNet, query: &Query, found: &Found) -> bool
 
 // Whether there is a journey and it is none, or an event is not there.
 fn is_unlisted(net: &JourneyNet, query: &Query, found: &Found) -> bool
-    ensures { result ≡ is_no_journey net.now query.now.from query.now.to query.now.start found.now.journey
-        || is_astray net.now found.now.journey || is_astray net.now found.now.reached }
+    ensures { let asked = query.now in let told = found.now in
+        result ≡ is_no_journey net.now asked.from asked.to asked.start told.journey
+        || is_astray net.now told.journey || is_astray net.now told.reached }
 {
     is_no_journey(net, query, found.journey.as_slice())
         || is_astray(net, found.journey.as_slice())
@@ -54,21 +56,24 @@ fn is_unlisted(net: &JourneyNet, query: &Query, found: &Found) -> bool
 
 // Whether there is a journey, and it is none.
 fn is_no_journey(net: &JourneyNet, query: &Query, journey: &[usize]) -> bool
-    ensures { result ≡ is_no_journey net.now query.now.from query.now.to query.now.start journey.now }
+    ensures { let asked = query.now in
+        result ≡ is_no_journey net.now asked.from asked.to asked.start journey.now }
 {
     !journey.is_empty() && !is_journey(net, query, journey)
 }
 
 // Whether events begin with a start, are a ride, and end with an arrival at a stop.
 fn is_journey(net: &JourneyNet, query: &Query, journey: &[usize]) -> bool
-    ensures { result ≡ is_journey net.now query.now.from query.now.to query.now.start journey.now }
+    ensures { let asked = query.now in
+        result ≡ is_journey net.now asked.from asked.to asked.start journey.now }
 {
     rides_from(net, query, journey) && ends(net, query, journey)
 }
 
 // Whether events begin with a start and are a ride.
 fn rides_from(net: &JourneyNet, query: &Query, journey: &[usize]) -> bool
-    ensures { result ≡ begins net.now query.now.from query.now.start journey.now && is_ride net.now journey.now }
+    ensures { result ≡ begins net.now query.now.from query.now.start journey.now
+        && is_ride net.now journey.now }
 {
     begins(net, query, journey) && is_ride(net, journey)
 }

@@ -1,4 +1,5 @@
-//! Journeys over a day: which of them arrives as early as any, and a proof that none arrives earlier.
+//! Journeys over a day: one that arrives first, the events that prove that none arrives earlier,
+//! and the test of both from any hand.
 #![tactic(auto)]
 
 mod check;

@@ -45,11 +45,15 @@ impl Model for JourneyNet {
 
     ghost Value = { JourneyParts };
 
-    ghost view = { λ net. record { events = net.events.items; connections = net.connections.items } };
+    ghost view = { λ net. record {
+      events = net.events.items;
+      connections = net.connections.items;
+    } };
 
-    ghost invariant = { λ net. IsLinked
-        (record { events = net.events.items; connections = net.connections.items })
-        net.links.items };
+    ghost invariant = { λ net. IsLinked (record {
+      events = net.events.items;
+      connections = net.connections.items;
+    }) net.links.items };
 }
 
 impl JourneyNet {
@@ -116,9 +120,13 @@ impl JourneyNet {
         }
     }
 
-    /// A journey from one stop to another that starts at a time or later and arrives as early as any,
-    /// with the events that can be reached before it arrives; without a journey an empty one, with all
-    /// events that can be reached.
+    /// A journey from one stop to another that starts at a time or later and arrives as early as
+    /// any, with the events that can be reached before it arrives; without a journey an empty one,
+    /// with all events that can be reached. It is found by a connection scan (Dibbelt, Pajor,
+    /// Strasser, Wagner, 2018).
+    ///
+    /// Stops are ids, and the time is in minutes. Of several last events of one time the one of
+    /// least id is taken, and the step into an event is the activity of least id.
     pub fn earliest(&self, alloc: Global, from: i64, to: i64, start: i64) -> Result<Found, NoMemory>
         ensures found { IfOk result (IsAnswer self.now from to start) }
         ensures none_earlier { IfOk result

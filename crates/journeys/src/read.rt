@@ -52,7 +52,8 @@ pub(crate) fn timed_events(
     times: &[u64],
 ) -> Result<Vec<TimedEvent>, NoMemory>
     requires { length times.now ≡ length events.now }
-    ensures { IfOk result (λ timed_events. timed_events.items ≡ map timed (zip events.now times.now)) }
+    ensures { IfOk result
+        (λ timed_events. timed_events.items ≡ map timed (zip events.now times.now)) }
 {
     let mut timed_events = Vec::with_capacity(alloc, events.len())?;
     for (index, event) in events.iter().enumerate() {

@@ -28,7 +28,8 @@ pub(crate) fn ways_from(
 
 // The ways before any connection is looked at.
 fn first_ways(alloc: Global, events: &[TimedEvent], query: &Query) -> Result<Vec<Way>, NoMemory>
-    ensures { IfOk result (λ ways. ways.items ≡ map (first_way query.now.from query.now.start) events.now) }
+    ensures { IfOk result
+        (λ ways. ways.items ≡ map (first_way query.now.from query.now.start) events.now) }
 {
     Ok(
         events
@@ -40,7 +41,8 @@ fn first_ways(alloc: Global, events: &[TimedEvent], query: &Query) -> Result<Vec
 
 // The ways after connections, one after the other.
 fn go_along(ways: &mut [Way], links: &[Link])
-    requires { All (λ link. (link.from < length ways.old) × (link.to < length ways.old)) links.now }
+    requires { All (λ link. (link.from < length ways.old) × (link.to < length ways.old))
+        links.now }
     ensures { ways.new ≡ ways_along links.now ways.old }
 {
     for link in links {
