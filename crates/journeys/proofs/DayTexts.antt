@@ -21,7 +21,8 @@ module _ (events_text activities_text : List ℕ) (times_text : Option (List ℕ
       (refused_append (input_faults expanded_event_input events_text)
       (input_faults (expanded_activity_input (events_of events_text)) activities_text) fault by)
 
-  module _ (events : List ExpandedEvent) (no_fault : input_faults expanded_event_input events_text ≡ [])
+  module _ (events : List ExpandedEvent)
+      (no_fault : input_faults expanded_event_input events_text ≡ [])
       (are : events ≡ records_of expanded_event_input events_text) where
     are_events : events ≡ events_of events_text
     unfolding events_of

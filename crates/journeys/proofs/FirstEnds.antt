@@ -47,7 +47,8 @@ module _ (net : JourneyParts) (ways : List Way) (to : ℤ) (event : ℕ) where
   here : (first : Option ℕ) → is_end net ways to event ≡ true
       → ((other : ℕ) → other < event → is_end net ways to other ≡ true → IsNoLater net event other)
       → Told (Some event)
-  here first is others = (omega arith, is, λ other less ends. by other ends (below other event less))
+  here first is others =
+      (omega arith, is, λ other less ends. by other ends (below other event less))
     where
       by : (other : ℕ) → is_end net ways to other ≡ true → (other < event) ⊎ (other ≡ event)
           → IsNoLater net event other
@@ -77,7 +78,8 @@ module _ (net : JourneyParts) (ways : List Way) (to : ℤ) (event : ℕ) where
   first_kept (Some end) told =
       cond_both (arrives && (reached && sooner end)) (Some event) (Some end) Told
       (λ is. here (Some end) (front arrives reached (sooner end) is)
-      (λ other low ends. before other (third arrives reached (sooner end) is) (told.2 other low ends)))
+      (λ other low ends. before other (third arrives reached (sooner end) is)
+      (told.2 other low ends)))
       (λ fails. (
         omega (arith, told.0),
         told.1,

@@ -55,7 +55,8 @@ module _ (net : JourneyParts) (from to start : ℤ) (found : Found) where
   abbrev arrives : Bool
   arrives = has_arrival net to found
 
-  pub is_journey_first : breaks ≡ true → Some rule.Journey ≡ first_broken_rule net from to start found
+  pub is_journey_first : breaks ≡ true → Some rule.Journey
+      ≡ first_broken_rule net from to start found
   unfolding first_broken_rule first_of
   is_journey_first = first breaks starts steps arrives
 

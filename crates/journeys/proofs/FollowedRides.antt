@@ -128,7 +128,8 @@ both_same true false h g = sym (h refl)
 both_same false true h g = g refl
 both_same false false h g = refl
 
-module _ (connections : List Connection) (links : List Link) (are : AreLinks connections links) where
+module _ (connections : List Connection) (links : List Link)
+    (are : AreLinks connections links) where
   -- a link between two events is a connection between them, and conversely
   linked_by : (event next : ℕ) → list_any (leads event next) connections ≡ true
       → linked links event next ≡ true

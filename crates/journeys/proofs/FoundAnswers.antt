@@ -103,7 +103,8 @@ module _ (net : JourneyParts) (sound : All (IsConnection net) net.connections) (
     module _ (end : ℕ) (told : IsFirstEnd net ways to (length ways) (Some end))
         (first : ℕ) (rest : List ℕ) (begin : way_at ways first ≡ way.Start)
         (last : last_of (first ∷ rest) ≡ Some end)
-        (steps : All (λ pair. IsStep net.connections ways pair.0 pair.1) (neighbours (first ∷ rest)))
+        (steps : All (λ pair. IsStep net.connections ways pair.0 pair.1)
+        (neighbours (first ∷ rest)))
       where
         is_start : passes_at (starts from start) net first ≡ true
         is_start = subst (IsWay net from start first) begin (are.lead first)
@@ -124,7 +125,8 @@ module _ (net : JourneyParts) (sound : All (IsConnection net) net.connections) (
             (neighbours (next ∷ more)) all))
 
         arrives : passes_at (arrives_at to) net end ≡ true
-        arrives = (and_parts (passes_at (arrives_at to) net end) (is_reached (way_at ways end)) told.1).0
+        arrives = (and_parts (passes_at (arrives_at to) net end)
+            (is_reached (way_at ways end)) told.1).0
 
         is_one : is_journey net from to start (first ∷ rest) ≡ true
         is_one =
@@ -134,7 +136,8 @@ module _ (net : JourneyParts) (sound : All (IsConnection net) net.connections) (
             (rides first rest steps))
             (ap (λ o. option_map_or (passes_at (arrives_at to) net) o false) last ∙ arrives)
 
-        no_later : (other : List ℕ) (own_end other_end : ℕ) → is_journey net from to start other ≡ true
+        no_later : (other : List ℕ) (own_end other_end : ℕ) → is_journey net from to start other
+            ≡ true
             → last_of (first ∷ rest) ≡ Some own_end → last_of other ≡ Some other_end
             → IsNoLater net own_end other_end
         no_later other own_end other_end is own other_last =
@@ -144,12 +147,14 @@ module _ (net : JourneyParts) (sound : All (IsConnection net) net.connections) (
             (told.2 other_end (end_inside other_end ends) ends)
 
         first_way : (event next : ℕ) → IsStep net.connections ways event next
-            → (passes_at (starts from start) net next ≡ false) × IsFirstWay net from start event next
+            → (passes_at (starts from start) net next ≡ false)
+            × IsFirstWay net from start event next
         first_way event next step =
             let known : IsBy net from start next step.0
             = subst (IsWay net from start next) step.1 (are.lead next) in
             let same : known.tail ≡ event = ap (λ (at : Connection). at.from)
-            (same_Some (record { from = known.tail; to = next }) (record { from = event; to = next })
+            (same_Some (record { from = known.tail; to = next })
+            (record { from = event; to = next })
             (sym known.is ∙ step.2)) in (
               known.no_start,
               record {
@@ -173,7 +178,8 @@ module _ (net : JourneyParts) (sound : All (IsConnection net) net.connections) (
 
     told_journey : (end : Option ℕ) → IsFirstEnd net ways to (length ways) end → (journey : List ℕ)
         → IsJourneyTo net.connections ways end journey → IsToldJourney net from to start journey
-    told_journey None told journey is = subst (IsToldJourney net from to start) (sym is) (none_told told)
+    told_journey None told journey is =
+        subst (IsToldJourney net from to start) (sym is) (none_told told)
     told_journey (Some end) told journey back =
         subst (IsToldJourney net from to start) (sym back.is)
         (some_told end told back.first back.rest back.start back.end back.steps)

@@ -73,7 +73,8 @@ module _ (events : List ExpandedEvent) (activities : List ExpandedActivity) (tim
         in_time = omega (arith, less, tail, head);
       })
 
-  forward : All (λ connection. forward_rank events connection.from < forward_rank events connection.to)
+  forward : All
+      (λ connection. forward_rank events connection.from < forward_rank events connection.to)
       net.connections
   forward = of_usable
       (λ connection. forward_rank events connection.from < forward_rank events connection.to)
@@ -101,7 +102,8 @@ module _ (events : List ExpandedEvent) (activities : List ExpandedActivity) (tim
   pub few_connections : length net.connections ≤ 500000
   few_connections =
       let long = length-map usable connection_of in
-      let both = length-filter_both (is_usable times) (λ row. not (is_usable times row)) (λ row. refl)
+      let both = length-filter_both (is_usable times) (λ row. not (is_usable times row))
+      (λ row. refl)
       activities in
       let most = rows.few in
       omega (arith, long, both, most)
@@ -162,7 +164,8 @@ module _ (events : List ExpandedEvent) (activities : List ExpandedActivity) (tim
                 (let long = length-map (enumerate_from 0 net.connections) (link_of events) in
                     let size = length-enumerate_from 0 net.connections in
                     omega (arith, low, long, size)),
-                get_or-map (link_of events) (enumerate_from 0 net.connections) place (place, connection)
+                get_or-map (link_of events) (enumerate_from 0 net.connections) place
+                    (place, connection)
                     link (let size = length-enumerate_from 0 net.connections in
                     omega (arith, low, size))
                     ∙ ap (link_of events)

@@ -41,7 +41,8 @@ is_by_it way.Start index = refl
 is_by_it (way.By other) index = le-leb (lesser other index) index (lesser_second other index)
 
 -- nor later than it was
-is_by_still : (w : Way) (index place : ℕ) → is_by place w ≡ true → is_by place (or_by w index) ≡ true
+is_by_still : (w : Way) (index place : ℕ) → is_by place w ≡ true → is_by place (or_by w index)
+    ≡ true
 is_by_still way.Unreached index place is = absurd (both_ways false refl is)
 is_by_still way.Start index place is = refl
 is_by_still (way.By other) index place is =
@@ -150,7 +151,8 @@ closed (link ∷ links) ways turn joins =
     (λ reached. kept (λ w. is_by link.index w ≡ true) link.to
     (λ w index is. is_by_still w index link.index is) links new
     (joins_still ways link links joins)
-    (first (sym (ap is_reached (stays (link ∷ links) ways link.from joins (apart link links turn))) ∙ reached)))
+    (first (sym
+    (ap is_reached (stays (link ∷ links) ways link.from joins (apart link links turn))) ∙ reached)))
     (closed links new (turn_tail link links turn) (joins_still ways link links joins))
   where
     first : is_reached (way_at ways link.from) ≡ true
@@ -179,7 +181,8 @@ module _ (net : JourneyParts) (sound : All (IsConnection net) net.connections)
       goes_on net sound from start known.tail event known.reached
       (any_passes_from_place (leads known.tail event) net.connections connection
       (record { from = known.tail; to = event }) known.is
-      (and_from (known.tail == known.tail) (event == event) ((Decides-eqb known.tail known.tail).1 refl)
+      (and_from (known.tail == known.tail) (event == event)
+      ((Decides-eqb known.tail known.tail).1 refl)
       ((Decides-eqb event event).1 refl)))
 
   -- before any link
@@ -280,7 +283,8 @@ module _ (net : JourneyParts) (sound : All (IsConnection net) net.connections)
                 to = connection.to;
                 index = place;
               } in
-              All-contains (λ link. is_reached (way_at (ways_along links first_ways) link.from) ≡ true
+              All-contains
+              (λ link. is_reached (way_at (ways_along links first_ways) link.from) ≡ true
               → is_by link.index (way_at (ways_along links first_ways) link.to) ≡ true) links link
               (closed links first_ways are.in_turn joins) held.1 reached;
         }

@@ -6,6 +6,8 @@ mod journey_check;
 #[cfg(test)]
 mod journey_days;
 #[cfg(test)]
+mod journey_large;
+#[cfg(test)]
 mod journey_refused;
 #[cfg(test)]
 mod journey_told;

@@ -11,7 +11,8 @@ loop-event-preserved c =
     && is_before_end c.args.net.now c.args.end event in
     let event = c.loop-event.event in
     elim c.if-is_told.branch [
-      | then-is_told+in_ok-push w ↦ rw w.reached-is (passes_more test event c.loop-event.reached.items
+      | then-is_told+in_ok-push w ↦ rw w.reached-is
+          (passes_more test event c.loop-event.reached.items
           w.push.new.self.items c.loop-event.invariant w.in_ok-push.ensures.items
           (sym c.is_told.ensures ∙ w.if-is_told.true))
       | else-is_told w ↦ rw w.reached-is (fails_more test event c.loop-event.reached.items

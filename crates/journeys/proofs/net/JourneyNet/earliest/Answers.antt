@@ -31,16 +31,19 @@ returns c =
     } in
     let are : AreWays net c.args.from c.args.start ways =
     subst (λ z. AreWays net z c.args.start ways) from
-    (subst (λ z. AreWays net (to_z w64 (of_z w64 c.args.from)) z ways) start c.in_ok-ways.ensures.ways) in
+    (subst (λ z. AreWays net
+    (to_z w64 (of_z w64 c.args.from)) z ways) start c.in_ok-ways.ensures.ways) in
     let first : IsFirstEnd net ways c.args.to (length ways) end =
     subst (λ z. IsFirstEnd net ways z (length ways) end) to
-    (subst (λ (some : List Way). IsFirstEnd net some (to_z w64 (of_z w64 c.args.to)) (length some) end) c.deref.ensures.value
+    (subst (λ (some : List Way). IsFirstEnd net some (to_z w64 (of_z w64 c.args.to))
+    (length some) end) c.deref.ensures.value
     c.first_end-end.ensures) in
     let journey : IsJourneyTo net.connections ways end found.journey =
     subst (λ (some : List Way). IsJourneyTo net.connections some end found.journey)
     c.deref-2.ensures.value c.in_ok-journey_to.ensures in
     let reached : found.reached ≡ reached_before net ways end =
-    c.in_ok-reached_before.ensures ∙ ap (λ some. reached_before net some end) c.deref-3.ensures.value in
+    c.in_ok-reached_before.ensures ∙ ap
+    (λ some. reached_before net some end) c.deref-3.ensures.value in
     let all = promised net sound c.args.from c.args.to c.args.start found
     (is_answer net sound.connections c.args.from c.args.start ways are c.args.to end first
     found.journey found.reached journey reached) in

@@ -11,7 +11,8 @@ use Rattle.journeys.proofs.net.JourneyNet.from_texts.Goals as goal
 pub returns-in_err-events-clause-read : goal.returns-in_err-events-clause-read
 returns-in_err-events-clause-read c =
     let p = err_from_is_err_and c.from_residual.result c.from_residual.ensures.1 in
-    rw (p.1, p.2) (refused_events c.args.events.now c.args.activities.now (option_copied c.args.times)
+    rw (p.1, p.2)
+    (refused_events c.args.events.now c.args.activities.now (option_copied c.args.times)
     c.in_err-events.field-0.0 c.in_err-events.ensures.read)
 
 pub returns-in_err-activities-clause-read : goal.returns-in_err-activities-clause-read
@@ -35,7 +36,8 @@ returns-in_err-times-clause-read c =
     × (c.in_ok-activities.activities.items
     ≡ records_of (expanded_activity_input some) c.args.activities.now)) c.deref.ensures.value
     c.in_ok-activities.ensures.read in
-    let all = ap (λ (some : List ExpandedEvent). time_faults_over some times) c.deref-2.ensures.value
+    let all = ap
+    (λ (some : List ExpandedEvent). time_faults_over some times) c.deref-2.ensures.value
     ∙ time_faults c.args.events.now c.args.activities.now times c.in_ok-events.events.items read.0
     read.1 c.in_ok-activities.activities.items rows.0 rows.1 in
     rw (p.1, p.2) (subst (λ some. Refuses some fault) all c.in_err-times.ensures.read)
