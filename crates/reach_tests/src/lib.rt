@@ -1,5 +1,5 @@
-//! Tests of the calls that answer questions beside the stages: journeys and how they are judged, and
-//! pools of shortest lines.
+//! Tests of the calls that answer questions beside the stages: journeys and how they are judged, pools
+//! of shortest lines, and waiting decisions.
 #![tactic(auto)]
 
 #[cfg(test)]
