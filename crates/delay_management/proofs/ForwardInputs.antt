@@ -11,6 +11,7 @@ use Rattle.event_tables.specs.declared.delay_row.DelayRow.{DelayRow}
 use Rattle.event_tables.specs.declared.expanded_activity.ExpandedActivity.{ExpandedActivity}
 use Rattle.event_tables.specs.declared.expanded_event.ExpandedEvent.{ExpandedEvent}
 use Rattle.event_tables.specs.declared.schedule_row.ScheduleRow.{ScheduleRow}
+use Rattle.event_tables.specs.Delays.{AreDelays}
 use Rattle.event_tables.specs.ExpandedFiles.{AreExpandedActivities, AreExpandedEvents, IsExpandedActivity}
 use Rattle.event_tables.specs.ForwardOrder.{goes_forward, stands_before}
 use Rattle.event_tables.specs.Places.{AreNumbered, IsOneOf}
@@ -22,6 +23,7 @@ use Rattle.delay_management.specs.declared.step.Step.{Step}
 use Rattle.delay_management.specs.Links.{IsLinked, change_links, link_of, links_of, ride_links, turn_links}
 use Rattle.delay_management.specs.Problems.{DelayProblem, GoesForward, IsForward, activities_of, delayed, earliest_of, event_at, index_of, is_of, problem_over, turn_of}
 use Rattle.delay_management.proofs.PassIsLeast.{steps_all}
+use Rattle.delay_management.proofs.SoonInputs.{ids_rise, none_early, steps_gain}
 
 forward_step : (events : List ExpandedEvent) (from to : ℕ) (step : Step)
     → AreNumbered (λ event. event.id) events → step.from ≡ index_of from → step.to ≡ index_of to
@@ -108,20 +110,6 @@ module _ (turnover : ℕ) (events : List ExpandedEvent) (activities : List Expan
         rows_are.few_empty,
       )
 
-  pub rows_linked : (links : List Link) → All (λ time. time ≤ 8589934590) problem.earliest
-      → IsPermutation (links_of problem) links → IsNonDecreasingBy (λ link. link.rank) links
-      → IsLinked problem links
-  rows_linked links soon all in_order = record {
-    numbered = are.numbered;
-    few = are.few;
-    forward = inputs_go_forward;
-    ids = All-append (λ activity. activity.id ≤ 500000) problem.rides problem.changes (some_ids false) (some_ids true);
-    soon = soon;
-    few_links = omega (arith, length_permutation (links_of problem) links all, few_links);
-    all = all;
-    in_order = in_order;
-  }
-
   -- the first event of each step is there
   pub rides_start : (changes : Bool) → All (λ at. at.step.from < length events) (activities_of changes activity_rows activities)
   rides_start changes k d inside = (some_forward changes k d inside).from
@@ -129,21 +117,40 @@ module _ (turnover : ℕ) (events : List ExpandedEvent) (activities : List Expan
   pub turns_start : All (λ turn. turn.from < length events) problem.turns
   turns_start k d inside = (turns_forward k d inside).from
 
-  -- the same of what was made of the rows
-  pub linked_as : (earliest : List ℕ) (rides changes : List Activity) (turns : List Step)
-      (seen : List ExpandedEvent) (seen_rides : List Activity) (seen_turns : List Step)
-      (seen_changes : List Activity) (links : List Link)
-      → earliest ≡ problem.earliest → rides ≡ problem.rides → changes ≡ problem.changes
-      → turns ≡ problem.turns → seen ≡ events → seen_rides ≡ rides → seen_turns ≡ turns
-      → seen_changes ≡ changes → All (λ time. time ≤ 8589934590) earliest
-      → IsPermutation (ride_links seen seen_rides ++ (turn_links seen seen_turns ++ change_links seen 0 seen_changes)) links
-      → IsNonDecreasingBy (λ link. link.rank) links
-      → IsLinked (record { events = events; earliest = earliest; rides = rides; changes = changes; turns = turns }) links
-  linked_as earliest rides changes turns seen seen_rides seen_turns seen_changes links e r h t se sr st sh soon all in_order =
-      let same : problem ≡ record { events = events; earliest = earliest; rides = rides; changes = changes; turns = turns }
-      = λ i. record { events = events; earliest = sym e i; rides = sym r i; changes = sym h i; turns = sym t i } in
-      let listed : ride_links seen seen_rides ++ (turn_links seen seen_turns ++ change_links seen 0 seen_changes) ≡ links_of problem
-      = λ i. ride_links (se i) ((sr ∙ r) i) ++ (turn_links (se i) ((st ∙ t) i) ++ change_links (se i) 0 ((sh ∙ h) i)) in
-      subst (λ p. IsLinked p links) same
-      (rows_linked links (subst (All (λ time. time ≤ 8589934590)) e soon)
-      (subst (λ some. IsPermutation some links) listed all) in_order)
+  module _ (delays_are : AreDelays (length activities) activity_rows) (turns_few : turnover ≤ 10000) where
+    pub rows_linked : (links : List Link) → All (λ time. time ≤ 8589934590) problem.earliest
+        → IsPermutation (links_of problem) links → IsNonDecreasingBy (λ link. link.rank) links
+        → IsLinked problem links
+    rows_linked links soon all in_order = record {
+      numbered = are.numbered;
+      few = are.few;
+      forward = inputs_go_forward;
+      ids = All-append (λ activity. activity.id ≤ 500000) problem.rides problem.changes (some_ids false) (some_ids true);
+      rise = ids_rise true activity_rows activities activities_are.numbered;
+      late = none_early event_rows events;
+      soon = soon;
+      gains = steps_gain turnover events activities schedule event_rows activity_rows are activities_are rows_are
+          delays_are turns_few inputs_go_forward.steps (some_forward false) (some_forward true);
+      few_links = omega (arith, length_permutation (links_of problem) links all, few_links);
+      all = all;
+      in_order = in_order;
+    }
+
+    -- the same of what was made of the rows
+    pub linked_as : (earliest : List ℕ) (rides changes : List Activity) (turns : List Step)
+        (seen : List ExpandedEvent) (seen_rides : List Activity) (seen_turns : List Step)
+        (seen_changes : List Activity) (links : List Link)
+        → earliest ≡ problem.earliest → rides ≡ problem.rides → changes ≡ problem.changes
+        → turns ≡ problem.turns → seen ≡ events → seen_rides ≡ rides → seen_turns ≡ turns
+        → seen_changes ≡ changes → All (λ time. time ≤ 8589934590) earliest
+        → IsPermutation (ride_links seen seen_rides ++ (turn_links seen seen_turns ++ change_links seen 0 seen_changes)) links
+        → IsNonDecreasingBy (λ link. link.rank) links
+        → IsLinked (record { events = events; earliest = earliest; rides = rides; changes = changes; turns = turns }) links
+    linked_as earliest rides changes turns seen seen_rides seen_turns seen_changes links e r h t se sr st sh soon all in_order =
+        let same : problem ≡ record { events = events; earliest = earliest; rides = rides; changes = changes; turns = turns }
+        = λ i. record { events = events; earliest = sym e i; rides = sym r i; changes = sym h i; turns = sym t i } in
+        let listed : ride_links seen seen_rides ++ (turn_links seen seen_turns ++ change_links seen 0 seen_changes) ≡ links_of problem
+        = λ i. ride_links (se i) ((sr ∙ r) i) ++ (turn_links (se i) ((st ∙ t) i) ++ change_links (se i) 0 ((sh ∙ h) i)) in
+        subst (λ p. IsLinked p links) same
+        (rows_linked links (subst (All (λ time. time ≤ 8589934590)) e soon)
+        (subst (λ some. IsPermutation some links) listed all) in_order)

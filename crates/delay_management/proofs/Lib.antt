@@ -23,6 +23,8 @@ mod RefusedInputs
 mod ReportLine
 pub mod Rounds
 mod SmallTimes
+mod SoonInputs
+mod SoonTimes
 mod StageResults
 mod TableParts
 mod TextsBack

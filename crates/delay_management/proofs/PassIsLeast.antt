@@ -82,7 +82,7 @@ module _ (problem : DelayProblem) where
 
   -- what holds of the links holds of the steps
   module _ (P : Link → Type 0) where
-    links_all : All (λ ride. P (link_of events None ride.step)) problem.rides
+    pub links_all : All (λ ride. P (link_of events None ride.step)) problem.rides
         → All (λ turn. P (link_of events None turn)) problem.turns
         → ((k : ℕ) (d : Activity) → k < length problem.changes → P (link_of events (Some k) (get_or problem.changes k d).step))
         → All P (links_of problem)

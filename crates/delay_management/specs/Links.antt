@@ -1,7 +1,7 @@
 -- Inner words: the steps in the forward order of their first events, and one pass along them.
-use Rattle.std.specs.Prelude.{ℕ, ◌≤◌, Bool, true, false, if◌then◌else◌, List, ◌++◌, length, map, get_or, slice_set, All, Option, Some, None}
+use Rattle.std.specs.Prelude.{ℕ, ◌+◌, ◌<◌, ◌≤◌, Bool, true, false, if◌then◌else◌, List, ◌++◌, length, map, get_or, slice_set, All, Option, Some, None}
 use Rattle.std.specs.List.{enumerate_from, fold}
-use Rattle.std.specs.List.Sorted.{IsNonDecreasingBy, IsPermutation}
+use Rattle.std.specs.List.Sorted.{IsNonDecreasingBy, IsPermutation, IsStrictlyIncreasing}
 use Rattle.event_tables.specs.declared.expanded_event.ExpandedEvent.{ExpandedEvent}
 use Rattle.event_tables.specs.ForwardRanks.{forward_rank}
 use Rattle.event_tables.specs.Places.{AreNumbered}
@@ -9,7 +9,7 @@ use Rattle.delay_management.specs.declared.links.Link.{Link}
 use Rattle.delay_management.specs.declared.step.Activity.{Activity}
 use Rattle.delay_management.specs.declared.step.Step.{Step}
 use Rattle.delay_management.specs.LeastTimes.{asked, later, time_at}
-use Rattle.delay_management.specs.Problems.{DelayProblem, IsForward}
+use Rattle.delay_management.specs.Problems.{DelayProblem, IsForward, earliest_at, minutes, planned_at, steps_with}
 
 -- a step with the rank of its first event, and the index of its change, where it is that of one
 abbrev pub link_of : List ExpandedEvent → Option ℕ → Step → Link
@@ -51,14 +51,24 @@ pushed_by kept times link =
 abbrev pub pushed_along : List Bool → List Link → List ℕ → List ℕ
 pushed_along kept links times = fold (pushed_by kept) times links
 
--- what is known of a problem that was read: its events are numbered and not too many, its steps go
--- forward, there are not too many of them, and its links stand in order
+-- a step takes hardly more minutes than there are between its two events as planned
+abbrev pub GainsLittle : List ExpandedEvent → Step → Type 0
+GainsLittle events step =
+    planned_at events step.from + minutes step ≤ planned_at events step.to + 1100000
+
+-- what is known of a problem that was read: its events are numbered and not too many, none is early,
+-- its steps go forward and gain little, there are not too many of them, changes stand by their ids,
+-- and links in their order
 pub record IsLinked (problem : DelayProblem) (links : List Link) : Type 0 where
   pub numbered : AreNumbered (λ event. event.id) problem.events
   pub few : length problem.events ≤ 100000
   pub forward : IsForward problem
   pub ids : All (λ activity. activity.id ≤ 500000) (problem.rides ++ problem.changes)
+  pub rise : IsStrictlyIncreasing (map (λ change. change.id) problem.changes)
+  pub late : (event : ℕ) → event < length problem.events
+      → planned_at problem.events event ≤ earliest_at problem event
   pub soon : All (λ time. time ≤ 8589934590) problem.earliest
+  pub gains : All (GainsLittle problem.events) (steps_with problem problem.changes)
   pub few_links : length links ≤ 502000
   pub all : IsPermutation (links_of problem) links
   pub in_order : IsNonDecreasingBy (λ link. link.rank) links

@@ -1,5 +1,6 @@
 // How delays go on through a day.
-ghost use Rattle.std.specs.Prelude.{◌≡◌, ◌≤◌, length, All, IfOk};
+ghost use Rattle.std.specs.Prelude.{ℕ, ◌≡◌, ◌<◌, ◌≤◌, length, map, All, IfOk};
+ghost use Rattle.std.specs.List.Sorted.{IsStrictlyIncreasing};
 ghost use Rattle.giv_files.specs.declared.stage.Stage.TheVariants as stages;
 ghost use Rattle.giv_files.specs.Inputs.{UnlessFault};
 ghost use Rattle.giv_files.specs.Settings.{Fits};
@@ -8,7 +9,7 @@ ghost use Rattle.event_tables.specs.ExpandedFiles.{AreExpandedActivities, AreExp
 ghost use Rattle.event_tables.specs.Schedules.{AreScheduleRows};
 ghost use Rattle.delay_management.specs.DispositionStage.{disposition_faults, problem_in, turnover_in};
 ghost use Rattle.delay_management.specs.LeastTimes.{IsLeast, least_times};
-ghost use Rattle.delay_management.specs.Problems.{IsForward, Joins, problem_over};
+ghost use Rattle.delay_management.specs.Problems.{IsForward, Joins, earliest_at, planned_at, problem_over};
 ghost use Rattle.delay_management.specs.Waiting.{chosen_changes};
 
 use crate::delays::{delayed_activities, earliest_times};
@@ -101,6 +102,7 @@ impl Propagation {
         requires schedule { AreScheduleRows events.items schedule.now }
         requires event_delays { AreDelays (length events.items) event_rows.now }
         requires activity_delays { AreDelays (length activities.now) activity_rows.now }
+        requires turnover { turnover ≤ 10000 }
         ensures { IfOk result (λ problem. problem ≡ problem_over turnover events.items activities.now
             schedule.now event_rows.now activity_rows.now) }
     {
@@ -126,8 +128,7 @@ impl Propagation {
             (λ times. times.items ≡ least_times self.now (chosen_changes self.now kept.now)) }
         ensures least { IfOk result
             (λ times. IsLeast self.now (chosen_changes self.now kept.now) times.items) }
-        ensures small { IfOk result
-            (λ times. All (λ time. time ≤ 1000000000000000000) times.items) }
+        ensures small { IfOk result (λ times. All (λ time. time ≤ 600000000000) times.items) }
     {
         pushed_along(alloc, &self.earliest, &self.links, kept)
     }
@@ -137,6 +138,8 @@ impl Propagation {
         ensures value { result.now ≡ self.now.events }
         ensures few { length self.now.events ≤ 100000 }
         ensures forward { IsForward self.now }
+        ensures late { (event : ℕ) → event < length self.now.events
+            → planned_at self.now.events event ≤ earliest_at self.now event }
     {
         &self.events
     }
@@ -164,6 +167,7 @@ impl Propagation {
         ensures value { result.now ≡ self.now.changes }
         ensures ends { All (λ change. Joins (length self.now.events) change.step) self.now.changes }
         ensures ids { All (λ change. change.id ≤ 500000) self.now.changes }
+        ensures rise { IsStrictlyIncreasing (map (λ change. change.id) self.now.changes) }
     {
         &self.changes
     }
@@ -181,7 +185,8 @@ impl Propagation {
 fn turnover_of(bundle: &Bundle) -> u32
     requires stage { bundle.now.stage ≡ stages.Disposition }
     requires fits { Fits bundle.now }
-    ensures { result ≡ turnover_in bundle.now }
+    ensures minutes { result ≡ turnover_in bundle.now }
+    ensures few { result ≤ 10000 }
 {
     bundle.settings().amount(Key::VsTurnOverTime) as u32
 }

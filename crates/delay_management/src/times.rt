@@ -1,8 +1,9 @@
 // The least times for a set of kept changes, and what they tell.
-ghost use Rattle.std.specs.Prelude.{◌≡◌, ◌<◌, ◌≤◌, pos, length, slice_get, Some, option_map, All, IfOk};
+ghost use Rattle.std.specs.Prelude.{ℕ, ◌≡◌, ◌<◌, ◌≤◌, ◌≤ℤ◌, pos, length, map, slice_get, Some, option_map, All, IfOk};
+ghost use Rattle.std.specs.List.Sorted.{IsStrictlyIncreasing};
 ghost use Rattle.delay_management.specs.Lateness.{delay_at, is_broken};
 ghost use Rattle.delay_management.specs.LeastTimes.{IsLeast, least_times, time_at};
-ghost use Rattle.delay_management.specs.Problems.{Joins};
+ghost use Rattle.delay_management.specs.Problems.{IsForward, Joins, earliest_at, planned_at};
 ghost use Rattle.delay_management.specs.Waiting.{chosen_changes};
 
 use crate::lateness::delay_at;
@@ -50,6 +51,7 @@ impl Propagation {
         ensures least { IfOk result
             (λ times. IsLeast self.now (chosen_changes self.now kept.now) times) }
         ensures each { IfOk result (λ times. length times ≡ length self.now.events) }
+        ensures small { IfOk result (λ times. All (λ time. time ≤ 3000000000000) times) }
     {
         let times = self.least_times(alloc, kept)?;
         Ok(Times { times })
@@ -62,18 +64,26 @@ impl Propagation {
         self.events().len()
     }
 
-    /// How many changes there are.
+    /// How many changes there are. They stand by their ids, steps go forward, and no event is at its
+    /// earliest before its planned time.
     pub fn change_count(&self) -> usize
-        ensures { result ≡ length self.now.changes }
+        ensures count { result ≡ length self.now.changes }
+        ensures forward { IsForward self.now }
+        ensures rise { IsStrictlyIncreasing (map (λ change. change.id) self.now.changes) }
+        ensures late { (event : ℕ) → event < length self.now.events
+            → planned_at self.now.events event ≤ earliest_at self.now event }
     {
+        let _events = self.events();
         self.changes().len()
     }
 
     /// The id of a change, by its index.
     pub fn change_id(&self, change: usize) -> i64
         requires { change < length self.now.changes }
-        ensures { option_map (λ change. pos change.id) (slice_get self.now.changes change)
+        ensures id { option_map (λ change. pos change.id) (slice_get self.now.changes change)
             ≡ Some result }
+        ensures least { pos 0 ≤ℤ result }
+        ensures most { result ≤ℤ pos 500000 }
     {
         i64::from(self.changes()[change].id)
     }

@@ -1,4 +1,5 @@
-use Rattle.std.proofs.Common.{◌≤◌, All, length, subst}
+use Rattle.std.proofs.Common.{◌≤◌, All, length, map, subst}
+use Rattle.std.specs.List.Sorted.{IsStrictlyIncreasing}
 use Rattle.delay_management.specs.Problems.{Joins}
 use Rattle.delay_management.proofs.ForwardSteps.{changes_join, change_ids}
 use Rattle.delay_management.proofs.propagation.Propagation.changes.Goals as goal
@@ -11,3 +12,7 @@ returns-clause-ends c =
 pub returns-clause-ids : goal.returns-clause-ids
 returns-clause-ids c =
     subst (λ p. All (λ at. at.id ≤ 500000) p.changes) c.self.view_is (change_ids _ _ c.self.invariant)
+
+pub returns-clause-rise : goal.returns-clause-rise
+returns-clause-rise c =
+    subst (λ p. IsStrictlyIncreasing (map (λ change. change.id) p.changes)) c.self.view_is c.self.invariant.rise

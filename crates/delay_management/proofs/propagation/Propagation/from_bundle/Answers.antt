@@ -98,7 +98,7 @@ returns c =
     record {
       read = (
         no_faults b A B C D E,
-        c.in_ok-problem.ensures ∙ problem_is b _ _ _ _ _ _ c.turnover_of-turnover.ensures
+        c.in_ok-problem.ensures ∙ problem_is b _ _ _ _ _ _ c.turnover_of-turnover.ensures.minutes
             (events_are b c.in_ok-events.events.items c.input.result.now c.input.ensures read.1)
             (activities_are b c.deref.result.now events c.deref-5.result.now c.input-2.result.now c.input-2.ensures (c.deref-5.ensures.value ∙ reads.1))
             (schedule_is b c.deref-2.result.now events2 c.deref-6.result.now c.input-3.result.now c.input-3.ensures (c.deref-6.ensures.value ∙ rides.1))

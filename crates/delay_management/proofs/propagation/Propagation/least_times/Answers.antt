@@ -1,4 +1,5 @@
 use Rattle.delay_management.proofs.PassIsLeast.{ends_there, least_told, told_least}
+use Rattle.delay_management.proofs.SoonTimes.{told_small}
 use Rattle.delay_management.proofs.propagation.Propagation.least_times.Goals as goal
 
 pub pushed_along-requires-clause-ends : goal.pushed_along-requires-clause-ends
@@ -12,3 +13,7 @@ returns-clause-times c =
 pub returns-clause-least : goal.returns-clause-least
 returns-clause-least c =
     told_least _ c.args.self.now _ c.deref-2.result.now c.deref.result.now c.self.invariant c.self.view_is c.deref-2.ensures.value c.deref.ensures.value c.args.kept.now (λ times. times.items) c.pushed_along.result c.pushed_along.ensures.times
+
+pub returns-clause-small : goal.returns-clause-small
+returns-clause-small c =
+    told_small _ _ c.deref-2.result.now c.deref.result.now c.self.invariant c.deref-2.ensures.value c.deref.ensures.value c.args.kept.now (λ times. times.items) c.pushed_along.result c.pushed_along.ensures.times

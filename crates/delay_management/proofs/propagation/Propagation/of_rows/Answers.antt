@@ -30,7 +30,7 @@ links_in_order-requires-clause-changes c =
 pub invariant_of-result : goal.invariant_of-result
 invariant_of-result c =
     linked_as c.args.turnover c.args.events.items c.args.activities.now c.args.schedule.now c.args.event_rows.now c.args.activity_rows.now
-    c.requires.events c.requires.activities c.requires.schedule c.in_ok-earliest.earliest.items c.in_ok-rides.rides.items
+    c.requires.events c.requires.activities c.requires.schedule c.requires.activity_delays c.requires.turnover c.in_ok-earliest.earliest.items c.in_ok-rides.rides.items
     c.in_ok-changes.changes.items c.in_ok-turns.turns.items c.deref-2.result.now c.deref-3.result.now c.deref-4.result.now c.deref-5.result.now
     c.in_ok-links.links.items
     (c.in_ok-earliest.ensures.times ∙ ap (map (earliest_of c.args.event_rows.now)) c.deref.ensures.value) c.in_ok-rides.ensures c.in_ok-changes.ensures c.in_ok-turns.ensures c.deref-2.ensures.value c.deref-3.ensures.value

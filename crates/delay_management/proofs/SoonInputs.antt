@@ -1,0 +1,150 @@
+-- Inputs without a fault gain little on the way, their changes stand by id, and no event is early.
+use Rattle.std.proofs.Common.{◌≡◌, ◌∙◌, ℕ, suc, ◌+◌, ◌-◌, ◌<◌, ◌≤◌, Bool, true, false, not, cond, eqb, List, [], ◌∷◌, length, map, filter, get_or, All, Some, refl, ap, sym, subst, arith}
+use Rattle.std.specs.List.Sorted.{IsStrictlyIncreasing}
+use Rattle.std.proofs.lemmas.Bool.{ltb-false, not-false}
+use Rattle.std.proofs.lemmas.Int.{ints}
+use Rattle.std.proofs.lemmas.List.{get_or-map, length-map}
+use Rattle.std.proofs.lemmas.List.Elements.{All-filter, All-map, filter_passes}
+use Rattle.std.proofs.lemmas.List.Kept.{AllPairs-filter}
+use Rattle.std.specs.List.{AllPairs}
+use Rattle.giv_files.specs.Columns.{delays_columns}
+use Rattle.giv_files.specs.Writing.{InColumns}
+use Rattle.event_tables.specs.declared.delay_row.DelayRow.{DelayRow}
+use Rattle.event_tables.specs.declared.expanded_activity.ExpandedActivity.{ExpandedActivity}
+use Rattle.event_tables.specs.declared.expanded_event.ExpandedEvent.{ExpandedEvent}
+use Rattle.event_tables.specs.declared.schedule_row.ScheduleRow.{ScheduleRow}
+use Rattle.event_tables.specs.Cells.{delay_cells, expanded_activity, expanded_event}
+use Rattle.event_tables.specs.Delays.{AreDelays}
+use Rattle.event_tables.specs.ExpandedFiles.{AreExpandedActivities, AreExpandedEvents}
+use Rattle.event_tables.specs.ForwardOrder.{both_pass, event_with}
+use Rattle.event_tables.specs.Places.{AreNumbered}
+use Rattle.event_tables.specs.Schedules.{AreScheduleRows, IsScheduleRow, has_room, is_empty_row}
+use Rattle.event_tables.specs.ForwardRanks.{departs_later, forward_rank}
+use Rattle.event_tables.specs.Kinds.{is_arrival}
+use Rattle.event_tables.proofs.Numbering.{find_numbered}
+use Rattle.event_tables.proofs.RanksRise.{id_at, rank_rises}
+use Rattle.delay_management.specs.declared.step.Activity.{Activity}
+use Rattle.delay_management.specs.declared.step.Step.{Step}
+use Rattle.delay_management.specs.Links.{GainsLittle}
+use Rattle.delay_management.specs.Problems.{DelayProblem, GoesForward, activities_of, delay_of, delayed, earliest_at, earliest_of, event_at, index_of, is_of, minutes, planned_at, problem_over, steps_with, turn_of}
+use Rattle.delay_management.proofs.PassIsLeast.{steps_all}
+
+pub delay_below : (rows : List DelayRow) → All (λ row. InColumns delays_columns (delay_cells row)) rows → (id : ℕ)
+    → delay_of rows id ≤ 1000000
+unfolding delay_of
+delay_below [] fit id = omega arith
+delay_below (row ∷ rows) fit id =
+    let here = fit 0 row (omega arith) in
+    let rest = delay_below rows (λ k d h. fit (suc k) d (omega (arith, h))) id in
+    elim (eqb row.id id) as (λ b. cond b row.delay (delay_of rows id) ≤ 1000000) [
+      | true ↦ omega (arith, ints, here.1.0.1)
+      | false ↦ rest
+    ]
+
+-- an event is planned no later than at its earliest
+pub none_early : (rows : List DelayRow) (events : List ExpandedEvent) (event : ℕ) → event < length events
+    → planned_at events event ≤ get_or (map (earliest_of rows) events) event 0
+none_early rows events event inside =
+    let is = get_or-map (earliest_of rows) events event (expanded_event []) 0 inside in
+    omega (arith, is)
+
+-- changes stand by their ids
+pub ids_rise : (changes : Bool) (rows : List DelayRow) (activities : List ExpandedActivity)
+    → AreNumbered (λ activity. activity.id) activities
+    → IsStrictlyIncreasing (map (λ change. change.id) (activities_of changes rows activities))
+ids_rise changes rows activities are k within =
+    let some = filter (is_of changes) activities in
+    let made = activities_of changes rows activities in
+    let long = length-map made (λ (change : Activity). change.id) in
+    let size = length-map some (delayed rows) in
+    let none : Activity = record { id = 0; step = record { from = 0; to = 0; lower = 0; extra = 0 } } in
+    let first = get_or-map (λ (change : Activity). change.id) made k none 0 (omega (arith, within, long)) in
+    let second = get_or-map (λ (change : Activity). change.id) made (k + 1) none 0 (omega (arith, within, long)) in
+    let row = expanded_activity [] in
+    let one = get_or-map (delayed rows) some k row none (omega (arith, within, long, size)) in
+    let two = get_or-map (delayed rows) some (k + 1) row none (omega (arith, within, long, size)) in
+    let up = AllPairs-filter (λ (x y : ExpandedActivity). x.id < y.id) (is_of changes) activities pairs k (k + 1) row (omega arith) (omega (arith, within, long, size)) in
+    omega (arith, first, second, ap (λ (at : Activity). at.id) one, ap (λ (at : Activity). at.id) two, up)
+  where
+    pairs : AllPairs (λ (x y : ExpandedActivity). x.id < y.id) activities
+    pairs i j d less inside =
+        omega (arith, id_at (λ row. row.id) activities i d are (omega (arith, less, inside)), id_at (λ row. row.id) activities j d are inside, less)
+
+later_few : (arrives : Bool) → cond {A = ℕ} arrives 0 2147483648 ≤ 2147483648
+later_few true = omega arith
+later_few false = omega arith
+
+-- of two events in the forward order the second is planned no earlier
+planned_rises : (events : List ExpandedEvent) (step : Step) → AreNumbered (λ event. event.id) events
+    → length events ≤ 100000 → GoesForward events step
+    → planned_at events step.from ≤ planned_at events step.to
+planned_rises events step are few goes =
+    let up = rank_rises events step.from step.to are few goes.from goes.to goes.before in
+    let most = later_few (is_arrival (event_at events step.to).kind) in
+    omega (arith, up, most, few, goes.to)
+
+-- an activity that goes forward gains no more than what it takes
+gains_by : (events : List ExpandedEvent) (step : Step) → AreNumbered (λ event. event.id) events
+    → length events ≤ 100000 → GoesForward events step → minutes step ≤ 1100000 → GainsLittle events step
+gains_by events step are count goes few =
+    let up = planned_rises events step are count goes in omega (arith, up, few)
+
+-- a turn has the minutes of its empty ride between its events as planned
+room_for : (minutes : ℕ) (start end : ExpandedEvent) → has_room minutes start end ≡ true
+    → start.time + minutes ≤ end.time
+room_for minutes start end has = ltb-false end.time (start.time + minutes) (not-true _ has)
+  where
+    not-true : (b : Bool) → not b ≡ true → b ≡ false
+    not-true false h = refl
+    not-true true h = absurd (cc)
+
+module _ (turnover : ℕ) (events : List ExpandedEvent) (activities : List ExpandedActivity)
+    (schedule : List ScheduleRow) (event_rows activity_rows : List DelayRow)
+    (are : AreExpandedEvents events) (activities_are : AreExpandedActivities events activities)
+    (rows_are : AreScheduleRows events schedule)
+    (delays_are : AreDelays (length activities) activity_rows) (few : turnover ≤ 10000) where
+  abbrev problem : DelayProblem
+  problem = problem_over turnover events activities schedule event_rows activity_rows
+
+  short_activity : (row : ExpandedActivity) → row.lower ≤ 100000
+      → minutes (delayed activity_rows row).step ≤ 1100000
+  short_activity row low =
+      let late = delay_below activity_rows delays_are.fit row.id in omega (arith, low, late)
+
+  some_gain : (changes : Bool)
+      → All (λ activity. GoesForward events activity.step) (activities_of changes activity_rows activities)
+      → All (λ activity. GainsLittle events activity.step) (activities_of changes activity_rows activities)
+  some_gain changes forward =
+      let short : All (λ (activity : Activity). minutes activity.step ≤ 1100000) (activities_of changes activity_rows activities) =
+      All-map (λ (activity : Activity). minutes activity.step ≤ 1100000) (delayed activity_rows) (filter (is_of changes) activities)
+      (All-filter (is_of changes) (λ row. minutes (delayed activity_rows row).step ≤ 1100000) activities
+      (λ k d inside.
+      let row = get_or activities k d in
+      let fit = activities_are.fit k d inside in
+      short_activity row (omega (arith, ints, fit.1.1.1.1.1.0.1)))) in
+      λ k d inside. gains_by events (get_or (activities_of changes activity_rows activities) k d).step are.numbered are.few (forward k d inside) (short k d inside)
+
+  turns_gain : All (GainsLittle events) problem.turns
+  turns_gain =
+      All-map (GainsLittle events) (turn_of turnover) (filter is_empty_row schedule)
+      (λ k d inside.
+      let row = get_or (filter is_empty_row schedule) k d in
+      let is : IsScheduleRow events row = All-filter is_empty_row (IsScheduleRow events) schedule rows_are.each k d inside in
+      let ride = row.run.end.time - row.run.start.time in
+      let start = event_at events (index_of row.run.start.event) in
+      let end = event_at events (index_of row.run.end.event) in
+      let found : both_pass (has_room ride) (event_with events row.run.start.event) (event_with events row.run.end.event) ≡ has_room ride start end =
+      ap (λ first. both_pass (has_room ride) first (event_with events row.run.end.event))
+      (find_numbered (λ event. event.id) row.run.start.event events (expanded_event []) are.numbered is.start)
+      ∙ ap (both_pass (has_room ride) (Some start))
+      (find_numbered (λ event. event.id) row.run.end.event events (expanded_event []) are.numbered is.end) in
+      let has = not-false _ (is.room (filter_passes is_empty_row schedule k d inside)) in
+      let room = room_for ride start end (sym found ∙ has) in
+      omega (arith, room, few))
+
+  pub steps_gain : All (GoesForward events) (steps_with problem problem.changes)
+      → All (λ activity. GoesForward events activity.step) problem.rides
+      → All (λ activity. GoesForward events activity.step) problem.changes
+      → All (GainsLittle events) (steps_with problem problem.changes)
+  steps_gain all rides changes =
+      steps_all problem (GainsLittle events) problem.changes (some_gain false rides) (some_gain true changes) turns_gain
