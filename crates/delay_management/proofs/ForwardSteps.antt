@@ -1,7 +1,12 @@
 -- The steps of a problem that was read join its events.
-use Rattle.std.proofs.Common.{◌≤◌, List, length, All}
+use Rattle.std.proofs.Common.{ℕ, ◌≤◌, ◌++◌, List, length, All, Some, arith}
+use Rattle.std.specs.List.{enumerate_from}
+use Rattle.std.proofs.lemmas.List.{length-append, length-map}
+use Rattle.std.proofs.lemmas.List.FromFn.{length-enumerate_from}
+use Rattle.std.proofs.lemmas.List.Sorted.{length_permutation}
+use Rattle.delay_management.specs.declared.step.Activity.{Activity}
 use Rattle.delay_management.specs.declared.links.Link.{Link}
-use Rattle.delay_management.specs.Links.{IsLinked}
+use Rattle.delay_management.specs.Links.{IsLinked, change_links, link_of, links_of, ride_links, turn_links}
 use Rattle.delay_management.specs.Problems.{DelayProblem, GoesForward, Joins}
 use Rattle.delay_management.proofs.PassIsLeast.{back_all, change_steps, front_all, ride_steps, turn_steps}
 
@@ -26,3 +31,18 @@ module _ (problem : DelayProblem) (links : List Link) (linked : IsLinked problem
 
   pub change_ids : All (λ change. change.id ≤ 500000) problem.changes
   change_ids = back_all (λ activity. activity.id ≤ 500000) problem.rides problem.changes linked.ids
+
+  pub changes_few : length problem.changes ≤ 502000
+  changes_few =
+      let rides = ride_links problem.events problem.rides in
+      let turns = turn_links problem.events problem.turns in
+      let changes = change_links problem.events 0 problem.changes in
+      omega (
+        arith,
+        length_permutation (links_of problem) links linked.all,
+        linked.few_links,
+        length-append rides (turns ++ changes),
+        length-append turns changes,
+        length-map (enumerate_from 0 problem.changes) (λ (at : ℕ × Activity). link_of problem.events (Some at.0) at.1.step),
+        length-enumerate_from 0 problem.changes,
+      )

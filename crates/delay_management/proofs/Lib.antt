@@ -29,6 +29,8 @@ mod StageResults
 mod TableParts
 mod TextsBack
 mod TightMore
+mod TrialDelay
+mod TrialFacts
 mod Tried
 mod WrittenBy
 pub mod WrittenReasons

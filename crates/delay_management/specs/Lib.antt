@@ -9,5 +9,7 @@ pub mod Marks
 pub mod Problems
 pub mod Reasons
 pub mod RightDispositions
+pub mod TakenParts
 pub mod TightIds
+pub mod Trials
 pub mod Waiting

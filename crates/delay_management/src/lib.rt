@@ -3,6 +3,7 @@
 #![tactic(auto)]
 
 mod check;
+mod decided;
 mod delays;
 mod early;
 mod fault;
@@ -19,11 +20,13 @@ mod rows;
 mod stage;
 mod step;
 mod times;
+mod trial;
 mod turns;
 mod waiting;
 mod wrong;
 
 pub use check::check_reasons;
+pub use decided::Decided;
 pub use fault::ReasonFault;
 pub use lateness::{delay_at, missed_at};
 pub use propagation::Propagation;
@@ -31,3 +34,4 @@ pub use reason::Reason;
 pub use stage::make_disposition;
 pub use step::{Activity, Step};
 pub use times::Times;
+pub use trial::Trial;

@@ -168,6 +168,7 @@ impl Propagation {
         ensures ends { All (λ change. Joins (length self.now.events) change.step) self.now.changes }
         ensures ids { All (λ change. change.id ≤ 500000) self.now.changes }
         ensures rise { IsStrictlyIncreasing (map (λ change. change.id) self.now.changes) }
+        ensures few { length self.now.changes ≤ 502000 }
     {
         &self.changes
     }

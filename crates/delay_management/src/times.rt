@@ -51,7 +51,7 @@ impl Propagation {
         ensures least { IfOk result
             (λ times. IsLeast self.now (chosen_changes self.now kept.now) times) }
         ensures each { IfOk result (λ times. length times ≡ length self.now.events) }
-        ensures small { IfOk result (λ times. All (λ time. time ≤ 3000000000000) times) }
+        ensures small { IfOk result (λ times. All (λ time. time ≤ 600000000000) times) }
     {
         let times = self.least_times(alloc, kept)?;
         Ok(Times { times })
@@ -59,7 +59,10 @@ impl Propagation {
 
     /// How many events there are.
     pub fn event_count(&self) -> usize
-        ensures { result ≡ length self.now.events }
+        ensures count { result ≡ length self.now.events }
+        ensures few { length self.now.events ≤ 100000 }
+        ensures late { (event : ℕ) → event < length self.now.events
+            → planned_at self.now.events event ≤ earliest_at self.now event }
     {
         self.events().len()
     }
@@ -68,6 +71,7 @@ impl Propagation {
     /// earliest before its planned time.
     pub fn change_count(&self) -> usize
         ensures count { result ≡ length self.now.changes }
+        ensures few { length self.now.changes ≤ 502000 }
         ensures forward { IsForward self.now }
         ensures rise { IsStrictlyIncreasing (map (λ change. change.id) self.now.changes) }
         ensures late { (event : ℕ) → event < length self.now.events

@@ -1,7 +1,7 @@
 use Rattle.std.proofs.Common.{◌≤◌, All, length, map, subst}
 use Rattle.std.specs.List.Sorted.{IsStrictlyIncreasing}
 use Rattle.delay_management.specs.Problems.{Joins}
-use Rattle.delay_management.proofs.ForwardSteps.{changes_join, change_ids}
+use Rattle.delay_management.proofs.ForwardSteps.{changes_few, changes_join, change_ids}
 use Rattle.delay_management.proofs.propagation.Propagation.changes.Goals as goal
 
 pub returns-clause-ends : goal.returns-clause-ends
@@ -16,3 +16,7 @@ returns-clause-ids c =
 pub returns-clause-rise : goal.returns-clause-rise
 returns-clause-rise c =
     subst (λ p. IsStrictlyIncreasing (map (λ change. change.id) p.changes)) c.self.view_is c.self.invariant.rise
+
+pub returns-clause-few : goal.returns-clause-few
+returns-clause-few c =
+    subst (λ p. length p.changes ≤ 502000) c.self.view_is (changes_few _ _ c.self.invariant)
