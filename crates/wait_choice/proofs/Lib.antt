@@ -1,0 +1,5 @@
+mod Bounds
+mod Listed
+mod PathFacts
+mod Turns
+mod Visits

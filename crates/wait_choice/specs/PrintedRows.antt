@@ -1,0 +1,13 @@
+-- Inner words: rows that can be printed.
+use Rattle.std.specs.Prelude.{ℕ, ◌≤◌, ⊤}
+use Rattle.wait_choice.specs.declared.row.WaitRow.{WaitRow}
+use Rattle.wait_choice.specs.declared.row.WaitRow.TheVariants as row
+
+-- a row that fits its columns
+abbrev pub RowFits : WaitRow → Type 0
+RowFits (row.Cost cost) = cost ≤ 1000000000000000000
+RowFits (row.Keep id) = id ≤ 1000000000
+RowFits (row.Drop id) = id ≤ 1000000000
+RowFits (row.Split id) = id ≤ 1000000000
+RowFits row.Leaf = ⊤
+RowFits row.Stray = ⊥

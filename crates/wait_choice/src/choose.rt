@@ -1,0 +1,48 @@
+// The choice of a waiting decision.
+ghost use Rattle.std.specs.Prelude.{◌≡◌, ◌≤◌, [], Some, IfOk, IfSome};
+ghost use Rattle.giv_files.specs.declared.stage.Stage.TheVariants as stages;
+ghost use Rattle.giv_files.specs.Inputs.{UnlessFault};
+ghost use Rattle.giv_files.specs.Settings.{Fits};
+ghost use Rattle.giv_files.specs.StageCalls.{TakesSteps};
+ghost use Rattle.delay_management.specs.DispositionStage.{disposition_faults, problem_in};
+ghost use Rattle.wait_choice.specs.ChoiceStage.{FindsSome, IsEnough, IsUnspent, IsWhole, waits_in, waits_refusals, waits_work};
+ghost use Rattle.wait_choice.specs.RightChoices.{IsRight};
+
+use crate::search::search_waits;
+use crate::waits::Waits;
+use delay_management::Propagation;
+use giv_files::{Bundle, Refusal, StageFault};
+use plan_num::{Ledger, Steps};
+use std::alloc::Global;
+
+/// Chooses which changes of a day are kept, so that the delay of all arrivals and a penalty in
+/// minutes for each change that is dropped are least together, by a search with so many entries at
+/// most.
+pub fn choose_waits<L: Ledger>(
+    alloc: Global,
+    bundle: &Bundle,
+    penalty: u32,
+    budget: u32,
+    steps: &mut Steps<L>,
+) -> Result<Waits, StageFault>
+    requires stage { bundle.now.stage ≡ stages.Disposition }
+    requires fits { Fits bundle.now }
+    requires penalty { penalty ≤ 1000000 }
+    requires some { 1 ≤ budget }
+    requires budget { budget ≤ 20000 }
+    ensures chosen { UnlessFault (waits_refusals bundle.now penalty budget)
+        (λ waits. waits_in bundle.now penalty budget ≡ Some waits) result }
+    ensures right { IfOk result (IsRight (problem_in bundle.now) penalty) }
+    ensures finds { FindsSome (problem_in bundle.now) budget → IsUnspent result }
+    ensures whole { IsEnough (problem_in bundle.now) budget → IsWhole result }
+    ensures steps { TakesSteps (waits_work bundle.now penalty budget) steps.old steps.new result }
+{
+    steps.tick();
+    let problem = Propagation::from_bundle(alloc, bundle)?;
+    match search_waits(alloc, &problem, penalty, budget, steps)? {
+        Some(waits) => Ok(waits),
+        None => Err(StageFault::Refused(Refusal::Spent {
+            entries: u64::from(budget),
+        })),
+    }
+}

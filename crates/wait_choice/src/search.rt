@@ -1,0 +1,201 @@
+// The search for a best waiting decision within a budget of entries.
+ghost use Rattle.std.specs.Prelude.{◌≡◌, ◌≤◌, ◌+◌, ◌++◌, ◌∷◌, [], length, None, Some, IfOk, OnErr, OnOk, option_map};
+ghost use Rattle.std.specs.Prelude.{true};
+ghost use Rattle.wait_choice.specs.Budgets.{entries_listed, waits_within, with_tree};
+ghost use Rattle.wait_choice.specs.Listings.{found, holds_off, listing};
+ghost use Rattle.wait_choice.specs.Regions.{greatest_set, is_free_at};
+ghost use Rattle.wait_choice.specs.Paths.{region_in};
+ghost use Rattle.wait_choice.specs.Searches.{Leaves, Splits, TakesEntry, best_in, choice_of, entry_of, next_entry};
+
+use crate::best::Best;
+use crate::kept::Kept;
+use crate::next::Next;
+use crate::node::WaitNode;
+use crate::path::Path;
+use crate::tree::WaitTree;
+use crate::waits::Waits;
+use delay_management::Propagation;
+use plan_num::{Ledger, NoMemory, Steps};
+use std::alloc::Global;
+use std::marker::Model;
+
+/// A search between two entries: the region that it has come to, the nodes of the entries so far,
+/// and the best choice that these found.
+#[derive(Drop)]
+pub(crate) struct Search<'a> {
+    path: Path<'a>,
+    tree: WaitTree,
+    best: Option<Best>,
+}
+
+impl<'a> Model for Search<'a> {
+    ghost use Rattle.std.specs.Prelude.{length};
+    ghost use Rattle.wait_choice.specs.Searches.{Between, best_in};
+
+    ghost Value = { Between };
+
+    ghost view = { λ search. record {
+      path = search.path;
+      nodes = search.tree;
+      best = best_in (length search.path.problem.changes) search.best;
+    } };
+}
+
+/// Searches the waiting decisions of a day by branch and bound, with so many entries at most. Each
+/// entry takes a step.
+pub(crate) fn search_waits<L: Ledger>(
+    alloc: Global,
+    problem: &Propagation,
+    penalty: u32,
+    budget: u32,
+    steps: &mut Steps<L>,
+) -> Result<Option<Waits>, NoMemory>
+    ensures found { IfOk result
+        (λ found. found ≡ waits_within budget (listing problem.now penalty)) }
+    ensures steps { OnOk result
+        (steps.new ≡ steps.old + entries_listed budget (listing problem.now penalty)) }
+    ensures err { OnErr result ((steps.old ≤ steps.new)
+        × (steps.new ≤ steps.old + entries_listed budget (listing problem.now penalty))) }
+{
+    let mut search = Search::new(alloc, problem)?;
+    for _entry in 0..budget {
+        steps.tick();
+        if !search.take_entry(alloc, penalty)? {
+            return search.whole(alloc);
+        }
+    }
+    search.spent(alloc)
+}
+
+impl<'a> Search<'a> {
+    // Before the first entry.
+    fn new(alloc: Global, problem: &'a Propagation) -> Result<Search<'a>, NoMemory>
+        ensures { IfOk result (λ search. search ≡ record {
+          path = record { problem = problem.now; decided = [] };
+          nodes = [];
+          best = None;
+        }) }
+    {
+        Ok(Search {
+            path: Path::new(alloc, problem)?,
+            tree: WaitTree::new(alloc),
+            best: None,
+        })
+    }
+
+    // One entry more, and whether another one is to come.
+    fn take_entry(&mut self, alloc: Global, penalty: u32) -> Result<bool, NoMemory>
+        ensures { IfOk result (TakesEntry penalty self.old self.new) }
+    {
+        match self.next_entry(alloc, penalty)? {
+            Next::CutOff => self.leave(),
+            Next::Found { best } => {
+                self.hold(best);
+                self.leave()
+            }
+            Next::Split { change } => self.split(change),
+        }
+    }
+
+    // What is said of the region in hand.
+    fn next_entry(&self, alloc: Global, penalty: u32) -> Result<Next, NoMemory>
+        ensures { IfOk result (λ next. entry_of (length self.now.path.problem.changes) next
+            ≡ next_entry penalty self.now) }
+    {
+        let bound = self.path.bound(penalty);
+        if self.is_cut_off(bound) {
+            return Ok(Next::CutOff);
+        }
+        match self.path.first_broken() {
+            Some(change) => Ok(Next::Split { change }),
+            None => self.found(alloc, bound),
+        }
+    }
+
+    // Whether the best choice costs no more than a bound.
+    fn is_cut_off(&self, bound: i128) -> bool
+        ensures { result ≡ holds_off self.now.best bound }
+    {
+        match &self.best {
+            None => false,
+            Some(best) => best.cost <= bound,
+        }
+    }
+
+    // The choice that is found in the region in hand, at the cost of its bound.
+    fn found(&self, alloc: Global, bound: i128) -> Result<Next, NoMemory>
+        ensures { IfOk result (λ next. entry_of (length self.now.path.problem.changes) next
+            ≡ found (record { kept = greatest_set (region_in self.now.path); cost = bound })) }
+    {
+        let dropped = Vec::from_slice(alloc, self.path.dropped())?;
+        Ok(Next::Found {
+            best: Best {
+                dropped,
+                cost: bound,
+            },
+        })
+    }
+
+    // Holds a choice as the best one.
+    fn hold(&mut self, best: Best)
+        ensures { self.new ≡ record self.old {
+          best = Some (choice_of (length self.old.path.problem.changes) best);
+        } }
+    {
+        self.best = Some(best);
+    }
+
+    // A split by a free change: on to the part that keeps it.
+    fn split(&mut self, change: usize) -> Result<bool, NoMemory>
+        requires { is_free_at (region_in self.old.path) change ≡ true }
+        ensures { IfOk result (λ more. (more ≡ true) × Splits self.old self.new change) }
+    {
+        self.path.keep(change)?;
+        self.tree.push(WaitNode::Split { change })?;
+        Ok(true)
+    }
+
+    // A leaf: on to the next part that waits, where there is one.
+    fn leave(&mut self) -> Result<bool, NoMemory>
+        ensures { IfOk result (Leaves self.old self.new) }
+    {
+        self.tree.push(WaitNode::Leaf)?;
+        self.path.go_on()
+    }
+
+    // What was found, where no region waits.
+    fn whole(self, alloc: Global) -> Result<Option<Waits>, NoMemory>
+        ensures { IfOk result
+            (λ found. found ≡ option_map (with_tree (Some self.entry.nodes)) self.entry.best) }
+    {
+        let count = self.path.change_count();
+        found_waits(alloc, count, self.best, Some(self.tree))
+    }
+
+    // What was found, where the budget is spent.
+    fn spent(self, alloc: Global) -> Result<Option<Waits>, NoMemory>
+        ensures { IfOk result (λ found. found ≡ option_map (with_tree None) self.entry.best) }
+    {
+        let count = self.path.change_count();
+        found_waits(alloc, count, self.best, None)
+    }
+}
+
+// A choice over so many changes, with its tree or without, where there is one.
+fn found_waits(
+    alloc: Global,
+    count: usize,
+    best: Option<Best>,
+    tree: Option<WaitTree>,
+) -> Result<Option<Waits>, NoMemory>
+    ensures { IfOk result (λ found. found ≡ option_map (with_tree tree) (best_in count best)) }
+{
+    match best {
+        None => Ok(None),
+        Some(best) => Ok(Some(Waits {
+            kept: Kept::all_but(alloc, count, &best.dropped)?,
+            cost: best.cost,
+            tree,
+        })),
+    }
+}
