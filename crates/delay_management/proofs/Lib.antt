@@ -26,7 +26,7 @@ mod SmallTimes
 mod SoonInputs
 mod SoonTimes
 mod StageResults
-mod TableParts
+pub mod TableParts
 mod TextsBack
 mod TightMore
 mod TrialDelay

@@ -1,5 +1,5 @@
 -- Inner words: a search between two entries of its listing.
-use Rattle.std.specs.Prelude.{ℕ, ◌≡◌, Bool, true, List, [], ◌∷◌, ◌++◌, length, take, drop, Option, Some, None, option_map, MatchBool}
+use Rattle.std.specs.Prelude.{ℕ, ◌≡◌, Bool, true, List, [], ◌∷◌, ◌++◌, length, take, drop, Option, Some, None, option_map, IfSome, MatchBool}
 use Rattle.delay_management.specs.Problems.{DelayProblem}
 use Rattle.delay_management.specs.Trials.{TrialParts}
 use Rattle.wait_choice.specs.declared.best.Best.{Best}
@@ -9,6 +9,7 @@ use Rattle.wait_choice.specs.declared.node.WaitNode.TheVariants as node
 use Rattle.wait_choice.specs.declared.next.Next.{Next}
 use Rattle.wait_choice.specs.declared.next.Next.TheVariants as next
 use Rattle.wait_choice.specs.Listings.{Choice, Entry, best_after, cut_off, entry_at, found, listing, node_of, nodes_of, split, visit}
+use Rattle.wait_choice.specs.RightChoices.{IsWritable}
 use Rattle.wait_choice.specs.Paths.{GoesOn, all_but, region_in, regions_in}
 
 -- the choice that a search holds, of so many changes
@@ -30,6 +31,10 @@ pub record Between : Type 0 where
   pub path : TrialParts
   pub nodes : List WaitNode
   pub best : Option Choice
+
+-- a choice whose cost can be written, where there is one
+abbrev pub IsCheap : Option Choice → Type 0
+IsCheap best = IfSome best (λ choice. IsWritable choice.cost)
 
 -- what is found to come next, as an entry
 abbrev pub entry_of : ℕ → Next → Entry

@@ -5,7 +5,7 @@ ghost use Rattle.giv_files.specs.Inputs.{UnlessFault};
 ghost use Rattle.giv_files.specs.Settings.{Fits};
 ghost use Rattle.giv_files.specs.StageCalls.{TakesSteps};
 ghost use Rattle.delay_management.specs.DispositionStage.{disposition_faults, problem_in};
-ghost use Rattle.wait_choice.specs.ChoiceStage.{FindsSome, IsEnough, IsUnspent, IsWhole, waits_in, waits_refusals, waits_work};
+ghost use Rattle.wait_choice.specs.ChoiceStage.{FindsSome, IsEnough, IsUnspent, IsWhole, outcome_of, waits_in, waits_refusals, waits_work};
 ghost use Rattle.wait_choice.specs.RightChoices.{IsRight};
 
 use crate::search::search_waits;
@@ -39,10 +39,15 @@ pub fn choose_waits<L: Ledger>(
 {
     steps.tick();
     let problem = Propagation::from_bundle(alloc, bundle)?;
-    match search_waits(alloc, &problem, penalty, budget, steps)? {
-        Some(waits) => Ok(waits),
-        None => Err(StageFault::Refused(Refusal::Spent {
-            entries: u64::from(budget),
-        })),
-    }
+    let found = search_waits(alloc, &problem, penalty, budget, steps)?;
+    found_or_spent(found, budget)
+}
+
+// What was found, or that the budget is spent.
+fn found_or_spent(found: Option<Waits>, budget: u32) -> Result<Waits, StageFault>
+    ensures { result ≡ outcome_of budget found }
+{
+    found.ok_or(StageFault::Refused(Refusal::Spent {
+        entries: u64::from(budget),
+    }))
 }

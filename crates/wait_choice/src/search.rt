@@ -1,11 +1,12 @@
 // The search for a best waiting decision within a budget of entries.
-ghost use Rattle.std.specs.Prelude.{◌≡◌, ◌≤◌, ◌+◌, ◌++◌, ◌∷◌, [], length, None, Some, IfOk, OnErr, OnOk, option_map};
+ghost use Rattle.std.specs.Prelude.{◌≡◌, ◌≤◌, ◌+◌, ◌++◌, ◌∷◌, [], length, None, Some, IfOk, IfSome, OnErr, OnOk, option_map};
 ghost use Rattle.std.specs.Prelude.{true};
 ghost use Rattle.wait_choice.specs.Budgets.{entries_listed, waits_within, with_tree};
-ghost use Rattle.wait_choice.specs.Listings.{found, holds_off, listing};
+ghost use Rattle.wait_choice.specs.Listings.{found, found_by, holds_off, listing};
+ghost use Rattle.wait_choice.specs.RightChoices.{IsRight, IsWritable};
 ghost use Rattle.wait_choice.specs.Regions.{greatest_set, is_free_at};
 ghost use Rattle.wait_choice.specs.Paths.{region_in};
-ghost use Rattle.wait_choice.specs.Searches.{Leaves, Splits, TakesEntry, best_in, choice_of, entry_of, next_entry};
+ghost use Rattle.wait_choice.specs.Searches.{IsCheap, Leaves, Splits, TakesEntry, best_in, choice_of, entry_of, next_entry};
 
 use crate::best::Best;
 use crate::kept::Kept;
@@ -50,13 +51,16 @@ pub(crate) fn search_waits<L: Ledger>(
     budget: u32,
     steps: &mut Steps<L>,
 ) -> Result<Option<Waits>, NoMemory>
+    requires { penalty ≤ 1000000 }
     ensures found { IfOk result
         (λ found. found ≡ waits_within budget (listing problem.now penalty)) }
+    ensures right { IfOk result (λ found. IfSome found (IsRight problem.now penalty)) }
     ensures steps { OnOk result
         (steps.new ≡ steps.old + entries_listed budget (listing problem.now penalty)) }
     ensures err { OnErr result ((steps.old ≤ steps.new)
         × (steps.new ≤ steps.old + entries_listed budget (listing problem.now penalty))) }
 {
+    let _count = problem.change_count();
     let mut search = Search::new(alloc, problem)?;
     for _entry in 0..budget {
         steps.tick();
@@ -85,7 +89,9 @@ impl<'a> Search<'a> {
 
     // One entry more, and whether another one is to come.
     fn take_entry(&mut self, alloc: Global, penalty: u32) -> Result<bool, NoMemory>
-        ensures { IfOk result (TakesEntry penalty self.old self.new) }
+        requires { penalty ≤ 1000000 }
+        ensures takes { IfOk result (TakesEntry penalty self.old self.new) }
+        ensures cheap { IfOk result (λ more. IsCheap self.old.best → IsCheap self.new.best) }
     {
         match self.next_entry(alloc, penalty)? {
             Next::CutOff => self.leave(),
@@ -99,8 +105,11 @@ impl<'a> Search<'a> {
 
     // What is said of the region in hand.
     fn next_entry(&self, alloc: Global, penalty: u32) -> Result<Next, NoMemory>
-        ensures { IfOk result (λ next. entry_of (length self.now.path.problem.changes) next
+        requires { penalty ≤ 1000000 }
+        ensures next { IfOk result (λ next. entry_of (length self.now.path.problem.changes) next
             ≡ next_entry penalty self.now) }
+        ensures cheap { IfOk result (λ next. IsCheap
+            (found_by (entry_of (length self.now.path.problem.changes) next))) }
     {
         let bound = self.path.bound(penalty);
         if self.is_cut_off(bound) {
@@ -124,8 +133,11 @@ impl<'a> Search<'a> {
 
     // The choice that is found in the region in hand, at the cost of its bound.
     fn found(&self, alloc: Global, bound: i128) -> Result<Next, NoMemory>
-        ensures { IfOk result (λ next. entry_of (length self.now.path.problem.changes) next
+        requires { IsWritable bound }
+        ensures next { IfOk result (λ next. entry_of (length self.now.path.problem.changes) next
             ≡ found (record { kept = greatest_set (region_in self.now.path); cost = bound })) }
+        ensures cheap { IfOk result (λ next. IsCheap
+            (found_by (entry_of (length self.now.path.problem.changes) next))) }
     {
         let dropped = Vec::from_slice(alloc, self.path.dropped())?;
         Ok(Next::Found {

@@ -1,13 +1,16 @@
-use Rattle.std.proofs.Common.{◌≡◌, ◌∙◌, ◌+◌, ◌≤◌, ◌<◌, true, false, None, length, take, ap, sym, subst, arith}
+use Rattle.std.proofs.Common.{◌≡◌, ◌∙◌, ◌+◌, ◌≤◌, ◌<◌, true, false, None, IfSome, length, take, ap, sym, subst, arith}
 use Rattle.wait_choice.specs.Budgets.{entries_listed, with_tree, waits_within}
 use Rattle.wait_choice.specs.Listings.{best_after, listing}
-use Rattle.wait_choice.specs.Searches.{TakesEntry}
+use Rattle.wait_choice.specs.RightChoices.{IsRight, IsWritable}
+use Rattle.wait_choice.specs.Searches.{Between, IsCheap, TakesEntry}
+use Rattle.wait_choice.proofs.Right.{found_right, still_cheap}
 use Rattle.wait_choice.proofs.Turns.{all_listed, budget_listed, few_listed, inside, last_one, on_err, on_ok, one_more, outcome_by, spent_within, starts, whole_within}
 use Rattle.wait_choice.proofs.search.search_waits.Goals as goal
 
 pub loop-entry-init : goal.loop-entry-init
 loop-entry-init g c = record {
   behind = starts c.args.problem.now c.args.penalty c.in_ok-search.search c.in_ok-search.ensures;
+  cheap = subst IsCheap (sym (ap (λ (at : Between). at.best) c.in_ok-search.ensures)) tt;
   within = omega arith;
   steps = omega arith;
 }
@@ -22,16 +25,28 @@ returns-in_err-take_entry-clause-err g c =
 pub returns-then-not-branch-clause-found : goal.returns-then-not-branch-clause-found
 returns-then-not-branch-clause-found g c =
     let problem = c.args.problem.now in
-    let takes = subst (TakesEntry c.args.penalty c.loop-entry.search c.take_entry.new.self) c.if-not-branch.true c.in_ok-take_entry.ensures in
+    let takes = subst (TakesEntry c.args.penalty c.loop-entry.search c.take_entry.new.self) c.if-not-branch.true c.in_ok-take_entry.ensures.takes in
     let last = last_one problem c.args.penalty c.loop-entry._entry c.loop-entry.search c.loop-entry.invariant.behind c.take_entry.new.self takes in
     outcome_by _ (λ found. found ≡ waits_within c.args.budget (listing problem c.args.penalty)) c.whole.result c.whole.ensures
     (λ found is. is ∙ whole_within c.args.budget (listing problem c.args.penalty) c.take_entry.new.self.nodes c.take_entry.new.self.best
     (omega (arith, last.2, c.loop-entry-test.true)) last.0 last.1)
 
+pub returns-then-not-branch-clause-right : goal.returns-then-not-branch-clause-right
+returns-then-not-branch-clause-right g c =
+    let problem = c.args.problem.now in
+    let takes = subst (TakesEntry c.args.penalty c.loop-entry.search c.take_entry.new.self) c.if-not-branch.true c.in_ok-take_entry.ensures.takes in
+    let last = last_one problem c.args.penalty c.loop-entry._entry c.loop-entry.search c.loop-entry.invariant.behind c.take_entry.new.self takes in
+    let cheap = c.in_ok-take_entry.ensures.cheap c.loop-entry.invariant.cheap in
+    outcome_by _ (λ found. IfSome found (IsRight problem c.args.penalty)) c.whole.result c.whole.ensures
+    (λ found is. found_right problem c.change_count-count.ensures.forward c.args.penalty c.args.budget found
+    (is ∙ whole_within c.args.budget (listing problem c.args.penalty) c.take_entry.new.self.nodes c.take_entry.new.self.best
+    (omega (arith, last.2, c.loop-entry-test.true)) last.0 last.1)
+    (subst (λ w. IfSome w (λ waits. IsWritable waits.cost)) (sym is) (still_cheap _ c.take_entry.new.self.best cheap)))
+
 pub returns-then-not-branch-clause-steps : goal.returns-then-not-branch-clause-steps
 returns-then-not-branch-clause-steps g c =
     let problem = c.args.problem.now in
-    let takes = subst (TakesEntry c.args.penalty c.loop-entry.search c.take_entry.new.self) c.if-not-branch.true c.in_ok-take_entry.ensures in
+    let takes = subst (TakesEntry c.args.penalty c.loop-entry.search c.take_entry.new.self) c.if-not-branch.true c.in_ok-take_entry.ensures.takes in
     let last = last_one problem c.args.penalty c.loop-entry._entry c.loop-entry.search c.loop-entry.invariant.behind c.take_entry.new.self takes in
     let all = all_listed c.args.budget (length (listing problem c.args.penalty)) c.loop-entry._entry c.loop-entry-test.true last.2 in
     on_ok _ c.whole.result (omega (arith, c.tick.ensures, c.loop-entry.invariant.steps, all))
@@ -39,9 +54,9 @@ returns-then-not-branch-clause-steps g c =
 pub loop-entry-preserved : goal.loop-entry-preserved
 loop-entry-preserved g c =
     let problem = c.args.problem.now in
-    let takes = subst (TakesEntry c.args.penalty c.loop-entry.search c.take_entry.new.self) c.if-not-branch.false c.in_ok-take_entry.ensures in
+    let takes = subst (TakesEntry c.args.penalty c.loop-entry.search c.take_entry.new.self) c.if-not-branch.false c.in_ok-take_entry.ensures.takes in
     let more = one_more problem c.args.penalty c.loop-entry._entry c.loop-entry.search c.loop-entry.invariant.behind c.take_entry.new.self takes in
-    record { behind = more.0; within = more.1; steps = omega (arith, c.tick.ensures, c.loop-entry.invariant.steps) }
+    record { behind = more.0; cheap = c.in_ok-take_entry.ensures.cheap c.loop-entry.invariant.cheap; within = more.1; steps = omega (arith, c.tick.ensures, c.loop-entry.invariant.steps) }
 
 pub returns-clause-found : goal.returns-clause-found
 returns-clause-found g c =
@@ -52,3 +67,15 @@ returns-clause-found g c =
     (λ found is. is ∙ spent_within c.args.budget (listing problem c.args.penalty) c.loop-entry.search.best
     (omega (arith, inside problem c.args.penalty c.loop-entry._entry c.loop-entry.search behind, c.loop-entry.auto._entry-end, c.loop-entry-test.false))
     (behind.best ∙ ap (λ n. best_after None (take n (listing problem c.args.penalty))) same))
+
+pub returns-clause-right : goal.returns-clause-right
+returns-clause-right g c =
+    let problem = c.args.problem.now in
+    let behind = c.loop-entry.invariant.behind in
+    let same : c.loop-entry._entry ≡ c.args.budget = omega (arith, c.loop-entry.auto._entry-end, c.loop-entry-test.false) in
+    outcome_by _ (λ found. IfSome found (IsRight problem c.args.penalty)) c.spent.result c.spent.ensures
+    (λ found is. found_right problem c.change_count-count.ensures.forward c.args.penalty c.args.budget found
+    (is ∙ spent_within c.args.budget (listing problem c.args.penalty) c.loop-entry.search.best
+    (omega (arith, inside problem c.args.penalty c.loop-entry._entry c.loop-entry.search behind, c.loop-entry.auto._entry-end, c.loop-entry-test.false))
+    (behind.best ∙ ap (λ n. best_after None (take n (listing problem c.args.penalty))) same))
+    (subst (λ w. IfSome w (λ waits. IsWritable waits.cost)) (sym is) (still_cheap None c.loop-entry.search.best c.loop-entry.invariant.cheap)))

@@ -1,0 +1,65 @@
+use Rattle.std.proofs.Common.{◌≡◌, ◌∙◌, ◌+◌, ◌≤◌, Some, ap, sym, subst, arith}
+use Rattle.std.proofs.lemmas.Result.{err_from_is_err_and}
+use Rattle.giv_files.specs.Inputs.{UnlessFault}
+use Rattle.giv_files.specs.StageCalls.{TakesSteps}
+use Rattle.wait_choice.specs.Budgets.{entries_listed}
+use Rattle.wait_choice.specs.ChoiceStage.{FindsSome, IsEnough, IsUnspent, IsWhole, outcome_of, waits_in, waits_refusals, waits_work}
+use Rattle.wait_choice.specs.Listings.{listing}
+use Rattle.wait_choice.proofs.StageResults.{end_chosen, end_finds, end_steps, end_whole, few_steps, inputs_refused, inputs_steps}
+use Rattle.wait_choice.proofs.Unspent.{refused_unspent, refused_whole}
+use Rattle.wait_choice.proofs.choose.choose_waits.Goals as goal
+
+pub returns-in_err-problem-clause-chosen : goal.returns-in_err-problem-clause-chosen
+returns-in_err-problem-clause-chosen g c =
+    let p = err_from_is_err_and c.from_residual.result c.from_residual.ensures.1 in
+    rw (p.1, p.2) (inputs_refused c.args.bundle.now c.args.penalty c.args.budget c.in_err-problem.field-0.0 c.in_err-problem.ensures.read)
+
+pub returns-in_err-problem-clause-finds : goal.returns-in_err-problem-clause-finds
+returns-in_err-problem-clause-finds g c enough =
+    let p = err_from_is_err_and c.from_residual.result c.from_residual.ensures.1 in
+    rw (p.1, p.2) (refused_unspent c.args.bundle.now c.in_err-problem.field-0.0 c.in_err-problem.ensures.read)
+
+pub returns-in_err-problem-clause-whole : goal.returns-in_err-problem-clause-whole
+returns-in_err-problem-clause-whole g c enough =
+    let p = err_from_is_err_and c.from_residual.result c.from_residual.ensures.1 in
+    rw (p.1, p.2) (refused_whole c.args.bundle.now c.in_err-problem.field-0.0 c.in_err-problem.ensures.read)
+
+pub returns-in_err-problem-clause-steps : goal.returns-in_err-problem-clause-steps
+returns-in_err-problem-clause-steps g c =
+    let p = err_from_is_err_and c.from_residual.result c.from_residual.ensures.1 in
+    rw (p.1, p.2) (inputs_steps c.args.bundle.now c.args.penalty c.args.budget _ _ c.in_err-problem.field-0.0 c.in_err-problem.ensures.read c.tick.ensures)
+
+pub returns-in_err-found-clause-steps : goal.returns-in_err-found-clause-steps
+returns-in_err-found-clause-steps g c =
+    let p = err_from_is_err_and c.from_residual-in_err-found.result c.from_residual-in_err-found.ensures.1 in
+    let read = c.in_ok-problem.ensures.read in
+    let same = ap (λ p. entries_listed c.args.budget (listing p c.args.penalty)) read.1 in
+    let few = c.in_err-found.ensures.err in
+    rw (p.1, p.2) (few_steps c.args.bundle.now c.args.penalty c.args.budget _ _ read.0
+    (omega (arith, few.0, c.tick.ensures)) (omega (arith, few.1, c.tick.ensures, same)))
+
+pub returns-clause-chosen : goal.returns-clause-chosen
+returns-clause-chosen g c =
+    let read = c.in_ok-problem.ensures.read in
+    subst (UnlessFault (waits_refusals c.args.bundle.now c.args.penalty c.args.budget)
+    (λ waits. waits_in c.args.bundle.now c.args.penalty c.args.budget ≡ Some waits)) (sym c.found_or_spent.ensures)
+    (end_chosen c.args.bundle.now c.args.penalty c.args.budget c.in_ok-problem.problem read.0 read.1 c.in_ok-found.found c.in_ok-found.ensures.found)
+
+pub returns-clause-finds : goal.returns-clause-finds
+returns-clause-finds g c enough =
+    let read = c.in_ok-problem.ensures.read in
+    subst IsUnspent (sym c.found_or_spent.ensures)
+    (end_finds c.args.bundle.now c.args.penalty c.args.budget c.in_ok-problem.problem read.0 read.1 c.in_ok-found.found c.in_ok-found.ensures.found enough)
+
+pub returns-clause-whole : goal.returns-clause-whole
+returns-clause-whole g c enough =
+    let read = c.in_ok-problem.ensures.read in
+    subst IsWhole (sym c.found_or_spent.ensures)
+    (end_whole c.args.bundle.now c.args.penalty c.args.budget c.in_ok-problem.problem read.0 read.1 c.in_ok-found.found c.in_ok-found.ensures.found enough)
+
+pub returns-clause-steps : goal.returns-clause-steps
+returns-clause-steps g c =
+    let read = c.in_ok-problem.ensures.read in
+    subst (TakesSteps (waits_work c.args.bundle.now c.args.penalty c.args.budget) _ _) (sym c.found_or_spent.ensures)
+    (end_steps c.args.bundle.now c.args.penalty c.args.budget c.in_ok-problem.problem read.0 read.1 c.in_ok-found.found c.in_ok-found.ensures.found _ _
+    (c.in_ok-found.ensures.steps ∙ ap (λ n. n + entries_listed c.args.budget (listing c.in_ok-problem.problem c.args.penalty)) c.tick.ensures))
