@@ -30,7 +30,7 @@ pub mod TableParts
 mod TextsBack
 mod TightMore
 mod TrialDelay
-mod TrialFacts
+pub mod TrialFacts
 mod Tried
 mod WrittenBy
 pub mod WrittenReasons

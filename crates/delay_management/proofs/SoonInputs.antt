@@ -1,5 +1,5 @@
 -- Inputs without a fault gain little on the way, their changes stand by id, and no event is early.
-use Rattle.std.proofs.Common.{◌≡◌, ◌∙◌, ℕ, suc, ◌+◌, ◌-◌, ◌<◌, ◌≤◌, Bool, true, false, not, cond, eqb, List, [], ◌∷◌, length, map, filter, get_or, All, Some, refl, ap, sym, subst, arith}
+use Rattle.std.proofs.Common.{◌≡◌, ◌∙◌, ℕ, suc, ◌+◌, ◌-◌, ◌<◌, ◌≤◌, Bool, true, false, not, cond, eqb, List, [], ◌∷◌, length, map, filter, get_or, All, Some, refl, ap, sym, arith}
 use Rattle.std.specs.List.Sorted.{IsStrictlyIncreasing}
 use Rattle.std.proofs.lemmas.Bool.{ltb-false, not-false}
 use Rattle.std.proofs.lemmas.Int.{ints}
@@ -26,7 +26,7 @@ use Rattle.event_tables.proofs.RanksRise.{id_at, rank_rises}
 use Rattle.delay_management.specs.declared.step.Activity.{Activity}
 use Rattle.delay_management.specs.declared.step.Step.{Step}
 use Rattle.delay_management.specs.Links.{GainsLittle}
-use Rattle.delay_management.specs.Problems.{DelayProblem, GoesForward, activities_of, delay_of, delayed, earliest_at, earliest_of, event_at, index_of, is_of, minutes, planned_at, problem_over, steps_with, turn_of}
+use Rattle.delay_management.specs.Problems.{DelayProblem, GoesForward, activities_of, delay_of, delayed, earliest_of, event_at, index_of, is_of, minutes, planned_at, problem_over, steps_with, turn_of}
 use Rattle.delay_management.proofs.PassIsLeast.{steps_all}
 
 pub delay_below : (rows : List DelayRow) → All (λ row. InColumns delays_columns (delay_cells row)) rows → (id : ℕ)

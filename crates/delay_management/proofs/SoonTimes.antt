@@ -1,5 +1,5 @@
 -- Times behind links that gain little are not much later than planned.
-use Rattle.std.proofs.Common.{◌≡◌, ◌≢◌, ◌∙◌, ℕ, suc, ◌+◌, ◌*◌, ◌<◌, ◌≤◌, ◌⊎◌, inl, inr, Bool, true, false, cond, eqb, List, [], ◌∷◌, length, get_or, All, Result, Ok, Err, IfOk, refl, ap, sym, subst, arith}
+use Rattle.std.proofs.Common.{◌≡◌, ◌∙◌, ℕ, suc, ◌+◌, ◌*◌, ◌<◌, ◌≤◌, ◌⊎◌, inl, inr, Bool, true, false, cond, eqb, List, [], ◌∷◌, length, All, Result, Ok, Err, IfOk, refl, sym, subst, arith}
 use Rattle.std.proofs.lemmas.Bool.{eqb-true, eqb-false}
 use Rattle.std.proofs.lemmas.List.{get_or_default, get_or-set_same, get_or-set_other, length-set}
 use Rattle.std.proofs.lemmas.List.Elements.{All-head, All-tail}
@@ -8,8 +8,8 @@ use Rattle.event_tables.specs.declared.expanded_event.ExpandedEvent.{ExpandedEve
 use Rattle.delay_management.specs.declared.links.Link.{Link}
 use Rattle.delay_management.specs.declared.step.Step.{Step}
 use Rattle.delay_management.specs.LeastTimes.{asked, later, time_at}
-use Rattle.delay_management.specs.Links.{GainsLittle, IsLinked, counts, head_pushed, forward_rank, links_of, pushed_along, pushed_by}
-use Rattle.delay_management.specs.Problems.{DelayProblem, GoesForward, earliest_at, minutes, planned_at}
+use Rattle.delay_management.specs.Links.{GainsLittle, IsLinked, counts, head_pushed, forward_rank, links_of, pushed_along}
+use Rattle.delay_management.specs.Problems.{DelayProblem, GoesForward, planned_at}
 use Rattle.delay_management.proofs.Later.{later_is}
 use Rattle.delay_management.proofs.PassIsLeast.{all_join, change_steps, links_all, ride_steps, turn_steps}
 use Rattle.delay_management.proofs.ForwardPass.{long as pass_long}

@@ -1,8 +1,8 @@
 -- Decisions one after the other, and the least times behind each.
 use Rattle.std.proofs.Common.{◌≢◌, ◌≡◌, ◌∙◌, ◌⊎◌, inl, inr, ℕ, zero, suc, ◌+◌, ◌-◌, ◌<◌, ◌≤◌, ◌&&◌, ◌||◌, not, cond, eqb, nat_lt, Bool, true, false, List, [], ◌∷◌, ◌++◌, length, map, drop, take, get_or, slice_get, slice_set, All, Option, Some, None, refl, ap, sym, subst, arith, append-nil}
 use Rattle.std.specs.Prelude.{option_to_list, position, replicate, reverse}
-use Rattle.std.specs.List.{enumerate_from, items_where_true, list_any, position_or_len, prefix_len, range_with_len}
-use Rattle.std.proofs.lemmas.Bool.{eqb-true, eqb-false, eq-eqb, ne_eqb, ltb-true, ltb-false, lt-ltb, le-ltb}
+use Rattle.std.specs.List.{enumerate_from, items_where_true, list_any, prefix_len, range_with_len}
+use Rattle.std.proofs.lemmas.Bool.{eq-eqb, ne_eqb, ltb-true, ltb-false, lt-ltb, le-ltb}
 use Rattle.std.proofs.lemmas.List.{drop_more, length_push, map-append, reverse-append, take_more}
 use Rattle.std.proofs.lemmas.List.FromFn.{length-enumerate_from, length-map-range_with_len}
 use Rattle.std.proofs.lemmas.List.Folds.{list_any-append}

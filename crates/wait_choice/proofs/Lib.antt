@@ -1,8 +1,14 @@
 mod Bounds
+mod Judging
 mod Listed
+mod Printed
+mod Told
+mod Walked
+mod Passing
 mod PathFacts
 mod Right
 mod StageResults
+mod TreesOfNodes
 mod Turns
 mod Unspent
 mod Visits

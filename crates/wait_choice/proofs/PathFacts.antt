@@ -1,11 +1,11 @@
 -- The region of a path, change by change.
 use Rattle.std.proofs.Math.Seq.{take-append_seam}
-use Rattle.std.proofs.Common.{Option, take, ◌-◌, OnOk, OnErr, Result, Ok, Err, All, slice_get, mul-le-mul_left, ◌≤ℤ◌, ◌≡◌, ◌≢◌, ◌∙◌, ℕ, ℤ, zero, suc, ◌+◌, ◌*◌, ◌<◌, ◌≤◌, ◌&&◌, ◌||◌, not, cond, eqb, nat_eq, nat_lt, Bool, true, false, List, [], ◌∷◌, ◌++◌, length, map, get_or, slice_set, pos, ◌+ℤ◌, Some, None, refl, ap, sym, subst, arith}
-use Rattle.std.specs.Prelude.{count_by, drop, position, replicate, zip}
-use Rattle.std.specs.List.{enumerate_from, list_any, position_or_len, prefix_len, range_with_len}
+use Rattle.std.proofs.Common.{Option, take, ◌-◌, OnOk, OnErr, Result, Ok, Err, slice_get, mul-le-mul_left, ◌≤ℤ◌, ◌≡◌, ◌≢◌, ◌∙◌, ℕ, ℤ, zero, suc, ◌+◌, ◌*◌, ◌<◌, ◌≤◌, ◌&&◌, ◌||◌, not, cond, eqb, nat_eq, nat_lt, Bool, true, false, List, [], ◌∷◌, ◌++◌, length, map, get_or, slice_set, pos, ◌+ℤ◌, Some, None, refl, ap, sym, subst, arith}
+use Rattle.std.specs.Prelude.{drop, position, replicate, zip}
+use Rattle.std.specs.List.{enumerate_from, list_any, prefix_len, range_with_len}
 use Rattle.std.proofs.lemmas.Bool.{both_ways, eqb-false, eqb-true, eq-eqb, ltb-false, ltb-true, ne_eqb}
 use Rattle.std.proofs.lemmas.Int.{ints}
-use Rattle.std.proofs.lemmas.List.{ext_get_or, get_or_default, get_or-map, get_or-set_other, get_or-set_same, length-append, length-map, length-replicate, length-set, length_push}
+use Rattle.std.proofs.lemmas.List.{ext_get_or, get_or-map, get_or-set_other, get_or-set_same, length-map, length-replicate, length-set, length_push}
 use Rattle.std.proofs.lemmas.List.FromFn.{get_or-map-range_with_len, length-map-range_with_len}
 use Rattle.std.proofs.lemmas.List.Folds.{list_any-append}
 use Rattle.std.proofs.lemmas.List.Sums.{sum_by-cons}
@@ -13,7 +13,7 @@ use Rattle.delay_management.specs.declared.decided.Decided.{Decided}
 use Rattle.delay_management.specs.declared.step.Activity.{Activity}
 use Rattle.delay_management.specs.Lateness.{delay_at, is_broken}
 use Rattle.delay_management.specs.Problems.{DelayProblem}
-use Rattle.delay_management.specs.Trials.{TrialParts, is_decided, kept_of}
+use Rattle.delay_management.specs.Trials.{TrialParts, is_decided}
 use Rattle.delay_management.specs.Trials.{first_broken as trial_broken, is_kept as kept_in, times_of as trial_times}
 use Rattle.wait_choice.specs.declared.decision.Decision.{Decision}
 use Rattle.wait_choice.specs.declared.decision.Decision.TheVariants as decision
@@ -276,7 +276,7 @@ prefix_alike test other (x ∷ xs) (y ∷ ys) same =
     let head : test x ≡ other y = ap (λ all. get_or all 0 false) same in
     λ i. cond (not (head i)) (1 + rest i) 0
 
-position_alike : {X Y : Type 0} (test : X → Bool) (other : Y → Bool) (xs : List X) (ys : List Y)
+pub position_alike : {X Y : Type 0} (test : X → Bool) (other : Y → Bool) (xs : List X) (ys : List Y)
     → map test xs ≡ map other ys → position test xs ≡ position other ys
 position_alike test other xs ys same =
     let place = prefix_alike test other xs ys same in

@@ -1,9 +1,8 @@
 -- A waiting decision that a listing gives within a budget is right.
-use Rattle.std.proofs.Common.{◌≡◌, ◌∙◌, ℕ, ℤ, zero, suc, ◌+◌, ◌*◌, ◌^◌, ◌<◌, ◌≤◌, cond, nat_le, Bool, true, false, List, [], ◌∷◌, ◌++◌, length, map, take, get_or, All, Option, Some, None, IfSome, ap, sym, subst, refl, arith}
-use Rattle.std.specs.Prelude.{⊤, IsSome, option_map, count_by, filter_map}
-use Rattle.std.specs.List.{last_or}
+use Rattle.std.proofs.Common.{◌≡◌, ◌∙◌, ℕ, ℤ, zero, suc, ◌+◌, ◌*◌, ◌^◌, ◌<◌, ◌≤◌, cond, nat_le, Bool, true, false, List, [], ◌∷◌, ◌++◌, length, take, All, Option, Some, None, IfSome, ap, sym, subst, refl, arith}
+use Rattle.std.specs.Prelude.{⊤, IsSome, option_map}
 use Rattle.std.proofs.Math.Nat.{pow-succ'}
-use Rattle.std.proofs.lemmas.Bool.{both_ways, le-leb, leb-false, leb-true, ltb-false, ltb-true}
+use Rattle.std.proofs.lemmas.Bool.{both_ways, le-leb, leb-true}
 use Rattle.std.proofs.lemmas.List.{length-set, length-replicate, take_all}
 use Rattle.std.proofs.lemmas.List.Elements.{All-append, All-cons, All-nil}
 use Rattle.delay_management.specs.Problems.{DelayProblem, IsForward}
@@ -15,11 +14,11 @@ use Rattle.wait_choice.specs.declared.node.WaitNode.TheVariants as node
 use Rattle.wait_choice.specs.declared.waits.Waits.{Waits}
 use Rattle.wait_choice.specs.Budgets.{last_found, waits_within, with_tree}
 use Rattle.wait_choice.specs.Certified.{Certifies, ChangeTree, TreeCertifies, fork, leaf, preorder}
-use Rattle.wait_choice.specs.Choices.{Costs, CostsAtLeast}
+use Rattle.wait_choice.specs.Choices.{Costs}
 use Rattle.wait_choice.specs.ChoiceStage.{FindsSome, IsEnough}
-use Rattle.wait_choice.specs.Listings.{Choice, Entry, best_after, choice_in, cut_off, entries_by, entries_within, entry_at, entry_by, found, found_by, holds_off, levels_of, listing, nodes_of, split, visit}
-use Rattle.wait_choice.specs.Regions.{bound_of, decided, first_broken, is_free, is_free_at, open_region}
-use Rattle.wait_choice.specs.RightChoices.{IsOver, IsRight, IsWritable}
+use Rattle.wait_choice.specs.Listings.{Choice, Entry, best_after, choice_in, cut_off, entries_by, entries_within, entry_at, entry_by, found, holds_off, levels_of, listing, nodes_of, split}
+use Rattle.wait_choice.specs.Regions.{bound_of, decided, first_broken, is_free_at, open_region}
+use Rattle.wait_choice.specs.RightChoices.{IsRight, IsWritable}
 use Rattle.wait_choice.specs.WaitTexts.{NamesChange}
 use Rattle.wait_choice.proofs.Bounds.{found_costs}
 use Rattle.wait_choice.proofs.Listed.{listing_finds, listing_is_best, listing_is_short}
@@ -109,7 +108,7 @@ module _ (problem : DelayProblem) (forward : IsForward problem) (penalty : ℕ) 
       (tree_names cost count keeping (decided region change decision.Kept) (length-set region change decision.Kept ∙ size) shows.1)
       (tree_names cost count dropping (decided region change decision.Dropped) (length-set region change decision.Dropped ∙ size) shows.2))
 
-  names_of : (cost : ℤ) (nodes : List WaitNode) → Certifies problem penalty cost nodes
+  pub names_of : (cost : ℤ) (nodes : List WaitNode) → Certifies problem penalty cost nodes
       → All (NamesChange (length problem.changes)) nodes
   names_of cost nodes certifies =
       subst (All (NamesChange (length problem.changes))) certifies.whole

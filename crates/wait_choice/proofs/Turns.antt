@@ -1,5 +1,5 @@
 -- An entry more of a search.
-use Rattle.std.proofs.Common.{append-nil, Result, Ok, Err, IfOk, ◌≡◌, ◌∙◌, ℕ, ℤ, zero, suc, ◌+◌, ◌≤◌, ◌<◌, cond, Bool, true, false, List, [], ◌∷◌, ◌++◌, length, map, take, drop, get_or, Option, Some, None, ap, sym, subst, refl, arith, append_assoc}
+use Rattle.std.proofs.Common.{append-nil, Result, Ok, Err, IfOk, ◌≡◌, ◌∙◌, ℕ, zero, suc, ◌+◌, ◌≤◌, ◌<◌, cond, Bool, true, false, List, [], ◌∷◌, ◌++◌, length, take, drop, Option, Some, None, ap, sym, subst, refl, arith, append_assoc}
 use Rattle.std.specs.Prelude.{count_by, min, option_map, MatchBool, OnErr, OnOk}
 use Rattle.std.proofs.lemmas.Bool.{le-leb, lt-leb}
 use Rattle.wait_choice.specs.Budgets.{last_found, waits_within, with_tree}
@@ -183,8 +183,7 @@ at_drop (y ∷ xs) zero x rest is =
     (ap (λ z. z ∷ []) same, left, omega arith)
 at_drop (y ∷ xs) (suc i) x rest is =
     let less = at_drop xs i x rest is in
-    let more : suc i + 1 ≡ suc (i + 1) = omega arith in
-    (
+    let more : suc i + 1 ≡ suc (i + 1) = omega arith in (
       ap (λ n. take n (y ∷ xs)) more ∙ ap (λ some. y ∷ some) less.0,
       ap (λ n. drop n (y ∷ xs)) more ∙ less.1,
       (let inside = less.2 in omega (arith, inside)),
@@ -239,8 +238,7 @@ module _ (problem : DelayProblem) (penalty : ℕ) where
     module _ (after : Between) where
       pub one_more : TakesEntry penalty at after true → IsBehind problem penalty (i + 1) after × (i + 1 ≤ length entries)
       one_more takes =
-          let all = at_drop entries i next (to_come penalty after) (sym behind.rest ∙ takes.rest) in
-          (
+          let all = at_drop entries i next (to_come penalty after) (sym behind.rest ∙ takes.rest) in (
             record {
               same = takes.same ∙ behind.same;
               nodes = takes.nodes ∙ ap (λ nodes. nodes ++ node_of next ∷ []) behind.nodes
@@ -259,8 +257,7 @@ module _ (problem : DelayProblem) (penalty : ℕ) where
           let all = at_drop entries i next [] (sym behind.rest ∙ takes.rest) in
           let whole : take (i + 1) entries ≡ entries = take_all (i + 1) entries
           (omega (arith, ap length all.1, length-drop (i + 1) entries)) in
-          let front = sym all.0 ∙ whole in
-          (
+          let front = sym all.0 ∙ whole in (
             takes.nodes ∙ ap (λ nodes. nodes ++ node_of next ∷ []) behind.nodes
                 ∙ sym (map-append node_of (take i entries) (next ∷ [])) ∙ ap nodes_of front,
             takes.best ∙ ap (λ best. best_after best (next ∷ [])) behind.best

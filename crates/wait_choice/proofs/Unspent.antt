@@ -1,5 +1,5 @@
 -- No fault of an input is a spent budget.
-use Rattle.std.proofs.Common.{◌≡◌, ℕ, Bool, true, false, cond, List, [], ◌∷◌, ◌++◌, map, nat_lt, slice_get, Option, Some, None, Err, subst, sym}
+use Rattle.std.proofs.Common.{◌≡◌, ℕ, Bool, true, false, cond, List, [], ◌∷◌, ◌++◌, map, nat_lt, slice_get, Option, Some, None, Err, subst}
 use Rattle.std.specs.Prelude.{⊤}
 use Rattle.std.specs.List.{flat_map}
 use Rattle.giv_files.specs.declared.file_id.FileId.{FileId}

@@ -1,5 +1,5 @@
 -- Inner words: the regions of a search along a path of decisions, the last decision first.
-use Rattle.std.specs.Prelude.{ℕ, ◌≡◌, ◌<◌, ◌==◌, if◌then◌else◌, Bool, true, false, List, [], ◌∷◌, ◌++◌, length, map, replicate, not, nat_eq, MatchBool, ⊤}
+use Rattle.std.specs.Prelude.{ℕ, ◌≡◌, ◌<◌, if◌then◌else◌, Bool, true, false, List, [], ◌∷◌, ◌++◌, length, map, replicate, not, nat_eq, MatchBool, ⊤}
 use Rattle.std.specs.List.{list_any, range_with_len}
 use Rattle.delay_management.specs.declared.decided.Decided.{Decided}
 use Rattle.delay_management.specs.Trials.{TrialParts, is_decided}

@@ -1,5 +1,5 @@
 -- Inner words: rows that can be printed.
-use Rattle.std.specs.Prelude.{ℕ, ◌≤◌, ⊤}
+use Rattle.std.specs.Prelude.{◌≤◌, ⊤}
 use Rattle.wait_choice.specs.declared.row.WaitRow.{WaitRow}
 use Rattle.wait_choice.specs.declared.row.WaitRow.TheVariants as row
 

@@ -1,5 +1,5 @@
 -- Inner words: a search between two entries of its listing.
-use Rattle.std.specs.Prelude.{ℕ, ◌≡◌, Bool, true, List, [], ◌∷◌, ◌++◌, length, take, drop, Option, Some, None, option_map, IfSome, MatchBool}
+use Rattle.std.specs.Prelude.{ℕ, ◌≡◌, Bool, true, List, [], ◌∷◌, ◌++◌, take, drop, Option, None, option_map, IfSome, MatchBool}
 use Rattle.delay_management.specs.Problems.{DelayProblem}
 use Rattle.delay_management.specs.Trials.{TrialParts}
 use Rattle.wait_choice.specs.declared.best.Best.{Best}

@@ -33,5 +33,6 @@ pub fn check_waits(
         (λ answer. IfNone answer (KeepsBest (problem_in bundle.now) penalty text.now)) }
 {
     let problem = Propagation::from_bundle(alloc, bundle)?;
+    let _count = problem.change_count();
     Ok(first_broken_rule(alloc, &problem, penalty, text)?)
 }

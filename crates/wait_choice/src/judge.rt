@@ -1,11 +1,12 @@
 // The rules of a waiting decision from any hand, in their order.
-ghost use Rattle.std.specs.Prelude.{◌≡◌, ◌==◌, List, pos, length, map, position, slice_get, unwrap_or, IfOk};
+ghost use Rattle.std.specs.Prelude.{◌≡◌, ◌*◌, ◌+ℤ◌, ◌<◌, List, pos, length, map, slice_get, true, All, IfOk};
 ghost use Rattle.std.specs.Ordering.{int_eq};
 ghost use Rattle.std.specs.List.Sorted.{IsStrictlyIncreasing};
 ghost use Rattle.delay_management.specs.declared.step.Activity.{Activity};
 ghost use Rattle.wait_choice.specs.Choices.{cost_of, dropped_count};
 ghost use Rattle.wait_choice.specs.Judged.{broken_nodes, broken_rows, first_broken_rule, keeps, node_said};
 
+use crate::ids::{change_ids, index_of};
 use crate::node::WaitNode;
 use crate::row::WaitRow;
 use crate::rows::{rows_of, wait_table};
@@ -70,7 +71,14 @@ fn costs(
     let kept = kept_in(alloc, choices)?;
     let times = problem.least(alloc, &kept)?;
     let dropped = dropped_count(&kept);
-    Ok(problem.delay(&times) == i128::from(cost) - i128::from(penalty) * i128::from(dropped))
+    Ok(is_sum(problem.delay(&times), penalty, dropped_count(&kept), cost))
+}
+
+// Whether a delay and a penalty for each change that is dropped are so much together.
+fn is_sum(delay: i128, penalty: u32, dropped: usize, cost: u64) -> bool
+    ensures { result ≡ int_eq (pos cost) (delay +ℤ pos (penalty * dropped)) }
+{
+    delay == i128::from(cost) - i128::from(penalty) * dropped as i128
 }
 
 // Whether rows keep their changes.
@@ -92,7 +100,7 @@ fn keeps(row: &WaitRow) -> bool
 }
 
 // How many changes are dropped.
-fn dropped_count(kept: &[bool]) -> u64
+fn dropped_count(kept: &[bool]) -> usize
     ensures { result ≡ dropped_count kept.now }
 {
     let mut dropped = 0;
@@ -128,19 +136,6 @@ fn nodes_rule(
     Ok(walk.rule())
 }
 
-// The ids of changes.
-fn change_ids(alloc: Global, problem: &Propagation) -> Result<Vec<u64>, NoMemory>
-    ensures { IfOk result
-        (λ ids. ids.items ≡ map (λ change. change.id) problem.now.changes) }
-{
-    let count = problem.change_count();
-    let mut ids = Vec::with_capacity(alloc, count)?;
-    for change in 0..count {
-        ids.push(problem.change_id(change) as u64)?;
-    }
-    Ok(ids)
-}
-
 // The node of a row, over the ids of changes.
 fn node_said(ids: &[u64], row: &WaitRow) -> WaitNode
     requires { IsStrictlyIncreasing ids.now }
@@ -152,16 +147,5 @@ fn node_said(ids: &[u64], row: &WaitRow) -> WaitNode
             change: index_of(ids, *id),
         },
         _ => WaitNode::Leaf,
-    }
-}
-
-// The index of an id among ids that rise, or how many there are where it is none of them.
-fn index_of(ids: &[u64], id: u64) -> usize
-    requires { IsStrictlyIncreasing ids.now }
-    ensures { result ≡ unwrap_or (position (λ other. other == id) ids.now) (length ids.now) }
-{
-    match ids.binary_search(&id) {
-        Ok(index) => index,
-        Err(_) => ids.len(),
     }
 }

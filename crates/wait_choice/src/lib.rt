@@ -7,6 +7,7 @@ mod check;
 mod choose;
 mod columns;
 mod decision;
+mod ids;
 mod judge;
 mod kept;
 mod next;

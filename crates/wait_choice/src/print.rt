@@ -12,6 +12,7 @@ ghost use Rattle.wait_choice.specs.PrintedRows.{RowFits};
 ghost use Rattle.wait_choice.specs.RightChoices.{IsRight, IsOver, IsWritable};
 ghost use Rattle.wait_choice.specs.WaitTexts.{NamesChange, choice_row, node_row, wait_row, waits_columns, waits_rows, waits_text};
 
+use crate::ids::id_at;
 use crate::kept::Kept;
 use crate::node::WaitNode;
 use crate::row::WaitRow;
@@ -50,6 +51,7 @@ fn printed(alloc: Global, problem: &Propagation, waits: &Waits) -> Result<Text, 
     ensures passes { IfOk result (λ text. (penalty : ℕ) → IsRight problem.now penalty waits.now
         → first_broken_rule problem.now penalty text ≡ None) }
 {
+    let _count = problem.change_count();
     let rows = waits_rows(alloc, problem, waits)?;
     rows_text(alloc, &rows)
 }
@@ -100,7 +102,7 @@ fn choice_row(problem: &Propagation, change: usize, kept: bool) -> WaitRow
         ≡ choice_row kept (get_or problem.now.changes change d) }
     ensures fits { RowFits result }
 {
-    let id = problem.change_id(change) as u64;
+    let id = id_at(problem, change);
     if kept {
         WaitRow::Keep { id }
     } else {
@@ -109,7 +111,11 @@ fn choice_row(problem: &Propagation, change: usize, kept: bool) -> WaitRow
 }
 
 // The rows of the nodes of a tree, behind others.
-fn push_nodes(rows: &mut Vec<WaitRow>, problem: &Propagation, tree: &WaitTree) -> Result<(), NoMemory>
+fn push_nodes(
+    rows: &mut Vec<WaitRow>,
+    problem: &Propagation,
+    tree: &WaitTree,
+) -> Result<(), NoMemory>
     requires names { All (NamesChange (length problem.now.changes)) tree.now }
     requires fit { All RowFits rows.old.items }
     ensures rows { OnOk result (rows.new.items
@@ -130,7 +136,7 @@ fn node_row(problem: &Propagation, node: &WaitNode) -> WaitRow
 {
     match node {
         WaitNode::Split { change } => WaitRow::Split {
-            id: problem.change_id(*change) as u64,
+            id: id_at(problem, *change),
         },
         WaitNode::Leaf => WaitRow::Leaf,
     }

@@ -1,8 +1,10 @@
 // The form of the rows of a waiting decision.
-ghost use Rattle.std.specs.Prelude.{◌≡◌, pos};
+ghost use Rattle.std.specs.Prelude.{◌≡◌};
+ghost use Rattle.std.specs.List.{list_all};
 ghost use Rattle.delay_management.specs.declared.step.Activity.{Activity};
 ghost use Rattle.wait_choice.specs.Judged.{are_choices, cost_in, is_choice, is_cost, is_node, is_shaped};
 
+use crate::ids::id_at;
 use crate::row::WaitRow;
 use delay_management::Propagation;
 
@@ -35,11 +37,11 @@ fn are_choices(problem: &Propagation, rows: &[WaitRow]) -> bool
         return false;
     }
     for change in 0..count {
-        if !is_choice(&rows[change], problem.change_id(change)) {
+        if !is_choice(&rows[change], id_at(problem, change)) {
             return false;
         }
     }
-    rows[count..].iter().all(is_node)
+    are_nodes(&rows[count..])
 }
 
 // Whether a row tells a cost.
@@ -50,13 +52,20 @@ fn is_cost(row: &WaitRow) -> bool
 }
 
 // Whether a row is a decision on the change of an id.
-fn is_choice(row: &WaitRow, id: i64) -> bool
-    ensures { (change : Activity) → pos change.id ≡ id → result ≡ is_choice row.now change }
+fn is_choice(row: &WaitRow, id: u64) -> bool
+    ensures { (change : Activity) → id ≡ change.id → result ≡ is_choice row.now change }
 {
     match row {
-        WaitRow::Keep { id: said } | WaitRow::Drop { id: said } => i128::from(*said) == i128::from(id),
+        WaitRow::Keep { id: said } | WaitRow::Drop { id: said } => *said == id,
         _ => false,
     }
+}
+
+// Whether all rows are nodes.
+fn are_nodes(rows: &[WaitRow]) -> bool
+    ensures { result ≡ list_all is_node rows.now }
+{
+    rows.iter().all(is_node)
 }
 
 // Whether a row is a node.

@@ -1,6 +1,8 @@
 // The walk over the nodes of a tree from any hand.
-ghost use Rattle.std.specs.Prelude.{ℕ, ℤ, ◌≡◌, pos, [], true, false, IfOk};
+ghost use Rattle.std.specs.Prelude.{ℕ, ℤ, ◌≡◌, ◌||◌, int_lt, pos, [], true, false, IfOk};
 ghost use Rattle.wait_choice.specs.declared.node.WaitNode.TheVariants as node;
+ghost use Rattle.wait_choice.specs.Paths.{region_in};
+ghost use Rattle.wait_choice.specs.Regions.{bound_of};
 ghost use Rattle.wait_choice.specs.Walks.{TakesNode, rule_behind};
 
 use crate::node::WaitNode;
@@ -67,9 +69,17 @@ impl<'a> Walk<'a> {
         requires { self.old.is_waiting ≡ true }
         ensures { IfOk result (TakesNode penalty (pos cost) node.Leaf self.old self.new) }
     {
-        self.is_low = self.is_low || self.path.bound(penalty) < i128::from(cost);
+        self.is_low = self.is_low_with(penalty, cost);
         self.is_waiting = self.path.go_on()?;
         Ok(true)
+    }
+
+    // Whether a leaf was low, or the region in hand is.
+    fn is_low_with(&self, penalty: u32, cost: u64) -> bool
+        ensures { result ≡ (self.now.is_low || int_lt (bound_of self.now.path.problem penalty
+            (region_in self.now.path)) (pos cost)) }
+    {
+        self.is_low || self.path.bound(penalty) < i128::from(cost)
     }
 
     // A split: on to the part that keeps the change, where it is free.

@@ -1,4 +1,4 @@
-use Rattle.std.proofs.Common.{◌≡◌, ◌∙◌, ◌∷◌, ◌≤◌, true, Vec, length, map, take, slice_set, ap, sym, arith}
+use Rattle.std.proofs.Common.{◌∙◌, ◌∷◌, Vec, map, take, ap, sym, arith}
 use Rattle.std.specs.Prelude.{reverse}
 use Rattle.std.specs.List.{range_with_len}
 use Rattle.std.proofs.lemmas.List.{take_all}

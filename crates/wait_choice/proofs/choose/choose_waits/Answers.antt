@@ -1,9 +1,9 @@
-use Rattle.std.proofs.Common.{◌≡◌, ◌∙◌, ◌+◌, ◌≤◌, Some, ap, sym, subst, arith}
+use Rattle.std.proofs.Common.{◌≡◌, ◌∙◌, ◌+◌, Some, ap, sym, subst, arith}
 use Rattle.std.proofs.lemmas.Result.{err_from_is_err_and}
 use Rattle.giv_files.specs.Inputs.{UnlessFault}
 use Rattle.giv_files.specs.StageCalls.{TakesSteps}
 use Rattle.wait_choice.specs.Budgets.{entries_listed}
-use Rattle.wait_choice.specs.ChoiceStage.{FindsSome, IsEnough, IsUnspent, IsWhole, outcome_of, waits_in, waits_refusals, waits_work}
+use Rattle.wait_choice.specs.ChoiceStage.{IsUnspent, IsWhole, waits_in, waits_refusals, waits_work}
 use Rattle.wait_choice.specs.Listings.{listing}
 use Rattle.wait_choice.proofs.StageResults.{end_chosen, end_finds, end_steps, end_whole, few_steps, inputs_refused, inputs_steps}
 use Rattle.wait_choice.proofs.Unspent.{refused_unspent, refused_whole}

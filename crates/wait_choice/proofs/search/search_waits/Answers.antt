@@ -1,10 +1,10 @@
-use Rattle.std.proofs.Common.{◌≡◌, ◌∙◌, ◌+◌, ◌≤◌, ◌<◌, true, false, None, IfSome, length, take, ap, sym, subst, arith}
-use Rattle.wait_choice.specs.Budgets.{entries_listed, with_tree, waits_within}
+use Rattle.std.proofs.Common.{◌≡◌, ◌∙◌, None, IfSome, length, take, ap, sym, subst, arith}
+use Rattle.wait_choice.specs.Budgets.{waits_within}
 use Rattle.wait_choice.specs.Listings.{best_after, listing}
 use Rattle.wait_choice.specs.RightChoices.{IsRight, IsWritable}
 use Rattle.wait_choice.specs.Searches.{Between, IsCheap, TakesEntry}
 use Rattle.wait_choice.proofs.Right.{found_right, still_cheap}
-use Rattle.wait_choice.proofs.Turns.{all_listed, budget_listed, few_listed, inside, last_one, on_err, on_ok, one_more, outcome_by, spent_within, starts, whole_within}
+use Rattle.wait_choice.proofs.Turns.{all_listed, few_listed, inside, last_one, on_err, on_ok, one_more, outcome_by, spent_within, starts, whole_within}
 use Rattle.wait_choice.proofs.search.search_waits.Goals as goal
 
 pub loop-entry-init : goal.loop-entry-init

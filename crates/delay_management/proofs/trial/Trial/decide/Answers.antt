@@ -1,8 +1,8 @@
-use Rattle.std.proofs.Common.{◌≡◌, ◌∙◌, ◌∷◌, ◌≤◌, All, length, map, ap, sym, subst}
+use Rattle.std.proofs.Common.{◌∙◌, ◌∷◌, map, ap}
 use Rattle.std.specs.Prelude.{reverse}
 use Rattle.std.specs.List.{range_with_len}
 use Rattle.delay_management.specs.LeastTimes.{least_times}
-use Rattle.delay_management.specs.TakenParts.{TakenParts, decisions}
+use Rattle.delay_management.specs.TakenParts.{decisions}
 use Rattle.delay_management.specs.Trials.{is_kept}
 use Rattle.delay_management.specs.Waiting.{chosen_changes}
 use Rattle.delay_management.proofs.TrialFacts.{pushed_told}

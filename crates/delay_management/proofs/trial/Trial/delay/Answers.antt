@@ -1,4 +1,4 @@
-use Rattle.std.proofs.Common.{◌≡◌, ◌∙◌, ◌<◌, ◌≤◌, ◌≤ℤ◌, ℕ, pos, length, sym, subst, ap}
+use Rattle.std.proofs.Common.{◌∙◌, ◌≤ℤ◌, pos, sym, subst}
 use Rattle.std.proofs.lemmas.Int.{to_z-of_z}
 use mir.Syntax.{w128}
 use Rattle.delay_management.specs.LeastTimes.{IsLeast}

@@ -1,4 +1,4 @@
-use Rattle.std.proofs.Common.{◌≡◌, ◌∙◌, ◌<◌, ◌≤◌, length, ap, sym, arith}
+use Rattle.std.proofs.Common.{◌∙◌, length, ap, sym, arith}
 use Rattle.delay_management.specs.Trials.{TrialParts}
 use Rattle.delay_management.proofs.TrialFacts.{none_open, one_open}
 use Rattle.delay_management.proofs.trial.Trial.first_broken.Goals as goal

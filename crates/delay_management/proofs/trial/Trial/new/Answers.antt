@@ -1,4 +1,4 @@
-use Rattle.std.proofs.Common.{◌≡◌, ◌∙◌, sym, subst, ap}
+use Rattle.std.proofs.Common.{sym, subst}
 use Rattle.std.specs.Prelude.{reverse}
 use Rattle.delay_management.specs.TakenParts.{AreTold}
 use Rattle.delay_management.proofs.TrialFacts.{first_told}

@@ -1,4 +1,4 @@
-use Rattle.std.proofs.Common.{◌≡◌, ◌∙◌, ◌-◌, ◌≤◌, All, None, Some, length, slice_get, sym, subst, ap}
+use Rattle.std.proofs.Common.{◌≡◌, ◌∙◌, ◌-◌, Some, length, slice_get, sym, subst, ap}
 use Rattle.std.specs.Prelude.{reverse}
 use Rattle.std.specs.Option.{option_copied}
 use Rattle.delay_management.specs.LeastTimes.{IsLeast}

@@ -1,4 +1,4 @@
-use Rattle.std.proofs.Common.{◌≡◌, ◌∙◌, ◌+◌, ◌<◌, take, ap, sym, length, false, get_or, slice_set, arith}
+use Rattle.std.proofs.Common.{◌∙◌, take, ap, sym, false, get_or, slice_set}
 use Rattle.std.proofs.lemmas.List.{take_more}
 use Rattle.wait_choice.specs.Paths.{all_but}
 use Rattle.wait_choice.proofs.PathFacts.{none_dropped, one_dropped}

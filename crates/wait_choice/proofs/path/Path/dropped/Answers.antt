@@ -1,4 +1,4 @@
-use Rattle.std.proofs.Common.{◌≡◌, ◌∙◌, length, ap, sym, subst}
+use Rattle.std.proofs.Common.{◌≡◌, ◌∙◌, length, ap, subst}
 use Rattle.wait_choice.specs.Paths.{all_but, region_in}
 use Rattle.wait_choice.specs.Regions.{greatest_set}
 use Rattle.wait_choice.proofs.PathFacts.{greatest_is}

@@ -1,4 +1,4 @@
-use Rattle.std.proofs.Common.{◌≡◌, ◌∙◌, sym}
+use Rattle.std.proofs.Common.{◌∙◌, sym}
 use Rattle.wait_choice.proofs.PathFacts.{ended, passed_by, went_on}
 use Rattle.wait_choice.proofs.path.Path.go_on.Goals as goal
 

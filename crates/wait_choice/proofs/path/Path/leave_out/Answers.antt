@@ -1,4 +1,4 @@
-use Rattle.std.proofs.Common.{◌≡◌, ◌∙◌, true, false, ◌∷◌, length, ap, sym, subst}
+use Rattle.std.proofs.Common.{◌≡◌, true, length, sym, subst}
 use Rattle.wait_choice.specs.Paths.{IsPath, region_in}
 use Rattle.wait_choice.specs.Regions.{is_free_at}
 use Rattle.wait_choice.proofs.PathFacts.{free_there, dropped_on}

@@ -1,4 +1,4 @@
-use Rattle.std.proofs.Common.{◌≡◌, sym, subst}
+use Rattle.std.proofs.Common.{sym, subst}
 use Rattle.wait_choice.specs.Paths.{AreOnce, IsPath, dropped_in}
 use Rattle.wait_choice.proofs.path.Path.new.Goals as goal
 

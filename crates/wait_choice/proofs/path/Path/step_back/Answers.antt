@@ -1,4 +1,3 @@
-use Rattle.std.proofs.Common.{◌≡◌, ◌∙◌, not, Bool, true, false, ℕ, sym, subst}
 use Rattle.std.proofs.lemmas.Bool.{both_ways, not-false, not-true}
 use Rattle.wait_choice.proofs.PathFacts.{popped, still_path, then_free}
 use Rattle.wait_choice.proofs.path.Path.step_back.Goals as goal

@@ -1,4 +1,4 @@
-use Rattle.std.proofs.Common.{◌≡◌, ◌∙◌, length, refl, ap, sym, subst}
+use Rattle.std.proofs.Common.{length, refl, subst}
 use Rattle.wait_choice.specs.Searches.{Splits, best_in}
 use Rattle.wait_choice.proofs.Turns.{split_done}
 use Rattle.wait_choice.proofs.search.Search.split.Goals as goal
@@ -7,10 +7,10 @@ pub returns : goal.returns
 returns c = (
   refl,
   subst (λ before. Splits before (record {
-      path = c.keep.new.self;
-      nodes = c.push.new.self;
-      best = best_in (length c.keep.new.self.problem.changes) c.self.inside.best;
-    }) c.args.change) c.self.view_is
+    path = c.keep.new.self;
+    nodes = c.push.new.self;
+    best = best_in (length c.keep.new.self.problem.changes) c.self.inside.best;
+  }) c.args.change) c.self.view_is
       (split_done c.self.inside.path c.self.inside.tree c.self.inside.best c.args.change c.keep.new.self c.push.new.self
       c.in_ok-keep.ensures c.in_ok-push.ensures.ok),
 )

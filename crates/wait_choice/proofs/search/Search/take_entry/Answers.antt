@@ -1,5 +1,5 @@
 use Rattle.std.proofs.Common.{◌≡◌, ◌∙◌, true, length, refl, ap, sym, subst}
-use Rattle.wait_choice.specs.Listings.{best_after, cut_off, found, found_by, split}
+use Rattle.wait_choice.specs.Listings.{cut_off, found, found_by}
 use Rattle.wait_choice.specs.Searches.{Between, IsCheap, Leaves, Splits, TakesEntry, choice_of, entry_of}
 use Rattle.wait_choice.proofs.Turns.{next_free, outcome_by, takes_leaf, takes_split}
 use Rattle.wait_choice.proofs.search.Search.take_entry.Goals as goal
