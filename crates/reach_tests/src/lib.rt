@@ -1,0 +1,9 @@
+//! Tests of the calls that a finished plan is asked: which changes a day is to keep.
+#![tactic(auto)]
+
+#[cfg(test)]
+mod wait_choices;
+#[cfg(test)]
+mod wait_days;
+#[cfg(test)]
+mod wait_texts;
