@@ -5,10 +5,11 @@ use Rattle.std.proofs.lemmas.List.{get_or_default, get_or-set_same, get_or-set_o
 use Rattle.std.proofs.lemmas.List.Elements.{All-head, All-tail}
 use Rattle.std.proofs.lemmas.List.Sorted.{All-permutation}
 use Rattle.event_tables.specs.declared.expanded_event.ExpandedEvent.{ExpandedEvent}
+use Rattle.event_tables.specs.ForwardRanks.{forward_rank}
 use Rattle.delay_management.specs.declared.links.Link.{Link}
 use Rattle.delay_management.specs.declared.step.Step.{Step}
 use Rattle.delay_management.specs.LeastTimes.{asked, later, time_at}
-use Rattle.delay_management.specs.Links.{GainsLittle, IsLinked, counts, head_pushed, forward_rank, links_of, pushed_along}
+use Rattle.delay_management.specs.Links.{GainsLittle, IsLinked, counts, head_pushed, links_of, pushed_along}
 use Rattle.delay_management.specs.Problems.{DelayProblem, GoesForward, planned_at}
 use Rattle.delay_management.proofs.Later.{later_is}
 use Rattle.delay_management.proofs.PassIsLeast.{all_join, change_steps, links_all, ride_steps, turn_steps}
