@@ -6,10 +6,10 @@ pub mod Laws
 pub mod LeastTimes
 pub mod Links
 pub mod Marks
+pub mod OnTrial
 pub mod Problems
 pub mod Reasons
 pub mod RightDispositions
-pub mod TakenParts
 pub mod TightIds
 pub mod Trials
 pub mod Waiting
