@@ -11,7 +11,6 @@ use Rattle.event_tables.specs.declared.delay_row.DelayRow.{DelayRow}
 use Rattle.event_tables.specs.declared.expanded_activity.ExpandedActivity.{ExpandedActivity}
 use Rattle.event_tables.specs.declared.expanded_event.ExpandedEvent.{ExpandedEvent}
 use Rattle.event_tables.specs.declared.schedule_row.ScheduleRow.{ScheduleRow}
-use Rattle.event_tables.specs.Cells.{expanded_event}
 use Rattle.event_tables.specs.Delays.{AreDelays}
 use Rattle.event_tables.specs.ExpandedFiles.{AreExpandedActivities, AreExpandedEvents, IsExpandedActivity}
 use Rattle.event_tables.specs.ForwardOrder.{goes_forward, stands_before}

@@ -1,16 +1,15 @@
 -- Decisions one after the other, and the least times behind each.
-use Rattle.std.proofs.Common.{◌≢◌, ◌≡◌, ◌∙◌, ◌⊎◌, inl, inr, ℕ, zero, suc, ◌+◌, ◌-◌, ◌<◌, ◌≤◌, ◌&&◌, ◌||◌, not, cond, eqb, nat_lt, Bool, true, false, List, [], ◌∷◌, ◌++◌, length, map, drop, take, get_or, slice_get, slice_set, All, Option, Some, None, refl, ap, sym, subst, arith, append-nil}
-use Rattle.std.specs.Prelude.{option_to_list, position, replicate, reverse}
-use Rattle.std.specs.List.{enumerate_from, items_where_true, list_any, prefix_len, range_with_len}
-use Rattle.std.proofs.lemmas.Bool.{eq-eqb, ne_eqb, ltb-true, ltb-false, lt-ltb, le-ltb}
-use Rattle.std.proofs.lemmas.List.{drop_more, length_push, map-append, reverse-append, take_more}
-use Rattle.std.proofs.lemmas.List.FromFn.{length-enumerate_from, length-map-range_with_len}
-use Rattle.std.proofs.lemmas.List.Folds.{list_any-append}
+use Rattle.std.proofs.Common.{◌≢◌, ◌≡◌, ◌∙◌, ℕ, zero, suc, ◌+◌, ◌<◌, ◌≤◌, ◌&&◌, ◌||◌, not, cond, eqb, nat_lt, Bool, true, false, List, [], ◌∷◌, ◌++◌, length, map, get_or, slice_get, slice_set, All, Option, Some, None, refl, ap, sym, subst, arith}
+use Rattle.std.specs.Prelude.{option_map, position, replicate, reverse}
+use Rattle.std.specs.List.{enumerate_from, prefix_len, range_with_len}
+use Rattle.std.proofs.lemmas.Bool.{both_ways, eq-eqb, ne_eqb, ltb-true, ltb-false, lt-ltb, le-ltb}
+use Rattle.std.proofs.lemmas.List.{reverse-append}
+use Rattle.std.proofs.lemmas.List.FromFn.{get_or-map-range_with_len, length-enumerate_from, length-map-range_with_len}
 use Rattle.delay_management.specs.declared.decided.Decided.{Decided}
 use Rattle.delay_management.specs.declared.step.Activity.{Activity}
 use Rattle.delay_management.specs.LeastTimes.{IsLeast, least_times}
 use Rattle.delay_management.specs.Problems.{DelayProblem, IsForward}
-use Rattle.delay_management.specs.TakenParts.{AreTold, IsTold, TakenParts, decisions}
+use Rattle.delay_management.specs.OnTrial.{AreOnce, IsTrial, kept_flags, open_flags}
 use Rattle.delay_management.specs.Lateness.{is_broken}
 use Rattle.delay_management.specs.Trials.{TrialParts, first_broken, is_decided, is_kept, kept_of, times_of}
 use Rattle.delay_management.specs.Waiting.{chosen_changes}
@@ -23,146 +22,9 @@ use Rattle.delay_management.proofs.Rounds.{least_times_are_least}
 pub reversed : {X : Type 0} (xs : List X) (x : X) → reverse (xs ++ x ∷ []) ≡ x ∷ reverse xs
 reversed xs x = reverse-append xs (x ∷ [])
 
-pub ends : {X : Type 0} (xs : List X) → (xs ≡ []) ⊎ ((ys : List X) × (y : X) × (xs ≡ ys ++ y ∷ []))
-ends [] = inl refl
-ends (x ∷ xs) = by (ends xs)
-  where
-    by : (xs ≡ []) ⊎ ((ys : List _) × (y : _) × (xs ≡ ys ++ y ∷ []))
-        → (x ∷ xs ≡ []) ⊎ ((ys : List _) × (y : _) × (x ∷ xs ≡ ys ++ y ∷ []))
-    by (inl none) = inr ([], x, ap (λ some. x ∷ some) none)
-    by (inr some) = inr (x ∷ some.0, some.1, ap (λ all. x ∷ all) some.2)
-
-last_at : {X : Type 0} (ys : List X) (y : X) → slice_get (ys ++ y ∷ []) (length ys) ≡ Some y
-last_at [] y = refl
-last_at (x ∷ ys) y = last_at ys y
-
-pub any_reversed : {X : Type 0} (test : X → Bool) (xs : List X) → list_any test (reverse xs) ≡ list_any test xs
-any_reversed test [] = refl
-any_reversed test (x ∷ xs) =
-    ap (list_any test) (reverse-append (x ∷ []) xs)
-    ∙ list_any-append test (reverse xs) (x ∷ [])
-    ∙ ap (λ b. b || (test x || false)) (any_reversed test xs)
-    ∙ swapped (list_any test xs) (test x)
-  where
-    swapped : (a b : Bool) → (a || (b || false)) ≡ (b || a)
-    swapped true true = refl
-    swapped true false = refl
-    swapped false true = refl
-    swapped false false = refl
-
-map_reversed : {X Y : Type 0} (f : X → Y) (xs : List X) → map f (reverse xs) ≡ reverse (map f xs)
-map_reversed f [] = refl
-map_reversed f (x ∷ xs) =
-    ap (map f) (reverse-append (x ∷ []) xs)
-    ∙ map-append f (reverse xs) (x ∷ [])
-    ∙ ap (λ some. some ++ f x ∷ []) (map_reversed f xs)
-    ∙ sym (reverse-append (f x ∷ []) (map f xs))
-
-pub decided_reversed : (taken : List TakenParts) (change : ℕ)
-    → is_decided (decisions (reverse taken)) change ≡ is_decided (decisions taken) change
-decided_reversed taken change =
-    ap (λ all. is_decided all change) (map_reversed (λ (one : TakenParts). one.decided) taken)
-    ∙ any_reversed (λ at. eqb at.change change) (decisions taken)
-
--- ---- what is told behind decisions
-
-module _ (problem : DelayProblem) (first : List ℕ) where
-  pub popped_told : (old new : List TakenParts) (last : Option TakenParts) → old ≡ new ++ option_to_list last
-      → AreTold problem first (reverse old) → AreTold problem first (reverse new)
-  unfolding AreTold
-  popped_told old new None is told =
-      subst (λ all. AreTold problem first (reverse all)) (is ∙ append-nil new) told
-  popped_told old new (Some last) is told =
-      (subst (AreTold problem first) (reversed new last) (subst (λ all. AreTold problem first (reverse all)) is told)).1
-
-  pub popped_last : (old new : List TakenParts) (last : TakenParts) → old ≡ new ++ last ∷ []
-      → decisions (reverse old) ≡ last.decided ∷ decisions (reverse new)
-  popped_last old new last is =
-      ap (λ all. decisions (reverse all)) is ∙ ap decisions (reversed new last)
-
-  pub pushed_told : (old new : List TakenParts) (last : TakenParts) → new ≡ old ++ last ∷ []
-      → AreTold problem first (reverse old)
-      → IsTold problem (last.decided ∷ decisions (reverse old)) last.times
-      → AreTold problem first (reverse new)
-  unfolding AreTold
-  pushed_told old new last is told one =
-      subst (AreTold problem first) (sym (ap reverse is ∙ reversed old last)) (one, told)
-
-  pub none_told : (taken : List TakenParts) → None ≡ slice_get taken (length taken - 1)
-      → AreTold problem first (reverse taken) → IsTold problem (decisions (reverse taken)) first
-  unfolding AreTold
-  none_told taken none told = by (ends taken)
-    where
-      by : (taken ≡ []) ⊎ ((ys : List TakenParts) × (y : TakenParts) × (taken ≡ ys ++ y ∷ []))
-          → IsTold problem (decisions (reverse taken)) first
-      by (inl is) =
-          subst (λ all. IsTold problem (decisions (reverse all)) first) (sym is)
-          (subst (λ all. AreTold problem first (reverse all)) is told)
-      by (inr some) =
-          let long = length_push some.0 some.1 in
-          let here : length taken - 1 ≡ length some.0 = omega (arith, long, ap length some.2) in
-          let found : slice_get taken (length taken - 1) ≡ Some some.1 =
-          (λ i. slice_get (some.2 i) (here i)) ∙ last_at some.0 some.1 in
-          absurd (cc)
-
-  pub last_told : (taken : List TakenParts) (last : TakenParts) → Some last ≡ slice_get taken (length taken - 1)
-      → AreTold problem first (reverse taken) → IsTold problem (decisions (reverse taken)) last.times
-  unfolding AreTold
-  last_told taken last at told = by (ends taken)
-    where
-      by : (taken ≡ []) ⊎ ((ys : List TakenParts) × (y : TakenParts) × (taken ≡ ys ++ y ∷ []))
-          → IsTold problem (decisions (reverse taken)) last.times
-      by (inl is) =
-          let none : slice_get taken (length taken - 1) ≡ None = ap (λ all. slice_get all (length all - 1)) is in
-          absurd (cc)
-      by (inr some) =
-          let long = length_push some.0 some.1 in
-          let here : length taken - 1 ≡ length some.0 = omega (arith, long, ap length some.2) in
-          let found : slice_get taken (length taken - 1) ≡ Some some.1 =
-          (λ i. slice_get (some.2 i) (here i)) ∙ last_at some.0 some.1 in
-          let same : last ≡ some.1 = cc in
-          let all = ap reverse some.2 ∙ reversed some.0 some.1 in
-          subst (λ some. IsTold problem (decisions some) last.times) (sym all)
-          (subst (λ one. IsTold problem (decisions (some.1 ∷ reverse some.0)) one.times) (sym same)
-          (subst (AreTold problem first) all told).0)
-
-  -- the times behind decisions are the least ones
-  pub told_least : IsForward problem → (decided : List Decided) (times : List ℕ) → IsTold problem decided times
-      → IsLeast problem (chosen_changes problem (kept_of (record { problem = problem; decided = decided }))) times
-  told_least forward decided times told =
-      let kept = kept_of (record { problem = problem; decided = decided }) in
-      subst (IsLeast problem (chosen_changes problem kept)) (sym told.0)
-      (least_times_are_least problem (chosen_changes problem kept) forward (chosen_are_changes problem kept))
-
--- nothing is kept before the first decision
-none_kept : {X : Type 0} (a n : ℕ) (xs : List X) → items_where_true (map (is_kept []) (range_with_len a n)) xs ≡ []
-none_kept a zero xs = refl
-none_kept a (suc n) [] = refl
-none_kept a (suc n) (x ∷ xs) = none_kept (a + 1) n xs
-
-pub first_told : (problem : DelayProblem) (times : List ℕ) → times ≡ least_times problem (chosen_changes problem [])
-    → All (λ time. time ≤ 600000000000) times → IsTold problem [] times
-first_told problem times is small =
-    (is ∙ ap (least_times problem) (sym (none_kept 0 (length problem.changes) problem.changes)), small)
-
--- one decision more
-pub take_step : (taken : List TakenParts) (i : ℕ) (one : TakenParts) → i < length taken → one ≡ get_or taken i one
-    → decisions (reverse (take (i + 1) taken)) ≡ one.decided ∷ decisions (reverse (take i taken))
-take_step taken i one inside is =
-    ap (λ some. decisions (reverse some)) (take_more taken i one inside ∙ ap (λ x. take i taken ++ x ∷ []) (sym is))
-    ∙ ap decisions (reversed (take i taken) one)
-
 pub none_flags : (a n : ℕ) → replicate n false ≡ map (is_kept []) (range_with_len a n)
 none_flags a zero = refl
 none_flags a (suc n) = ap (λ some. false ∷ some) (none_flags (a + 1) n)
-
--- a decision on the change is found
-pub decided_here : (taken : List TakenParts) (i change : ℕ) (one : TakenParts) → i < length taken
-    → one ≡ get_or taken i one → one.decided.change ≡ change → is_decided (decisions (drop i taken)) change ≡ true
-decided_here taken i change one inside is same =
-    ap (λ left. is_decided (decisions left) change) (drop_more taken i one inside)
-    ∙ ap (λ (x : TakenParts). eqb x.decided.change change || is_decided (decisions (drop (i + 1) taken)) change) (sym is)
-    ∙ ap (λ b. b || is_decided (decisions (drop (i + 1) taken)) change) (eq-eqb one.decided.change change same)
 
 -- ---- which changes are kept
 
@@ -209,6 +71,164 @@ module _ (count : ℕ) where
       gone : (a b : Bool) → ((a && false) || b) ≡ b
       gone true b = refl
       gone false b = refl
+
+-- ---- which changes are not decided
+
+pub all_open : (a n : ℕ) → replicate n true ≡ map (λ change. not (is_decided [] change)) (range_with_len a n)
+all_open a zero = refl
+all_open a (suc n) = ap (λ some. true ∷ some) (all_open (a + 1) n)
+
+not_kept : (decided : List Decided) (change : ℕ) → is_decided decided change ≡ false → is_kept decided change ≡ false
+not_kept [] change none = refl
+not_kept (last ∷ before) change none = by (eqb last.change change) last.kept none (not_kept before change)
+  where
+    by : (b kept : Bool) → (b || is_decided before change) ≡ false
+        → (is_decided before change ≡ false → is_kept before change ≡ false)
+        → ((b && kept) || is_kept before change) ≡ false
+    by true kept none rest = absurd (both_ways true none refl)
+    by false kept none rest = rest none
+
+module _ (count : ℕ) (decided : List Decided) (last : Decided) (there : last.change < count) where
+  kept_apart : (k : ℕ) → k ≢ last.change → is_kept (last ∷ decided) k ≡ is_kept decided k
+  kept_apart k other = ap (λ b. (b && last.kept) || is_kept decided k) (ne_eqb last.change k (λ e. other (sym e)))
+
+  apart : (k : ℕ) → k ≢ last.change → not (is_decided (last ∷ decided) k) ≡ not (is_decided decided k)
+  apart k other = ap (λ b. not (b || is_decided decided k)) (ne_eqb last.change k (λ e. other (sym e)))
+
+  zeroed : 0 + last.change ≡ last.change
+  zeroed = omega arith
+
+  at_zero : {X : Type 0} (f g : ℕ → X) → ((k : ℕ) → k ≢ last.change → f k ≡ g k) → (k : ℕ) → k ≢ last.change → f (0 + k) ≡ g (0 + k)
+  at_zero f g same k other = let here : 0 + k ≡ k = omega arith in ap f here ∙ same k other ∙ ap g (sym here)
+
+  -- the flags before the last decision
+  pub kept_less : is_decided decided last.change ≡ false
+      → slice_set (kept_flags count (last ∷ decided)) last.change false ≡ kept_flags count decided
+  kept_less none =
+      told_anew (is_kept (last ∷ decided)) (is_kept decided) 0 count last.change false there
+      (ap (is_kept decided) zeroed ∙ not_kept decided last.change none)
+      (λ k inside other. at_zero (is_kept decided) (is_kept (last ∷ decided)) (λ k other. sym (kept_apart k other)) k other)
+
+  pub open_more : is_decided decided last.change ≡ false
+      → slice_set (open_flags count (last ∷ decided)) last.change true ≡ open_flags count decided
+  open_more none =
+      told_anew (λ k. not (is_decided (last ∷ decided) k)) (λ k. not (is_decided decided k)) 0 count last.change true there
+      (ap (λ k. not (is_decided decided k)) zeroed ∙ ap not none)
+      (λ k inside other. at_zero (λ k. not (is_decided decided k)) (λ k. not (is_decided (last ∷ decided) k)) (λ k other. sym (apart k other)) k other)
+
+  -- the flags behind one decision more
+  pub open_less : slice_set (open_flags count decided) last.change false ≡ open_flags count (last ∷ decided)
+  open_less =
+      told_anew (λ k. not (is_decided decided k)) (λ k. not (is_decided (last ∷ decided) k)) 0 count last.change false there
+      (ap (λ k. not (is_decided (last ∷ decided) k)) zeroed
+      ∙ ap (λ b. not (b || is_decided decided last.change)) (eq-eqb last.change last.change refl))
+      (λ k inside other. at_zero (λ k. not (is_decided (last ∷ decided) k)) (λ k. not (is_decided decided k)) apart k other)
+
+-- ---- decisions on trial
+
+module _ (problem : DelayProblem) where
+  abbrev n : ℕ
+  n = length problem.changes
+
+  pub least_each : IsForward problem → (kept : List Bool) (times : List ℕ)
+      → times ≡ least_times problem (chosen_changes problem kept) → length times ≡ length problem.events
+  least_each forward kept times is =
+      ap length is
+      ∙ (least_times_are_least problem (chosen_changes problem kept) forward (chosen_are_changes problem kept)).feasible.each
+
+  pub starts : (kept open_yet : List Bool) (times : List ℕ) → kept ≡ replicate n false → open_yet ≡ replicate n true
+      → length times ≡ length problem.events
+      → times ≡ least_times problem (chosen_changes problem kept) → All (λ time. time ≤ 600000000000) times
+      → IsTrial problem [] kept open_yet times
+  unfolding AreOnce
+  starts kept open_yet times none all each least small = record {
+    each = each;
+    once = tt;
+    flags = none ∙ none_flags 0 n;
+    undecided = all ∙ all_open 0 n;
+    told = least ∙ ap (λ some. least_times problem (chosen_changes problem some)) (none ∙ none_flags 0 n);
+    small = small;
+  }
+
+  module _ (decided : List Decided) (kept open_yet : List Bool) (times : List ℕ)
+      (is : IsTrial problem decided kept open_yet times) where
+    pub kept_on : (change : ℕ) → change < n → is_decided decided change ≡ false
+        → (kept_now open_now : List Bool) (now : List ℕ) → kept_now ≡ slice_set kept change true
+        → open_now ≡ slice_set open_yet change false → IsForward problem → now ≡ least_times problem (chosen_changes problem kept_now)
+        → All (λ time. time ≤ 600000000000) now
+        → IsTrial problem (record { change = change; kept = true } ∷ decided) kept_now open_now now
+    unfolding AreOnce
+    kept_on change there none kept_now open_now now one two forward least small =
+        let last : Decided = record { change = change; kept = true } in
+        let flags = one ∙ kept_more n decided last refl kept is.flags in
+        record {
+          once = (there, none, is.once);
+          flags = flags;
+          undecided = two ∙ ap (λ some. slice_set some change false) is.undecided ∙ open_less n decided last there;
+          each = least_each forward kept_now now least;
+          told = least ∙ ap (λ some. least_times problem (chosen_changes problem some)) flags;
+          small = small;
+        }
+
+    pub dropped_on : (change : ℕ) → change < n → is_decided decided change ≡ false → (open_now : List Bool)
+        → open_now ≡ slice_set open_yet change false
+        → IsTrial problem (record { change = change; kept = false } ∷ decided) kept open_now times
+    unfolding AreOnce
+    dropped_on change there none open_now two =
+        let last : Decided = record { change = change; kept = false } in
+        let same = kept_same n decided last refl in
+        record {
+          once = (there, none, is.once);
+          flags = is.flags ∙ same;
+          undecided = two ∙ ap (λ some. slice_set some change false) is.undecided ∙ open_less n decided last there;
+          each = is.each;
+          told = is.told ∙ ap (λ some. least_times problem (chosen_changes problem some)) same;
+          small = is.small;
+        }
+
+  module _ (last : Decided) (decided : List Decided) (kept open_yet : List Bool) (times : List ℕ)
+      (is : IsTrial problem (last ∷ decided) kept open_yet times) where
+    pub last_there : last.change < n
+    unfolding AreOnce
+    last_there = is.once.0
+
+    pub kept_back : (kept_now open_now : List Bool) (now : List ℕ) → kept_now ≡ slice_set kept last.change false
+        → open_now ≡ slice_set open_yet last.change true → IsForward problem → now ≡ least_times problem (chosen_changes problem kept_now)
+        → All (λ time. time ≤ 600000000000) now → IsTrial problem decided kept_now open_now now
+    unfolding AreOnce
+    kept_back kept_now open_now now one two forward least small =
+        let flags = one ∙ ap (λ some. slice_set some last.change false) is.flags ∙ kept_less n decided last is.once.0 is.once.1 in
+        record {
+          once = is.once.2;
+          flags = flags;
+          undecided = two ∙ ap (λ some. slice_set some last.change true) is.undecided ∙ open_more n decided last is.once.0 is.once.1;
+          each = least_each forward kept_now now least;
+          told = least ∙ ap (λ some. least_times problem (chosen_changes problem some)) flags;
+          small = small;
+        }
+
+    pub dropped_back : last.kept ≡ false → (open_now : List Bool) → open_now ≡ slice_set open_yet last.change true
+        → IsTrial problem decided kept open_now times
+    unfolding AreOnce
+    dropped_back out open_now two =
+        let same = sym (kept_same n decided last out) in
+        record {
+          once = is.once.2;
+          flags = is.flags ∙ same;
+          undecided = two ∙ ap (λ some. slice_set some last.change true) is.undecided ∙ open_more n decided last is.once.0 is.once.1;
+          each = is.each;
+          told = is.told ∙ ap (λ some. least_times problem (chosen_changes problem some)) same;
+          small = is.small;
+        }
+
+  -- the times are the least ones
+  pub trial_least : IsForward problem → (decided : List Decided) (times : List ℕ)
+      → times ≡ times_of (record { problem = problem; decided = decided })
+      → IsLeast problem (chosen_changes problem (kept_of (record { problem = problem; decided = decided }))) times
+  trial_least forward decided times told =
+      let kept = kept_of (record { problem = problem; decided = decided }) in
+      subst (IsLeast problem (chosen_changes problem kept)) (sym told)
+      (least_times_are_least problem (chosen_changes problem kept) forward (chosen_are_changes problem kept))
 
 -- ---- the first that passes
 
@@ -278,3 +298,38 @@ module _ (trial : TrialParts) (times : List ℕ) (are : times ≡ times_of trial
       none_found is_open (enumerate_from 0 changes) (0, none)
       (λ k less. let inside : k < length changes = omega (arith, less, length-enumerate_from 0 changes) in
       open_at k inside ∙ fails k none inside) ∙ at_times
+
+-- ---- flags of decisions
+
+module _ (problem : DelayProblem) (decided : List Decided) (kept open_yet : List Bool) (times : List ℕ)
+    (is : IsTrial problem decided kept open_yet times) where
+  pub kept_size : length kept ≡ length problem.changes
+  kept_size = ap length is.flags ∙ length-map-range_with_len (is_kept decided) 0 (length problem.changes)
+
+  pub open_size : length open_yet ≡ length problem.changes
+  open_size = ap length is.undecided ∙ length-map-range_with_len (λ change. not (is_decided decided change)) 0 (length problem.changes)
+
+  pub open_flag : (change : ℕ) → change < length problem.changes → get_or open_yet change false ≡ not (is_decided decided change)
+  open_flag change there =
+      let here : 0 + change ≡ change = omega arith in
+      ap (λ flags. get_or flags change false) is.undecided
+      ∙ get_or-map-range_with_len (λ change. not (is_decided decided change)) 0 (length problem.changes) change change false there here
+
+pub not_twice : (a b : Bool) → a ≡ not b → not a ≡ b
+not_twice a true is = ap not is
+not_twice a false is = ap not is
+
+-- a change that is there, whether a time breaks it
+pub broken_at : (times : List ℕ) (changes : List Activity) (k : ℕ) (b : Bool)
+    → option_map (is_broken times) (slice_get changes k) ≡ Some b → k < length changes
+    → (d : Activity) → b ≡ is_broken times (get_or changes k d)
+broken_at times [] k b is inside d = absurd (omega (arith, inside))
+broken_at times (x ∷ xs) zero b is inside d = some_is (sym is)
+  where
+    out : Option Bool → Bool
+    out (Some y) = y
+    out None = false
+
+    some_is : Some b ≡ Some (is_broken times x) → b ≡ is_broken times x
+    some_is same = ap out same
+broken_at times (x ∷ xs) (suc k) b is inside d = broken_at times xs k b is (omega (arith, inside)) d

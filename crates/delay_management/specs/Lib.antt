@@ -6,6 +6,7 @@ pub mod Laws
 pub mod LeastTimes
 pub mod Links
 pub mod Marks
+pub mod OnTrial
 pub mod Problems
 pub mod Reasons
 pub mod RightDispositions

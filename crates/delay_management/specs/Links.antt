@@ -1,5 +1,5 @@
 -- Inner words: the steps in the forward order of their first events, and one pass along them.
-use Rattle.std.specs.Prelude.{ℕ, ◌+◌, ◌*◌, ◌<◌, ◌≤◌, Bool, true, false, if◌then◌else◌, List, ◌++◌, length, map, get_or, slice_set, All, Option, Some, None}
+use Rattle.std.specs.Prelude.{ℕ, ◌+◌, ◌<◌, ◌≤◌, Bool, true, false, if◌then◌else◌, List, ◌++◌, length, map, get_or, slice_set, All, Option, Some, None}
 use Rattle.std.specs.List.{enumerate_from, fold}
 use Rattle.std.specs.List.Sorted.{IsNonDecreasingBy, IsPermutation, IsStrictlyIncreasing}
 use Rattle.event_tables.specs.declared.expanded_event.ExpandedEvent.{ExpandedEvent}
@@ -9,7 +9,7 @@ use Rattle.delay_management.specs.declared.links.Link.{Link}
 use Rattle.delay_management.specs.declared.step.Activity.{Activity}
 use Rattle.delay_management.specs.declared.step.Step.{Step}
 use Rattle.delay_management.specs.LeastTimes.{asked, later, time_at}
-use Rattle.delay_management.specs.Problems.{DelayProblem, IsForward, earliest_at, event_at, minutes, planned_at, steps_with}
+use Rattle.delay_management.specs.Problems.{DelayProblem, IsForward, earliest_at, minutes, planned_at, steps_with}
 
 -- a step with the rank of its first event, and the index of its change, where it is that of one
 abbrev pub link_of : List ExpandedEvent → Option ℕ → Step → Link

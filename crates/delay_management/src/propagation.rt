@@ -14,7 +14,7 @@ ghost use Rattle.delay_management.specs.Waiting.{chosen_changes};
 
 use crate::delays::{delayed_activities, earliest_times};
 use crate::links::{Link, links_in_order};
-use crate::pass::pushed_along;
+use crate::pass::{push_anew, pushed_along};
 use crate::step::{Activity, Step};
 use crate::turns::turns_of;
 use event_tables::{
@@ -131,6 +131,15 @@ impl Propagation {
         ensures small { IfOk result (λ times. All (λ time. time ≤ 600000000000) times.items) }
     {
         pushed_along(alloc, &self.earliest, &self.links, kept)
+    }
+
+    /// The same times in the place of others. No memory is taken.
+    pub(crate) fn push_least(&self, times: &mut Vec<u64>, kept: &[bool])
+        requires { length times.old.items ≡ length self.now.events }
+        ensures times { times.new.items ≡ least_times self.now (chosen_changes self.now kept.now) }
+        ensures small { All (λ time. time ≤ 600000000000) times.new.items }
+    {
+        push_anew(times, &self.earliest, &self.links, kept);
     }
 
     /// The events.

@@ -57,6 +57,15 @@ impl Propagation {
         Ok(Times { times })
     }
 
+    /// The least times where some changes are kept, in the place of others. No memory is taken.
+    pub(crate) fn refresh(&self, times: &mut Times, kept: &[bool])
+        requires { length times.old ≡ length self.now.events }
+        ensures times { times.new ≡ least_times self.now (chosen_changes self.now kept.now) }
+        ensures small { All (λ time. time ≤ 600000000000) times.new }
+    {
+        self.push_least(&mut times.times, kept);
+    }
+
     /// How many events there are.
     pub fn event_count(&self) -> usize
         ensures count { result ≡ length self.now.events }

@@ -1,18 +1,9 @@
-//! Tests of the calls that answer questions beside the stages: journeys and how they are judged, pools
-//! of shortest lines, and waiting decisions.
+//! Tests of the calls that a finished plan is asked: which changes a day is to keep.
 #![tactic(auto)]
 
 #[cfg(test)]
-mod journey_check;
+mod wait_choices;
 #[cfg(test)]
-mod journey_days;
+mod wait_days;
 #[cfg(test)]
-mod journey_large;
-#[cfg(test)]
-mod journey_refused;
-#[cfg(test)]
-mod journey_told;
-#[cfg(test)]
-mod pool_large;
-#[cfg(test)]
-mod pool_rows;
+mod wait_texts;

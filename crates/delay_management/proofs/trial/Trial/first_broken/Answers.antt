@@ -1,11 +1,11 @@
-use Rattle.std.proofs.Common.{◌∙◌, length, ap, sym, arith}
+use Rattle.std.proofs.Common.{◌∙◌, length, ap, refl, sym, arith}
 use Rattle.delay_management.specs.Trials.{TrialParts}
 use Rattle.delay_management.proofs.TrialFacts.{none_open, one_open}
 use Rattle.delay_management.proofs.trial.Trial.first_broken.Goals as goal
 
 pub returns-then-is_open : goal.returns-then-is_open
 returns-then-is_open c =
-    one_open c.args.self.now c.times-times.result.now c.times-times.ensures.times c.loop-change.change
+    one_open c.args.self.now _ refl c.loop-change.change
     (omega (
       arith,
       c.loop-change-test.true,
@@ -16,7 +16,7 @@ returns-then-is_open c =
 
 pub returns : goal.returns
 returns c =
-    none_open c.args.self.now c.times-times.result.now c.times-times.ensures.times
+    none_open c.args.self.now _ refl
     (λ k d inside. c.loop-change.invariant k d (omega (
       arith,
       inside,

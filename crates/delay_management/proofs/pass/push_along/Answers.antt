@@ -2,8 +2,8 @@ use Rattle.std.proofs.Common.{◌∙◌, ◌+◌, ◌*◌, ◌≤◌, None, ℕ,
 use Rattle.std.proofs.lemmas.List.{length-set}
 use Rattle.delay_management.specs.Links.{pushed_along}
 use Rattle.delay_management.proofs.Passing.{head_soon, link_counts, link_passed, still_soon}
-use Rattle.delay_management.proofs.pass.pushed_along.Goals.{then-counts, else-counts}
-use Rattle.delay_management.proofs.pass.pushed_along.Goals as goal
+use Rattle.delay_management.proofs.pass.push_along.Goals.{then-counts, else-counts}
+use Rattle.delay_management.proofs.pass.push_along.Goals as goal
 
 pub loop-link-preserved : goal.loop-link-preserved
 loop-link-preserved c =

@@ -2,11 +2,11 @@
 -- steps so far take.
 use Rattle.std.proofs.Common.{◌≡◌, ◌+◌, ◌*◌, ◌≤◌, drop, length, All}
 use Rattle.delay_management.specs.Links.{pushed_along}
-use Rattle.delay_management.proofs.pass.pushed_along.Given as goal
+use Rattle.delay_management.proofs.pass.push_along.Given as goal
 
 abbrev pub invariant-loop-link : goal.invariant-loop-link
 invariant-loop-link l = record {
-  told : pushed_along l.kept (drop l.link-index l.links) l.times.items ≡ pushed_along l.kept l.links l.earliest;
-  each : length l.times.items ≡ length l.earliest;
+  told : pushed_along l.kept (drop l.link-index l.links) l.times.items ≡ pushed_along l.kept l.links l.fn.times.items;
+  each : length l.times.items ≡ length l.fn.times.items;
   soon : All (λ time. time ≤ 8589934590 + l.link-index * 8589934590) l.times.items;
 }
