@@ -21,7 +21,7 @@ use Rattle.event_tables.specs.Places.{AreNumbered}
 use Rattle.event_tables.specs.Schedules.{AreScheduleRows, IsScheduleRow, has_room, is_empty_row}
 use Rattle.event_tables.specs.Kinds.{is_arrival}
 use Rattle.event_tables.proofs.Numbering.{find_numbered}
-use Rattle.event_tables.proofs.RanksRise.{id_at, rank_rises}
+use Rattle.event_tables.proofs.RanksRise.{id_at, planned_rises}
 use Rattle.delay_management.specs.declared.step.Activity.{Activity}
 use Rattle.delay_management.specs.declared.step.Step.{Step}
 use Rattle.delay_management.specs.Links.{GainsLittle}
@@ -69,24 +69,11 @@ ids_rise changes rows activities are k within =
     pairs i j d less inside =
         omega (arith, id_at (λ row. row.id) activities i d are (omega (arith, less, inside)), id_at (λ row. row.id) activities j d are inside, less)
 
-later_few : (arrives : Bool) → cond {A = ℕ} arrives 0 2147483648 ≤ 2147483648
-later_few true = omega arith
-later_few false = omega arith
-
--- of two events in the forward order the second is planned no earlier
-planned_rises : (events : List ExpandedEvent) (step : Step) → AreNumbered (λ event. event.id) events
-    → length events ≤ 100000 → GoesForward events step
-    → planned_at events step.from ≤ planned_at events step.to
-planned_rises events step are few goes =
-    let up = rank_rises events step.from step.to are few goes.from goes.to goes.before in
-    let most = later_few (is_arrival (event_at events step.to).kind) in
-    omega (arith, up, most, few, goes.to)
-
 -- an activity that goes forward gains no more than what it takes
-gains_by : (events : List ExpandedEvent) (step : Step) → AreNumbered (λ event. event.id) events
-    → length events ≤ 100000 → GoesForward events step → minutes step ≤ 1100000 → GainsLittle events step
-gains_by events step are count goes few =
-    let up = planned_rises events step are count goes in omega (arith, up, few)
+gains_by : (events : List ExpandedEvent) (step : Step) → GoesForward events step
+    → minutes step ≤ 1100000 → GainsLittle events step
+gains_by events step goes few =
+    let up = planned_rises events step.from step.to goes.before in omega (arith, up, few)
 
 -- a turn has the minutes of its empty ride between its events as planned
 room_for : (minutes : ℕ) (start end : ExpandedEvent) → has_room minutes start end ≡ true
@@ -121,7 +108,7 @@ module _ (turnover : ℕ) (events : List ExpandedEvent) (activities : List Expan
       let row = get_or activities k d in
       let fit = activities_are.fit k d inside in
       short_activity row (omega (arith, ints, fit.1.1.1.1.1.0.1)))) in
-      λ k d inside. gains_by events (get_or (activities_of changes activity_rows activities) k d).step are.numbered are.few (forward k d inside) (short k d inside)
+      λ k d inside. gains_by events (get_or (activities_of changes activity_rows activities) k d).step (forward k d inside) (short k d inside)
 
   turns_gain : All (GainsLittle events) problem.turns
   turns_gain =

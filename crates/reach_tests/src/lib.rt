@@ -1,6 +1,21 @@
-//! Tests of the calls that a finished plan is asked: which changes a day is to keep.
+//! Tests of the calls that answer questions beside the stages: journeys and how they are judged, pools
+//! of shortest lines, and waiting decisions.
 #![tactic(auto)]
 
+#[cfg(test)]
+mod journey_check;
+#[cfg(test)]
+mod journey_days;
+#[cfg(test)]
+mod journey_large;
+#[cfg(test)]
+mod journey_refused;
+#[cfg(test)]
+mod journey_told;
+#[cfg(test)]
+mod pool_large;
+#[cfg(test)]
+mod pool_rows;
 #[cfg(test)]
 mod wait_choices;
 #[cfg(test)]
