@@ -80,6 +80,8 @@ mod network_scripts;
 #[cfg(test)]
 mod player;
 #[cfg(test)]
+mod query_scripts;
+#[cfg(test)]
 mod refused_scripts;
 #[cfg(test)]
 mod script;

@@ -4,15 +4,19 @@ use demo_dataset::demo_files;
 use plan_files::MemorySink;
 use std::test::Fail;
 
-const LINES: [&str; 11] = [
+const LINES: [&str; 29] = [
     "", "make x", "Make", "checks", "demo", "demo 0", "demo 9", "demo 05", "demo 5 5", "Demo 5",
-    "make 5",
+    "make 5", "waits", "waits 1", "waits 1000001 3", "waits 1 0", "waits 1 20001", "waits 01 3",
+    "waits +1 3", "waits 1 3 4", "check-waits", "check-waits 1.0", "check-waits 1 3",
+    "journey 1 1 0 planned", "journey 1 3 0", "journey 0 3 0 planned", "journey 1 3 -1 planned",
+    "journey 1 3 0 Planned", "pool 1", "pool 1 4 1",
 ];
 
 const USAGE: &str = "\
 ends 2 0
 report
-| usage: lintim make | fresh | check | status | demo N
+| usage: lintim make | fresh | check | status | demo N | waits P B | check-waits P | \
+journey A B T planned | journey A B T disposed | pool S1 S2 ..
 writes
 ";
 
