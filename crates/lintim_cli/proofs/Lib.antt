@@ -1,4 +1,4 @@
-mod Asking
+pub mod Asking
 pub mod Demos
 mod Forged
 pub mod Telling
