@@ -1,5 +1,5 @@
 -- The ids of words, one after the other.
-use Rattle.std.proofs.Common.{◌≡◌, ℕ, ℤ, ◌+◌, ◌<◌, ◌≤◌, List, [], ◌∷◌, ◌++◌, length, map, drop, get_or}
+use Rattle.std.proofs.Common.{◌≡◌, ℕ, ℤ, ◌+◌, ◌<◌, ◌≤◌, List, [], ◌∷◌, ◌++◌, length, map, drop}
 use Rattle.std.proofs.Common.{Option, Some, None, option_map, string_bytes, refl, ap, sym, ◌∙◌, append_assoc, append-nil, arith}
 use Rattle.std.specs.Prelude.{slice_index_or}
 use Rattle.std.specs.declared.alloc.Global.{Global}

@@ -1,5 +1,5 @@
 -- The words that ask for waiting decisions, journeys and pools.
-use Rattle.std.specs.Prelude.{ℕ, ℤ, ◌≤◌, ⊤, pos, ◌&&◌, not, nat_le, int_le, if◌then◌else◌, Bool, true, false, List, [], ◌∷◌, ◌++◌, length, codes, unsigned_abs, Option, Some, None, option_map, option_and_then}
+use Rattle.std.specs.Prelude.{ℕ, ℤ, ◌≤◌, ⊤, pos, ◌&&◌, not, nat_le, int_le, if◌then◌else◌, Bool, true, false, List, [], ◌∷◌, length, codes, unsigned_abs, Option, Some, None, option_map, option_and_then}
 use Rattle.std.specs.Fmt.{signed_decimal}
 use Rattle.std.specs.List.{list_any}
 use Rattle.std.specs.Ordering.{int_eq}

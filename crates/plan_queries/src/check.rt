@@ -67,12 +67,7 @@ fn saved<F: Files>(
 }
 
 // The text of such a decision.
-fn judged(
-    alloc: Global,
-    bundle: &Bundle,
-    penalty: u32,
-    text: &Text,
-) -> Result<Answer, ChainEnd>
+fn judged(alloc: Global, bundle: &Bundle, penalty: u32, text: &Text) -> Result<Answer, ChainEnd>
     requires stage { bundle.now.stage ≡ stages.Disposition }
     requires fits { Fits bundle.now }
     ensures tells { Gives (judged_over penalty bundle.now text.now) result }

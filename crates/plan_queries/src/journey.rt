@@ -41,11 +41,7 @@ pub(crate) fn journey<F: Files>(
 }
 
 // The disposed times, where they are asked for.
-fn times<F: Files>(
-    alloc: Global,
-    files: &mut F,
-    disposed: bool,
-) -> Result<Option<Text>, ChainEnd>
+fn times<F: Files>(alloc: Global, files: &mut F, disposed: bool) -> Result<Option<Text>, ChainEnd>
     ensures times { IfSome (F.contents files.old) (λ folder.
         Gives (times_in disposed folder) result) }
     ensures only_reads { OnlyReads F.contents F.writes F.faults files.old files.new

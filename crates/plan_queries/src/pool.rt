@@ -38,12 +38,7 @@ pub(crate) fn pool<F: Files>(
 }
 
 // The pool over the texts of stops and of edges.
-fn over(
-    alloc: Global,
-    stops: &Text,
-    edges: &Text,
-    terminals: &[i64],
-) -> Result<Answer, ChainEnd>
+fn over(alloc: Global, stops: &Text, edges: &Text, terminals: &[i64]) -> Result<Answer, ChainEnd>
     requires { AreTerminals terminals.now }
     ensures tells { Gives (pool_over terminals.now (Ok stops.now) (Ok edges.now)) result }
     ensures right { AnswersRight
