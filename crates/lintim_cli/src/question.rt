@@ -2,6 +2,7 @@
 ghost use Rattle.std.specs.Prelude.{◌≡◌, ◌≤◌, ◌<◌, ◌⊎◌, IfSome, Some};
 ghost use Rattle.plan_files.specs.Counts.{Rose};
 ghost use Rattle.plan_queries.specs.FormWords.{IsInRange};
+ghost use Rattle.plan_queries.specs.Queries.{TakesNone};
 ghost use Rattle.lintim_cli.specs.declared.command.Command.TheVariants as commands;
 ghost use Rattle.lintim_cli.specs.Answers.{AnswersTo};
 ghost use Rattle.lintim_cli.specs.Top.{FileBroke, FormProves, FormTells};
@@ -39,6 +40,7 @@ pub(crate) fn question<F: Files, K: Sink, L: Ledger>(
     ensures sink_fault_comes { K.faults out.old < K.faults out.new →
         (result ≡ Status.SinkFault) ⊎ (result ≡ Status.FileFault) }
     ensures no_memory { result ≡ Status.NoMemory → K.written out.new ≡ K.written out.old }
+    ensures quiet { TakesNone form.now → steps.new ≡ steps.old }
     ensures no_less_steps { steps.old ≤ steps.new }
 {
     match ask(alloc, form, files, steps) {

@@ -10,6 +10,7 @@ ghost use Rattle.stage_driver.specs.PlanningChain.{IsKeptHonest, PassesIn, RunsP
 ghost use Rattle.stage_driver.specs.PlanningChain.{MadeFilesAreRight, RefusesHand, Trusts};
 ghost use Rattle.stage_driver.specs.PlanningChain.{run_over, writes_of, StopsSafely};
 ghost use Rattle.plan_queries.specs.declared.form.Form.{Form};
+ghost use Rattle.plan_queries.specs.Queries.{TakesNone};
 ghost use Rattle.lintim_cli.specs.declared.command.Command.TheVariants as commands;
 ghost use Rattle.lintim_cli.specs.Answers.{AnswersTo};
 ghost use Rattle.lintim_cli.specs.Reports.{Reported, usage_report};
@@ -115,6 +116,10 @@ pub fn lintim<F: Files, K: Sink, L: Ledger>(
         (K.written out.old) (K.written out.new) result) }
     ensures form_changes_nothing { (form : Form) → Asks (commands.Ask form) words.now →
         (F.contents files.new ≡ F.contents files.old) × (F.writes files.new ≡ F.writes files.old) }
+
+    // Only waiting decisions take steps.
+    ensures form_no_steps { (form : Form) → Asks (commands.Ask form) words.now →
+        TakesNone form → steps.new ≡ steps.old }
 
     // Whatever a run answers, what is kept stays honest. Wherever the writes are stopped that it
     // added, the last of them perhaps made in part, the files that people write are as before, and

@@ -305,6 +305,11 @@ TakesSteps work before now (Ok answer) = now ≡ before + work
 TakesSteps work before now (Err chain_fault.FileFault) = now ≡ before
 TakesSteps work before now (Err chain_fault.NoMemory) = now ≤ before + work
 
+-- a question that takes no step: only the search for waiting decisions does
+abbrev pub TakesNone : Form → Type 0
+TakesNone (form.Waits penalty budget) = ⊥
+TakesNone _ = ⊤
+
 -- how many steps it takes
 abbrev pub steps_of : Form → Folder → ℕ
 steps_of (form.Waits penalty budget) folder = waits_steps penalty budget folder

@@ -5,7 +5,7 @@ ghost use Rattle.stage_chain.specs.Ends.{has_failed, is_broken};
 ghost use Rattle.plan_queries.specs.FormWords.{IsInRange};
 ghost use Rattle.plan_queries.specs.declared.answer.QueryEnd.TheVariants as ends;
 ghost use Rattle.plan_queries.specs.Queries.{AnswersIn, AnswersRight, EndsAs, IsRightIn, IsTold};
-ghost use Rattle.plan_queries.specs.Queries.{TakesSteps, TakesUpTo, Tells, steps_of};
+ghost use Rattle.plan_queries.specs.Queries.{TakesNone, TakesSteps, TakesUpTo, Tells, steps_of};
 
 use crate::answer::{Answer, QueryEnd};
 use crate::check::check;
@@ -36,6 +36,7 @@ pub fn ask<F: Files, L: Ledger>(
     ensures ends { IfOk result (λ answer. EndsAs form.now answer.end) }
     ensures steps { IfSome (F.contents files.old) (λ folder.
         TakesSteps (steps_of form.now folder) steps.old steps.new result) }
+    ensures quiet { TakesNone form.now → steps.new ≡ steps.old }
     ensures no_less { steps.old ≤ steps.new }
     ensures only_reads { OnlyReads F.contents F.writes F.faults files.old files.new
         (has_failed result) }
@@ -66,6 +67,7 @@ fn told<F: Files, L: Ledger>(
     ensures ends { IfOk result (λ answer. EndsAs form.now answer.end) }
     ensures steps { IfSome (F.contents files.old) (λ folder.
         TakesUpTo (steps_of form.now folder) steps.old steps.new result) }
+    ensures quiet { TakesNone form.now → steps.new ≡ steps.old }
     ensures no_less { steps.old ≤ steps.new }
     ensures only_reads { OnlyReads F.contents F.writes F.faults files.old files.new
         (is_broken result) }
