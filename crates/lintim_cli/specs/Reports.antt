@@ -6,7 +6,7 @@ use Rattle.lintim_cli.specs.declared.answers.Status.{Status}
 use Rattle.lintim_cli.specs.declared.answers.Status.TheVariants.{FileFault, SinkFault, NoMemory}
 
 abbrev pub usage_report : List ℕ
-usage_report = 
+usage_report =
     codes "usage: lintim make | fresh | check | status | demo N | waits P B | check-waits P | "
     ++ codes "journey A B T planned | journey A B T disposed | pool S1 S2 ..\n"
 
