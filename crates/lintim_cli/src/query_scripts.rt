@@ -126,11 +126,11 @@ report
 | refused: vehicle-scheduling/Vehicle_Schedules.vs is missing
 writes
 put basis/Config.cnf
-| dm_wait; 9
+| dm_wait; never
 run waits 1 3
 ends 3 0
-begins
-| refused: 
+report
+| refused: value of dm_wait
 writes
 ";
 
@@ -201,8 +201,8 @@ put delay-management/Timetable-disposition.tim
 | 1; 0
 run journey 1 3 1 disposed
 ends 3 0
-begins
-| refused: delay-management/Timetable-disposition.tim row
+report
+| refused: delay-management/Timetable-disposition.tim row 0: missing event
 writes
 remove delay-management/Timetable-disposition.tim
 run journey 1 3 1 disposed
@@ -281,7 +281,7 @@ put basis/Stop.giv
 run pool 1 2
 ends 3 0
 report
-| refused: basis/Stop.giv row 1: 2 columns instead of 5
+| refused: basis/Stop.giv row 1: wrong number of fields
 writes
 ";
 

@@ -310,7 +310,7 @@ const OTHER_WORDS: Wanted = Wanted {
     calls: "",
     count: 0,
     status: 2,
-    size: 53,
+    size: 146,
     ..MAKES
 };
 
