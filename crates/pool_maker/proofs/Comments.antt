@@ -15,10 +15,6 @@ use Rattle.giv_files.specs.Writing.{IsHeader, ReadsBack, cell_texts, joined, lin
 
 -- ---- the lines of two texts, the first of which ends a line
 
-onto_front : (byte : ℕ) (parts more : List (List ℕ)) (one : List ℕ)
-    → onto_first byte ((one ∷ parts) ++ more) ≡ onto_first byte (one ∷ parts) ++ more
-onto_front byte parts more one = refl
-
 -- a text has a first part
 record HasPart (parts : List (List ℕ)) : Type 0 where
   first : List ℕ
