@@ -137,13 +137,6 @@ module _ (S : StageParts) (laws : AreStages S) where
   work_bound (Some folder) so_far before now (Err fault) ends =
       let e = work_is folder in omega (arith, ends.1, e)
 
--- the hand files
-pub hand_untouched : (contents told : Option Folder) → told ≡ contents → SameHand contents told
-hand_untouched contents told same = ap (option_map hand_of) same
-
-pub hand_both : (old mid new : Option Folder) → SameHand old mid → SameHand mid new → SameHand old new
-hand_both old mid new first then_so = then_so ∙ first
-
 -- nothing was added to the list of writes
 none_added : (noted : Option (List Write)) → noted ≡ option_map (λ writes. writes ++ []) noted
 none_added None = refl
