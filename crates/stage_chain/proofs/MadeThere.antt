@@ -55,18 +55,6 @@ module _ (folder : Folder) where
       ∙ so_far
 
   -- the next file is lacking
-  pub there_lacks : (files : List FileId) (i : ℕ) (d : FileId) (found : Option (List ℕ))
-      (there : List MadeFile) → i < length files → found ≡ text (get_or files i d)
-      → is_lacking (get_or files i d) found ≡ true
-      → joined there (all_there folder (drop i files)) ≡ all_there folder files
-      → None ≡ all_there folder files
-  there_lacks files i d found there inside is lacks so_far =
-      let file = get_or files i d in
-      let rest = list_any (λ file. is_lacking file (text file)) (drop (i + 1) files) in
-      sym (ap (λ b. joined there (cond (b || rest) None (Some (found_file file (ok_or (text file) (cause.Missing file)) (files_by (made_in folder) (drop (i + 1) files)))))) (ap (is_lacking file) (sym is) ∙ lacks))
-      ∙ sym (at_drop_more (λ rest. joined there (all_there folder rest)) files i d inside)
-      ∙ so_far
-
   pub there_all : (files : List FileId) (i : ℕ) (there : List MadeFile) → length files ≤ i
       → joined there (all_there folder (drop i files)) ≡ all_there folder files
       → Some there ≡ all_there folder files
@@ -86,18 +74,6 @@ told_more None now files i d found there next inside same is kept more so_far = 
 told_more (Some folder) now files i d found there next inside same is kept more so_far =
     let told : found ≡ map.get folder (file_name (get_or files i d)) = rw same at is in
     rw more (there_more folder files i d found there inside told kept so_far)
-
-pub told_lacks : (contents now : Option Folder) (stage : Stage) (files : List FileId) (i : ℕ)
-    (d : FileId) (found : Option (List ℕ)) (there : List MadeFile) → i < length files
-    → now ≡ contents → files ≡ stage_makes stage
-    → IfSome now (λ folder. found ≡ map.get folder (file_name (get_or files i d)))
-    → is_lacking (get_or files i d) found ≡ true
-    → IfSome contents (λ folder. joined there (all_there folder (drop i files)) ≡ all_there folder files)
-    → IfSome contents (λ folder. None ≡ all_there folder (stage_makes stage))
-told_lacks None now stage files i d found there inside same own is lacks so_far = tt
-told_lacks (Some folder) now stage files i d found there inside same own is lacks so_far =
-    let told : found ≡ map.get folder (file_name (get_or files i d)) = rw same at is in
-    there_lacks folder files i d found there inside told lacks so_far ∙ ap (all_there folder) own
 
 pub told_all : (contents : Option Folder) (stage : Stage) (files : List FileId) (i : ℕ)
     (there : List MadeFile) → length files ≤ i → files ≡ stage_makes stage

@@ -1,6 +1,6 @@
 -- A run is what its hand files and what is kept determine.
-use Rattle.std.proofs.Common.{◌≡◌, ℕ, ◌+◌, ◌≤◌, List, [], ◌++◌, Option, Some, None, IfSome}
-use Rattle.std.proofs.Common.{IfOk, IfErr, OnOk, Result, Ok, Err, refl, ap, sym, append-nil, subst}
+use Rattle.std.proofs.Common.{◌≡◌, ℕ, ◌+◌, ◌≤◌, List, ◌++◌, Option, Some, None, IfSome}
+use Rattle.std.proofs.Common.{IfOk, IfErr, OnOk, Result, Ok, Err, refl, ap, sym, subst}
 use Rattle.std.proofs.Common.{◌∙◌, append_assoc, arith, inl}
 use Rattle.std.specs.Option.{option_map}
 use Rattle.plan_files.specs.declared.write.Write.{Write}
@@ -12,11 +12,11 @@ use Rattle.stage_chain.specs.declared.outcome.Outcome.{Outcome}
 use Rattle.stage_chain.specs.declared.cause.Cause.{Cause}
 use Rattle.stage_chain.specs.Built.{RunParts, cause_of, told_by}
 use Rattle.stage_chain.specs.Chain.{Trace}
-use Rattle.stage_chain.specs.Hand.{hand_of, is_hand}
+use Rattle.stage_chain.specs.Hand.{is_hand}
 use Rattle.stage_chain.specs.Kept.{HaveEntries, made_over, new_entries, trace_over, work_over}
 use Rattle.stage_chain.specs.Progress.{SoFar, IsAll, EndGives, trace_work}
 use Rattle.stage_chain.specs.Reports.{last_line, end_of, stage_lines}
-use Rattle.stage_chain.specs.Runs.{AddsNoHandFile, AreNotAll, IsOutcome, SameHand, entries_over}
+use Rattle.stage_chain.specs.Runs.{AddsNoHandFile, AreNotAll, IsOutcome, entries_over}
 use Rattle.stage_chain.specs.Runs.{run_over, unmet, writes_for, writes_of}
 use Rattle.stage_chain.proofs.HandAlone.{over_alone}
 use Rattle.stage_chain.specs.StageParts.{StageParts}
@@ -137,15 +137,7 @@ module _ (S : StageParts) (laws : AreStages S) where
   work_bound (Some folder) so_far before now (Err fault) ends =
       let e = work_is folder in omega (arith, ends.1, e)
 
--- nothing was added to the list of writes
-none_added : (noted : Option (List Write)) → noted ≡ option_map (λ writes. writes ++ []) noted
-none_added None = refl
-none_added (Some writes) = ap Some (sym (append-nil writes))
-
-pub adds_nothing : (before now : Option (List Write)) → now ≡ before → AddsNoHandFile before now
-adds_nothing before now same = record { added = []; noted = same ∙ none_added before; apart = tt }
-
--- or some writes, and then others
+-- some writes are noted, and then others
 pub noted_both : (before : Option (List Write)) (writes more : List Write)
     → option_map (λ noted. noted ++ more) (option_map (λ noted. noted ++ writes) before) ≡ option_map (λ noted. noted ++ (writes ++ more)) before
 noted_both None writes more = refl
