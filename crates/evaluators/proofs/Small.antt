@@ -18,8 +18,8 @@ use Rattle.giv_files.specs.StageCalls.{input_text}
 use Rattle.giv_files.proofs.Inputs.{few_rows}
 use Rattle.giv_files.proofs.Ranges.{front_none, back_none}
 use Rattle.giv_files.proofs.SettingFacts.{amount_within}
-use Rattle.event_tables.specs.declared.activity_kind.ActivityKind.{ActivityKind}
-use Rattle.event_tables.specs.declared.activity_kind.ActivityKind.TheVariants as kind
+use Rattle.event_tables.specs.declared.periodic_kind.PeriodicKind.{PeriodicKind}
+use Rattle.event_tables.specs.declared.periodic_kind.PeriodicKind.TheVariants as kind
 use Rattle.event_tables.specs.declared.expanded_event.ExpandedEvent.{ExpandedEvent}
 use Rattle.event_tables.specs.declared.periodic_activity.PeriodicActivity.{PeriodicActivity}
 use Rattle.event_tables.specs.declared.periodic_time.PeriodicTime.{PeriodicTime}
@@ -81,7 +81,7 @@ module _ (period : ℕ) (some : 1 ≤ period) (short : period ≤ 720) (times : 
       ap unsigned_abs (tension_is period activity.lower from to some) in
       omega (arith, is, small, low, short)
 
-  with_small : (count : ℕ) (activities : List PeriodicActivity) (k : ActivityKind)
+  with_small : (count : ℕ) (activities : List PeriodicActivity) (k : PeriodicKind)
       → ArePeriodicActivities count activities
       → minutes_with period times activities k ≤ 20144000000
   with_small count activities k are =

@@ -1,8 +1,8 @@
 -- The fourteen values of the statistic.
 use Rattle.std.specs.Prelude.{ℕ, ℤ, pos, ◌+◌, ◌-◌, ◌*◌, ◌*ℤ◌, true, nat_lt, unsigned_abs, List, [], ◌∷◌, length, map, filter, zip, codes, get_or, option_map, unwrap_or}
 use Rattle.std.specs.List.{sum_by}
-use Rattle.event_tables.specs.declared.activity_kind.ActivityKind.{ActivityKind}
-use Rattle.event_tables.specs.declared.activity_kind.ActivityKind.TheVariants as kind
+use Rattle.event_tables.specs.declared.periodic_kind.PeriodicKind.{PeriodicKind}
+use Rattle.event_tables.specs.declared.periodic_kind.PeriodicKind.TheVariants as kind
 use Rattle.event_tables.specs.declared.disposed_time.DisposedTime.{DisposedTime}
 use Rattle.event_tables.specs.declared.expanded_activity.ExpandedActivity.{ExpandedActivity}
 use Rattle.event_tables.specs.declared.expanded_event.ExpandedEvent.{ExpandedEvent}
@@ -62,7 +62,7 @@ minutes_of period times activity =
     (tension period (pos activity.lower) (time_at times activity.from) (time_at times activity.to))
 
 -- the minutes that all activities of a kind take
-abbrev pub minutes_with : ℕ → List PeriodicTime → List PeriodicActivity → ActivityKind → ℕ
+abbrev pub minutes_with : ℕ → List PeriodicTime → List PeriodicActivity → PeriodicKind → ℕ
 minutes_with period times activities kind =
     sum_by (minutes_of period times) (filter (λ activity. same_kind activity.kind kind) activities)
 

@@ -9,7 +9,7 @@ ghost use Rattle.evaluators.specs.StatisticStage.{faults_between, periodic_fault
 
 use crate::periodic_values::PeriodicValues;
 use event_tables::{
-    ActivityKind, PeriodicActivity, PeriodicEvent, PeriodicTime, periodic_activities,
+    PeriodicActivity, PeriodicEvent, PeriodicKind, PeriodicTime, periodic_activities,
     periodic_events, periodic_times,
 };
 use giv_files::{FileId, StageFault};
@@ -69,9 +69,9 @@ fn values_of(
     PeriodicValues {
         events: events.len() as u64,
         activities: activities.len() as u64,
-        drive: minutes_with(period, times, activities, ActivityKind::Drive),
-        wait: minutes_with(period, times, activities, ActivityKind::Wait),
-        change: minutes_with(period, times, activities, ActivityKind::Change),
+        drive: minutes_with(period, times, activities, PeriodicKind::Drive),
+        wait: minutes_with(period, times, activities, PeriodicKind::Wait),
+        change: minutes_with(period, times, activities, PeriodicKind::Change),
     }
 }
 
@@ -80,7 +80,7 @@ fn minutes_with(
     period: u32,
     times: &[PeriodicTime],
     activities: &[PeriodicActivity],
-    kind: ActivityKind,
+    kind: PeriodicKind,
 ) -> u64
     requires few { period ≤ 720 }
     requires activities { ArePeriodicActivities (length times.now) activities.now }
@@ -97,7 +97,7 @@ fn minutes_with(
 }
 
 // Whether an activity is of a kind.
-fn is_of_kind(activity: &PeriodicActivity, kind: ActivityKind) -> bool
+fn is_of_kind(activity: &PeriodicActivity, kind: PeriodicKind) -> bool
     ensures { result ≡ same_kind activity.now.kind kind }
 {
     activity.kind.place() == kind.place()

@@ -5,16 +5,16 @@ use Rattle.std.proofs.lemmas.List.Elements.{All-map, All-weaker}
 use Rattle.giv_files.specs.declared.words.WordTable.TheVariants as table
 use Rattle.giv_files.specs.Columns.{events_p_columns, activities_p_columns, word}
 use Rattle.giv_files.specs.Writing.{InColumn, InColumns}
-use Rattle.event_tables.specs.declared.activity_kind.ActivityKind.{ActivityKind}
-use Rattle.event_tables.specs.declared.activity_kind.ActivityKind.TheVariants as activity
 use Rattle.event_tables.specs.declared.direction.Direction.{Direction}
 use Rattle.event_tables.specs.declared.direction.Direction.TheVariants as direction
 use Rattle.event_tables.specs.declared.event_kind.EventKind.{EventKind}
 use Rattle.event_tables.specs.declared.event_kind.EventKind.TheVariants as event
 use Rattle.event_tables.specs.declared.periodic_activity.PeriodicActivity.{PeriodicActivity}
 use Rattle.event_tables.specs.declared.periodic_event.PeriodicEvent.{PeriodicEvent}
+use Rattle.event_tables.specs.declared.periodic_kind.PeriodicKind.{PeriodicKind}
+use Rattle.event_tables.specs.declared.periodic_kind.PeriodicKind.TheVariants as kind
 use Rattle.event_tables.specs.Cells.{periodic_event_cells, periodic_activity_cells}
-use Rattle.event_tables.specs.Kinds.{event_kind_place, direction_place, activity_kind_place}
+use Rattle.event_tables.specs.Kinds.{event_kind_place, direction_place, periodic_kind_place}
 use Rattle.event_activity.specs.declared.run_event.RunEvent.{RunEvent}
 use Rattle.event_activity.specs.EanStage.{rows_of}
 use Rattle.event_activity.specs.Fitting.{IsNumbered}
@@ -28,12 +28,12 @@ direction_in : (way : Direction) → InColumn (word table.Direction) (pos (direc
 direction_in direction.Forward = (0, omega arith, refl)
 direction_in direction.Backward = (1, omega arith, refl)
 
-activity_kind_in : (kind : ActivityKind)
-    → InColumn (word table.ActivityKind) (pos (activity_kind_place kind))
-activity_kind_in activity.Drive = (0, omega arith, refl)
-activity_kind_in activity.Wait = (1, omega arith, refl)
-activity_kind_in activity.Change = (2, omega arith, refl)
-activity_kind_in activity.Sync = (3, omega arith, refl)
+kind_in : (of : PeriodicKind) → InColumn (word table.PeriodicKind) (pos (periodic_kind_place of))
+kind_in kind.Drive = (0, omega arith, refl)
+kind_in kind.Wait = (1, omega arith, refl)
+kind_in kind.Change = (2, omega arith, refl)
+kind_in kind.Sync = (3, omega arith, refl)
+kind_in kind.Headway = (4, omega arith, refl)
 
 id_in : (id : ℕ) → 1 ≤ id → id ≤ 1000000000 → (pos 1 ≤ℤ pos id) × (pos id ≤ℤ pos 1000000000)
 id_in id low high = (omega (arith, ints), omega (arith, ints))
@@ -79,7 +79,7 @@ activity_in count many few short one is =
     let sound = is.made.sound in (
       id_in one.id is.first (omega (arith, is.last)),
       (
-        activity_kind_in one.kind,
+        kind_in one.kind,
         (
           id_in one.from sound.from.0 (omega (arith, sound.from.1)),
           (

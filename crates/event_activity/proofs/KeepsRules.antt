@@ -1,21 +1,22 @@
 -- The events and activities of a line concept keep the rules of runs, and each drive goes over an
 -- edge.
-use Rattle.std.proofs.Common.{◌≡◌, ℕ, zero, suc, ◌+◌, ◌==◌, ◌%◌, ◌<◌, arith, Bool, ◌&&◌, true, false, not, Contains, List, [], ◌∷◌, length, get_or, unsigned_abs, refl, ap, subst, sym, ◌∙◌}
+use Rattle.std.proofs.Common.{◌≡◌, ℕ, zero, suc, ◌+◌, ◌==◌, ◌%◌, ◌<◌, arith, Bool, ◌&&◌, true, false, not, nat_lt, Contains, List, [], ◌∷◌, length, get_or, unsigned_abs, refl, ap, subst, sym, ◌∙◌}
 use Rattle.std.proofs.lemmas.Bool.{eq-eqb, eqb-true, ne_eqb, and_parts, not-true, MatchBool-at_true}
+use Rattle.std.specs.Ordering.{int_eq}
 use Rattle.std.proofs.lemmas.List.Elements.{All-weaker, All-contains}
 use Rattle.giv_files.specs.declared.setting.Setting.{Setting}
-use Rattle.event_tables.specs.declared.activity_kind.ActivityKind.{ActivityKind}
-use Rattle.event_tables.specs.declared.activity_kind.ActivityKind.TheVariants as kinds
 use Rattle.event_tables.specs.declared.periodic_activity.PeriodicActivity.{PeriodicActivity}
 use Rattle.event_tables.specs.declared.periodic_event.PeriodicEvent.{PeriodicEvent}
+use Rattle.event_tables.specs.declared.periodic_kind.PeriodicKind.{PeriodicKind}
+use Rattle.event_tables.specs.declared.periodic_kind.PeriodicKind.TheVariants as kinds
 use Rattle.event_tables.specs.Cells.{periodic_event}
 use Rattle.event_tables.specs.Kinds.{is_arrival, event_kind_at, same_direction}
-use Rattle.event_tables.specs.PeriodicRuns.{joins, same_run, is_next}
+use Rattle.event_tables.specs.PeriodicRuns.{headways, is_next, joins, same_run}
 use Rattle.event_tables.specs.RunRules.{lacks_way, goes_between, is_placed, drives_at_once, is_stray, KeepRunRules}
 use Rattle.line_pool.specs.Pools.{LineParts}
 use Rattle.ptn_network.specs.Networks.{NetworkParts, IsEdge}
 use Rattle.event_activity.specs.declared.run_event.RunEvent.{RunEvent}
-use Rattle.event_activity.specs.Activities.{bounds_from, concept_activities}
+use Rattle.event_activity.specs.Activities.{bounds_from, concept_activities, keeps_headway, shares_edge}
 use Rattle.event_activity.specs.ActivitiesOfRuns.{joins_events, bounds_of, IsActivityOf, IsDriveOver}
 use Rattle.event_activity.specs.EanStage.{rows_of}
 use Rattle.event_activity.specs.EventsOfRuns.{IsEventOf}
@@ -77,12 +78,20 @@ first_of true false c d e is = absurd (cc)
 first_of false b c d e is = absurd (cc)
 
 -- a kind joins the rows of the events that it joins
-joins_rows : (kind : ActivityKind) (event next : RunEvent) → IsOfPlace event → IsOfPlace next
-    → joins_events kind event next ≡ true → joins kind event.row next.row ≡ true
-joins_rows kinds.Drive event next own other is = is
-joins_rows kinds.Wait event next own other is = is
-joins_rows kinds.Change event next own other is = is
-joins_rows kinds.Sync event next own other is =
+joins_rows : (settings : List Setting) (kind : PeriodicKind) (event next : RunEvent)
+    → IsOfPlace event → IsOfPlace next → joins_events settings kind event next ≡ true
+    → joins kind event.row next.row ≡ true
+joins_rows settings kinds.Drive event next own other is = is
+joins_rows settings kinds.Wait event next own other is = is
+joins_rows settings kinds.Change event next own other is = is
+joins_rows settings kinds.Headway event next own other is =
+    let shared = and_parts (keeps_headway settings) (shares_edge event next) is in
+    let apart = and_parts (headways event.row next.row && int_eq event.edge.id next.edge.id
+    && nat_lt event.row.id next.row.id) (not (same_run event.row next.row)) shared.1 in
+    let before = and_parts (headways event.row next.row && int_eq event.edge.id next.edge.id)
+    (nat_lt event.row.id next.row.id) apart.0 in
+    (and_parts (headways event.row next.row) (int_eq event.edge.id next.edge.id) before.0).0
+joins_rows settings kinds.Sync event next own other is =
     let places = first_of (event.place == 0) (next.place == 0) (event.row.line == next.row.line)
     (same_direction event.row.direction next.row.direction)
     (next.row.repetition == event.row.repetition + 1) is in
@@ -119,7 +128,7 @@ module _ (network : NetworkParts) (lines : List LineParts) (served : AreServed n
       (rw (
         eq-eqb activity.from is.event.row.id is.from,
         eq-eqb activity.to is.next.row.id is.to,
-        joins_rows activity.kind is.event is.next (of_place is.event is.there)
+        joins_rows settings activity.kind is.event is.next (of_place is.event is.there)
             (of_place is.next is.also) is.joins,
       ) refl))
 
@@ -129,7 +138,7 @@ module _ (network : NetworkParts) (lines : List LineParts) (served : AreServed n
   drive_has activity is drives =
       subst (λ kind. bounds_of activity ≡ bounds_from settings kind is.event) drives is.bounds
 
-  takes_time : (kind : ActivityKind) (activity : PeriodicActivity)
+  takes_time : (kind : PeriodicKind) (activity : PeriodicActivity)
       → IsActivityOf settings events activity → activity.kind ≡ kind
       → drives_at_once activity ≡ false
   takes_time kinds.Drive activity is drives =
@@ -143,6 +152,7 @@ module _ (network : NetworkParts) (lines : List LineParts) (served : AreServed n
   takes_time kinds.Wait activity is other = rw other refl
   takes_time kinds.Change activity is other = rw other refl
   takes_time kinds.Sync activity is other = rw other refl
+  takes_time kinds.Headway activity is other = rw other refl
 
   -- the three rules of runs are kept
   pub rules_kept : KeepRunRules (rows_of events) activities
@@ -170,7 +180,7 @@ module _ (network : NetworkParts) (lines : List LineParts) (served : AreServed n
       let next = is.next in
       let numbered = (events_are network lines).numbered in
       let joined : (not (is_arrival event.row.kind) && is_next event.row next.row) ≡ true =
-      subst (λ kind. joins_events kind event next ≡ true) drives is.joins in
+      subst (λ kind. joins_events settings kind event next ≡ true) drives is.joins in
       let parts = and_parts (not (is_arrival event.row.kind)) (is_next event.row next.row) joined in
       let one = and_parts (same_run event.row next.row) (next.row.id == event.row.id + 1) parts.1 in
       let behind : next.row.id ≡ event.row.id + 1 = eqb-true _ _ one.1 in

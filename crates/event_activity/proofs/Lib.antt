@@ -1,5 +1,6 @@
 mod Added
 mod Along
+mod Candidates
 mod Crossings
 mod DrivenEvents
 mod EanAccepted

@@ -6,9 +6,9 @@ use Rattle.std.proofs.lemmas.List.Elements.{All-map, All-weaker, All-filter}
 use Rattle.giv_files.specs.declared.key.Key.TheVariants as key
 use Rattle.giv_files.specs.declared.setting.Setting.{Setting}
 use Rattle.giv_files.specs.Settings.{amount}
-use Rattle.event_tables.specs.declared.activity_kind.ActivityKind.{ActivityKind}
-use Rattle.event_tables.specs.declared.activity_kind.ActivityKind.TheVariants as activity
 use Rattle.event_tables.specs.declared.periodic_activity.PeriodicActivity.{PeriodicActivity}
+use Rattle.event_tables.specs.declared.periodic_kind.PeriodicKind.{PeriodicKind}
+use Rattle.event_tables.specs.declared.periodic_kind.PeriodicKind.TheVariants as activity
 use Rattle.event_tables.specs.PeriodicFiles.{IsPeriodicActivity}
 use Rattle.event_activity.specs.declared.joining.Joining.{Joining}
 use Rattle.event_activity.specs.declared.run_event.RunEvent.{RunEvent}
@@ -30,11 +30,12 @@ pub record IsNumberedOne (count many : ℕ) (activity : PeriodicActivity) : Type
 
 module _ (settings : List Setting) (timely : AreTimely settings) where
   -- bounds are in order
-  bounds_good : (kind : ActivityKind) (event : RunEvent) → IsDriven event
+  bounds_good : (kind : PeriodicKind) (event : RunEvent) → IsDriven event
       → AreBounds (bounds_from settings kind event)
   bounds_good activity.Drive event is = is.edge
   bounds_good activity.Wait event is = timely.waits
   bounds_good activity.Change event is = timely.changes
+  bounds_good activity.Headway event is = timely.headways
   bounds_good activity.Sync event is =
       let period = timely.period in
       let less : amount settings key.PeriodLength / event.frequency < 721 =
@@ -69,9 +70,9 @@ module _ (settings : List Setting) (timely : AreTimely settings) where
         (λ event. All (IsMade count) (from_event settings joining events event))
         (made_from joining) events numbered)
 
-    all_made : All (IsMade count) (flat_map (joined_events settings events) joinings)
+    all_made : All (IsMade count) (flat_map (joined_events settings events) (joinings settings))
     all_made =
-        all_parts (IsMade count) (joined_events settings events) joinings
+        all_parts (IsMade count) (joined_events settings events) (joinings settings)
         (λ k d h. made_by _)
 
     with_a_number : (many n : ℕ) (activity : PeriodicActivity) → 1 ≤ n → n ≤ many
@@ -94,7 +95,7 @@ module _ (settings : List Setting) (timely : AreTimely settings) where
         (length (concept_activities settings events))) (concept_activities settings events)
     unfolding concept_activities
     activities_numbered =
-        let activities = flat_map (joined_events settings events) joinings in
+        let activities = flat_map (joined_events settings events) (joinings settings) in
         let size = numbered_size with_number activities in
         all_numbered (IsMade count)
         (IsNumberedOne count (length (concept_activities settings events))) with_number activities

@@ -6,10 +6,10 @@ use Rattle.std.proofs.lemmas.List.{get_or-map}
 use Rattle.std.proofs.lemmas.List.FromFn.{get_or-range_with_len}
 use Rattle.std.proofs.lemmas.List.Sums.{length-filter}
 use Rattle.giv_files.specs.declared.setting.Setting.{Setting}
-use Rattle.event_tables.specs.declared.activity_kind.ActivityKind.TheVariants as activity
 use Rattle.event_tables.specs.declared.event_kind.EventKind.{EventKind}
 use Rattle.event_tables.specs.declared.event_kind.EventKind.TheVariants as kinds
 use Rattle.event_tables.specs.declared.periodic_activity.PeriodicActivity.{PeriodicActivity}
+use Rattle.event_tables.specs.declared.periodic_kind.PeriodicKind.TheVariants as activity
 use Rattle.event_tables.specs.Kinds.{is_arrival}
 use Rattle.event_tables.specs.PeriodicRuns.{same_run, is_next}
 use Rattle.event_tables.specs.Places.{AreNumbered}
@@ -17,7 +17,7 @@ use Rattle.event_tables.specs.RunRules.{way_on, same_kind, leads, lacks_way}
 use Rattle.event_activity.specs.declared.joining.Joining.{Joining}
 use Rattle.event_activity.specs.declared.joining.Joining.TheVariants as joining
 use Rattle.event_activity.specs.declared.run_event.RunEvent.{RunEvent}
-use Rattle.event_activity.specs.Activities.{joined, kind_from, activity_of, from_event, joined_events, joinings, with_number, concept_activities}
+use Rattle.event_activity.specs.Activities.{joined, kind_from, activity_of, from_event, joined_events, joinings, joinings_with, keeps_headway, with_number, concept_activities}
 use Rattle.event_activity.proofs.Picked.{numbered_count, filter_parts, no_parts, none_mapped, both_tests, picked}
 
 -- the kind of the way on is that of a drive or a wait
@@ -33,6 +33,10 @@ no_sync kinds.Arrival = refl
 no_change : (arrival : EventKind) → same_kind activity.Change (way_on arrival) ≡ false
 no_change kinds.Departure = refl
 no_change kinds.Arrival = refl
+
+no_headway : (arrival : EventKind) → same_kind activity.Headway (way_on arrival) ≡ false
+no_headway kinds.Departure = refl
+no_headway kinds.Arrival = refl
 
 middle_false : (a b c : Bool) → b ≡ false → (a && b && c) ≡ false
 middle_false true b c none = ap (λ d. d && c) none
@@ -66,7 +70,7 @@ module _ (settings : List Setting) (events : List RunEvent)
     comes : is_next event.row next.row ≡ true
     comes = rw (same, eq-eqb next.row.id (event.row.id + 1) (omega (arith, event_id, next_id))) refl
 
-    -- no sync and no change leads there
+    -- no sync, no change and no headway leads there
     others_none : (by : Joining) → ((from : RunEvent) → same_kind (kind_from by from)
         (way_on event.row.kind) ≡ false)
         → filter test (joined_events settings events by) ≡ []
@@ -120,11 +124,22 @@ module _ (settings : List Setting) (events : List RunEvent)
         ∙ picked (λ (to : RunEvent). to.row.id) given 1 (suc i) events d numbered inside to_others
         ∙ one_given
 
-    all_one : filter test (flat_map (joined_events settings events) joinings)
+    all_one : filter test (flat_map (joined_events settings events) (joinings settings))
         ≡ activity_of settings (kind_from joining.Run event) event next ∷ []
     all_one =
-        filter_parts test (joined_events settings events) joinings
-        ∙ rw (
+        filter_parts test (joined_events settings events) (joinings settings)
+        ∙ by (keeps_headway settings)
+      where
+        by : (b : Bool)
+            → flat_map (λ one. filter test (joined_events settings events one)) (joinings_with b)
+            ≡ activity_of settings (kind_from joining.Run event) event next ∷ []
+        by true = rw (
+          runs_one,
+          others_none joining.Sync (λ from. no_sync event.row.kind),
+          others_none joining.Change (λ from. no_change event.row.kind),
+          others_none joining.Headway (λ from. no_headway event.row.kind),
+        ) refl
+        by false = rw (
           runs_one,
           others_none joining.Sync (λ from. no_sync event.row.kind),
           others_none joining.Change (λ from. no_change event.row.kind),
@@ -134,7 +149,7 @@ module _ (settings : List Setting) (events : List RunEvent)
     pub one_way : lacks_way (concept_activities settings events) (event.row, next.row) ≡ false
     unfolding concept_activities
     one_way =
-        let activities = flat_map (joined_events settings events) joinings in
+        let activities = flat_map (joined_events settings events) (joinings settings) in
         let count : count_by test (map with_number (enumerate_from 1 activities)) ≡ 1 =
         numbered_count with_number test (λ n at. refl) 1 activities
         ∙ sym (length-filter test activities) ∙ ap length all_one in

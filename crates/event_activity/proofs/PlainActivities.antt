@@ -1,73 +1,96 @@
 -- The activities between events are those that the kinds join and no others.
-use Rattle.std.proofs.Common.{◌≡◌, ℕ, arith, true, false, not, cond, All, Contains, List, map, filter, refl, ap, subst, sym, ◌∙◌}
+use Rattle.std.proofs.Common.{◌≡◌, ℕ, zero, suc, arith, Bool, true, false, not, cond, All, Contains, List, map, filter, refl, ap, subst, sym, ◌∙◌}
 use Rattle.std.specs.List.{flat_map, enumerate_from}
 use Rattle.std.proofs.lemmas.Bool.{and_parts, not-true}
 use Rattle.std.proofs.lemmas.List.Elements.{All-map, All-weaker, All-filter, All-contains, All-contains_itself, filter_passes}
 use Rattle.giv_files.specs.declared.setting.Setting.{Setting}
-use Rattle.event_tables.specs.declared.activity_kind.ActivityKind.{ActivityKind}
-use Rattle.event_tables.specs.declared.activity_kind.ActivityKind.TheVariants as kinds
 use Rattle.event_tables.specs.declared.periodic_activity.PeriodicActivity.{PeriodicActivity}
+use Rattle.event_tables.specs.declared.periodic_kind.PeriodicKind.{PeriodicKind}
+use Rattle.event_tables.specs.declared.periodic_kind.PeriodicKind.TheVariants as kinds
 use Rattle.event_tables.specs.Kinds.{is_arrival}
 use Rattle.event_tables.specs.PeriodicRuns.{is_next}
 use Rattle.event_activity.specs.declared.bounds.Bounds.{Bounds}
 use Rattle.event_activity.specs.declared.joining.Joining.{Joining}
 use Rattle.event_activity.specs.declared.joining.Joining.TheVariants as joining
 use Rattle.event_activity.specs.declared.run_event.RunEvent.{RunEvent}
-use Rattle.event_activity.specs.Activities.{joined, kind_from, bounds_from, activity_of, from_event, joined_events, joinings, with_number, concept_activities}
+use Rattle.event_activity.specs.Activities.{joined, kind_from, bounds_from, activity_of, from_event, joined_events, joinings, joinings_with, keeps_headway, shares_edge, with_number, concept_activities}
 use Rattle.event_activity.specs.ActivitiesOfRuns.{joins_events, IsActivityOf, AreActivitiesOf}
 use Rattle.event_activity.proofs.Members.{contains_part, contains_map, contains_filter, contains_numbered}
 use Rattle.event_activity.proofs.Numbered.{all_parts, all_numbered}
 use Rattle.event_activity.proofs.ReadAgain.{activities_placed}
 
--- what a joining joins, the kind of it joins
-joins_as : (by : Joining) (event next : RunEvent) → joined by event next ≡ true
-    → joins_events (kind_from by event) event next ≡ true
-joins_as joining.Run event next is =
-    elim (is_arrival event.row.kind) as (λ b. is_arrival event.row.kind ≡ b
-    → joins_events (cond b kinds.Wait kinds.Drive) event next ≡ true) [
-      | true ↦ λ arrives. rw (arrives, is) refl
-      | false ↦ λ departs. rw (departs, is) refl
-    ] refl
-joins_as joining.Sync event next is = is
-joins_as joining.Change event next is = is
+module _ (settings : List Setting) where
+  -- the joinings that are made
+  abbrev IsMadeBy : Joining → Type 0
+  IsMadeBy by = Contains (joinings settings) by
 
--- and what a kind joins, a joining of that kind
-record IsJoined (kind : ActivityKind) (event next : RunEvent) : Type 0 where
-  by : Joining
-  joins : joined by event next ≡ true
-  same : kind_from by event ≡ kind
+  -- what a joining joins, the kind of it joins
+  joins_as : (by : Joining) → IsMadeBy by → (event next : RunEvent) → joined by event next ≡ true
+      → joins_events settings (kind_from by event) event next ≡ true
+  joins_as joining.Run made event next is =
+      elim (is_arrival event.row.kind) as (λ b. is_arrival event.row.kind ≡ b
+      → joins_events settings (cond b kinds.Wait kinds.Drive) event next ≡ true) [
+        | true ↦ λ arrives. rw (arrives, is) refl
+        | false ↦ λ departs. rw (departs, is) refl
+      ] refl
+  joins_as joining.Sync made event next is = is
+  joins_as joining.Change made event next is = is
+  joins_as joining.Headway made event next is = rw (headway_kept (keeps_headway settings) made, is) refl
+    where
+      headway_kept : (b : Bool) → Contains (joinings_with b) joining.Headway → b ≡ true
+      headway_kept true made = refl
+      headway_kept false (zero, h, here) = absurd (cc)
+      headway_kept false (suc zero, h, here) = absurd (cc)
+      headway_kept false (suc (suc zero), h, here) = absurd (cc)
+      headway_kept false (suc (suc (suc n)), h, here) = absurd (omega (arith, h))
 
-joined_as : (kind : ActivityKind) (event next : RunEvent) → joins_events kind event next ≡ true
-    → IsJoined kind event next
-joined_as kinds.Drive event next is =
-    let parts = and_parts (not (is_arrival event.row.kind)) (is_next event.row next.row) is in
-    record {
-      by = joining.Run;
-      joins = parts.1;
-      same = ap (λ b. cond b kinds.Wait kinds.Drive) (not-true (is_arrival event.row.kind) parts.0);
-    }
-joined_as kinds.Wait event next is =
-    let parts = and_parts (is_arrival event.row.kind) (is_next event.row next.row) is in
-    record {
-      by = joining.Run;
-      joins = parts.1;
-      same = ap (λ b. cond b kinds.Wait kinds.Drive) parts.0;
-    }
-joined_as kinds.Sync event next is = record { by = joining.Sync; joins = is; same = refl }
-joined_as kinds.Change event next is = record { by = joining.Change; joins = is; same = refl }
+  -- and what a kind joins, a joining of that kind
+  record IsJoined (kind : PeriodicKind) (event next : RunEvent) : Type 0 where
+    by : Joining
+    made : IsMadeBy by
+    joins : joined by event next ≡ true
+    same : kind_from by event ≡ kind
 
-all_joinings : (by : Joining) → Contains joinings by
-all_joinings joining.Run = (0, omega arith, refl)
-all_joinings joining.Sync = (1, omega arith, refl)
-all_joinings joining.Change = (2, omega arith, refl)
+  joined_as : (kind : PeriodicKind) (event next : RunEvent)
+      → joins_events settings kind event next ≡ true → IsJoined kind event next
+  joined_as kinds.Drive event next is =
+      let parts = and_parts (not (is_arrival event.row.kind)) (is_next event.row next.row) is in
+      record {
+        by = joining.Run;
+        made = (0, omega arith, refl);
+        joins = parts.1;
+        same = ap (λ b. cond b kinds.Wait kinds.Drive)
+            (not-true (is_arrival event.row.kind) parts.0);
+      }
+  joined_as kinds.Wait event next is =
+      let parts = and_parts (is_arrival event.row.kind) (is_next event.row next.row) is in
+      record {
+        by = joining.Run;
+        made = (0, omega arith, refl);
+        joins = parts.1;
+        same = ap (λ b. cond b kinds.Wait kinds.Drive) parts.0;
+      }
+  joined_as kinds.Sync event next is =
+      record { by = joining.Sync; made = (1, omega arith, refl); joins = is; same = refl }
+  joined_as kinds.Change event next is =
+      record { by = joining.Change; made = (2, omega arith, refl); joins = is; same = refl }
+  joined_as kinds.Headway event next is =
+      let parts = and_parts (keeps_headway settings) (shares_edge event next) is in
+      record {
+        by = joining.Headway;
+        made = subst (λ b. Contains (joinings_with b) joining.Headway) (sym parts.0)
+            (3, omega arith, refl);
+        joins = parts.1;
+        same = refl;
+      }
 
 module _ (settings : List Setting) (events : List RunEvent) where
   abbrev IsOne : PeriodicActivity → Type 0
   IsOne activity = IsActivityOf settings events activity
 
-  from_are : (by : Joining) (event : RunEvent) → Contains events event
+  from_are : (by : Joining) → IsMadeBy settings by → (event : RunEvent) → Contains events event
       → All IsOne (from_event settings by events event)
-  from_are by event there =
+  from_are by made event there =
       let ends = filter (joined by event) events in
       let also = All-filter (joined by event) (Contains events) events
       (All-contains_itself events) in
@@ -80,20 +103,21 @@ module _ (settings : List Setting) (events : List RunEvent) where
         also = also k d h;
         from = refl;
         to = refl;
-        joins = joins_as by event _ (passes k d h);
+        joins = joins_as settings by made event _ (passes k d h);
         bounds = refl;
       })
 
-  joined_are : (by : Joining) → All IsOne (joined_events settings events by)
-  joined_are by =
+  joined_are : (by : Joining) → IsMadeBy settings by → All IsOne (joined_events settings events by)
+  joined_are by made =
       all_parts IsOne (from_event settings by events) events
       (All-weaker (Contains events) (λ event. All IsOne (from_event settings by events event))
-      (from_are by) events (All-contains_itself events))
+      (from_are by made) events (All-contains_itself events))
 
-  all_are : All IsOne (flat_map (joined_events settings events) joinings)
+  all_are : All IsOne (flat_map (joined_events settings events) (joinings settings))
   all_are =
-      all_parts IsOne (joined_events settings events) joinings
-      (λ k d h. joined_are _)
+      all_parts IsOne (joined_events settings events) (joinings settings)
+      (All-weaker (IsMadeBy settings) (λ by. All IsOne (joined_events settings events by)) joined_are
+      (joinings settings) (All-contains_itself (joinings settings)))
 
   numbered_one : (n : ℕ) (activity : PeriodicActivity) → IsOne activity
       → IsOne (with_number (n, activity))
@@ -111,15 +135,15 @@ module _ (settings : List Setting) (events : List RunEvent) where
   pub activities_sound : All IsOne (concept_activities settings events)
   unfolding concept_activities
   activities_sound =
-      all_numbered IsOne IsOne with_number (flat_map (joined_events settings events) joinings)
+      all_numbered IsOne IsOne with_number (flat_map (joined_events settings events) (joinings settings))
       (λ n activity low high is. numbered_one n activity is) all_are
 
   -- an activity by its parts
-  abbrev made_of : ℕ → ActivityKind → ℕ → ℕ → Bounds → PeriodicActivity
+  abbrev made_of : ℕ → PeriodicKind → ℕ → ℕ → Bounds → PeriodicActivity
   made_of id kind from to bounds =
       record { id = id; kind = kind; from = from; to = to; lower = bounds.lower; upper = bounds.upper }
 
-  same_activity : (n : ℕ) (activity : PeriodicActivity) (is : IsOne activity) (kind : ActivityKind)
+  same_activity : (n : ℕ) (activity : PeriodicActivity) (is : IsOne activity) (kind : PeriodicKind)
       → kind ≡ activity.kind → with_number (n, activity_of settings kind is.event is.next)
       ≡ with_number (n, activity)
   same_activity n activity is kind same =
@@ -134,17 +158,17 @@ module _ (settings : List Setting) (events : List RunEvent) where
   pub activities_are : AreActivitiesOf settings events (concept_activities settings events)
   unfolding concept_activities
   activities_are =
-      let activities = flat_map (joined_events settings events) joinings in
+      let activities = flat_map (joined_events settings events) (joinings settings) in
       record {
         numbered = activities_placed settings events;
         sound = λ activity there. All-contains IsOne (concept_activities settings events) activity
             activities_sound there;
         whole = λ activity is.
-            let way = joined_as activity.kind is.event is.next is.joins in
+            let way = joined_as settings activity.kind is.event is.next is.joins in
             let bare = activity_of settings (kind_from way.by is.event) is.event is.next in
             let found = contains_numbered with_number 1 activities bare
-            (contains_part (joined_events settings events) joinings way.by bare
-            (all_joinings way.by)
+            (contains_part (joined_events settings events) (joinings settings) way.by bare
+            way.made
             (contains_part (from_event settings way.by events) events is.event bare is.there
             (contains_map (activity_of settings (kind_from way.by is.event) is.event)
             (filter (joined way.by is.event) events) is.next

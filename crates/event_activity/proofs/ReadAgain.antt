@@ -77,6 +77,6 @@ pub activities_placed : (settings : List Setting) (events : List RunEvent)
     → AreNumbered (λ row. row.id) (concept_activities settings events)
 unfolding concept_activities
 activities_placed settings events =
-    let activities = flat_map (joined_events settings events) joinings in
+    let activities = flat_map (joined_events settings events) (joinings settings) in
     numbers_are (λ (row : PeriodicActivity). row.id) with_number (λ n row. refl) 1 activities
     ∙ ap (range_with_len 1) (sym (numbered_size with_number activities))

@@ -1,5 +1,5 @@
 -- The settings of a bundle that fits are in order and within their ranges.
-use Rattle.std.proofs.Common.{◌≡◌, ℤ, pos, negsuc, ◌≤◌, ◌≤ℤ◌, int_le, arith, Bool, eqb-true, true, false, cond, List, [], ◌∷◌, unsigned_abs, refl, ap, subst, sym, ◌∙◌, Option, Some, option_map, unwrap_or}
+use Rattle.std.proofs.Common.{◌≡◌, ℤ, pos, negsuc, ◌*◌, ◌*ℤ◌, ◌≤◌, ◌≤ℤ◌, int_le, arith, Bool, eqb-true, true, false, cond, List, [], ◌∷◌, unsigned_abs, refl, ap, subst, sym, ◌∙◌, Option, Some, option_map, unwrap_or}
 use Rattle.std.specs.Option.{option_map_or}
 use Rattle.std.specs.Int.Signed.{le_z_yes}
 use Rattle.std.specs.List.{find, list_all}
@@ -43,6 +43,12 @@ order (pos m) (pos n) some goes = omega (arith, ints)
 order (pos m) (negsuc n) some goes = absurd (omega (arith, ints))
 order (negsuc m) high some goes = absurd (omega (arith, ints))
 
+twice : (half whole : ℤ) → pos 0 ≤ℤ half → (pos 2 *ℤ half) ≤ℤ whole
+    → 2 * unsigned_abs half ≤ unsigned_abs whole
+twice (pos m) (pos n) some goes = omega (arith, ints, goes)
+twice (pos m) (negsuc n) some goes = absurd (omega (arith, ints, goes))
+twice (negsuc m) whole some goes = absurd (omega (arith, ints, some))
+
 module _ (settings : List Setting) (fits : SettingsFit stage.Ean settings) where
   -- the amount of a key that is not below another is not below that one's
   in_order : (lower upper : Key) → has_key stage.Ean lower ≡ true → has_key stage.Ean upper ≡ true
@@ -72,9 +78,35 @@ module _ (settings : List Setting) (fits : SettingsFit stage.Ean settings) where
       at_other : Option ℤ → ℤ → Bool
       at_other found value = option_map_or (λ other. int_le other value) found true
 
+  -- a headway is at most half of the period
+  halved : 2 * amount settings key.EanHeadway ≤ amount settings key.PeriodLength
+  halved =
+      let headway = key_there stage.Ean settings key.EanHeadway fits refl in
+      let period = key_there stage.Ean settings key.PeriodLength fits refl in
+      let kept : keeps (value_of settings) (cross_rule key.EanHeadway) headway.0 ≡ true =
+      value_uncrossed settings settings key.EanHeadway headway.0 fits.uncrossed headway.1 in
+      let goes : int_le (pos 2 *ℤ headway.0) period.0 ≡ true =
+      sym (ap (λ found. at_other found headway.0) period.1) ∙ kept in
+      let within = and_parts (int_le (pos 0) headway.0) (int_le headway.0 (pos 360)) headway.2 in
+      let less = twice headway.0 period.0 (le_z_yes (T_from_true _ within.0))
+      (le_z_yes (T_from_true _ goes)) in
+      omega (
+        arith,
+        less,
+        ap (λ found. unsigned_abs (unwrap_or found (pos 0))) headway.1,
+        ap (λ found. unsigned_abs (unwrap_or found (pos 0))) period.1,
+      )
+    where
+      at_other : Option ℤ → ℤ → Bool
+      at_other found value =
+          option_map_or (λ other. int_le (pos 2 *ℤ value) other) found true
+
+  short : amount settings key.PeriodLength ≤ 720
+  short = (amount_within stage.Ean settings key.PeriodLength _ _ fits refl refl refl).1
+
   pub timely : AreTimely settings
   timely = record {
-    period = (amount_within stage.Ean settings key.PeriodLength _ _ fits refl refl refl).1;
+    period = short;
     waits = record {
       in_order = in_order key.EanDefaultMinimalWaitingTime key.EanDefaultMaximalWaitingTime
           refl refl refl refl;
@@ -86,6 +118,10 @@ module _ (settings : List Setting) (fits : SettingsFit stage.Ean settings) where
           refl refl refl refl;
       soon = (amount_within stage.Ean settings key.EanDefaultMaximalChangeTime _ _ fits refl refl
           refl).1;
+    };
+    headways = record {
+      in_order = omega (arith, halved);
+      soon = omega (arith, short);
     };
   }
 

@@ -1,16 +1,16 @@
 -- What the activities between the events of a line concept are, in plain words.
-use Rattle.std.specs.Prelude.{ℕ, ◌≡◌, ◌⊎◌, Bool, true, List, Contains}
+use Rattle.std.specs.Prelude.{ℕ, ◌≡◌, ◌⊎◌, Bool, ◌&&◌, true, List, Contains}
 use Rattle.giv_files.specs.declared.setting.Setting.{Setting}
-use Rattle.event_tables.specs.declared.activity_kind.ActivityKind.{ActivityKind}
-use Rattle.event_tables.specs.declared.activity_kind.ActivityKind.TheVariants as activity
 use Rattle.event_tables.specs.declared.periodic_activity.PeriodicActivity.{PeriodicActivity}
+use Rattle.event_tables.specs.declared.periodic_kind.PeriodicKind.{PeriodicKind}
+use Rattle.event_tables.specs.declared.periodic_kind.PeriodicKind.TheVariants as kind
 use Rattle.event_tables.specs.PeriodicRuns.{drives, waits, changes}
 use Rattle.event_tables.specs.Places.{AreNumbered}
 use Rattle.ptn_network.specs.declared.edge.Edge.{Edge}
 use Rattle.ptn_network.specs.Networks.{NetworkParts}
 use Rattle.event_activity.specs.declared.bounds.Bounds.{Bounds}
 use Rattle.event_activity.specs.declared.run_event.RunEvent.{RunEvent}
-use Rattle.event_activity.specs.Activities.{bounds_from, repeats, with_number}
+use Rattle.event_activity.specs.Activities.{bounds_from, keeps_headway, repeats, shares_edge, with_number}
 use Rattle.event_activity.specs.Fitting.{drive_bounds}
 use Rattle.event_activity.specs.Runs.{stop_id}
 
@@ -19,11 +19,12 @@ abbrev pub bounds_of : PeriodicActivity → Bounds
 bounds_of activity = record { lower = activity.lower; upper = activity.upper }
 
 -- which two events an activity of a kind joins
-abbrev pub joins_events : ActivityKind → RunEvent → RunEvent → Bool
-joins_events activity.Drive event next = drives event.row next.row
-joins_events activity.Wait event next = waits event.row next.row
-joins_events activity.Change event next = changes event.row next.row
-joins_events activity.Sync event next = repeats event next
+abbrev pub joins_events : List Setting → PeriodicKind → RunEvent → RunEvent → Bool
+joins_events settings kind.Drive event next = drives event.row next.row
+joins_events settings kind.Wait event next = waits event.row next.row
+joins_events settings kind.Change event next = changes event.row next.row
+joins_events settings kind.Sync event next = repeats event next
+joins_events settings kind.Headway event next = keeps_headway settings && shares_edge event next
 
 -- An activity goes from one of some events to another, and joins them as its kind does, with the
 -- bounds of its kind.
@@ -35,7 +36,7 @@ pub record IsActivityOf (settings : List Setting) (events : List RunEvent)
   pub also : Contains events next
   pub from : activity.from ≡ event.row.id
   pub to : activity.to ≡ next.row.id
-  pub joins : joins_events activity.kind event next ≡ true
+  pub joins : joins_events settings activity.kind event next ≡ true
   pub bounds : bounds_of activity ≡ bounds_from settings activity.kind event
 
 -- The activities are those between events and no others, and are numbered in their order.

@@ -1,5 +1,5 @@
 -- What keeps events and activities within their columns.
-use Rattle.std.specs.Prelude.{ℕ, ◌≤◌, List, unsigned_abs}
+use Rattle.std.specs.Prelude.{ℕ, ◌-◌, ◌≤◌, List, unsigned_abs}
 use Rattle.giv_files.specs.declared.key.Key.TheVariants as key
 use Rattle.giv_files.specs.declared.setting.Setting.{Setting}
 use Rattle.giv_files.specs.Settings.{amount}
@@ -44,4 +44,8 @@ pub record AreTimely (settings : List Setting) : Type 0 where
   pub changes : AreBounds (record {
     lower = amount settings key.EanDefaultMinimalChangeTime;
     upper = amount settings key.EanDefaultMaximalChangeTime;
+  })
+  pub headways : AreBounds (record {
+    lower = amount settings key.EanHeadway;
+    upper = amount settings key.PeriodLength - amount settings key.EanHeadway;
   })

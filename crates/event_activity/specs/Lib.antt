@@ -3,5 +3,6 @@ pub mod ActivitiesOfRuns
 pub mod EanStage
 pub mod EventsOfRuns
 pub mod Fitting
+pub mod NextEvents
 pub mod RightEan
 pub mod Runs

@@ -6,9 +6,9 @@ use Rattle.giv_files.specs.declared.made.MadeFile.{MadeFile}
 use Rattle.giv_files.specs.Columns.{events_p_columns, activities_p_columns}
 use Rattle.giv_files.specs.Inputs.{input_faults, records_of}
 use Rattle.giv_files.specs.Settings.{BundleParts}
-use Rattle.event_tables.specs.declared.activity_kind.ActivityKind.TheVariants as kinds
 use Rattle.event_tables.specs.declared.periodic_activity.PeriodicActivity.{PeriodicActivity}
 use Rattle.event_tables.specs.declared.periodic_event.PeriodicEvent.{PeriodicEvent}
+use Rattle.event_tables.specs.declared.periodic_kind.PeriodicKind.TheVariants as kinds
 use Rattle.event_tables.specs.Cells.{periodic_event, periodic_activity}
 use Rattle.event_tables.specs.PeriodicFiles.{periodic_event_input, periodic_activity_input, periodic_event_ids}
 use Rattle.event_tables.specs.RowsOfTables.{ReadsAs}

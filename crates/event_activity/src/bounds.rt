@@ -1,5 +1,5 @@
 // Bounds of activities.
-ghost use Rattle.std.specs.Prelude.{◌≡◌, ◌≤◌, ◌/◌};
+ghost use Rattle.std.specs.Prelude.{◌≡◌, ◌≤◌, ◌/◌, ◌-◌};
 ghost use Rattle.std.specs.Int.{div_ceil};
 ghost use Rattle.giv_files.specs.declared.key.Key.TheVariants as keys;
 ghost use Rattle.giv_files.specs.Settings.{amount};
@@ -7,7 +7,7 @@ ghost use Rattle.event_activity.specs.Activities.{bounds_from};
 ghost use Rattle.event_activity.specs.Fitting.{AreBounds, AreTimely, IsDriven, drive_bounds};
 
 use crate::run_event::RunEvent;
-use event_tables::ActivityKind;
+use event_tables::PeriodicKind;
 use giv_files::{Key, Settings};
 use ptn_network::Edge;
 
@@ -19,16 +19,17 @@ pub(crate) struct Bounds {
 }
 
 /// The bounds of a kind of activities, by the event from which one of them goes.
-pub(crate) fn bounds_from(settings: &Settings, kind: ActivityKind, event: &RunEvent) -> Bounds
+pub(crate) fn bounds_from(settings: &Settings, kind: PeriodicKind, event: &RunEvent) -> Bounds
     requires settings { AreTimely settings.now }
     requires event { IsDriven event.now }
     ensures { result ≡ bounds_from settings.now kind event.now }
 {
     match kind {
-        ActivityKind::Drive => drive_bounds(&event.edge),
-        ActivityKind::Wait => wait_bounds(settings),
-        ActivityKind::Change => change_bounds(settings),
-        ActivityKind::Sync => sync_bounds(settings, event.frequency),
+        PeriodicKind::Drive => drive_bounds(&event.edge),
+        PeriodicKind::Wait => wait_bounds(settings),
+        PeriodicKind::Change => change_bounds(settings),
+        PeriodicKind::Sync => sync_bounds(settings, event.frequency),
+        PeriodicKind::Headway => headway_bounds(settings),
     }
 }
 
@@ -84,5 +85,20 @@ fn sync_bounds(settings: &Settings, frequency: u32) -> Bounds
     Bounds {
         lower: period / frequency,
         upper: period.div_ceil(frequency),
+    }
+}
+
+// The bounds of headways: the one of two departures is so many minutes after the other, or before it.
+fn headway_bounds(settings: &Settings) -> Bounds
+    requires { AreTimely settings.now }
+    ensures { result ≡ record {
+      lower = amount settings.now keys.EanHeadway;
+      upper = amount settings.now keys.PeriodLength - amount settings.now keys.EanHeadway;
+    } }
+{
+    let headway = settings.amount(Key::EanHeadway) as u32;
+    Bounds {
+        lower: headway,
+        upper: settings.amount(Key::PeriodLength) as u32 - headway,
     }
 }

@@ -1,11 +1,13 @@
 // Which events are joined.
-ghost use Rattle.std.specs.Prelude.{◌≡◌, ◌≤◌, ◌+◌, ◌==◌};
+ghost use Rattle.std.specs.Prelude.{◌≡◌, ◌≤◌, ◌+◌, ◌==◌, length};
 ghost use Rattle.event_tables.specs.Kinds.{is_arrival, same_direction};
-ghost use Rattle.event_tables.specs.PeriodicRuns.{is_next, changes};
-ghost use Rattle.event_activity.specs.Activities.{joined, kind_from, repeats};
+ghost use Rattle.event_tables.specs.PeriodicRuns.{changes, headways, is_next, same_run};
+ghost use Rattle.event_activity.specs.Activities.{joined, joinings, kind_from, repeats, shares_edge};
+ghost use Rattle.event_activity.specs.NextEvents.{key_from, key_of, may_end};
 
 use crate::run_event::RunEvent;
-use event_tables::{ActivityKind, Direction, EventKind, PeriodicEvent};
+use event_tables::{Direction, EventKind, PeriodicEvent, PeriodicKind};
+use giv_files::{Key, Settings};
 
 /// What joins two events of a line concept.
 #[derive(Clone, Copy, Debug, PartialEq, Eq)]
@@ -16,6 +18,8 @@ pub(crate) enum Joining {
     Sync,
     /// They are an arrival and a departure of another line at the same stop.
     Change,
+    /// They are departures of two runs from one stop over one edge.
+    Headway,
 }
 
 impl Joining {
@@ -27,30 +31,88 @@ impl Joining {
             Joining::Run => is_next(&event.row, &next.row),
             Joining::Sync => is_repeated(event, next),
             Joining::Change => can_change(&event.row, &next.row),
+            Joining::Headway => shares_edge(event, next),
         }
     }
 
     /// The kind of an activity that goes from an event.
-    pub(crate) fn kind(self, event: &RunEvent) -> ActivityKind
+    pub(crate) fn kind(self, event: &RunEvent) -> PeriodicKind
         ensures { result ≡ kind_from self event.now }
     {
         match self {
-            Joining::Run if is_arrival(event.row.kind) => ActivityKind::Wait,
-            Joining::Run => ActivityKind::Drive,
-            Joining::Sync => ActivityKind::Sync,
-            Joining::Change => ActivityKind::Change,
+            Joining::Run if is_arrival(event.row.kind) => PeriodicKind::Wait,
+            Joining::Run => PeriodicKind::Drive,
+            Joining::Sync => PeriodicKind::Sync,
+            Joining::Change => PeriodicKind::Change,
+            Joining::Headway => PeriodicKind::Headway,
         }
     }
+
+    /// Whether an event may be the second one of two that are joined.
+    pub(crate) fn may_end(self, next: &RunEvent) -> bool
+        ensures { result ≡ may_end self next.now }
+    {
+        match self {
+            Joining::Run => true,
+            Joining::Sync => next.place == 0,
+            Joining::Change | Joining::Headway => !is_arrival(next.row.kind),
+        }
+    }
+
+    /// The key of an event as the second one.
+    pub(crate) fn key_of(self, next: &RunEvent) -> usize
+        ensures { result ≡ key_of self next.now }
+    {
+        match self {
+            Joining::Run => next.row.id as usize,
+            Joining::Sync => next.row.line as usize + next.row.repetition as usize,
+            Joining::Change | Joining::Headway => next.row.stop as usize,
+        }
+    }
+
+    /// The key of all events that an event may be joined to.
+    pub(crate) fn key_from(self, event: &RunEvent) -> usize
+        ensures { result ≡ key_from self event.now }
+    {
+        match self {
+            Joining::Run => event.row.id as usize + 1,
+            Joining::Sync => event.row.line as usize + event.row.repetition as usize + 1,
+            Joining::Change | Joining::Headway => event.row.stop as usize,
+        }
+    }
+}
+
+/// The joinings whose activities are made, in the order in which these are numbered.
+pub(crate) fn joinings(settings: &Settings) -> &'static [Joining]
+    ensures all { result.now ≡ joinings settings.now }
+    ensures few { length result.now ≤ 4 }
+{
+    if settings.amount(Key::EanHeadway) > 0 {
+        &[
+            Joining::Run,
+            Joining::Sync,
+            Joining::Change,
+            Joining::Headway,
+        ]
+    } else {
+        &[Joining::Run, Joining::Sync, Joining::Change]
+    }
+}
+
+// Whether two events agree in line, direction and repetition.
+fn is_same_run(event: &PeriodicEvent, other: &PeriodicEvent) -> bool
+    ensures { result ≡ same_run event.now other.now }
+{
+    event.line == other.line
+        && is_same_direction(event.direction, other.direction)
+        && event.repetition == other.repetition
 }
 
 // Whether an event is the next one of its run.
 fn is_next(event: &PeriodicEvent, next: &PeriodicEvent) -> bool
     ensures { result ≡ is_next event.now next.now }
 {
-    event.line == next.line
-        && is_same_direction(event.direction, next.direction)
-        && event.repetition == next.repetition
-        && comes_after(event.id, next.id)
+    is_same_run(event, next) && comes_after(event.id, next.id)
 }
 
 // Whether two events are the first ones of a run and of its next repetition.
@@ -72,6 +134,24 @@ fn can_change(event: &PeriodicEvent, next: &PeriodicEvent) -> bool
         && !is_arrival(next.kind)
         && event.stop == next.stop
         && event.line != next.line
+}
+
+// Whether two events are departures of two runs from one stop over one edge, that with the smaller
+// id first.
+fn shares_edge(event: &RunEvent, next: &RunEvent) -> bool
+    ensures { result ≡ shares_edge event.now next.now }
+{
+    depart_together(&event.row, &next.row)
+        && event.edge.id == next.edge.id
+        && event.row.id < next.row.id
+        && !is_same_run(&event.row, &next.row)
+}
+
+// Whether two events are departures at one stop.
+fn depart_together(event: &PeriodicEvent, next: &PeriodicEvent) -> bool
+    ensures { result ≡ headways event.now next.now }
+{
+    !is_arrival(event.kind) && !is_arrival(next.kind) && event.stop == next.stop
 }
 
 // Whether a number is one more than another.

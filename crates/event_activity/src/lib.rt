@@ -5,6 +5,7 @@ mod activities;
 mod bounds;
 mod files;
 mod joining;
+mod next_events;
 mod run_event;
 mod run_place;
 mod runs;

@@ -52,7 +52,7 @@ fn ean_of_bundle(alloc: Global, bundle: &Bundle) -> Result<Made, StageFault>
         return Err(too_many(Counted::PeriodicEvents, event_count));
     }
     let events = concept_events(alloc, &network, &pool)?;
-    let activity_count = activity_count(&events);
+    let activity_count = activity_count(alloc, bundle.settings(), &events)?;
     if activity_count > MOST_ACTIVITIES {
         return Err(too_many(Counted::PeriodicActivities, activity_count));
     }

@@ -17,9 +17,11 @@ use Rattle.event_tables.specs.declared.direction.Direction.{Direction}
 use Rattle.event_tables.specs.declared.direction.Direction.TheVariants as direction
 use Rattle.event_tables.specs.declared.event_kind.EventKind.{EventKind}
 use Rattle.event_tables.specs.declared.event_kind.EventKind.TheVariants as event
+use Rattle.event_tables.specs.declared.periodic_kind.PeriodicKind.{PeriodicKind}
+use Rattle.event_tables.specs.declared.periodic_kind.PeriodicKind.TheVariants as periodic
 use Rattle.event_tables.specs.declared.schedule_kind.ScheduleKind.{ScheduleKind}
 use Rattle.event_tables.specs.declared.schedule_kind.ScheduleKind.TheVariants as schedule
-use Rattle.event_tables.specs.Kinds.{event_kind_at, direction_at, activity_kind_at, schedule_kind_at, event_kind_place, direction_place, activity_kind_place, schedule_kind_place}
+use Rattle.event_tables.specs.Kinds.{event_kind_at, direction_at, activity_kind_at, periodic_kind_at, schedule_kind_at, event_kind_place, direction_place, activity_kind_place, periodic_kind_place, schedule_kind_place}
 use Rattle.event_tables.specs.Cells.{IsSmall, AreSmall}
 
 -- ---- columns
@@ -33,6 +35,7 @@ is_small _ = false
 few_words : (words : _) → length (table_words words) ≤ 4294967296
 few_words table.EventKind = omega arith
 few_words table.ActivityKind = omega arith
+few_words table.PeriodicKind = omega arith
 few_words table.Direction = omega arith
 few_words table.NodeKind = omega arith
 few_words table.ScheduleKind = omega arith
@@ -168,6 +171,15 @@ activity_kind_back cell (suc (suc zero), within, is) = rw is refl
 activity_kind_back cell (suc (suc (suc zero)), within, is) = rw is refl
 activity_kind_back cell (suc (suc (suc (suc more))), within, is) = absurd (omega arith)
 
+pub periodic_kind_back : (cell : ℤ) → InColumn (kind.Word table.PeriodicKind) cell
+    → pos (periodic_kind_place (periodic_kind_at (unsigned_abs cell))) ≡ cell
+periodic_kind_back cell (zero, within, is) = rw is refl
+periodic_kind_back cell (suc zero, within, is) = rw is refl
+periodic_kind_back cell (suc (suc zero), within, is) = rw is refl
+periodic_kind_back cell (suc (suc (suc zero)), within, is) = rw is refl
+periodic_kind_back cell (suc (suc (suc (suc zero))), within, is) = rw is refl
+periodic_kind_back cell (suc (suc (suc (suc (suc more)))), within, is) = absurd (omega arith)
+
 pub schedule_kind_back : (cell : ℤ) → InColumn (kind.Word table.ScheduleKind) cell
     → pos (schedule_kind_place (schedule_kind_at (unsigned_abs cell))) ≡ cell
 schedule_kind_back cell (zero, within, is) = rw is refl
@@ -188,6 +200,13 @@ activity_kind_same activity.Drive = refl
 activity_kind_same activity.Wait = refl
 activity_kind_same activity.Change = refl
 activity_kind_same activity.Sync = refl
+
+pub periodic_kind_same : (k : PeriodicKind) → periodic_kind_at (periodic_kind_place k) ≡ k
+periodic_kind_same periodic.Drive = refl
+periodic_kind_same periodic.Wait = refl
+periodic_kind_same periodic.Change = refl
+periodic_kind_same periodic.Sync = refl
+periodic_kind_same periodic.Headway = refl
 
 pub schedule_kind_same : (k : ScheduleKind) → schedule_kind_at (schedule_kind_place k) ≡ k
 schedule_kind_same schedule.Trip = refl

@@ -11,7 +11,7 @@ use Rattle.event_tables.specs.declared.periodic_time.PeriodicTime.{PeriodicTime}
 use Rattle.event_tables.specs.declared.schedule_row.ScheduleRow.{ScheduleRow}
 use Rattle.event_tables.specs.declared.trip.Trip.{Trip}
 use Rattle.event_tables.specs.Cells.{periodic_event, periodic_activity, periodic_time, expanded_event, expanded_activity, trip, schedule_row, delay_row, disposed_time, periodic_event_cells, periodic_activity_cells, periodic_time_cells, expanded_event_cells, expanded_activity_cells, trip_cells, schedule_cells, delay_cells, disposed_time_cells}
-use Rattle.event_tables.proofs.CellFacts.{in_column, listed, cell_back, event_kind_back, direction_back, activity_kind_back, schedule_kind_back, event_kind_same, direction_same, activity_kind_same, schedule_kind_same}
+use Rattle.event_tables.proofs.CellFacts.{in_column, listed, cell_back, event_kind_back, direction_back, activity_kind_back, periodic_kind_back, schedule_kind_back, event_kind_same, direction_same, activity_kind_same, periodic_kind_same, schedule_kind_same}
 
 pub periodic_event_same : (row : PeriodicEvent) → periodic_event (periodic_event_cells row) ≡ row
 periodic_event_same row = rw (event_kind_same row.kind, direction_same row.direction) refl
@@ -30,14 +30,14 @@ periodic_event_back cells h =
 
 pub periodic_activity_same : (row : PeriodicActivity)
     → periodic_activity (periodic_activity_cells row) ≡ row
-periodic_activity_same row = rw (activity_kind_same row.kind) refl
+periodic_activity_same row = rw (periodic_kind_same row.kind) refl
 
 pub periodic_activity_back : (cells : List ℤ) → InColumns activities_p_columns cells
     → periodic_activity_cells (periodic_activity cells) ≡ cells
 periodic_activity_back cells h =
     rw (
       cell_back activities_p_columns cells 0 h (omega arith) refl,
-      activity_kind_back (get_or cells 1 (pos 0)) (in_column activities_p_columns cells 1 h
+      periodic_kind_back (get_or cells 1 (pos 0)) (in_column activities_p_columns cells 1 h
           (omega arith)),
       cell_back activities_p_columns cells 2 h (omega arith) refl,
       cell_back activities_p_columns cells 3 h (omega arith) refl,

@@ -9,9 +9,9 @@ use Rattle.giv_files.specs.Inputs.{input_faults, records_of, row_faults}
 use Rattle.giv_files.specs.Reading.{faults, table_of, cells_from, cell_of, errors, values, row_whys}
 use Rattle.giv_files.specs.Rows.{rows, cleaned}
 use Rattle.plan_num.specs.Number.{spelling_of, value_of, value_at, fixed_of, whole_of}
-use Rattle.event_tables.specs.declared.activity_kind.ActivityKind.TheVariants as activity
 use Rattle.event_tables.specs.declared.expanded_event.ExpandedEvent.{ExpandedEvent}
 use Rattle.event_tables.specs.declared.periodic_event.PeriodicEvent.{PeriodicEvent}
+use Rattle.event_tables.specs.declared.periodic_kind.PeriodicKind.TheVariants as kind
 use Rattle.event_tables.specs.Cells.{expanded_event, periodic_event}
 use Rattle.event_tables.specs.Delays.{event_delay_input, activity_delay_input}
 use Rattle.event_tables.specs.DisposedTimes.{disposed_time_input}
@@ -74,32 +74,37 @@ apart = refl
 abbrev at : ℕ → ℕ → ℕ → ℕ → PeriodicEvent
 at id kind stop line = periodic_event (pos id ∷ pos kind ∷ pos stop ∷ pos line ∷ pos 0 ∷ pos 1 ∷ [])
 
-a_drive : joins activity.Drive (at 1 0 1 1) (at 2 1 2 1) ≡ true
+a_drive : joins kind.Drive (at 1 0 1 1) (at 2 1 2 1) ≡ true
 a_drive = refl
 
-no_drive : map (joins activity.Drive (at 1 0 1 1)) (at 3 1 2 1 ∷ at 2 1 2 2 ∷ []) ≡ false ∷ false
+no_drive : map (joins kind.Drive (at 1 0 1 1)) (at 3 1 2 1 ∷ at 2 1 2 2 ∷ []) ≡ false ∷ false
     ∷ []
 no_drive = refl
 
-drive_from_arrival : joins activity.Drive (at 1 1 1 1) (at 2 1 2 1) ≡ false
+drive_from_arrival : joins kind.Drive (at 1 1 1 1) (at 2 1 2 1) ≡ false
 drive_from_arrival = refl
 
-waits_and_others : map (joins activity.Wait (at 2 1 2 1)) (at 3 0 2 1 ∷ at 4 0 2 1 ∷ []) ≡ true
+waits_and_others : map (joins kind.Wait (at 2 1 2 1)) (at 3 0 2 1 ∷ at 4 0 2 1 ∷ []) ≡ true
     ∷ false ∷ []
 waits_and_others = refl
 
 -- of another line, at the same stop, to a departure
-changes_and_others : map (joins activity.Change (at 2 1 2 1)) (at 9 0 2 2 ∷ at 9 0 2 1 ∷ at 9 0 3 2
+changes_and_others : map (joins kind.Change (at 2 1 2 1)) (at 9 0 2 2 ∷ at 9 0 2 1 ∷ at 9 0 3 2
     ∷ at 9 1 2 2 ∷ []) ≡ true ∷ false ∷ false ∷ false ∷ []
 changes_and_others = refl
 
-syncs_and_others : map (joins activity.Sync (at 1 0 1 1)) (at 9 0 3 2 ∷ at 9 1 3 2 ∷ []) ≡ true
+syncs_and_others : map (joins kind.Sync (at 1 0 1 1)) (at 9 0 3 2 ∷ at 9 1 3 2 ∷ []) ≡ true
     ∷ false ∷ []
 syncs_and_others = refl
 
+-- of another stop, and an arrival
+headways_and_others : map (joins kind.Headway (at 1 0 1 1)) (at 9 0 1 2 ∷ at 9 0 3 2 ∷ at 9 1 1 2 ∷ [])
+    ≡ true ∷ false ∷ false ∷ []
+headways_and_others = refl
+
 -- of the rules that a row breaks each is told, in its order
 activity_faults : input_faults (periodic_activity_input ids)
-    (codes "1; drive; 1; 2; 4; 5\n2; wait; 2; 13; 3; 1\n2; change; 2; 11; 5; 5\n4; sync; 13; 1; 0; 0\n")
+    (codes "1; drive; 1; 2; 4; 5\n2; wait; 2; 13; 3; 1\n2; change; 2; 11; 5; 5\n4; headway; 13; 1; 0; 0\n")
     ≡ refusal.BadRow file.ActivitiesP 2 why.UnknownEvent
     ∷ refusal.BadRow file.ActivitiesP 2 why.BoundsCrossed
     ∷ refusal.BadRow file.ActivitiesP 3 why.OrderGap

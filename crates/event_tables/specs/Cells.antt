@@ -10,7 +10,7 @@ use Rattle.event_tables.specs.declared.periodic_time.PeriodicTime.{PeriodicTime}
 use Rattle.event_tables.specs.declared.schedule_row.ScheduleRow.{ScheduleRow}
 use Rattle.event_tables.specs.declared.trip.Trip.{Trip}
 use Rattle.event_tables.specs.declared.trip.TripEnd.{TripEnd}
-use Rattle.event_tables.specs.Kinds.{event_kind_at, direction_at, activity_kind_at, schedule_kind_at, event_kind_place, direction_place, activity_kind_place, schedule_kind_place}
+use Rattle.event_tables.specs.Kinds.{event_kind_at, direction_at, activity_kind_at, periodic_kind_at, schedule_kind_at, event_kind_place, direction_place, activity_kind_place, periodic_kind_place, schedule_kind_place}
 
 -- the number in a column; in these files none is below 0
 abbrev pub number_in : List ℤ → ℕ → ℕ
@@ -39,7 +39,7 @@ periodic_event cells = record {
 abbrev pub periodic_activity : List ℤ → PeriodicActivity
 periodic_activity cells = record {
   id = number_in cells 0;
-  kind = activity_kind_at (number_in cells 1);
+  kind = periodic_kind_at (number_in cells 1);
   from = number_in cells 2;
   to = number_in cells 3;
   lower = number_in cells 4;
@@ -103,7 +103,7 @@ periodic_event_cells event = pos event.id ∷ pos (event_kind_place event.kind) 
     ∷ pos event.line ∷ pos (direction_place event.direction) ∷ pos event.repetition ∷ []
 
 abbrev pub periodic_activity_cells : PeriodicActivity → List ℤ
-periodic_activity_cells activity = pos activity.id ∷ pos (activity_kind_place activity.kind)
+periodic_activity_cells activity = pos activity.id ∷ pos (periodic_kind_place activity.kind)
     ∷ pos activity.from ∷ pos activity.to ∷ pos activity.lower ∷ pos activity.upper ∷ []
 
 abbrev pub periodic_time_cells : PeriodicTime → List ℤ

@@ -6,6 +6,8 @@ use Rattle.event_tables.specs.declared.direction.Direction.{Direction}
 use Rattle.event_tables.specs.declared.direction.Direction.TheVariants as direction
 use Rattle.event_tables.specs.declared.event_kind.EventKind.{EventKind}
 use Rattle.event_tables.specs.declared.event_kind.EventKind.TheVariants as event
+use Rattle.event_tables.specs.declared.periodic_kind.PeriodicKind.{PeriodicKind}
+use Rattle.event_tables.specs.declared.periodic_kind.PeriodicKind.TheVariants as periodic
 use Rattle.event_tables.specs.declared.schedule_kind.ScheduleKind.{ScheduleKind}
 use Rattle.event_tables.specs.declared.schedule_kind.ScheduleKind.TheVariants as schedule
 
@@ -20,6 +22,11 @@ abbrev pub activity_kind_at : ℕ → ActivityKind
 activity_kind_at place =
     get_or (activity.Drive ∷ activity.Wait ∷ activity.Change ∷ activity.Sync
     ∷ []) place activity.Drive
+
+abbrev pub periodic_kind_at : ℕ → PeriodicKind
+periodic_kind_at place =
+    get_or (periodic.Drive ∷ periodic.Wait ∷ periodic.Change ∷ periodic.Sync ∷ periodic.Headway
+    ∷ []) place periodic.Drive
 
 abbrev pub schedule_kind_at : ℕ → ScheduleKind
 schedule_kind_at place = get_or (schedule.Trip ∷ schedule.Empty ∷ []) place schedule.Trip
@@ -38,6 +45,13 @@ activity_kind_place activity.Drive = 0
 activity_kind_place activity.Wait = 1
 activity_kind_place activity.Change = 2
 activity_kind_place activity.Sync = 3
+
+abbrev pub periodic_kind_place : PeriodicKind → ℕ
+periodic_kind_place periodic.Drive = 0
+periodic_kind_place periodic.Wait = 1
+periodic_kind_place periodic.Change = 2
+periodic_kind_place periodic.Sync = 3
+periodic_kind_place periodic.Headway = 4
 
 abbrev pub schedule_kind_place : ScheduleKind → ℕ
 schedule_kind_place schedule.Trip = 0

@@ -1,9 +1,9 @@
 -- Runs of periodic events, and what an activity of each kind joins.
 use Rattle.std.specs.Prelude.{◌+◌, ◌==◌, Bool, ◌&&◌, not, if◌then◌else◌, List, [], ◌∷◌, drop}
 use Rattle.std.specs.List.{zip}
-use Rattle.event_tables.specs.declared.activity_kind.ActivityKind.{ActivityKind}
-use Rattle.event_tables.specs.declared.activity_kind.ActivityKind.TheVariants as activity
 use Rattle.event_tables.specs.declared.periodic_event.PeriodicEvent.{PeriodicEvent}
+use Rattle.event_tables.specs.declared.periodic_kind.PeriodicKind.{PeriodicKind}
+use Rattle.event_tables.specs.declared.periodic_kind.PeriodicKind.TheVariants as kind
 use Rattle.event_tables.specs.Kinds.{is_arrival, same_direction}
 
 -- two events that agree in line, direction and repetition
@@ -32,12 +32,17 @@ changes event next = is_arrival event.kind && not (is_arrival next.kind) && even
 abbrev pub syncs : PeriodicEvent → PeriodicEvent → Bool
 syncs event next = not (is_arrival event.kind) && not (is_arrival next.kind)
 
+-- a headway joins two departures at the same stop
+abbrev pub headways : PeriodicEvent → PeriodicEvent → Bool
+headways event next = syncs event next && event.stop == next.stop
+
 -- which two events an activity of a kind may join
-abbrev pub joins : ActivityKind → PeriodicEvent → PeriodicEvent → Bool
-joins activity.Drive = drives
-joins activity.Wait = waits
-joins activity.Change = changes
-joins activity.Sync = syncs
+abbrev pub joins : PeriodicKind → PeriodicEvent → PeriodicEvent → Bool
+joins kind.Drive = drives
+joins kind.Wait = waits
+joins kind.Change = changes
+joins kind.Sync = syncs
+joins kind.Headway = headways
 
 -- an event before runs: it begins the first of them where it agrees with that one's first event, and else
 -- a run of its own

@@ -2,13 +2,13 @@
 -- broken, no event is unjoined, and no activity is stray.
 use Rattle.std.specs.Prelude.{ℕ, ◌≡◌, ◌+◌, ◌%◌, ◌==◌, Bool, ◌&&◌, ◌||◌, not, List, [], length, map, filter}
 use Rattle.std.specs.List.{flat_map, enumerate_from, count_by, list_any}
-use Rattle.event_tables.specs.declared.activity_kind.ActivityKind.{ActivityKind}
-use Rattle.event_tables.specs.declared.activity_kind.ActivityKind.TheVariants as activity
 use Rattle.event_tables.specs.declared.event_kind.EventKind.{EventKind}
 use Rattle.event_tables.specs.declared.event_kind.EventKind.TheVariants as event
 use Rattle.event_tables.specs.declared.periodic_activity.PeriodicActivity.{PeriodicActivity}
 use Rattle.event_tables.specs.declared.periodic_event.PeriodicEvent.{PeriodicEvent}
-use Rattle.event_tables.specs.Kinds.{event_kind_place, activity_kind_place}
+use Rattle.event_tables.specs.declared.periodic_kind.PeriodicKind.{PeriodicKind}
+use Rattle.event_tables.specs.declared.periodic_kind.PeriodicKind.TheVariants as kind
+use Rattle.event_tables.specs.Kinds.{event_kind_place, periodic_kind_place}
 use Rattle.event_tables.specs.PeriodicRuns.{joins, runs_of, neighbours}
 
 -- an event is of the wrong kind at a place of its run, counted from 0: a run alternates, and begins
@@ -33,13 +33,13 @@ abbrev pub broken_events : List PeriodicEvent → List PeriodicEvent
 broken_events events = flat_map broken_in (runs_of events)
 
 -- the kind of the activity that leads from an event to the next one of its run
-abbrev pub way_on : EventKind → ActivityKind
-way_on event.Departure = activity.Drive
-way_on event.Arrival = activity.Wait
+abbrev pub way_on : EventKind → PeriodicKind
+way_on event.Departure = kind.Drive
+way_on event.Arrival = kind.Wait
 
 -- two kinds that are one
-abbrev pub same_kind : ActivityKind → ActivityKind → Bool
-same_kind kind other = activity_kind_place kind == activity_kind_place other
+abbrev pub same_kind : PeriodicKind → PeriodicKind → Bool
+same_kind one other = periodic_kind_place one == periodic_kind_place other
 
 -- an activity leads from an event to the next one
 abbrev pub leads : PeriodicEvent × PeriodicEvent → PeriodicActivity → Bool
@@ -70,7 +70,7 @@ is_placed events activity = list_any (λ event. list_any (goes_between activity 
 
 -- a drive that may take no time
 abbrev pub drives_at_once : PeriodicActivity → Bool
-drives_at_once at = same_kind at.kind activity.Drive && at.lower == 0
+drives_at_once at = same_kind at.kind kind.Drive && at.lower == 0
 
 -- an activity that joins no two events in the way of its kind, or a drive that may take no time
 abbrev pub is_stray : List PeriodicEvent → PeriodicActivity → Bool

@@ -1,11 +1,11 @@
-// Kinds of activities, and the places of their words.
+// Kinds of activities of a day, and the places of their words.
 ghost use Rattle.std.specs.Prelude.{◌≡◌, pos};
 ghost use Rattle.giv_files.specs.declared.words.WordTable.TheVariants as tables;
 ghost use Rattle.giv_files.specs.Columns.{word};
 ghost use Rattle.giv_files.specs.Writing.{InColumn};
 ghost use Rattle.event_tables.specs.Kinds.{activity_kind_at, activity_kind_place, is_sync};
 
-/// What joins two events.
+/// What joins two events of a day.
 #[derive(Clone, Copy, Debug, PartialEq, Eq)]
 pub enum ActivityKind {
     /// From a departure to the next event of its run.

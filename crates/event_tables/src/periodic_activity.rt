@@ -2,8 +2,8 @@
 ghost use Rattle.std.specs.Prelude.{◌≡◌, nat_lt};
 ghost use Rattle.event_tables.specs.Cells.{periodic_activity, periodic_activity_cells, AreSmall};
 
-use crate::activity_kind::ActivityKind;
 use crate::cells::number;
+use crate::periodic_kind::PeriodicKind;
 use crate::record::Record;
 use giv_files::Table;
 
@@ -11,7 +11,7 @@ use giv_files::Table;
 #[derive(Clone, Copy, Debug, PartialEq, Eq)]
 pub struct PeriodicActivity {
     pub id: u32,
-    pub kind: ActivityKind,
+    pub kind: PeriodicKind,
     pub from: u32,
     pub to: u32,
     pub lower: u32,
@@ -37,7 +37,7 @@ impl Record<6> for PeriodicActivity {
     fn read(table: &Table<6>, index: usize) -> PeriodicActivity {
         PeriodicActivity {
             id: number(table, index, 0),
-            kind: ActivityKind::at(number(table, index, 1)),
+            kind: PeriodicKind::at(number(table, index, 1)),
             from: number(table, index, 2),
             to: number(table, index, 3),
             lower: number(table, index, 4),

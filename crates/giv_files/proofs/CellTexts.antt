@@ -67,6 +67,7 @@ words_good table.Direction = (plain_word _ refl, refl, (plain_word _ refl, refl,
 words_good table.NodeKind = (plain_word _ refl, refl, (plain_word _ refl, refl, (plain_word _ refl, refl, (plain_word _ refl, refl, (plain_word _ refl, refl, tt)))))
 words_good table.ScheduleKind = (plain_word _ refl, refl, (plain_word _ refl, refl, tt))
 words_good table.ReasonKind = (plain_word _ refl, refl, (plain_word _ refl, refl, (plain_word _ refl, refl, tt)))
+words_good table.PeriodicKind = (plain_word _ refl, refl, (plain_word _ refl, refl, (plain_word _ refl, refl, (plain_word _ refl, refl, (plain_word _ refl, refl, tt)))))
 words_good table.WaitKind = (plain_word _ refl, refl, (plain_word _ refl, refl, (plain_word _ refl, refl, (plain_word _ refl, refl, (plain_word _ refl, refl, tt)))))
 
 -- a number within its column is within what can be read back

@@ -71,7 +71,7 @@ events_p_columns = id ∷ word table.EventKind ∷ id ∷ id ∷ word table.Dire
 
 -- the columns of periodic activities
 abbrev pub activities_p_columns : List ColumnKind
-activities_p_columns = id ∷ word table.ActivityKind ∷ id ∷ id ∷ bound ∷ bound ∷ []
+activities_p_columns = id ∷ word table.PeriodicKind ∷ id ∷ id ∷ bound ∷ bound ∷ []
 
 -- the columns of a periodic timetable
 abbrev pub times_p_columns : List ColumnKind

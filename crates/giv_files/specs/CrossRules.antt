@@ -16,11 +16,16 @@ keeps_bound bound.TwiceAtMost other value = int_le (pos 2 *ℤ value) other
 abbrev pub not_below : Key → Option CrossRule
 not_below other = Some (record { bound = bound.NotBelow; other = other })
 
+-- a rule: twice the value of its key is at most that of another
+abbrev pub at_most_half : Key → Option CrossRule
+at_most_half other = Some (record { bound = bound.TwiceAtMost; other = other })
+
 -- the rule of a key, where it has one
 abbrev pub cross_rule : Key → Option CrossRule
 cross_rule key.EanDefaultMaximalWaitingTime = not_below key.EanDefaultMinimalWaitingTime
 cross_rule key.EanDefaultMaximalChangeTime = not_below key.EanDefaultMinimalChangeTime
 cross_rule key.DmLatestTime = not_below key.DmEarliestTime
+cross_rule key.EanHeadway = at_most_half key.PeriodLength
 cross_rule _ = None
 
 -- a value keeps a rule by the values of keys, also where the other key has none

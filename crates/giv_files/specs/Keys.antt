@@ -63,6 +63,7 @@ key_row key.EanDefaultMinimalChangeTime =
     row (codes "ean_default_minimal_change_time") (whole 0 10000) 3 (stage.Ean ∷ [])
 key_row key.EanDefaultMaximalChangeTime =
     row (codes "ean_default_maximal_change_time") (whole 0 10000) 62 (stage.Ean ∷ [])
+key_row key.EanHeadway = row (codes "ean_headway") (whole 0 360) 0 (stage.Ean ∷ [])
 key_row key.TimetableBudget =
     row (codes "timetable_budget") (whole 1 1000000) 100000 (stage.Timetable ∷ [])
 key_row key.DmEarliestTime =
@@ -93,6 +94,7 @@ all_keys =
     ∷ key.EanDefaultMaximalWaitingTime
     ∷ key.EanDefaultMinimalChangeTime
     ∷ key.EanDefaultMaximalChangeTime
+    ∷ key.EanHeadway
     ∷ key.TimetableBudget
     ∷ key.DmEarliestTime
     ∷ key.DmLatestTime

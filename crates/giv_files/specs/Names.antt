@@ -7,6 +7,8 @@ use Rattle.giv_files.specs.declared.words.WordTable.TheVariants as table
 abbrev pub table_words : WordTable → List (List ℕ)
 table_words table.EventKind = codes "departure" ∷ codes "arrival" ∷ []
 table_words table.ActivityKind = codes "drive" ∷ codes "wait" ∷ codes "change" ∷ codes "sync" ∷ []
+table_words table.PeriodicKind =
+    codes "drive" ∷ codes "wait" ∷ codes "change" ∷ codes "sync" ∷ codes "headway" ∷ []
 table_words table.Direction = codes ">" ∷ codes "<" ∷ []
 table_words table.NodeKind = codes "split" ∷ codes "empty" ∷ codes "bound" ∷ codes "mult" ∷ codes "point" ∷ []
 table_words table.ScheduleKind = codes "TRIP" ∷ codes "EMPTY" ∷ []

@@ -29,7 +29,7 @@ macro_rules! columns {
     (Concept) => { $crate::cells!(id, id, id, whole(1_000)) };
     (Tree) => { $crate::cells!(word(NodeKind), ref, whole(1_000_000_000), fixed(1_000_000_000_000)) };
     (EventsP) => { $crate::cells!(id, word(EventKind), id, id, word(Direction), id) };
-    (ActivitiesP) => { $crate::cells!(id, word(ActivityKind), id, id, bound, bound) };
+    (ActivitiesP) => { $crate::cells!(id, word(PeriodicKind), id, id, bound, bound) };
     (TimesP) => { $crate::cells!(id, time) };
     (EventsX) => { $crate::cells!(id, id, word(EventKind), time, id) };
     (ActivitiesX) => { $crate::cells!(id, id, word(ActivityKind), id, id, bound, bound) };

@@ -25,6 +25,7 @@ pub enum Key {
     EanDefaultMaximalWaitingTime,
     EanDefaultMinimalChangeTime,
     EanDefaultMaximalChangeTime,
+    EanHeadway,
     TimetableBudget,
     DmEarliestTime,
     DmLatestTime,
@@ -106,6 +107,7 @@ impl Key {
                 62,
                 &[Stage::Ean],
             ),
+            Key::EanHeadway => row("ean_headway", whole(0, 360), 0, &[Stage::Ean]),
             Key::TimetableBudget => row(
                 "timetable_budget",
                 whole(1, 1_000_000),
@@ -188,6 +190,7 @@ impl Key {
             Key::EanDefaultMaximalChangeTime => {
                 (Bound::NotBelow, Key::EanDefaultMinimalChangeTime)
             }
+            Key::EanHeadway => (Bound::TwiceAtMost, Key::PeriodLength),
             Key::DmLatestTime => (Bound::NotBelow, Key::DmEarliestTime),
             _ => return None,
         };
@@ -212,6 +215,7 @@ impl Key {
             Key::EanDefaultMaximalWaitingTime,
             Key::EanDefaultMinimalChangeTime,
             Key::EanDefaultMaximalChangeTime,
+            Key::EanHeadway,
             Key::TimetableBudget,
             Key::DmEarliestTime,
             Key::DmLatestTime,

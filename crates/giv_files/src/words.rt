@@ -7,6 +7,7 @@ ghost use Rattle.giv_files.specs.Names.{table_words};
 pub enum WordTable {
     EventKind,
     ActivityKind,
+    PeriodicKind,
     Direction,
     NodeKind,
     ScheduleKind,
@@ -22,6 +23,7 @@ impl WordTable {
         match self {
             WordTable::EventKind => &["departure", "arrival"],
             WordTable::ActivityKind => &["drive", "wait", "change", "sync"],
+            WordTable::PeriodicKind => &["drive", "wait", "change", "sync", "headway"],
             WordTable::Direction => &[">", "<"],
             WordTable::NodeKind => &["split", "empty", "bound", "mult", "point"],
             WordTable::ScheduleKind => &["TRIP", "EMPTY"],

@@ -5,7 +5,7 @@ use Rattle.std.proofs.lemmas.List.{length-append, length-map, append-nil}
 use Rattle.std.proofs.lemmas.Grind.{flat_map-append}
 use Rattle.event_tables.specs.declared.periodic_activity.PeriodicActivity.{PeriodicActivity}
 use Rattle.roll_out.specs.declared.copies.Copies.{Copies}
-use Rattle.roll_out.specs.DayActivities.{copy_of}
+use Rattle.roll_out.specs.DayActivities.{change_copy}
 use Rattle.roll_out.specs.Plans.{changes_at, copies_with, copy_id, copy_time, ids_at}
 use Rattle.roll_out.specs.TimedRuns.{TimedParts, minutes_of}
 use Rattle.roll_out.proofs.Added.{range_more}
@@ -26,16 +26,16 @@ module _ (network : TimedParts) (copies : List Copies) (activity : PeriodicActiv
       (copy_time k (copies_with copies activity.from) n + minutes_of network activity)) p
 
   pub change_is : (id : ℕ) → id ≡ copy_id (copies_with copies activity.from) n
-      → map (copy_of activity id) ids ≡ changes_at network copies activity n
+      → map (change_copy activity id) ids ≡ changes_at network copies activity n
   change_is id is =
-      ap (λ k. map (copy_of activity k) ids) is
-      ∙ ap (map (copy_of activity (copy_id (copies_with copies activity.from) n))) ids_are
+      ap (λ k. map (change_copy activity k) ids) is
+      ∙ ap (map (change_copy activity (copy_id (copies_with copies activity.from) n))) ids_are
 
   pub change_size : length ids ≡ length (changes_at network copies activity n)
   change_size =
       ap length ids_are ∙ sym (length-map (ids_at network.period (copies_with copies activity.to)
       (copy_time network.period (copies_with copies activity.from) n + minutes_of network activity))
-      (copy_of activity (copy_id (copies_with copies activity.from) n)))
+      (change_copy activity (copy_id (copies_with copies activity.from) n)))
 
 -- the parts of one number more
 pub parts_counted : {X : Type 0} (f : ℕ → List X) (n count more : ℕ)

@@ -1,18 +1,23 @@
 -- The cells of the files of a day are in their columns.
-use Rattle.std.proofs.Common.{ℕ, pos, ◌+◌, ◌-◌, ◌<◌, ◌≤◌, ◌≤ℤ◌, arith, All, IfSome, List, [], ◌∷◌, ◌++◌, length, filter, get_or, Option, Some, None, subst, sym}
+use Rattle.std.proofs.Common.{ℕ, pos, ◌+◌, ◌-◌, ◌<◌, ◌≤◌, ◌≤ℤ◌, arith, All, IfSome, List, [], ◌∷◌, ◌++◌, length, filter, get_or, refl, Option, Some, None, subst, sym}
 use Rattle.std.specs.List.{flat_map, enumerate_from, AllByRecursion}
 use Rattle.std.proofs.lemmas.Int.{ints}
 use Rattle.std.proofs.lemmas.List.Elements.{All-nil, All-cons, All-append, All-head, All-tail, All-map, All-filter, All-weaker, All-from_recursion, recursion_from_All}
 use Rattle.std.proofs.lemmas.List.{length-map}
 use Rattle.std.proofs.lemmas.List.FromFn.{length-enumerate_from, get_or-enumerate_from}
-use Rattle.giv_files.specs.Columns.{activities_p_columns, activities_x_columns, events_x_columns, trips_columns}
-use Rattle.giv_files.specs.Writing.{InColumns}
+use Rattle.giv_files.specs.declared.words.WordTable.TheVariants as table
+use Rattle.giv_files.specs.Columns.{activities_p_columns, activities_x_columns, events_x_columns, trips_columns, word}
+use Rattle.giv_files.specs.Writing.{InColumn, InColumns}
+use Rattle.event_tables.specs.declared.activity_kind.ActivityKind.{ActivityKind}
+use Rattle.event_tables.specs.declared.activity_kind.ActivityKind.TheVariants as day_kind
+use Rattle.event_tables.specs.declared.event_kind.EventKind.{EventKind}
 use Rattle.event_tables.specs.declared.expanded_activity.ExpandedActivity.{ExpandedActivity}
 use Rattle.event_tables.specs.declared.expanded_event.ExpandedEvent.{ExpandedEvent}
 use Rattle.event_tables.specs.declared.periodic_activity.PeriodicActivity.{PeriodicActivity}
 use Rattle.event_tables.specs.Cells.{expanded_activity_cells, expanded_event_cells, periodic_activity_cells, trip_cells}
+use Rattle.event_tables.specs.Kinds.{activity_kind_place}
 use Rattle.roll_out.specs.declared.timed_event.TimedEvent.{TimedEvent}
-use Rattle.roll_out.specs.DayActivities.{change_copies, changes_from, copy_of, day_activities, day_changes, day_ways, is_change, is_copy, is_head, trip_ways, way_from, with_number}
+use Rattle.roll_out.specs.DayActivities.{change_copies, change_copy, changes_from, copy_of, day_activities, day_changes, day_ways, is_change, is_copy, is_head, trip_ways, way_from, way_kind, with_number}
 use Rattle.roll_out.specs.DayTrips.{TripParts, day_event, day_events, no_timed, trip_events, trip_row}
 use Rattle.roll_out.specs.Plans.{IsBetween, IsTimely, IsTrip}
 use Rattle.roll_out.specs.RolloutStage.{trip_rows}
@@ -89,32 +94,38 @@ module _ (trip : TripParts) (is : IsTrip trip) where
       All-map EventFits (day_event trip.start) (enumerate_from trip.first trip.run)
       (run_fits (λ at. EventFits (day_event trip.start at)) event_fits)
 
-copy_fits : (activity : PeriodicActivity) → InColumns activities_p_columns
+kind_in : (kind : ActivityKind) → InColumn (word table.ActivityKind) (pos (activity_kind_place kind))
+kind_in day_kind.Drive = (0, omega arith, refl)
+kind_in day_kind.Wait = (1, omega arith, refl)
+kind_in day_kind.Change = (2, omega arith, refl)
+kind_in day_kind.Sync = (3, omega arith, refl)
+
+copy_fits : (kind : ActivityKind) (activity : PeriodicActivity) → InColumns activities_p_columns
     (periodic_activity_cells activity)
     → (from to : ℕ) → (pos 1 ≤ℤ pos from) × (pos from ≤ℤ pos 1000000000)
-    → (pos 1 ≤ℤ pos to) × (pos to ≤ℤ pos 1000000000) → PlainFits (copy_of activity from to)
-copy_fits activity fits from to first second = (
+    → (pos 1 ≤ℤ pos to) × (pos to ≤ℤ pos 1000000000) → PlainFits (copy_of kind activity from to)
+copy_fits kind activity fits from to first second = (
   id_in 1 (omega arith) (omega arith),
-  (fits.0, (fits.1.0, (first, (second, (fits.1.1.1.1.0, (fits.1.1.1.1.1.0, tt)))))),
+  (fits.0, (kind_in kind, (first, (second, (fits.1.1.1.1.0, (fits.1.1.1.1.1.0, tt)))))),
 )
 
-way_fits : (way : Option PeriodicActivity) → IfSome way
+way_fits : (event : EventKind) (way : Option PeriodicActivity) → IfSome way
     (λ way. InColumns activities_p_columns (periodic_activity_cells way))
-    → (k : ℕ) → 1 ≤ k → k ≤ 100000 → All PlainFits (way_from k way)
-way_fits None fits k low high = All-nil PlainFits
-way_fits (Some activity) fits k low high =
-    All-cons PlainFits (copy_of activity k (k + 1)) []
-    (copy_fits activity fits k (k + 1) (id_in k low (omega (arith, high)))
+    → (k : ℕ) → 1 ≤ k → k ≤ 100000 → All PlainFits (way_from event k way)
+way_fits event None fits k low high = All-nil PlainFits
+way_fits event (Some activity) fits k low high =
+    All-cons PlainFits (copy_of (way_kind event) activity k (k + 1)) []
+    (copy_fits (way_kind event) activity fits k (k + 1) (id_in k low (omega (arith, high)))
     (id_in (k + 1) (omega (arith, low)) (omega (arith, high))))
     (All-nil PlainFits)
 
 trip_ways_fit : (trip : TripParts) → IsTrip trip → All PlainFits (trip_ways trip)
 trip_ways_fit trip is =
-    parts_fit PlainFits (λ (at : ℕ × TimedEvent). All PlainFits (way_from at.0 at.1.way))
-    (λ (at : ℕ × TimedEvent). way_from at.0 at.1.way) (λ at all. all)
+    parts_fit PlainFits (λ (at : ℕ × TimedEvent). All PlainFits (way_from at.1.event.kind at.0 at.1.way))
+    (λ (at : ℕ × TimedEvent). way_from at.1.event.kind at.0 at.1.way) (λ at all. all)
     (enumerate_from trip.first trip.run)
-    (run_fits trip is (λ (at : ℕ × TimedEvent). All PlainFits (way_from at.0 at.1.way))
-    (λ k at low high good. way_fits at.way good.way_fits k low high))
+    (run_fits trip is (λ (at : ℕ × TimedEvent). All PlainFits (way_from at.1.event.kind at.0 at.1.way))
+    (λ k at low high good. way_fits at.event.kind at.way good.way_fits k low high))
 
 module _ (trips : List TripParts) (are : All IsTrip trips) where
   -- those of events
@@ -126,10 +137,10 @@ module _ (trips : List TripParts) (are : All IsTrip trips) where
         → EventFits tail
         → All PlainFits (changes_from network (day_events trips) activity tail)
     from_fit activity is tail fits =
-        All-map PlainFits (λ (head : ExpandedEvent). copy_of activity tail.id head.id)
+        All-map PlainFits (λ (head : ExpandedEvent). change_copy activity tail.id head.id)
         (filter (is_head network activity tail) (day_events trips))
-        (All-weaker EventFits (λ head. PlainFits (copy_of activity tail.id head.id))
-        (λ head good. copy_fits activity is.fits tail.id head.id fits.0 good.0)
+        (All-weaker EventFits (λ head. PlainFits (change_copy activity tail.id head.id))
+        (λ head good. copy_fits day_kind.Change activity is.fits tail.id head.id fits.0 good.0)
         (filter (is_head network activity tail) (day_events trips))
         (All-filter (is_head network activity tail) EventFits (day_events trips) events_fit))
 

@@ -9,7 +9,7 @@ use Rattle.event_tables.specs.declared.expanded_activity.ExpandedActivity.{Expan
 use Rattle.event_tables.specs.declared.expanded_event.ExpandedEvent.{ExpandedEvent}
 use Rattle.event_tables.specs.declared.periodic_activity.PeriodicActivity.{PeriodicActivity}
 use Rattle.roll_out.specs.declared.copies.Copies.{Copies}
-use Rattle.roll_out.specs.DayActivities.{copy_of, is_change, is_copy, changes_from, change_copies, day_changes}
+use Rattle.roll_out.specs.DayActivities.{change_copy, is_change, is_copy, changes_from, change_copies, day_changes}
 use Rattle.roll_out.specs.DayTrips.{day_events}
 use Rattle.roll_out.specs.Plans.{PlanParts, ArePlans, IsBetween, trips_by, copies_by, copies_with, copy_id, copy_time, ids_at, changes_at, changes_by, changes_if}
 use Rattle.roll_out.specs.TimedRuns.{TimedParts, minutes_of}
@@ -40,33 +40,33 @@ module _ (network : TimedParts) (events : List ExpandedEvent) (copies : List Cop
     -- the copies from a copy of the tail at a place, to copies of the head at some places
     abbrev onto : List (ℕ × ℕ) → ℕ × ℕ → List ExpandedActivity
     onto places from =
-        map (λ (to : ℕ × ℕ). copy_of activity from.0 to.0)
+        map (λ (to : ℕ × ℕ). change_copy activity from.0 to.0)
         (filter (λ (to : ℕ × ℕ). to.1 == from.1 + minutes) places)
 
     by_places : (tail : ExpandedEvent)
         → changes_from network events activity tail ≡ onto (map place_of heads) (place_of tail)
     by_places tail =
         let test = λ (head : ExpandedEvent). head.time == tail.time + minutes in
-        ap (map (λ (head : ExpandedEvent). copy_of activity tail.id head.id))
+        ap (map (λ (head : ExpandedEvent). change_copy activity tail.id head.id))
         (filter_both (is_copy activity.to) test events)
-        ∙ sym (map-map (λ (to : ℕ × ℕ). copy_of activity tail.id to.0) place_of (filter test heads))
-        ∙ ap (map (λ (to : ℕ × ℕ). copy_of activity tail.id to.0))
+        ∙ sym (map-map (λ (to : ℕ × ℕ). change_copy activity tail.id to.0) place_of (filter test heads))
+        ∙ ap (map (λ (to : ℕ × ℕ). change_copy activity tail.id to.0))
         (sym (filter_map_is (λ (to : ℕ × ℕ). to.1 == tail.time + minutes) place_of heads))
 
     onto_pairs : (to from : Copies) (k : ℕ)
         → onto (pairs to) (copy_id from k, copy_time network.period from k)
-        ≡ map (copy_of activity (copy_id from k))
+        ≡ map (change_copy activity (copy_id from k))
         (ids_at network.period to (copy_time network.period from k + minutes))
     onto_pairs to from k =
         let test : ℕ → Bool = λ j. copy_time network.period to j == copy_time network.period from k
         + minutes in
         let some : List ℕ = range_with_len 0 to.count in
-        ap (map (λ (at : ℕ × ℕ). copy_of activity (copy_id from k) at.0))
+        ap (map (λ (at : ℕ × ℕ). change_copy activity (copy_id from k) at.0))
         (filter_map_is (λ (at : ℕ × ℕ). at.1 == copy_time network.period from k + minutes)
         (λ j. (copy_id to j, copy_time network.period to j)) some)
-        ∙ map-map (λ (at : ℕ × ℕ). copy_of activity (copy_id from k) at.0)
+        ∙ map-map (λ (at : ℕ × ℕ). change_copy activity (copy_id from k) at.0)
         (λ j. (copy_id to j, copy_time network.period to j)) (filter test some)
-        ∙ sym (map-map (copy_of activity (copy_id from k)) (copy_id to) (filter test some))
+        ∙ sym (map-map (change_copy activity (copy_id from k)) (copy_id to) (filter test some))
 
     -- the copies of a change, where the places of its tail and of its head are known
     pub change_same : map place_of (filter (is_copy activity.from) events)

@@ -3,17 +3,17 @@ use Rattle.std.proofs.Common.{◌≡◌, ℕ, ◌+◌, ◌-◌, ◌≤◌, ◌==
 use Rattle.std.specs.List.{flat_map, enumerate_from, AllByRecursion}
 use Rattle.std.proofs.lemmas.Bool.{eqb-true}
 use Rattle.std.proofs.lemmas.List.Elements.{recursion_from_All}
-use Rattle.event_tables.specs.declared.activity_kind.ActivityKind.{ActivityKind}
-use Rattle.event_tables.specs.declared.activity_kind.ActivityKind.TheVariants as activity
 use Rattle.event_tables.specs.declared.expanded_event.ExpandedEvent.{ExpandedEvent}
 use Rattle.event_tables.specs.declared.periodic_activity.PeriodicActivity.{PeriodicActivity}
 use Rattle.event_tables.specs.declared.periodic_event.PeriodicEvent.{PeriodicEvent}
+use Rattle.event_tables.specs.declared.periodic_kind.PeriodicKind.{PeriodicKind}
+use Rattle.event_tables.specs.declared.periodic_kind.PeriodicKind.TheVariants as kind
 use Rattle.event_tables.specs.ExpandedFiles.{IsExpandedActivity}
-use Rattle.event_tables.specs.Kinds.{is_arrival, is_sync}
+use Rattle.event_tables.specs.Kinds.{is_arrival}
 use Rattle.event_tables.specs.PeriodicRuns.{joins}
 use Rattle.event_tables.specs.Places.{AreNumbered}
 use Rattle.event_tables.specs.RunRules.{same_kind}
-use Rattle.roll_out.specs.DayActivities.{change_copies, changes_from, copy_of, day_changes, is_change, is_copy, is_head}
+use Rattle.roll_out.specs.DayActivities.{change_copies, changes_from, change_copy, day_changes, is_change, is_copy, is_head}
 use Rattle.roll_out.specs.DayTrips.{TripParts, day_event, day_events, trip_events}
 use Rattle.roll_out.specs.TimedRuns.{TimedParts, minutes_of, no_event, timed_from, minutes_on, way_on}
 use Rattle.roll_out.proofs.GoesForward.{changes_stand, forward_between}
@@ -88,27 +88,20 @@ pub both_true : (a b : Bool) → (a && b) ≡ true → (a ≡ true) × (b ≡ tr
 both_true true b all = (refl, all)
 both_true false b all = no_true all
 
-change_no_sync : (kind : ActivityKind) → same_kind kind activity.Change ≡ true → is_sync kind
-    ≡ false
-change_no_sync activity.Sync is = no_true is
-change_no_sync activity.Drive is = refl
-change_no_sync activity.Wait is = refl
-change_no_sync activity.Change is = refl
-
-joins_as : (kind : ActivityKind) (event next : PeriodicEvent) → same_kind kind activity.Change
-    ≡ true
-    → joins kind event next ≡ true → joins activity.Change event next ≡ true
-joins_as activity.Change event next is joined = joined
-joins_as activity.Drive event next is joined = no_true is
-joins_as activity.Wait event next is joined = no_true is
-joins_as activity.Sync event next is joined = no_true is
+joins_as : (of : PeriodicKind) (event next : PeriodicEvent) → same_kind of kind.Change ≡ true
+    → joins of event next ≡ true → joins kind.Change event next ≡ true
+joins_as kind.Change event next is joined = joined
+joins_as kind.Drive event next is joined = no_true is
+joins_as kind.Wait event next is joined = no_true is
+joins_as kind.Sync event next is joined = no_true is
+joins_as kind.Headway event next is joined = no_true is
 
 not_true : (b : Bool) → not b ≡ true → b ≡ false
 not_true false is = refl
 not_true true is = no_true is
 
 -- a change goes from an arrival to a departure
-change_ends : (event next : PeriodicEvent) → joins activity.Change event next ≡ true
+change_ends : (event next : PeriodicEvent) → joins kind.Change event next ≡ true
     → (is_arrival event.kind ≡ true) × (is_arrival next.kind ≡ false)
 change_ends event next joined =
     let outer = both_true (is_arrival event.kind && not (is_arrival next.kind)
@@ -128,12 +121,12 @@ module _ (network : TimedParts) (some : 1 ≤ network.period) (short : network.p
   known : AllByRecursion Known events
   known = both_all (IsListed events) (IsOf network) events listed of
 
-  one_change : (way : PeriodicActivity) → IsFit network way → same_kind way.kind activity.Change
+  one_change : (way : PeriodicActivity) → IsFit network way → same_kind way.kind kind.Change
       ≡ true
       → (tail : ExpandedEvent) → Known tail → tail.periodic ≡ way.from → (head : ExpandedEvent)
       → Known head
       → head.periodic ≡ way.to → head.time ≡ tail.time + minutes_of network way
-      → IsExpandedActivity events (copy_of way tail.id head.id)
+      → IsExpandedActivity events (change_copy way tail.id head.id)
   one_change way is changes tail from is_from head to is_to later =
       let sound = is.between.sound in
       let joined = joins_as way.kind (get_or network.events (way.from - 1) no_event)
@@ -152,12 +145,12 @@ module _ (network : TimedParts) (some : 1 ≤ network.period) (short : network.p
         from = from.0.id;
         to = to.0.id;
         in_order = sound.in_order;
-        no_sync = change_no_sync way.kind changes;
+        no_sync = refl;
         forward = forward_between events tail.id head.id tail head from.0.found to.0.found
             (changes_stand tail head arrives departs (omega (arith, later)));
       }
 
-  change_all : (way : PeriodicActivity) → IsFit network way → same_kind way.kind activity.Change
+  change_all : (way : PeriodicActivity) → IsFit network way → same_kind way.kind kind.Change
       ≡ true
       → AllByRecursion (IsExpandedActivity events) (change_copies network events way)
   change_all way is changes =
@@ -165,7 +158,7 @@ module _ (network : TimedParts) (some : 1 ≤ network.period) (short : network.p
       (changes_from network events way) (λ tail from.
       mapped_from (IsExpandedActivity events)
       (λ head. Known head × (is_head network way tail head ≡ true))
-      (λ (head : ExpandedEvent). copy_of way tail.id head.id) (λ head to.
+      (λ (head : ExpandedEvent). change_copy way tail.id head.id) (λ head to.
       let parts = both_true (is_copy way.to head) _ to.1 in
       one_change way is changes tail from.0 (eqb-true _ _ from.1) head to.0 (eqb-true _ _ parts.0)
       (eqb-true _ _ parts.1))

@@ -10,7 +10,7 @@ use Rattle.event_tables.specs.declared.periodic_event.PeriodicEvent.{PeriodicEve
 use Rattle.event_tables.specs.PeriodicRuns.{runs_of}
 use Rattle.roll_out.specs.declared.day.Day.{Day}
 use Rattle.roll_out.specs.declared.timed_event.TimedEvent.{TimedEvent}
-use Rattle.roll_out.specs.DayActivities.{change_copies, changes_from, copy_of, day_changes, is_change, is_copy, is_head}
+use Rattle.roll_out.specs.DayActivities.{change_copies, changes_from, change_copy, day_changes, is_change, is_copy, is_head}
 use Rattle.roll_out.specs.DayInWords.{AreChangesOf, AreTripsOf, IsChangeOf, IsStart, IsTripOf}
 use Rattle.roll_out.specs.DayTrips.{TripParts, departures_of, first_time, is_in_day, numbered_trips, starts, trips_of}
 use Rattle.roll_out.specs.Plans.{IsDay, IsTimed}
@@ -180,7 +180,7 @@ module _ (network : TimedParts) (events : List ExpandedEvent) where
       (changes_from network events way) (λ tail from.
       mapped_from (IsChangeOf network events)
       (λ head. Contains events head × (is_head network way tail head ≡ true))
-      (λ (head : ExpandedEvent). copy_of way tail.id head.id) (λ head to.
+      (λ (head : ExpandedEvent). change_copy way tail.id head.id) (λ head to.
       let parts = both_true (is_copy way.to head) _ to.1 in
       record {
         change = way;
@@ -210,13 +210,13 @@ module _ (network : TimedParts) (events : List ExpandedEvent) where
       ∙ eq-eqb of.head.time (of.tail.time + minutes_of network way) of.apart in
       subst (Contains (day_changes network events)) (sym of.is)
       (contains_part (change_copies network events) (filter is_change network.activities) way
-      (copy_of way of.tail.id of.head.id)
+      (change_copy way of.tail.id of.head.id)
       (contains_filter is_change network.activities way of.there of.kind)
       (contains_part (changes_from network events way) (filter (is_copy way.from) events) of.tail
-      (copy_of way of.tail.id of.head.id)
+      (change_copy way of.tail.id of.head.id)
       (contains_filter (is_copy way.from) events of.tail of.leaves.0
       (eq-eqb of.tail.periodic way.from of.leaves.1))
-      (contains_map (λ (head : ExpandedEvent). copy_of way of.tail.id head.id)
+      (contains_map (λ (head : ExpandedEvent). change_copy way of.tail.id head.id)
       (filter (is_head network way of.tail) events) of.head
       (contains_filter (is_head network way of.tail) events of.head of.comes.0 passes))))
 

@@ -7,16 +7,15 @@ use Rattle.std.proofs.lemmas.List.Elements.{All-from_recursion, recursion_from_A
 use Rattle.std.proofs.lemmas.List.FromFn.{get_or-enumerate_from, get_or-range_with_len, length-enumerate_from}
 use Rattle.std.proofs.lemmas.List.Sums.{sum_by-cons}
 use Rattle.giv_files.proofs.Ranges.{front_none, back_none}
-use Rattle.event_tables.specs.declared.activity_kind.ActivityKind.{ActivityKind}
-use Rattle.event_tables.specs.declared.activity_kind.ActivityKind.TheVariants as activity
 use Rattle.event_tables.specs.declared.event_kind.EventKind.{EventKind}
 use Rattle.event_tables.specs.declared.event_kind.EventKind.TheVariants as kinds
 use Rattle.event_tables.specs.declared.periodic_activity.PeriodicActivity.{PeriodicActivity}
 use Rattle.event_tables.specs.declared.periodic_event.PeriodicEvent.{PeriodicEvent}
-use Rattle.event_tables.specs.Kinds.{event_kind_place, is_arrival, is_sync}
+use Rattle.event_tables.specs.declared.periodic_kind.PeriodicKind.TheVariants as kind
+use Rattle.event_tables.specs.Kinds.{event_kind_place, is_arrival}
 use Rattle.event_tables.specs.PeriodicRuns.{neighbours, runs_of}
 use Rattle.event_tables.specs.Places.{IsOneOf}
-use Rattle.event_tables.specs.RunRules.{KeepRunRules, breaks, broken_in, drives_at_once, is_placed, is_stray, lacks_way, leads, same_kind, unjoined_in, way_on}
+use Rattle.event_tables.specs.RunRules.{KeepRunRules, breaks, broken_in, drives_at_once, is_placed, is_stray, lacks_way, leads, same_kind, unjoined_in}
 use Rattle.roll_out.specs.Plans.{IsBetween, IsTimed}
 use Rattle.roll_out.specs.TimedRuns.{TimedParts, no_event}
 use Rattle.roll_out.proofs.SoundPlans.{between_all}
@@ -107,15 +106,7 @@ counted_found {X} p (x ∷ xs) some = by (p x) (counted_found p xs)
     by true rest some = (x, refl)
     by false rest some = rest (omega (arith, some))
 
--- ---- the kinds of ways on
-
-pub way_no_sync : (kind : EventKind) (way : ActivityKind) → same_kind way (way_on kind) ≡ true
-    → is_sync way ≡ false
-way_no_sync kinds.Departure activity.Sync is = no_true is
-way_no_sync kinds.Arrival activity.Sync is = no_true is
-way_no_sync kind activity.Drive is = refl
-way_no_sync kind activity.Wait is = refl
-way_no_sync kind activity.Change is = refl
+-- ---- drives
 
 some_minutes : (drives : Bool) (lower : ℕ) → drives ≡ true → (drives && lower == 0) ≡ false → 1
     ≤ lower
@@ -123,10 +114,10 @@ some_minutes false lower is none = no_true is
 some_minutes true lower is none = let other = eqb-false lower 0 none in omega (arith, other)
 
 -- a way on from a departure takes time
-pub drive_takes : (way : PeriodicActivity) → same_kind way.kind activity.Drive ≡ true
+pub drive_takes : (way : PeriodicActivity) → same_kind way.kind kind.Drive ≡ true
     → drives_at_once way ≡ false
     → 1 ≤ way.lower
-drive_takes way is none = some_minutes (same_kind way.kind activity.Drive) way.lower is none
+drive_takes way is none = some_minutes (same_kind way.kind kind.Drive) way.lower is none
 
 -- ---- runs
 

@@ -8,18 +8,18 @@ use Rattle.event_tables.specs.declared.periodic_activity.PeriodicActivity.{Perio
 use Rattle.event_tables.specs.declared.periodic_event.PeriodicEvent.{PeriodicEvent}
 use Rattle.event_tables.specs.ExpandedFiles.{IsExpandedActivity}
 use Rattle.event_tables.specs.ForwardOrder.{stands_before}
-use Rattle.event_tables.specs.Kinds.{is_arrival}
+use Rattle.event_tables.specs.Kinds.{is_arrival, is_sync}
 use Rattle.event_tables.specs.PeriodicRuns.{runs_of}
 use Rattle.event_tables.specs.RunRules as rules
 use Rattle.event_tables.specs.RunRules.{leads, same_kind}
 use Rattle.roll_out.specs.declared.day.Day.{Day}
 use Rattle.roll_out.specs.declared.timed_event.TimedEvent.{TimedEvent}
-use Rattle.roll_out.specs.DayActivities.{day_ways, trip_ways, way_from}
+use Rattle.roll_out.specs.DayActivities.{day_ways, trip_ways, way_from, way_kind}
 use Rattle.roll_out.specs.DayTrips.{TripParts, day_event, departures_of, first_time, numbered_trips, starts, trip_events, trips_of}
 use Rattle.roll_out.specs.TimedRuns.{TimedParts, minutes_of, minutes_on, timed_from, way_on}
 use Rattle.roll_out.proofs.FoundOnes.{found_has}
 use Rattle.roll_out.proofs.GoesForward.{forward_between, later_stands, waits_stand}
-use Rattle.roll_out.proofs.GoodRuns.{IsFit, IsGoodRun, drive_takes, found_passes, way_no_sync}
+use Rattle.roll_out.proofs.GoodRuns.{IsFit, IsGoodRun, drive_takes, found_passes}
 use Rattle.roll_out.proofs.ListedEvents.{IsListed, mapped_all}
 use Rattle.roll_out.proofs.SoundPlans.{minutes_are}
 
@@ -28,6 +28,10 @@ pub append_all : {X : Type 0} (P : X → Type 0) (xs ys : List X) → AllByRecur
     → AllByRecursion P (xs ++ ys)
 append_all P [] ys first second = second
 append_all P (x ∷ xs) ys first second = (first.0, append_all P xs ys first.1 second)
+
+no_sync : (event : EventKind) → is_sync (way_kind event) ≡ false
+no_sync kinds.Departure = refl
+no_sync kinds.Arrival = refl
 
 -- a trip of a good run
 pub record IsRolled (network : TimedParts) (trip : TripParts) : Type 0 where
@@ -163,14 +167,14 @@ module _ (network : TimedParts) (some : 1 ≤ network.period) (short : network.p
               after;
         },
       )
-      → AllByRecursion (IsExpandedActivity events) (way_from n way)
+      → AllByRecursion (IsExpandedActivity events) (way_from event.kind n way)
   one_way event next n minutes on after None leading is here there = tt
   one_way event next n minutes on after (Some way) leading is here there = (
     record {
       from = here.id;
       to = there.id;
       in_order = is.between.sound.in_order;
-      no_sync = way_no_sync event.kind way.kind (leads_kind (event, next) way leading);
+      no_sync = no_sync event.kind;
       forward = forward_between events n (n + 1)
           (day_event start (n, record { event = event; minutes = minutes; way = on }))
           (day_event start (
@@ -191,15 +195,15 @@ module _ (network : TimedParts) (some : 1 ≤ network.period) (short : network.p
   run_ways : (run : List PeriodicEvent) (n minutes : ℕ)
       → AllByRecursion Listed (enumerate_from n (timed_from network minutes run))
       → AllByRecursion (IsExpandedActivity events)
-      (flat_map (λ (at : ℕ × TimedEvent). way_from at.0 at.1.way)
+      (flat_map (λ (at : ℕ × TimedEvent). way_from at.1.event.kind at.0 at.1.way)
       (enumerate_from n (timed_from network minutes run)))
   unfolding timed_from
   run_ways [] n minutes listed = tt
   run_ways (event ∷ []) n minutes listed = tt
   run_ways (event ∷ next ∷ run) n minutes listed =
       let way = way_on network event (next ∷ run) in
-      append_all (IsExpandedActivity events) (way_from n way)
-      (flat_map (λ (at : ℕ × TimedEvent). way_from at.0 at.1.way)
+      append_all (IsExpandedActivity events) (way_from event.kind n way)
+      (flat_map (λ (at : ℕ × TimedEvent). way_from at.1.event.kind at.0 at.1.way)
       (enumerate_from (n + 1) (timed_from network (minutes + minutes_on network way) (next ∷ run))))
       (one_way event next n minutes way (way_on network next run) way
       (found_passes (leads (event, next)) network.activities)
@@ -215,7 +219,7 @@ module _ (network : TimedParts) (some : 1 ≤ network.period) (short : network.p
       let each = mapped_all (IsListed events) (day_event trip.start)
       (enumerate_from trip.first trip.run) listed in
       subst (λ run. AllByRecursion (IsExpandedActivity events)
-      (flat_map (λ (at : ℕ × TimedEvent). way_from at.0 at.1.way) (enumerate_from trip.first run)))
+      (flat_map (λ (at : ℕ × TimedEvent). way_from at.1.event.kind at.0 at.1.way) (enumerate_from trip.first run)))
       (sym rolled.is)
       (run_ways network some short fit events trip.start rolled.periodic trip.first 0
       (subst (λ run. AllByRecursion (λ at. IsListed events (day_event trip.start at))

@@ -6,7 +6,7 @@ use Rattle.event_tables.specs.declared.periodic_activity.PeriodicActivity.{Perio
 use Rattle.event_tables.specs.declared.periodic_event.PeriodicEvent.{PeriodicEvent}
 use Rattle.event_tables.specs.PeriodicRuns.{runs_of}
 use Rattle.roll_out.specs.declared.day.Day.{Day}
-use Rattle.roll_out.specs.DayActivities.{copy_of, is_change}
+use Rattle.roll_out.specs.DayActivities.{change_copy, is_change}
 use Rattle.roll_out.specs.DayTrips.{TripParts, first_time}
 use Rattle.roll_out.specs.TimedRuns.{TimedParts, minutes_of, timed_from}
 
@@ -44,7 +44,7 @@ pub record IsChangeOf (network : TimedParts) (events : List ExpandedEvent)
   pub leaves : Contains events tail × (tail.periodic ≡ change.from)
   pub comes : Contains events head × (head.periodic ≡ change.to)
   pub apart : head.time ≡ tail.time + minutes_of network change
-  pub is : row ≡ copy_of change tail.id head.id
+  pub is : row ≡ change_copy change tail.id head.id
 
 -- changes are all these copies, and no others
 pub record AreChangesOf (network : TimedParts) (events : List ExpandedEvent)

@@ -12,7 +12,7 @@ use Rattle.event_tables.specs.Cells.{periodic_event_cells, periodic_activity_cel
 use Rattle.roll_out.specs.declared.copies.Copies.{Copies}
 use Rattle.roll_out.specs.declared.day.Day.{Day}
 use Rattle.roll_out.specs.declared.timed_event.TimedEvent.{TimedEvent}
-use Rattle.roll_out.specs.DayActivities.{copy_of, is_change}
+use Rattle.roll_out.specs.DayActivities.{change_copy, is_change}
 use Rattle.roll_out.specs.DayTrips.{TripParts, first_time}
 use Rattle.roll_out.specs.TimedRuns.{TimedParts, minutes_of, timed_from}
 
@@ -127,7 +127,7 @@ ids_at period copies time =
 abbrev pub changes_at : TimedParts → List Copies → PeriodicActivity → ℕ → List ExpandedActivity
 changes_at network copies activity earlier =
     let tail = copies_with copies activity.from in
-    map (copy_of activity (copy_id tail earlier))
+    map (change_copy activity (copy_id tail earlier))
     (ids_at network.period (copies_with copies activity.to)
     (copy_time network.period tail earlier + minutes_of network activity))
 

@@ -2,13 +2,13 @@
 ghost use Rattle.std.specs.Prelude.{◌≡◌, ◌≤◌, ◌<◌, ◌++◌, length, map, All, OnOk};
 ghost use Rattle.std.specs.Option.{option_to_list};
 ghost use Rattle.std.specs.List.{flat_map};
-ghost use Rattle.roll_out.specs.DayActivities.{copy_of, is_change};
+ghost use Rattle.roll_out.specs.DayActivities.{change_copy, is_change};
 ghost use Rattle.roll_out.specs.Plans.{AreFew, IsBetween, changes_by, changes_if};
 
 use crate::copies::Copies;
 use crate::network::TimedNetwork;
 use crate::ways::copy_of;
-use event_tables::{ActivityKind, ExpandedActivity, PeriodicActivity};
+use event_tables::{ActivityKind, ExpandedActivity, PeriodicActivity, PeriodicKind};
 use plan_num::NoMemory;
 
 /// How many changes between trips there are.
@@ -98,10 +98,10 @@ fn add_copy(
     activities: &mut Vec<ExpandedActivity>,
 ) -> Result<(), NoMemory>
     ensures { OnOk result (activities.new.items
-        ≡ activities.old.items ++ map (copy_of activity.now from) (option_to_list to)) }
+        ≡ activities.old.items ++ map (change_copy activity.now from) (option_to_list to)) }
 {
     if let Some(to) = to {
-        activities.push(copy_of(activity, from, to))?;
+        activities.push(copy_of(ActivityKind::Change, activity, from, to))?;
     }
     Ok(())
 }
@@ -121,5 +121,5 @@ fn count_of(id: Option<u32>) -> usize
 fn is_change(activity: &PeriodicActivity) -> bool
     ensures { result ≡ is_change activity.now }
 {
-    matches!(activity.kind, ActivityKind::Change)
+    matches!(activity.kind, PeriodicKind::Change)
 }

@@ -5,7 +5,7 @@ ghost use Rattle.event_tables.specs.Places.{AreNumbered};
 ghost use Rattle.event_tables.specs.RunRules.{breaks, broken_in, is_placed, is_stray, lacks_way, leads, stray_activities, unjoined_in, way_on};
 
 use crate::run::{Run, joins};
-use event_tables::{ActivityKind, EventKind, PeriodicActivity, PeriodicEvent};
+use event_tables::{EventKind, PeriodicActivity, PeriodicEvent, PeriodicKind};
 use plan_num::NoMemory;
 use std::alloc::Global;
 
@@ -110,12 +110,12 @@ pub(crate) fn leads(
 }
 
 // The kind of the activity that leads from an event of a kind to the next one of its run.
-fn way_on(kind: EventKind) -> ActivityKind
+fn way_on(kind: EventKind) -> PeriodicKind
     ensures { result ≡ way_on kind }
 {
     match kind {
-        EventKind::Departure => ActivityKind::Drive,
-        EventKind::Arrival => ActivityKind::Wait,
+        EventKind::Departure => PeriodicKind::Drive,
+        EventKind::Arrival => PeriodicKind::Wait,
     }
 }
 
@@ -144,7 +144,7 @@ fn is_stray(events: &[PeriodicEvent], activity: &PeriodicActivity) -> bool
     requires { AreNumbered (λ event. event.id) events.now }
     ensures { result ≡ is_stray events.now activity.now }
 {
-    let is_drive = matches!(activity.kind, ActivityKind::Drive);
+    let is_drive = matches!(activity.kind, PeriodicKind::Drive);
     !is_placed(events, activity) || (is_drive && activity.lower == 0)
 }
 

@@ -3,7 +3,7 @@ ghost use Rattle.std.specs.Prelude.{◌≡◌, ◌≤◌, ◌∷◌, take, drop,
 ghost use Rattle.event_tables.specs.Kinds.{is_arrival, same_direction};
 ghost use Rattle.event_tables.specs.PeriodicRuns.{runs_of, same_run, is_next, joins};
 
-use event_tables::{ActivityKind, Direction, EventKind, PeriodicEvent};
+use event_tables::{Direction, EventKind, PeriodicEvent, PeriodicKind};
 use plan_num::NoMemory;
 use std::alloc::Global;
 use std::marker::Model;
@@ -74,19 +74,22 @@ fn is_same_run(event: &PeriodicEvent, other: &PeriodicEvent) -> bool
 }
 
 /// Whether an activity of a kind may go from an event to another.
-pub(crate) fn joins(kind: ActivityKind, event: &PeriodicEvent, next: &PeriodicEvent) -> bool
+pub(crate) fn joins(kind: PeriodicKind, event: &PeriodicEvent, next: &PeriodicEvent) -> bool
     ensures { result ≡ joins kind event.now next.now }
 {
     match kind {
-        ActivityKind::Drive => !is_arrival(event.kind) && is_next(event, next),
-        ActivityKind::Wait => is_arrival(event.kind) && is_next(event, next),
-        ActivityKind::Change => {
+        PeriodicKind::Drive => !is_arrival(event.kind) && is_next(event, next),
+        PeriodicKind::Wait => is_arrival(event.kind) && is_next(event, next),
+        PeriodicKind::Change => {
             is_arrival(event.kind)
                 && !is_arrival(next.kind)
                 && event.stop == next.stop
                 && event.line != next.line
         }
-        ActivityKind::Sync => !is_arrival(event.kind) && !is_arrival(next.kind),
+        PeriodicKind::Sync => !is_arrival(event.kind) && !is_arrival(next.kind),
+        PeriodicKind::Headway => {
+            !is_arrival(event.kind) && !is_arrival(next.kind) && event.stop == next.stop
+        }
     }
 }
 

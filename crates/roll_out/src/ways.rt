@@ -1,10 +1,10 @@
 // The drives and waits of trips, and numbers of activities.
 ghost use Rattle.std.specs.Prelude.{◌≡◌, ◌≤◌, ◌++◌, length, All, IfOk, OnOk};
-ghost use Rattle.roll_out.specs.DayActivities.{day_ways, trip_ways, way_from, with_numbers, copy_of};
+ghost use Rattle.roll_out.specs.DayActivities.{copy_of, day_ways, trip_ways, way_from, way_kind, with_numbers};
 ghost use Rattle.roll_out.specs.Plans.{IsTrip};
 
 use crate::trip::DayTrip;
-use event_tables::{ExpandedActivity, PeriodicActivity};
+use event_tables::{ActivityKind, EventKind, ExpandedActivity, PeriodicActivity};
 use plan_num::NoMemory;
 use std::alloc::Global;
 
@@ -58,34 +58,52 @@ fn add_trip_ways(trip: &DayTrip, activities: &mut Vec<ExpandedActivity>) -> Resu
 {
     let (first, run) = (trip.first(), trip.run());
     for place in 0..run.len() {
-        add_way(first + place as u32, run[place].way, activities)?;
+        let at = &run[place];
+        add_way(at.event.kind, first + place as u32, at.way, activities)?;
     }
     Ok(())
 }
 
-// The copy of an activity, if it is there, from the event of an id to the next one is added.
+// The copy of an activity, if it is there, from the event of a kind and an id to the next one is
+// added.
 fn add_way(
+    kind: EventKind,
     id: u32,
     way: Option<PeriodicActivity>,
     activities: &mut Vec<ExpandedActivity>,
 ) -> Result<(), NoMemory>
     requires { id ≤ 100000 }
-    ensures { OnOk result (activities.new.items ≡ activities.old.items ++ way_from id way) }
+    ensures { OnOk result (activities.new.items ≡ activities.old.items ++ way_from kind id way) }
 {
     if let Some(activity) = way {
-        activities.push(copy_of(&activity, id, id + 1))?;
+        activities.push(copy_of(way_kind(kind), &activity, id, id + 1))?;
     }
     Ok(())
 }
 
-/// The copy of an activity between the events of two ids, without a number.
-pub(crate) fn copy_of(activity: &PeriodicActivity, from: u32, to: u32) -> ExpandedActivity
-    ensures { result ≡ copy_of activity.now from to }
+// The kind of what leads on from an event of a kind: a drive or a wait.
+fn way_kind(kind: EventKind) -> ActivityKind
+    ensures { result ≡ way_kind kind }
+{
+    match kind {
+        EventKind::Departure => ActivityKind::Drive,
+        EventKind::Arrival => ActivityKind::Wait,
+    }
+}
+
+/// The copy, of a kind, of an activity between the events of two ids, without a number.
+pub(crate) fn copy_of(
+    kind: ActivityKind,
+    activity: &PeriodicActivity,
+    from: u32,
+    to: u32,
+) -> ExpandedActivity
+    ensures { result ≡ copy_of kind activity.now from to }
 {
     ExpandedActivity {
         id: 0,
         periodic: activity.id,
-        kind: activity.kind,
+        kind,
         from,
         to,
         lower: activity.lower,

@@ -6,4 +6,4 @@ use Rattle.event_activity.proofs.activities.add_from.Given as goal
 abbrev pub invariant-loop-next : goal.invariant-loop-next
 invariant-loop-next l =
     l.activities.items
-    ≡ l.fn.activities.items ++ from_event l.settings l.joining (take l.next-index l.events) l.event
+    ≡ l.fn.activities.items ++ from_event l.settings l.joining (take l.next-index l.nexts) l.event

@@ -9,9 +9,10 @@ with_numbers-requires c =
     omega (
       arith,
       ap length c.deref.ensures.value,
-      activities_few c.args.settings.now c.args.events.now _ _ _ _ c.new-activities.ensures.items
-          c.in_ok-add_joined.ensures c.in_ok-add_joined-2.ensures c.in_ok-add_joined-3.ensures
-          c.requires.few,
+      activities_few c.args.settings.now c.args.events.now c.joinings-joining-items.result.now
+          c.joinings-joining-items.ensures.all c.loop-joining.joining-index
+          (omega (arith, c.loop-joining-test.false)) c.loop-joining.activities.items
+          c.loop-joining.invariant c.requires.few,
     )
 
 pub returns : goal.returns
@@ -19,7 +20,8 @@ returns c =
     if_made (λ numbered. numbered.items ≡ with_numbers c.deref.result.now)
     (λ numbered. numbered.items ≡ concept_activities c.args.settings.now c.args.events.now)
     c.with_numbers.result
-    (λ numbered is. activities_told c.args.settings.now c.args.events.now _ _ _ _
-    c.new-activities.ensures.items c.in_ok-add_joined.ensures c.in_ok-add_joined-2.ensures
-    c.in_ok-add_joined-3.ensures numbered.items
+    (λ numbered is. activities_told c.args.settings.now c.args.events.now
+    c.joinings-joining-items.result.now c.joinings-joining-items.ensures.all
+    c.loop-joining.joining-index (omega (arith, c.loop-joining-test.false))
+    c.loop-joining.activities.items c.loop-joining.invariant numbered.items
     (is ∙ ap with_numbers c.deref.ensures.value)) c.with_numbers.ensures

@@ -6,6 +6,6 @@ use Rattle.event_activity.proofs.activities.count_from.Given as goal
 abbrev pub invariant-loop-other : goal.invariant-loop-other
 invariant-loop-other l =
     record {
-      told : l.count ≡ length (filter (joined l.joining l.event) (take l.other-index l.events));
+      told : l.count ≡ length (filter (joined l.joining l.event) (take l.other-index l.nexts));
       few : l.count ≤ l.other-index;
     }

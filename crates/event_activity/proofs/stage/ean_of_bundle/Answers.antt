@@ -58,13 +58,14 @@ returns-then-activity_count-gt-MOST_ACTIVITIES c =
     (activities_refused c.args.bundle.now c.in_ok-network.network network.0 network.1
     c.in_ok-pool.pool pool.0 pool.1 c.deref.result.now
     (c.deref.ensures.value ∙ c.in_ok-events.ensures) few
-    c.activity_count-activity_count.result
-    (c.activity_count-activity_count.ensures c.args.bundle.now.settings)
+    c.in_ok-activity_count.activity_count
+    (c.in_ok-activity_count.ensures
+    ∙ ap (λ some. length (concept_activities some c.deref.result.now)) c.settings.ensures)
     c.if-activity_count-gt-MOST_ACTIVITIES.true)
 
 pub concept_activities-requires-clause-settings : goal.concept_activities-requires-clause-settings
 concept_activities-requires-clause-settings c =
-    subst AreTimely (sym c.settings.ensures)
+    subst AreTimely (sym c.settings-2.ensures)
     (bundle_timely c.args.bundle.now c.requires.stage c.requires.fits)
 
 pub concept_activities-requires-clause-events : goal.concept_activities-requires-clause-events
@@ -104,12 +105,13 @@ ean_made-requires-clause-activities c =
     ) in
     let same : c.deref-5.result.now ≡ concept_activities settings c.deref.result.now =
     c.deref-5.ensures.value ∙ c.in_ok-activities.ensures
-    ∙ ap (λ some. concept_activities some c.deref-2.result.now) c.settings.ensures
+    ∙ ap (λ some. concept_activities some c.deref-2.result.now) c.settings-2.ensures
     ∙ ap (concept_activities settings) (c.deref-2.ensures.value ∙ sym c.deref.ensures.value) in
     let short : length c.deref-5.result.now ≤ 200000 =
     omega (
       arith,
-      c.activity_count-activity_count.ensures settings,
+      c.in_ok-activity_count.ensures
+          ∙ ap (λ some. length (concept_activities some c.deref.result.now)) c.settings.ensures,
       c.if-activity_count-gt-MOST_ACTIVITIES.false,
       ap length same,
     ) in
@@ -132,12 +134,13 @@ returns c =
     ) in
     let same : c.deref-5.result.now ≡ concept_activities settings c.deref.result.now =
     c.deref-5.ensures.value ∙ c.in_ok-activities.ensures
-    ∙ ap (λ some. concept_activities some c.deref-2.result.now) c.settings.ensures
+    ∙ ap (λ some. concept_activities some c.deref-2.result.now) c.settings-2.ensures
     ∙ ap (concept_activities settings) (c.deref-2.ensures.value ∙ sym c.deref.ensures.value) in
     let short : length c.deref-5.result.now ≤ 200000 =
     omega (
       arith,
-      c.activity_count-activity_count.ensures settings,
+      c.in_ok-activity_count.ensures
+          ∙ ap (λ some. length (concept_activities some c.deref.result.now)) c.settings.ensures,
       c.if-activity_count-gt-MOST_ACTIVITIES.false,
       ap length same,
     ) in

@@ -6,5 +6,5 @@ use Rattle.roll_out.proofs.ways.add_trip_ways.Given as goal
 
 abbrev pub invariant-loop-place : goal.invariant-loop-place
 invariant-loop-place l =
-    l.activities.items ≡ l.fn.activities.items ++ flat_map (λ at. way_from at.0 at.1.way)
+    l.activities.items ≡ l.fn.activities.items ++ flat_map (λ at. way_from at.1.event.kind at.0 at.1.way)
     (take l.place (enumerate_from l.trip.first l.trip.run))

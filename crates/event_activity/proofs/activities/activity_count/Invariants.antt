@@ -1,0 +1,13 @@
+-- The count of the activities of the joinings so far.
+use Rattle.std.proofs.Common.{◌≡◌, ◌*◌, ◌≤◌, length, take}
+use Rattle.std.specs.List.{flat_map}
+use Rattle.event_activity.specs.Activities.{joined_events}
+use Rattle.event_activity.proofs.activities.activity_count.Given as goal
+
+abbrev pub invariant-loop-joining : goal.invariant-loop-joining
+invariant-loop-joining l =
+    record {
+      told : l.count ≡ length
+          (flat_map (joined_events l.settings l.events) (take l.joining-index l.joining-items));
+      few : l.count ≤ 16000000 * l.joining-index;
+    }

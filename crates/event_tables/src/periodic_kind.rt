@@ -1,0 +1,50 @@
+// Kinds of periodic activities, and the places of their words.
+ghost use Rattle.std.specs.Prelude.{◌≡◌, pos};
+ghost use Rattle.giv_files.specs.declared.words.WordTable.TheVariants as tables;
+ghost use Rattle.giv_files.specs.Columns.{word};
+ghost use Rattle.giv_files.specs.Writing.{InColumn};
+ghost use Rattle.event_tables.specs.Kinds.{periodic_kind_at, periodic_kind_place};
+
+/// What joins two events of a period.
+#[derive(Clone, Copy, Debug, PartialEq, Eq)]
+pub enum PeriodicKind {
+    /// From a departure to the next event of its run.
+    Drive,
+    /// From an arrival to the next event of its run.
+    Wait,
+    /// From an arrival to a departure of another line at the same stop.
+    Change,
+    /// Between two departures.
+    Sync,
+    /// Between two departures at the same stop.
+    Headway,
+}
+
+impl PeriodicKind {
+    // What the word at a place of the table of words stands for.
+    pub(crate) fn at(place: u32) -> PeriodicKind
+        ensures { result ≡ periodic_kind_at place }
+    {
+        match place {
+            1 => PeriodicKind::Wait,
+            2 => PeriodicKind::Change,
+            3 => PeriodicKind::Sync,
+            4 => PeriodicKind::Headway,
+            _ => PeriodicKind::Drive,
+        }
+    }
+
+    /// The place of its word in the table of words, from 0.
+    pub fn place(self) -> u8
+        ensures place { result ≡ periodic_kind_place self }
+        ensures word { InColumn (word tables.PeriodicKind) (pos result) }
+    {
+        match self {
+            PeriodicKind::Drive => 0,
+            PeriodicKind::Wait => 1,
+            PeriodicKind::Change => 2,
+            PeriodicKind::Sync => 3,
+            PeriodicKind::Headway => 4,
+        }
+    }
+}
