@@ -125,6 +125,10 @@ const VALUES: &str = "period_length|60|~\
     Config.cnf:ean_default_maximal_waiting_time; 0\n&~\
     period_length|value of ean_default_maximal_change_time|\
     Config.cnf:ean_default_minimal_change_time; 63\n&~\
+    ean_headway|30|Config.cnf:ean_headway; 30\n&~\
+    ean_headway|value of ean_headway|Config.cnf:ean_headway; 31\n&~\
+    ean_headway|360|Config.cnf:ean_headway; 360\nperiod_length; 720\n&~\
+    ean_headway|value of ean_headway|Config.cnf:ean_headway; 361\nperiod_length; 720\n&~\
     period_length|value of DM_latest_time|Config.cnf:DM_latest_time; 299\ndm_wait; x\n&~\
     period_length|value of load_source|Config.cnf:DM_latest_time; 299\nload_source; x\n&~\
     DM_earliest_time|1380|Config.cnf:DM_earliest_time; 1380\nDM_latest_time; 1380\n&~";
@@ -132,7 +136,7 @@ const VALUES: &str = "period_length|60|~\
 #[test]
 fn values_of_rows(rt: HostRuntime) -> Result<(), Fail> {
     let count = read_each(&rt, VALUES)?;
-    assert_eq!(rt; count, 30);
+    assert_eq!(rt; count, 34);
     Ok(())
 }
 
@@ -220,7 +224,7 @@ const CONFIG: &str = "load_source; file\nperiod_length; 20\nean_default_minimal_
 const SETTINGS: &str = "load: 1 70 3\n\
     cost: 10000000 1000000 0\n\
     concept: 5000\n\
-    ean: 20 1 3 2 62\n\
+    ean: 20 1 3 2 62 0\n\
     timetable: 20 100000\n\
     rollout: 20 0 20\n\
     vehicles: 2 100000000 1000000\n\

@@ -98,6 +98,7 @@ const ROWS: &str = "| `last_stage` | a stage | statistic | |\n\
     | `ean_default_minimal_change_time` | whole 0 to 10000 | 3 | ean |\n\
     | `ean_default_maximal_change_time` | whole 0 to 10000, \
     not below `ean_default_minimal_change_time` | 62 | ean |\n\
+    | `ean_headway` | whole 0 to 360, at most half of `period_length` | 0 | ean |\n\
     | `timetable_budget` | whole 1 to 1000000 | 100000 | timetable |\n\
     | `DM_earliest_time` | whole 0 to 10080 | 300 | rollout |\n\
     | `DM_latest_time` | whole 0 to 10080, not below `DM_earliest_time` | 1380 | rollout |\n\

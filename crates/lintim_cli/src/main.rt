@@ -66,6 +66,8 @@ mod fault_tests;
 #[cfg(test)]
 mod folder_tests;
 #[cfg(test)]
+mod headway_scripts;
+#[cfg(test)]
 mod hostile_tests;
 #[cfg(test)]
 mod keep_scripts;

@@ -174,6 +174,12 @@ input timetabling/Activities-periodic.giv
 make
 refused timetabling/Activities-periodic.giv row 4: stray activity
 
+row a headway between departures of two stops
+input timetabling/Activities-periodic.giv
+| 1; drive; 1; 2; 4; 5 | 2; wait; 2; 3; 1; 3 | 3; drive; 3; 4; 6; 6 | 4; headway; 1; 3; 2; 18
+make
+refused timetabling/Activities-periodic.giv row 4: stray activity
+
 row a wait back
 input timetabling/Activities-periodic.giv
 | 1; drive; 1; 2; 4; 5 | 2; wait; 2; 3; 1; 3 | 3; drive; 3; 4; 6; 6 | 4; wait; 4; 3; 6; 6
