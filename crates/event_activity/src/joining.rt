@@ -1,12 +1,10 @@
 // Which events are joined.
 ghost use Rattle.std.specs.Prelude.{◌≡◌, ◌≤◌, ◌+◌, ◌==◌, length};
-ghost use Rattle.event_tables.specs.Kinds.{is_arrival, same_direction};
-ghost use Rattle.event_tables.specs.PeriodicRuns.{changes, headways, is_next, same_run};
 ghost use Rattle.event_activity.specs.Activities.{joined, joinings, kind_from, repeats, shares_edge};
 ghost use Rattle.event_activity.specs.NextEvents.{key_from, key_of, may_end};
 
 use crate::run_event::RunEvent;
-use event_tables::{Direction, EventKind, PeriodicEvent, PeriodicKind};
+use event_tables::PeriodicKind;
 use giv_files::{Key, Settings};
 
 /// What joins two events of a line concept.
@@ -28,9 +26,9 @@ impl Joining {
         ensures { result ≡ joined self event.now next.now }
     {
         match self {
-            Joining::Run => is_next(&event.row, &next.row),
+            Joining::Run => event.row.is_before(&next.row),
             Joining::Sync => is_repeated(event, next),
-            Joining::Change => can_change(&event.row, &next.row),
+            Joining::Change => PeriodicKind::Change.joins(&event.row, &next.row),
             Joining::Headway => shares_edge(event, next),
         }
     }
@@ -40,7 +38,7 @@ impl Joining {
         ensures { result ≡ kind_from self event.now }
     {
         match self {
-            Joining::Run if is_arrival(event.row.kind) => PeriodicKind::Wait,
+            Joining::Run if event.row.kind.is_arrival() => PeriodicKind::Wait,
             Joining::Run => PeriodicKind::Drive,
             Joining::Sync => PeriodicKind::Sync,
             Joining::Change => PeriodicKind::Change,
@@ -55,7 +53,7 @@ impl Joining {
         match self {
             Joining::Run => true,
             Joining::Sync => next.place == 0,
-            Joining::Change | Joining::Headway => !is_arrival(next.row.kind),
+            Joining::Change | Joining::Headway => !next.row.kind.is_arrival(),
         }
     }
 
@@ -99,22 +97,6 @@ pub(crate) fn joinings(settings: &Settings) -> &'static [Joining]
     }
 }
 
-// Whether two events agree in line, direction and repetition.
-fn is_same_run(event: &PeriodicEvent, other: &PeriodicEvent) -> bool
-    ensures { result ≡ same_run event.now other.now }
-{
-    event.line == other.line
-        && is_same_direction(event.direction, other.direction)
-        && event.repetition == other.repetition
-}
-
-// Whether an event is the next one of its run.
-fn is_next(event: &PeriodicEvent, next: &PeriodicEvent) -> bool
-    ensures { result ≡ is_next event.now next.now }
-{
-    is_same_run(event, next) && comes_after(event.id, next.id)
-}
-
 // Whether two events are the first ones of a run and of its next repetition.
 fn is_repeated(event: &RunEvent, next: &RunEvent) -> bool
     ensures { result ≡ repeats event.now next.now }
@@ -122,18 +104,8 @@ fn is_repeated(event: &RunEvent, next: &RunEvent) -> bool
     event.place == 0
         && next.place == 0
         && event.row.line == next.row.line
-        && is_same_direction(event.row.direction, next.row.direction)
+        && event.row.direction.is_same(next.row.direction)
         && comes_after(event.row.repetition, next.row.repetition)
-}
-
-// Whether one can change from an event to another one.
-fn can_change(event: &PeriodicEvent, next: &PeriodicEvent) -> bool
-    ensures { result ≡ changes event.now next.now }
-{
-    is_arrival(event.kind)
-        && !is_arrival(next.kind)
-        && event.stop == next.stop
-        && event.line != next.line
 }
 
 // Whether two events are departures of two runs from one stop over one edge, that with the smaller
@@ -141,17 +113,10 @@ fn can_change(event: &PeriodicEvent, next: &PeriodicEvent) -> bool
 fn shares_edge(event: &RunEvent, next: &RunEvent) -> bool
     ensures { result ≡ shares_edge event.now next.now }
 {
-    depart_together(&event.row, &next.row)
+    PeriodicKind::Headway.joins(&event.row, &next.row)
         && event.edge.id == next.edge.id
         && event.row.id < next.row.id
-        && !is_same_run(&event.row, &next.row)
-}
-
-// Whether two events are departures at one stop.
-fn depart_together(event: &PeriodicEvent, next: &PeriodicEvent) -> bool
-    ensures { result ≡ headways event.now next.now }
-{
-    !is_arrival(event.kind) && !is_arrival(next.kind) && event.stop == next.stop
+        && !event.row.is_same_run(&next.row)
 }
 
 // Whether a number is one more than another.
@@ -159,19 +124,4 @@ fn comes_after(number: u32, next: u32) -> bool
     ensures { result ≡ (next == number + 1) }
 {
     u64::from(next) == u64::from(number) + 1
-}
-
-fn is_arrival(kind: EventKind) -> bool
-    ensures { result ≡ is_arrival kind }
-{
-    matches!(kind, EventKind::Arrival)
-}
-
-fn is_same_direction(direction: Direction, other: Direction) -> bool
-    ensures { result ≡ same_direction direction other }
-{
-    match direction {
-        Direction::Forward => matches!(other, Direction::Forward),
-        Direction::Backward => matches!(other, Direction::Backward),
-    }
 }

@@ -3,7 +3,7 @@ ghost use Rattle.std.specs.Prelude.{◌≡◌, pos};
 ghost use Rattle.giv_files.specs.declared.words.WordTable.TheVariants as tables;
 ghost use Rattle.giv_files.specs.Columns.{word};
 ghost use Rattle.giv_files.specs.Writing.{InColumn};
-ghost use Rattle.event_tables.specs.Kinds.{direction_at, direction_place};
+ghost use Rattle.event_tables.specs.Kinds.{direction_at, direction_place, same_direction};
 
 /// The way in which a line is driven.
 #[derive(Clone, Copy, Debug, PartialEq, Eq)]
@@ -20,6 +20,16 @@ impl Direction {
         match place {
             1 => Direction::Backward,
             _ => Direction::Forward,
+        }
+    }
+
+    /// Whether it is the same as another one.
+    pub fn is_same(self, other: Direction) -> bool
+        ensures { result ≡ same_direction self other }
+    {
+        match self {
+            Direction::Forward => matches!(other, Direction::Forward),
+            Direction::Backward => matches!(other, Direction::Backward),
         }
     }
 

@@ -34,6 +34,13 @@ impl EventKind {
         }
     }
 
+    /// Whether it is an arrival.
+    pub fn is_arrival(self) -> bool
+        ensures { result ≡ is_arrival self }
+    {
+        matches!(self, EventKind::Arrival)
+    }
+
     // Where it stands among events of one time: arrivals come first.
     pub(crate) fn forward_rank(self) -> u8
         ensures { result ≡ (if is_arrival self then 0 else 1) }

@@ -1,6 +1,7 @@
 // Rows of periodic events.
 ghost use Rattle.std.specs.Prelude.{◌≡◌};
 ghost use Rattle.event_tables.specs.Cells.{periodic_event, periodic_event_cells, AreSmall};
+ghost use Rattle.event_tables.specs.PeriodicRuns.{is_next, same_run};
 
 use crate::cells::number;
 use crate::direction::Direction;
@@ -18,6 +19,24 @@ pub struct PeriodicEvent {
     pub line: u32,
     pub direction: Direction,
     pub repetition: u32,
+}
+
+impl PeriodicEvent {
+    /// Whether it agrees with another event in line, direction and repetition.
+    pub fn is_same_run(&self, other: &PeriodicEvent) -> bool
+        ensures { result ≡ same_run self.now other.now }
+    {
+        self.line == other.line
+            && self.direction.is_same(other.direction)
+            && self.repetition == other.repetition
+    }
+
+    /// Whether another event is the next one of its run.
+    pub fn is_before(&self, next: &PeriodicEvent) -> bool
+        ensures { result ≡ is_next self.now next.now }
+    {
+        self.is_same_run(next) && u64::from(next.id) == u64::from(self.id) + 1
+    }
 }
 
 impl Record<6> for PeriodicEvent {

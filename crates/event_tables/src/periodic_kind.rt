@@ -4,6 +4,9 @@ ghost use Rattle.giv_files.specs.declared.words.WordTable.TheVariants as tables;
 ghost use Rattle.giv_files.specs.Columns.{word};
 ghost use Rattle.giv_files.specs.Writing.{InColumn};
 ghost use Rattle.event_tables.specs.Kinds.{periodic_kind_at, periodic_kind_place};
+ghost use Rattle.event_tables.specs.PeriodicRuns.{joins};
+
+use crate::periodic_event::PeriodicEvent;
 
 /// What joins two events of a period.
 #[derive(Clone, Copy, Debug, PartialEq, Eq)]
@@ -45,6 +48,22 @@ impl PeriodicKind {
             PeriodicKind::Change => 2,
             PeriodicKind::Sync => 3,
             PeriodicKind::Headway => 4,
+        }
+    }
+
+    /// Whether an activity of the kind may go from an event to another.
+    pub fn joins(self, event: &PeriodicEvent, next: &PeriodicEvent) -> bool
+        ensures { result ≡ joins self event.now next.now }
+    {
+        let (arrives, departs) = (event.kind.is_arrival(), !next.kind.is_arrival());
+        match self {
+            PeriodicKind::Drive => !arrives && event.is_before(next),
+            PeriodicKind::Wait => arrives && event.is_before(next),
+            PeriodicKind::Change => {
+                arrives && departs && event.stop == next.stop && event.line != next.line
+            }
+            PeriodicKind::Sync => !arrives && departs,
+            PeriodicKind::Headway => !arrives && departs && event.stop == next.stop,
         }
     }
 }

@@ -4,7 +4,7 @@ ghost use Rattle.std.specs.List.{flat_map};
 ghost use Rattle.event_tables.specs.Places.{AreNumbered};
 ghost use Rattle.event_tables.specs.RunRules.{breaks, broken_in, is_placed, is_stray, lacks_way, leads, stray_activities, unjoined_in, way_on};
 
-use crate::run::{Run, joins};
+use crate::run::Run;
 use event_tables::{EventKind, PeriodicActivity, PeriodicEvent, PeriodicKind};
 use plan_num::NoMemory;
 use std::alloc::Global;
@@ -161,7 +161,7 @@ fn is_placed(events: &[PeriodicEvent], activity: &PeriodicActivity) -> bool
     }
     let event = &events[activity.from as usize - 1];
     let next = &events[activity.to as usize - 1];
-    joins(activity.kind, event, next)
+    activity.kind.joins(event, next)
 }
 
 // Whether an id is none of so many, which count from 1.

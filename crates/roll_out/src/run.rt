@@ -1,9 +1,8 @@
 // Runs of events.
 ghost use Rattle.std.specs.Prelude.{◌≡◌, ◌≤◌, ◌∷◌, take, drop, length, IfOk};
-ghost use Rattle.event_tables.specs.Kinds.{is_arrival, same_direction};
-ghost use Rattle.event_tables.specs.PeriodicRuns.{runs_of, same_run, is_next, joins};
+ghost use Rattle.event_tables.specs.PeriodicRuns.{runs_of};
 
-use event_tables::{Direction, EventKind, PeriodicEvent, PeriodicKind};
+use event_tables::PeriodicEvent;
 use plan_num::NoMemory;
 use std::alloc::Global;
 use std::marker::Model;
@@ -57,60 +56,9 @@ fn run_size(events: &[PeriodicEvent]) -> usize
     ensures within { result ≤ length events.now }
 {
     for index in 1..events.len() {
-        if !is_same_run(&events[index - 1], &events[index]) {
+        if !events[index - 1].is_same_run(&events[index]) {
             return index;
         }
     }
     events.len()
-}
-
-// Whether two events agree in line, direction and repetition.
-fn is_same_run(event: &PeriodicEvent, other: &PeriodicEvent) -> bool
-    ensures { result ≡ same_run event.now other.now }
-{
-    event.line == other.line
-        && is_same_direction(event.direction, other.direction)
-        && event.repetition == other.repetition
-}
-
-/// Whether an activity of a kind may go from an event to another.
-pub(crate) fn joins(kind: PeriodicKind, event: &PeriodicEvent, next: &PeriodicEvent) -> bool
-    ensures { result ≡ joins kind event.now next.now }
-{
-    match kind {
-        PeriodicKind::Drive => !is_arrival(event.kind) && is_next(event, next),
-        PeriodicKind::Wait => is_arrival(event.kind) && is_next(event, next),
-        PeriodicKind::Change => {
-            is_arrival(event.kind)
-                && !is_arrival(next.kind)
-                && event.stop == next.stop
-                && event.line != next.line
-        }
-        PeriodicKind::Sync => !is_arrival(event.kind) && !is_arrival(next.kind),
-        PeriodicKind::Headway => {
-            !is_arrival(event.kind) && !is_arrival(next.kind) && event.stop == next.stop
-        }
-    }
-}
-
-// Whether an event is the next one of a run.
-fn is_next(event: &PeriodicEvent, next: &PeriodicEvent) -> bool
-    ensures { result ≡ is_next event.now next.now }
-{
-    is_same_run(event, next) && u64::from(next.id) == u64::from(event.id) + 1
-}
-
-fn is_arrival(kind: EventKind) -> bool
-    ensures { result ≡ is_arrival kind }
-{
-    matches!(kind, EventKind::Arrival)
-}
-
-fn is_same_direction(direction: Direction, other: Direction) -> bool
-    ensures { result ≡ same_direction direction other }
-{
-    match direction {
-        Direction::Forward => matches!(other, Direction::Forward),
-        Direction::Backward => matches!(other, Direction::Backward),
-    }
 }
