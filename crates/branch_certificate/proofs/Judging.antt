@@ -33,7 +33,7 @@ pub record IsJudged (problem : ProblemParts) (cost : ℤ) (nodes : List Node) (f
 
 pub judged_none : (problem : ProblemParts) (cost : ℤ) (nodes : List Node) (firsts : FirstFaults)
     (walk : WalkedRegions) → firsts ≡ no_place
-    → walk ≡ record { region = root_of problem; waiting = [] }
+    → walk ≡ record { problem = problem; region = root_of problem; waiting = [] }
     → IsJudged problem cost nodes firsts 0 (walk.region ∷ walk.waiting)
 judged_none problem cost nodes firsts walk none at_root =
     rw (none, at_root) (record { splits = refl; others = refl })
@@ -139,7 +139,7 @@ names_at problem nodes place node all there = holds_at
     (NamesWhatIs problem) nodes place node all there
 
 pub each_has : (problem : ProblemParts) (walk : WalkedRegions)
-    → walk ≡ record { region = root_of problem; waiting = [] }
+    → walk ≡ record { problem = problem; region = root_of problem; waiting = [] }
     → length walk.region ≡ length problem.lines
 each_has problem walk is = ap (λ (walk : WalkedRegions). length walk.region) is
     ∙ length-map problem.lines (λ line. record { lo = 0; hi = most_of problem.edges line })

@@ -9,7 +9,7 @@ use Rattle.std.proofs.lemmas.List.Elements.{All-push}
 use Rattle.std.proofs.Math.ListN.{get_or-append}
 use Rattle.line_cost_model.specs.declared.range.LineRange.{LineRange}
 use Rattle.line_cost_model.specs.Problems.{ProblemParts}
-use Rattle.line_cost_model.specs.Regions.{range_of, root_of, part_from, part_up_to}
+use Rattle.line_cost_model.specs.Regions.{RegionParts, range_of, root_of, part_from, part_up_to}
 use Rattle.branch_certificate.specs.declared.region_walk.OpenSplit.{OpenSplit}
 use Rattle.branch_certificate.specs.Walks.{IsOpenSplit, WalkedRegions, closed, upper_of, waiting_of}
 
@@ -147,31 +147,44 @@ none_waits (split ∷ items) region none = absurd (false≢true (none (omega ari
 -- ---- the regions that are walked
 
 -- a region and some splits, as contracts see them
-abbrev pub walk_of : List OpenSplit → List LineRange → WalkedRegions
-walk_of splits region = record { region = region; waiting = waiting_of (reverse splits) region }
+abbrev pub walk_of : List OpenSplit → RegionParts → WalkedRegions
+walk_of splits region = record {
+  problem = region.problem;
+  region = region.ranges;
+  waiting = waiting_of (reverse splits) region.ranges;
+}
 
-pub at_root : (problem : ProblemParts) (region : List LineRange) (splits : List OpenSplit)
-    → region ≡ root_of problem → splits ≡ []
-    → walk_of splits region ≡ record { region = root_of problem; waiting = [] }
+pub at_root : (problem : ProblemParts) (region : RegionParts) (splits : List OpenSplit)
+    → region ≡ record { problem = problem; ranges = root_of problem } → splits ≡ []
+    → walk_of splits region
+    ≡ record { problem = problem; region = root_of problem; waiting = [] }
 unfolding waiting_of
 at_root problem region splits region_is none = λ i. walk_of (none i) (region_is i)
 
-pub entered : (splits items : List OpenSplit) (region now : List LineRange) (before : WalkedRegions)
+pub entered : (splits items : List OpenSplit) (region now : RegionParts) (before : WalkedRegions)
     (line at lo hi : ℕ) → walk_of splits region ≡ before
-    → lo ≡ (range_of region line).lo → hi ≡ (range_of region line).hi
+    → lo ≡ (range_of region.ranges line).lo → hi ≡ (range_of region.ranges line).hi
     → items ≡ splits ++ record { line = line; lo = lo; at = at; hi = hi; in_lower = true } ∷ []
-    → now ≡ set region line (record { lo = lo; hi = at })
+    → now ≡ record region { ranges = set region.ranges line (record { lo = lo; hi = at }) }
     → walk_of items now ≡ record {
+      problem = before.problem;
       region = part_up_to before.region line at;
       waiting = part_from before.region line (at + 1) ∷ before.waiting;
     }
 entered splits items region now before line at lo hi is lo_is hi_is items_are now_is =
-    let lower : now ≡ part_up_to region line at =
-    now_is ∙ ap (λ lo. set region line (record { lo = lo; hi = at })) lo_is in
-    let waiting = lower_is_walked items splits region line at lo hi lo_is hi_is items_are in
+    let ranges = region.ranges in
+    let lower : now ≡ record region { ranges = part_up_to ranges line at } =
+    now_is
+    ∙ ap (λ lo. record region { ranges = set ranges line (record { lo = lo; hi = at }) }) lo_is in
+    let waiting = lower_is_walked items splits ranges line at lo hi lo_is hi_is items_are in
     (λ i. walk_of items (lower i))
-    ∙ (λ i. record { region = part_up_to region line at; waiting = waiting i })
     ∙ (λ i. record {
+      problem = region.problem;
+      region = part_up_to ranges line at;
+      waiting = waiting i;
+    })
+    ∙ (λ i. record {
+      problem = (is i).problem;
       region = part_up_to (is i).region line at;
       waiting = part_from (is i).region line (at + 1) ∷ (is i).waiting;
     })

@@ -16,8 +16,9 @@ use Rattle.branch_certificate.specs.Trees.{PlacedNode}
 
 -- ---- regions
 
--- the region at which a node stands, and those of the trees behind its own
+-- a line problem, the region at which a node stands, and those of the trees behind its own
 pub record WalkedRegions : Type 0 where
+  pub problem : ProblemParts
   pub region : List LineRange
   pub waiting : List (List LineRange)
 

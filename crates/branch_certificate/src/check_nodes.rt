@@ -27,13 +27,14 @@ pub(crate) fn node_fault(
 {
     let mut walk = RegionWalk::new(alloc, problem)?;
     let mut firsts = FirstFaults::new();
+    let mut left = Vec::new(alloc);
     for place in 0..tree.len() {
         let node = tree.node(place);
         // No region is cut outside a range, so the places behind such a split have none.
         if splits_outside(walk.region(), node) {
             return Ok(Some(TreeFault::Split { node: place }));
         }
-        firsts.note(alloc, problem, best, walk.region(), place, node)?;
+        firsts.note(best, walk.region(), place, node, &mut left)?;
         if !go_on(&mut walk, node)? {
             return Ok(firsts.first());
         }

@@ -1,5 +1,5 @@
 // The first faults of nodes, by kind.
-ghost use Rattle.std.specs.Prelude.{◌≡◌, length, None, IfOk, OnOk};
+ghost use Rattle.std.specs.Prelude.{◌≡◌, None, IfOk, OnOk};
 ghost use Rattle.branch_certificate.specs.TreeFaults.{exceeds_costs, is_below, is_no_point};
 ghost use Rattle.branch_certificate.specs.TreeFaults.{is_not_empty, splits_outside};
 ghost use Rattle.branch_certificate.specs.TreeTexts.{NamesWhatIs};
@@ -7,9 +7,8 @@ ghost use Rattle.branch_certificate.specs.Walks.{SplitsOne, first_by_kind, first
 
 use crate::fault::TreeFault;
 use crate::node::Node;
-use line_cost_model::{LineProblem, Region};
+use line_cost_model::Region;
 use plan_num::NoMemory;
-use std::alloc::Global;
 
 /// The first places, so far, of each kind of fault of a leaf.
 #[derive(Clone, Copy, Debug)]
@@ -33,26 +32,25 @@ impl FirstFaults {
         }
     }
 
-    /// One node more, which stands over a region.
+    /// One node more, which stands over a region. The room for what is left of the costs of lines
+    /// is kept.
     pub(crate) fn note(
         &mut self,
-        alloc: Global,
-        problem: &LineProblem,
         best: i128,
         region: &Region,
         place: usize,
         node: &Node,
+        left: &mut Vec<u64>,
     ) -> Result<(), NoMemory>
-        requires each { length region.now ≡ length problem.now.lines }
-        requires names { NamesWhatIs problem.now node.now }
-        ensures { OnOk result (self.new ≡ noted problem.now best self.old place
-            (record { node = node.now; region = region.now })) }
+        requires { NamesWhatIs region.now.problem node.now }
+        ensures { OnOk result (self.new ≡ noted region.now.problem best self.old place
+            (record { node = node.now; region = region.now.ranges })) }
     {
-        let exceeds = exceeds_costs(alloc, problem, region, node)?;
-        self.empty = first_place(self.empty, is_not_empty(problem, region, node), place);
+        let exceeds = exceeds_costs(region, node, left)?;
+        self.empty = first_place(self.empty, is_not_empty(region, node), place);
         self.multiplier = first_place(self.multiplier, exceeds, place);
-        self.bound = first_place(self.bound, is_below(problem, best, region, node), place);
-        self.point = first_place(self.point, is_no_point(problem, best, region, node), place);
+        self.bound = first_place(self.bound, is_below(best, region, node), place);
+        self.point = first_place(self.point, is_no_point(best, region, node), place);
         Ok(())
     }
 
@@ -88,8 +86,8 @@ fn first_place(first: Option<usize>, fails: bool, place: usize) -> Option<usize>
 
 /// Whether a node splits the range of a line outside of it.
 pub(crate) fn splits_outside(region: &Region, node: &Node) -> bool
-    requires { SplitsOne region.now node.now }
-    ensures { result ≡ splits_outside region.now node.now }
+    requires { SplitsOne region.now.ranges node.now }
+    ensures { result ≡ splits_outside region.now.ranges node.now }
 {
     match node {
         Node::Split { line, at } => {
@@ -101,54 +99,45 @@ pub(crate) fn splits_outside(region: &Region, node: &Node) -> bool
 }
 
 // Whether a node names an edge as empty that is not.
-fn is_not_empty(problem: &LineProblem, region: &Region, node: &Node) -> bool
-    requires each { length region.now ≡ length problem.now.lines }
-    requires names { NamesWhatIs problem.now node.now }
-    ensures { result ≡ is_not_empty problem.now region.now node.now }
+fn is_not_empty(region: &Region, node: &Node) -> bool
+    requires { NamesWhatIs region.now.problem node.now }
+    ensures { result ≡ is_not_empty region.now.problem region.now.ranges node.now }
 {
     match node {
-        Node::Empty { edge, side } => !problem.is_empty_on(region, *edge, *side),
+        Node::Empty { edge, side } => !region.is_empty_on(*edge, *side),
         _ => false,
     }
 }
 
 // Whether a node has multipliers that take more off an open line than it costs.
-fn exceeds_costs(
-    alloc: Global,
-    problem: &LineProblem,
-    region: &Region,
-    node: &Node,
-) -> Result<bool, NoMemory>
-    requires each { length region.now ≡ length problem.now.lines }
-    requires names { NamesWhatIs problem.now node.now }
+fn exceeds_costs(region: &Region, node: &Node, left: &mut Vec<u64>) -> Result<bool, NoMemory>
+    requires { NamesWhatIs region.now.problem node.now }
     ensures { IfOk result
-        (λ exceeds. exceeds ≡ exceeds_costs problem.now region.now node.now) }
+        (λ exceeds. exceeds ≡ exceeds_costs region.now.problem region.now.ranges node.now) }
 {
     match node {
-        Node::Bound { multipliers } => Ok(!problem.are_within(alloc, region, multipliers)?),
+        Node::Bound { multipliers } => Ok(!region.are_within(multipliers, left)?),
         _ => Ok(false),
     }
 }
 
 // Whether a node has a bound that is below a cost.
-fn is_below(problem: &LineProblem, best: i128, region: &Region, node: &Node) -> bool
-    requires each { length region.now ≡ length problem.now.lines }
-    requires names { NamesWhatIs problem.now node.now }
-    ensures { result ≡ is_below problem.now best region.now node.now }
+fn is_below(best: i128, region: &Region, node: &Node) -> bool
+    requires { NamesWhatIs region.now.problem node.now }
+    ensures { result ≡ is_below region.now.problem best region.now.ranges node.now }
 {
     match node {
-        Node::Bound { multipliers } => !(best <= problem.bound_by(region, multipliers)),
+        Node::Bound { multipliers } => !(best <= region.bound_by(multipliers)),
         _ => false,
     }
 }
 
 // Whether a node is a point over a region that is no one concept, or that costs less.
-fn is_no_point(problem: &LineProblem, best: i128, region: &Region, node: &Node) -> bool
-    requires each { length region.now ≡ length problem.now.lines }
-    ensures { result ≡ is_no_point problem.now best region.now node.now }
+fn is_no_point(best: i128, region: &Region, node: &Node) -> bool
+    ensures { result ≡ is_no_point region.now.problem best region.now.ranges node.now }
 {
     match node {
-        Node::Point => region.has_several() || !(best <= problem.least_cost(region)),
+        Node::Point => region.has_several() || !(best <= region.least_cost()),
         _ => false,
     }
 }

@@ -22,33 +22,37 @@ pub(crate) struct OpenSplit {
     in_lower: bool,
 }
 
-/// The region at which a node of a tree stands, and the splits above it. Contracts see it as that
-/// region and those of the upper parts that wait.
-#[derive(Debug, Drop)]
-pub struct RegionWalk {
-    region: Region,
+/// The region at which a node of a tree stands, and the splits above it. Contracts see it as the
+/// line problem, that region and those of the upper parts that wait.
+#[derive(Drop)]
+pub struct RegionWalk<'a> {
+    region: Region<'a>,
     splits: Vec<OpenSplit>,
 }
 
-impl Model for RegionWalk {
+impl<'a> Model for RegionWalk<'a> {
     ghost use Rattle.std.specs.Prelude.{All, length, reverse};
     ghost use Rattle.branch_certificate.specs.Walks.{IsOpenSplit, WalkedRegions, waiting_of};
 
     ghost Value = { WalkedRegions };
 
     ghost view = { λ walk. record {
-      region = walk.region;
-      waiting = waiting_of (reverse walk.splits.items) walk.region;
+      problem = walk.region.problem;
+      region = walk.region.ranges;
+      waiting = waiting_of (reverse walk.splits.items) walk.region.ranges;
     } };
 
-    ghost invariant = { λ walk. All (IsOpenSplit (length walk.region)) walk.splits.items };
+    ghost invariant = { λ walk. All (IsOpenSplit (length walk.region.ranges)) walk.splits.items };
 }
 
-impl RegionWalk {
+impl<'a> RegionWalk<'a> {
     /// At the root of a tree.
-    pub fn new(alloc: Global, problem: &LineProblem) -> Result<RegionWalk, NoMemory>
-        ensures root { IfOk result
-            (λ walk. walk ≡ record { region = root_of problem.now; waiting = [] }) }
+    pub fn new(alloc: Global, problem: &'a LineProblem) -> Result<RegionWalk<'a>, NoMemory>
+        ensures root { IfOk result (λ walk. walk ≡ record {
+          problem = problem.now;
+          region = root_of problem.now;
+          waiting = [];
+        }) }
         ensures each { IfOk result (λ _. HasEachFeasible problem.now (root_of problem.now)) }
     {
         let region = Region::root(alloc, problem)?;
@@ -59,8 +63,9 @@ impl RegionWalk {
     }
 
     /// The region of the node.
-    pub fn region(&self) -> &Region
-        ensures { result.now ≡ self.now.region }
+    pub fn region(&self) -> &Region<'a>
+        ensures problem { result.now.problem ≡ self.now.problem }
+        ensures ranges { result.now.ranges ≡ self.now.region }
     {
         &self.region
     }
@@ -70,6 +75,7 @@ impl RegionWalk {
         requires there { line < length self.old.region }
         requires inside { SplitsInside self.old.region line at }
         ensures { OnOk result (self.new ≡ record {
+          problem = self.old.problem;
           region = part_up_to self.old.region line at;
           waiting = part_from self.old.region line (at + 1) ∷ self.old.waiting;
         }) }
@@ -82,7 +88,7 @@ impl RegionWalk {
             hi,
             in_lower: true,
         })?;
-        self.region.narrow(line, lo, at);
+        self.region.set_range(line, lo, at);
         Ok(())
     }
 
@@ -90,6 +96,7 @@ impl RegionWalk {
     pub(crate) fn leave(&mut self) -> Result<bool, NoMemory>
         ensures waiting { IfOk result (λ more. MatchBool more
             (self.new.region ∷ self.new.waiting ≡ self.old.waiting) (self.old.waiting ≡ [])) }
+        ensures problem { self.new.problem ≡ self.old.problem }
         ensures size { length self.new.region ≡ length self.old.region }
     {
         leave(&mut self.region, &mut self.splits)
@@ -97,12 +104,13 @@ impl RegionWalk {
 }
 
 /// From a node on to the next one, where one is to come.
-pub fn go_on(walk: &mut RegionWalk, node: &Node) -> Result<bool, NoMemory>
+pub fn go_on<'a>(walk: &mut RegionWalk<'a>, node: &Node) -> Result<bool, NoMemory>
     requires there { SplitsOne walk.old.region node.now }
     requires inside { splits_outside walk.old.region node.now ≡ false }
     ensures waiting { IfOk result (λ more.
         (if more then walk.new.region ∷ walk.new.waiting else [])
         ≡ behind_node walk.old.region walk.old.waiting node.now) }
+    ensures problem { IfOk result (λ _. walk.new.problem ≡ walk.old.problem) }
     ensures size { IfOk result (λ _. length walk.new.region ≡ length walk.old.region) }
 {
     match node {
@@ -116,14 +124,15 @@ pub fn go_on(walk: &mut RegionWalk, node: &Node) -> Result<bool, NoMemory>
 
 // From the end of a part on to the innermost upper part that waits, where there is one. The range
 // of a split whose parts are both walked is as it was before.
-fn leave(region: &mut Region, splits: &mut Vec<OpenSplit>) -> Result<bool, NoMemory>
-    requires { All (IsOpenSplit (length region.old)) splits.old.items }
+fn leave<'a>(region: &mut Region<'a>, splits: &mut Vec<OpenSplit>) -> Result<bool, NoMemory>
+    requires { All (IsOpenSplit (length region.old.ranges)) splits.old.items }
     ensures waiting { IfOk result (λ more. MatchBool more
-        (region.new ∷ waiting_of (reverse splits.new.items) region.new
-        ≡ waiting_of (reverse splits.old.items) region.old)
-        (waiting_of (reverse splits.old.items) region.old ≡ [])) }
-    ensures size { length region.new ≡ length region.old }
-    ensures open { All (IsOpenSplit (length region.new)) splits.new.items }
+        (region.new.ranges ∷ waiting_of (reverse splits.new.items) region.new.ranges
+        ≡ waiting_of (reverse splits.old.items) region.old.ranges)
+        (waiting_of (reverse splits.old.items) region.old.ranges ≡ [])) }
+    ensures problem { region.new.problem ≡ region.old.problem }
+    ensures size { length region.new.ranges ≡ length region.old.ranges }
+    ensures open { All (IsOpenSplit (length region.new.ranges)) splits.new.items }
 {
     while let Some(split) = splits.pop() {
         if split.in_lower {

@@ -13,5 +13,6 @@ pub mod Proving
 pub mod Pushed
 pub mod Rising
 pub mod Roots
+pub mod RunningSums
 pub mod Within
 mod Tried

@@ -84,17 +84,17 @@ is_over lines edge line d h = ap (λ n. list_any (nat_eq n) (over_from 0 lines e
 
 -- ---- one line more
 
-or_true : (b : Bool) → (b || true) ≡ true
+pub or_true : (b : Bool) → (b || true) ≡ true
 or_true true = refl
 or_true false = refl
 
-or_false : (b : Bool) → (b || false) ≡ b
+pub or_false : (b : Bool) → (b || false) ≡ b
 or_false true = refl
 or_false false = refl
 
 module _ (over : List ℕ) (k : ℕ) (apart : IsDistinct nat_eq over) (h : k < length over) where
   -- a line of them was not one before
-  is_new : list_any (nat_eq (get_or over k 0)) (take k over) ≡ false
+  pub is_new : list_any (nat_eq (get_or over k 0)) (take k over) ≡ false
   is_new =
       let size : length (take k over) ≡ k = length-take-le k over (omega arith) in
       list_any_none (nat_eq (get_or over k 0)) (take k over)

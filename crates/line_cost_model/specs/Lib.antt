@@ -7,3 +7,4 @@ pub mod Multipliers
 pub mod Passes
 pub mod Problems
 pub mod Regions
+pub mod RunningSums

@@ -17,6 +17,11 @@ pub record IsWithin (frequency : ℕ) (range : LineRange) : Type 0 where
 abbrev pub LiesIn : List LineRange → List ℕ → Type 0
 LiesIn region frequencies = AllZip IsWithin frequencies region
 
+-- a line problem, and a range for each of its lines
+pub record RegionParts : Type 0 where
+  pub problem : ProblemParts
+  pub ranges : List LineRange
+
 -- a range has several values
 abbrev pub has_several : LineRange → Bool
 has_several range = nat_lt range.lo range.hi

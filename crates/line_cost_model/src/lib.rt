@@ -14,6 +14,7 @@ mod pass;
 mod problem;
 mod range;
 mod region;
+mod running;
 mod side;
 mod sums;
 

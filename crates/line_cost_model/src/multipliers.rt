@@ -1,6 +1,6 @@
 // Multipliers of edges.
 ghost use Rattle.std.specs.Prelude.{◌≡◌, ◌<◌, ◌++◌, ◌∷◌, [], ◌≤ℤ◌, pos, length, slice_get, Some};
-ghost use Rattle.std.specs.Prelude.{option_map, unsigned_abs, OnOk, OnErr};
+ghost use Rattle.std.specs.Prelude.{option_map, unsigned_abs, IfOk, OnOk, OnErr};
 ghost use Rattle.line_cost_model.specs.Multipliers.{AreMultipliers, IsAfter, IsAmount};
 
 use plan_num::NoMemory;
@@ -64,6 +64,22 @@ impl Multipliers {
     {
         self.list.push(Multiplier { edge, amount })?;
         Ok(())
+    }
+
+    /// None are left.
+    pub(crate) fn clear(&mut self)
+        ensures { self.new ≡ [] }
+    {
+        self.list.clear();
+    }
+
+    /// The same ones.
+    pub fn copy(&self, alloc: Global) -> Result<Multipliers, NoMemory>
+        ensures same { IfOk result (λ multipliers. multipliers ≡ self.now) }
+        ensures sound { IfOk result AreMultipliers }
+    {
+        let list = Vec::from_slice(alloc, &self.list)?;
+        Ok(Multipliers { list })
     }
 
     /// How many there are.

@@ -26,7 +26,7 @@ use Rattle.line_search.proofs.VisitsInTurn.{visited_behind}
 -- ---- before the first entry
 
 pub search_begun : (problem : ProblemParts) (walk : WalkedRegions) (nodes : List Node)
-    → walk ≡ record { region = root_of problem; waiting = [] } → nodes ≡ []
+    → walk ≡ record { problem = problem; region = root_of problem; waiting = [] } → nodes ≡ []
     → IsSearchedBy problem (walk.region ∷ walk.waiting) nodes None 0
 unfolding visits
 search_begun problem walk nodes walk_is none =

@@ -102,6 +102,7 @@ pub record TakesEntry (problem : ProblemParts) (before after : Search) (more : B
   pub names : NamesWhatIs problem (node_here problem before)
   pub written : CanBeWritten (node_here problem before)
   pub priced : ArePriced problem after.best
+  pub same_problem : after.walk.problem ≡ before.walk.problem
 
 -- what a search within a budget found
 pub record IsResult (problem : ProblemParts) (budget : ℕ) (found : Searched) : Type 0 where

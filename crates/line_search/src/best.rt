@@ -16,15 +16,11 @@ pub(crate) struct BestConcept {
 
 impl BestConcept {
     /// The concept of least frequencies in a region.
-    pub(crate) fn least_in(
-        alloc: Global,
-        problem: &LineProblem,
-        region: &Region,
-    ) -> Result<BestConcept, NoMemory>
-        requires each { length region.now ≡ length problem.now.lines }
-        ensures least { IfOk result (λ best. best.frequencies.items ≡ least_in region.now) }
-        ensures priced { IfOk result (IsPriced problem.now) }
+    pub(crate) fn least_in(alloc: Global, region: &Region) -> Result<BestConcept, NoMemory>
+        ensures least { IfOk result (λ best. best.frequencies.items ≡ least_in region.now.ranges) }
+        ensures priced { IfOk result (IsPriced region.now.problem) }
     {
+        let problem = region.problem();
         let frequencies = least_frequencies(alloc, problem, region)?;
         let cost = problem.cost(&frequencies);
         Ok(BestConcept { frequencies, cost })
@@ -37,8 +33,8 @@ fn least_frequencies(
     problem: &LineProblem,
     region: &Region,
 ) -> Result<Vec<u32>, NoMemory>
-    requires each { length region.now ≡ length problem.now.lines }
-    ensures least { IfOk result (λ all. all.items ≡ least_in region.now) }
+    requires each { length region.now.ranges ≡ length problem.now.lines }
+    ensures least { IfOk result (λ all. all.items ≡ least_in region.now.ranges) }
     ensures few { IfOk result (λ all. All (λ frequency. frequency ≤ 1000) all.items) }
 {
     let mut frequencies = Vec::new(alloc);
@@ -50,8 +46,8 @@ fn least_frequencies(
 
 // The least frequency of a line in a region.
 fn least_of(region: &Region, line: usize) -> u32
-    requires { line < length region.now }
-    ensures least { result ≡ (range_of region.now line).lo }
+    requires { line < length region.now.ranges }
+    ensures least { result ≡ (range_of region.now.ranges line).lo }
     ensures few { result ≤ 1000 }
 {
     region.ends(line).0

@@ -7,9 +7,17 @@ use line_cost_model::{LineProblem, Region};
 
 /// The first open line of a region in the order of lines: the dearest of the lines whose ranges
 /// have several values, and the one of least id among these.
-pub(crate) fn first_open(problem: &LineProblem, region: &Region) -> Option<usize>
-    requires each { length region.now ≡ length problem.now.lines }
-    ensures { result ≡ first_open problem.now region.now }
+pub(crate) fn first_open(region: &Region) -> Option<usize>
+    ensures first { result ≡ first_open region.now.problem region.now.ranges }
+    ensures each { length region.now.ranges ≡ length region.now.problem.lines }
+{
+    first_of(region.problem(), region)
+}
+
+// The first open line of a region of a problem.
+fn first_of(problem: &LineProblem, region: &Region) -> Option<usize>
+    requires each { length region.now.ranges ≡ length problem.now.lines }
+    ensures { result ≡ first_open problem.now region.now.ranges }
 {
     let mut first = None;
     for line in 0..problem.line_count() {

@@ -10,68 +10,66 @@ ghost use Rattle.line_search.specs.Searches.{ArePriced, concept_in};
 use crate::best::BestConcept;
 use crate::first_open::first_open;
 use branch_certificate::Node;
-use line_cost_model::{LineProblem, Multipliers, Region};
+use line_cost_model::{Bound, Multipliers, Region};
 use plan_num::NoMemory;
 use std::alloc::Global;
 
 /// What is said of a region beside the best concept so far: by an empty edge, by a dual bound that
-/// is not below what that concept costs, by a split, or else that it is a single concept.
+/// is not below what that concept costs, by a split, or else that it is a single concept. The room
+/// for a bound is kept.
 pub(crate) fn node_at(
     alloc: Global,
-    problem: &LineProblem,
     region: &Region,
     best: &Option<BestConcept>,
+    bound: &mut Bound,
 ) -> Result<Node, NoMemory>
-    requires each { length region.now ≡ length problem.now.lines }
-    requires priced { ArePriced problem.now best.now }
+    requires { ArePriced region.now.problem best.now }
     ensures node { IfOk result
-        (λ node. node ≡ node_at problem.now region.now (concept_in best.now)) }
-    ensures names { IfOk result (NamesWhatIs problem.now) }
+        (λ node. node ≡ node_at region.now.problem region.now.ranges (concept_in best.now)) }
+    ensures names { IfOk result (NamesWhatIs region.now.problem) }
     ensures written { IfOk result CanBeWritten }
 {
-    if let Some((edge, side)) = problem.empty_edge(region) {
+    if let Some((edge, side)) = region.empty_edge() {
         return Ok(Node::Empty { edge, side });
     }
-    if let Some(multipliers) = bound_at(alloc, problem, region, best)? {
+    if let Some(multipliers) = bound_at(alloc, region, best, bound)? {
         return Ok(Node::Bound { multipliers });
     }
-    Ok(split_at(problem, region))
+    Ok(split_at(region))
 }
 
 // The multipliers of a region, where its dual bound is not below what the best concept costs.
 fn bound_at(
     alloc: Global,
-    problem: &LineProblem,
     region: &Region,
     best: &Option<BestConcept>,
+    bound: &mut Bound,
 ) -> Result<Option<Multipliers>, NoMemory>
-    requires each { length region.now ≡ length problem.now.lines }
-    requires priced { ArePriced problem.now best.now }
+    requires { ArePriced region.now.problem best.now }
     ensures node { IfOk result (λ found. option_map (λ ms. node.Bound ms) found
-        ≡ as_bound problem.now region.now (concept_in best.now)) }
+        ≡ as_bound region.now.problem region.now.ranges (concept_in best.now)) }
     ensures written { IfOk result (λ found. IfSome found AreMultipliers) }
 {
     let Some(best) = best else {
         return Ok(None);
     };
-    let bound = problem.dual_bound(alloc, region)?;
-    let _ = bound.multipliers.len();
-    Ok(if best.cost <= bound.value {
-        Some(bound.multipliers)
+    region.renew_bound(bound)?;
+    if best.cost <= bound.value {
+        Ok(Some(bound.multipliers.copy(alloc)?))
     } else {
-        None
-    })
+        Ok(None)
+    }
 }
 
 // The split of a region at the middle of the range of its first open line; without one it is a
 // single concept.
-fn split_at(problem: &LineProblem, region: &Region) -> Node
-    requires each { length region.now ≡ length problem.now.lines }
-    ensures node { result ≡ unwrap_or (as_split problem.now region.now) node.Point }
-    ensures names { NamesWhatIs problem.now result }
+fn split_at(region: &Region) -> Node
+    ensures node { result
+        ≡ unwrap_or (as_split region.now.problem region.now.ranges) node.Point }
+    ensures names { NamesWhatIs region.now.problem result }
     ensures written { CanBeWritten result }
 {
-    match first_open(problem, region) {
+    match first_open(region) {
         Some(line) => Node::Split {
             line,
             at: middle(region, line),
@@ -82,8 +80,8 @@ fn split_at(problem: &LineProblem, region: &Region) -> Node
 
 // The middle of the range of a line, rounded down.
 fn middle(region: &Region, line: usize) -> u32
-    requires { line < length region.now }
-    ensures middle { result ≡ middle (range_of region.now line) }
+    requires { line < length region.now.ranges }
+    ensures middle { result ≡ middle (range_of region.now.ranges line) }
     ensures few { result ≤ 1000 }
 {
     let (lo, hi) = region.ends(line);

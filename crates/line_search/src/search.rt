@@ -1,5 +1,5 @@
 // The search of a line concept within a budget of entries.
-ghost use Rattle.std.specs.Prelude.{◌≡◌, ◌≤◌, ◌+◌, ◌∷◌, [], length, None, Some};
+ghost use Rattle.std.specs.Prelude.{◌≡◌, ◌≤◌, ◌+◌, ◌∷◌, [], None, Some};
 ghost use Rattle.std.specs.Prelude.{IfOk, OnErr, OnOk};
 ghost use Rattle.line_search.specs.Listings.{best_after, listing};
 ghost use Rattle.line_search.specs.Budgets.{entries_listed};
@@ -9,17 +9,18 @@ ghost use Rattle.line_search.specs.Searches.{TakesEntry, concept_in, entry_of};
 use crate::best::BestConcept;
 use crate::region_node::node_at;
 use branch_certificate::{Node, RegionWalk, Tree, go_on};
-use line_cost_model::{LineProblem, Region};
+use line_cost_model::{Bound, LineProblem, Region};
 use plan_num::{Ledger, NoMemory, Steps};
 use std::alloc::Global;
 
 /// A search between two entries: the regions that wait, the nodes of the entries so far, and the
-/// best concept that these found.
-#[derive(Debug, Drop)]
-pub(crate) struct Search {
-    walk: RegionWalk,
+/// best concept that these found. The room for a bound is kept.
+#[derive(Drop)]
+pub(crate) struct Search<'a> {
+    walk: RegionWalk<'a>,
     tree: Tree,
     best: Option<BestConcept>,
+    bound: Bound,
 }
 
 /// What a search within a budget found: the best concept, the nodes of all entries where the
@@ -48,34 +49,36 @@ pub(crate) fn search_concept<L: Ledger>(
     let mut search = Search::new(alloc, problem)?;
     for entry in 0..budget {
         steps.tick();
-        if !search.take_entry(alloc, problem)? {
+        if !search.take_entry(alloc)? {
             return Ok(search.whole(entry + 1));
         }
     }
     Ok(search.spent(budget))
 }
 
-impl Search {
+impl<'a> Search<'a> {
     // Before the first entry.
-    fn new(alloc: Global, problem: &LineProblem) -> Result<Search, NoMemory>
-        ensures { IfOk result (λ found. IsSearched problem.now found 0) }
+    fn new(alloc: Global, problem: &'a LineProblem) -> Result<Search<'a>, NoMemory>
+        ensures searched { IfOk result (λ found. IsSearched problem.now found 0) }
+        ensures problem { IfOk result (λ found. found.walk.problem ≡ problem.now) }
     {
         let walk = RegionWalk::new(alloc, problem)?;
         Ok(Search {
             walk,
             tree: Tree::new(alloc),
             best: None,
+            bound: Bound::new(alloc),
         })
     }
 
     // One entry more, and whether another one is to come.
-    fn take_entry(&mut self, alloc: Global, problem: &LineProblem) -> Result<bool, NoMemory>
-        requires visited { IsVisited problem.now self.old.walk.region }
-        requires priced { ArePriced problem.now self.old.best }
-        ensures { IfOk result (TakesEntry problem.now self.old self.new) }
+    fn take_entry(&mut self, alloc: Global) -> Result<bool, NoMemory>
+        requires visited { IsVisited self.old.walk.problem self.old.walk.region }
+        requires priced { ArePriced self.old.walk.problem self.old.best }
+        ensures { IfOk result (TakesEntry self.old.walk.problem self.old self.new) }
     {
-        let node = node_at(alloc, problem, self.walk.region(), &self.best)?;
-        take_found(alloc, problem, self.walk.region(), &node, &mut self.best)?;
+        let node = node_at(alloc, self.walk.region(), &self.best, &mut self.bound)?;
+        take_found(alloc, self.walk.region(), &node, &mut self.best)?;
         let more = go_on(&mut self.walk, &node)?;
         self.tree.push(node)?;
         Ok(more)
@@ -84,7 +87,7 @@ impl Search {
     // What it found, where no region waits.
     fn whole(self, entries: u64) -> Searched
         ensures { result
-            ≡ record { best = self.best; tree = Some self.tree; entries = entries } }
+            ≡ record { best = self.entry.best; tree = Some self.entry.tree; entries = entries } }
     {
         Searched {
             best: self.best,
@@ -95,7 +98,8 @@ impl Search {
 
     // What it found, where the budget is spent.
     fn spent(self, entries: u64) -> Searched
-        ensures { result ≡ record { best = self.best; tree = None; entries = entries } }
+        ensures { result
+            ≡ record { best = self.entry.best; tree = None; entries = entries } }
     {
         Searched {
             best: self.best,
@@ -108,20 +112,18 @@ impl Search {
 // The concept of a region, where it is said to be a single one, is the best now.
 fn take_found(
     alloc: Global,
-    problem: &LineProblem,
     region: &Region,
     node: &Node,
     best: &mut Option<BestConcept>,
 ) -> Result<(), NoMemory>
-    requires each { length region.now ≡ length problem.now.lines }
-    requires priced { ArePriced problem.now best.old }
+    requires { ArePriced region.now.problem best.old }
     ensures found { OnOk result (concept_in best.new
-        ≡ best_after (concept_in best.old) (entry_of region.now node.now ∷ [])) }
-    ensures priced { OnOk result (ArePriced problem.now best.new) }
+        ≡ best_after (concept_in best.old) (entry_of region.now.ranges node.now ∷ [])) }
+    ensures priced { OnOk result (ArePriced region.now.problem best.new) }
 {
     match node {
         Node::Point => {
-            *best = Some(BestConcept::least_in(alloc, problem, region)?);
+            *best = Some(BestConcept::least_in(alloc, region)?);
         }
         _ => {}
     }

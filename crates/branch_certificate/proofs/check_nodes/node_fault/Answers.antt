@@ -1,9 +1,11 @@
-use Rattle.std.proofs.Common.{◌∙◌, ◌∷◌, [], ◌+◌, List, to_z, of_z, slice_get, if◌then◌else◌, length, ap, sym, subst, arith}
+use Rattle.std.proofs.Common.{◌∙◌, ◌∷◌, [], ◌+◌, List, to_z, of_z, slice_get, if◌then◌else◌, ap, sym, subst, arith}
 use Rattle.std.proofs.lemmas.Int.{to_z-of_z}
 use Rattle.std.specs.Int.{w128}
 use Rattle.line_cost_model.specs.declared.range.LineRange.{LineRange}
 use Rattle.branch_certificate.specs.TreeFaults.{placed_faults, splits_outside}
-use Rattle.branch_certificate.specs.Walks.{SplitsOne, noted}
+use Rattle.line_cost_model.specs.Problems.{ProblemParts}
+use Rattle.branch_certificate.specs.TreeTexts.{NamesWhatIs}
+use Rattle.branch_certificate.specs.Walks.{SplitsOne, WalkedRegions, noted}
 use Rattle.branch_certificate.proofs.Judging.{IsJudged, judged_all, judged_last, judged_more, judged_none}
 use Rattle.branch_certificate.proofs.Judging.{all_placed, each_has, names_at, split_is_first, splits_one}
 use Rattle.branch_certificate.proofs.check_nodes.node_fault.Goals as goal
@@ -15,13 +17,14 @@ loop-place-init c = record {
       (sym (to_z-of_z w128 c.args.best c.ranges.best))
       (judged_none c.args.problem.now c.args.best c.args.tree.now c.new-firsts.result
       c.in_ok-walk.walk c.new-firsts.ensures c.in_ok-walk.ensures.root);
+  problem = ap (λ (walk : WalkedRegions). walk.problem) c.in_ok-walk.ensures.root;
   size = each_has c.args.problem.now c.in_ok-walk.walk c.in_ok-walk.ensures.root;
 }
 
 pub splits_outside-requires : goal.splits_outside-requires
 splits_outside-requires c =
     subst (λ (region : List LineRange). SplitsOne region c.node-node.result.now)
-    (sym c.region.ensures)
+    (sym c.region.ensures.ranges)
     (splits_one c.args.problem.now c.loop-place.walk.region c.node-node.result.now
     c.loop-place.invariant.size (names_at c.args.problem.now c.args.tree.now c.loop-place.place
     c.node-node.result.now c.requires c.node-node.ensures))
@@ -36,16 +39,15 @@ returns-then-splits_outside-clause-first c =
     c.loop-place.place regions) (to_z-of_z w128 c.args.best c.ranges.best)
     c.loop-place.invariant.judged)
     (ap (λ (region : List LineRange). splits_outside region c.node-node.result.now)
-    (sym c.region.ensures)
+    (sym c.region.ensures.ranges)
     ∙ sym c.splits_outside.ensures ∙ c.if-splits_outside.true)
 
-pub note-requires-clause-each : goal.note-requires-clause-each
-note-requires-clause-each c = ap length c.region-in-loop-place.ensures ∙ c.loop-place.invariant.size
-
-pub note-requires-clause-names : goal.note-requires-clause-names
-note-requires-clause-names c =
-    names_at c.args.problem.now c.args.tree.now c.loop-place.place c.node-node.result.now c.requires
-    c.node-node.ensures
+pub note-requires : goal.note-requires
+note-requires c =
+    subst (λ (problem : ProblemParts). NamesWhatIs problem c.node-node.result.now)
+    (sym (c.region-in-loop-place.ensures.problem ∙ c.loop-place.invariant.problem))
+    (names_at c.args.problem.now c.args.tree.now c.loop-place.place c.node-node.result.now c.requires
+    c.node-node.ensures)
 
 pub go_on-requires-clause-there : goal.go_on-requires-clause-there
 go_on-requires-clause-there c =
@@ -64,11 +66,15 @@ returns-then-not-branch-clause-first c =
     c.loop-place.walk.region c.loop-place.walk.waiting node c.node-node.ensures
     c.loop-place.invariant.judged
     c.note.new.self []
-    (ap (λ (region : List LineRange). splits_outside region node) (sym c.region.ensures)
+    (ap (λ (region : List LineRange). splits_outside region node) (sym c.region.ensures.ranges)
     ∙ sym c.splits_outside.ensures ∙ c.if-splits_outside.false)
-    (c.in_ok-note.ensures ∙ ap (λ (region : List LineRange). noted c.args.problem.now kept
+    (c.in_ok-note.ensures
+    ∙ ap (λ (problem : ProblemParts). noted problem kept c.loop-place.firsts c.loop-place.place
+    (record { node = node; region = c.region-in-loop-place.result.now.ranges }))
+    (c.region-in-loop-place.ensures.problem ∙ c.loop-place.invariant.problem)
+    ∙ ap (λ (region : List LineRange). noted c.args.problem.now kept
     c.loop-place.firsts c.loop-place.place (record { node = node; region = region }))
-    c.region-in-loop-place.ensures)
+    c.region-in-loop-place.ensures.ranges)
     (ap (λ more. if more then after else []) (sym c.if-not-branch.true)
     ∙ c.in_ok-go_on.ensures.waiting))
     ∙ ap (λ best. slice_get (placed_faults c.args.problem.now best
@@ -84,13 +90,18 @@ loop-place-preserved c =
           c.loop-place.place
           c.loop-place.walk.region c.loop-place.walk.waiting node c.node-node.ensures
           c.loop-place.invariant.judged c.note.new.self after
-          (ap (λ (region : List LineRange). splits_outside region node) (sym c.region.ensures)
+          (ap (λ (region : List LineRange). splits_outside region node) (sym c.region.ensures.ranges)
           ∙ sym c.splits_outside.ensures ∙ c.if-splits_outside.false)
-          (c.in_ok-note.ensures ∙ ap (λ (region : List LineRange). noted c.args.problem.now kept
+          (c.in_ok-note.ensures
+          ∙ ap (λ (problem : ProblemParts). noted problem kept c.loop-place.firsts c.loop-place.place
+          (record { node = node; region = c.region-in-loop-place.result.now.ranges }))
+          (c.region-in-loop-place.ensures.problem ∙ c.loop-place.invariant.problem)
+          ∙ ap (λ (region : List LineRange). noted c.args.problem.now kept
           c.loop-place.firsts c.loop-place.place (record { node = node; region = region }))
-          c.region-in-loop-place.ensures)
+          c.region-in-loop-place.ensures.ranges)
           (ap (λ more. if more then after else []) (sym c.if-not-branch.false)
           ∙ c.in_ok-go_on.ensures.waiting);
+      problem = c.in_ok-go_on.ensures.problem ∙ c.loop-place.invariant.problem;
       size = c.in_ok-go_on.ensures.size ∙ c.loop-place.invariant.size;
     }
 

@@ -6,5 +6,6 @@ use Rattle.branch_certificate.proofs.check_nodes.node_fault.Given as goal
 abbrev pub invariant-loop-place : goal.invariant-loop-place
 invariant-loop-place l = record {
   judged : IsJudged l.problem l.fn.best l.tree l.firsts l.place (l.walk.region ∷ l.walk.waiting);
+  problem : l.walk.problem ≡ l.problem;
   size : length l.walk.region ≡ length l.problem.lines;
 }

@@ -4,6 +4,6 @@ use Rattle.line_search.proofs.best.least_frequencies.Given as goal
 
 abbrev pub invariant-loop-line : goal.invariant-loop-line
 invariant-loop-line l = record {
-  least : l.frequencies.items ≡ map (λ range. range.lo) (take l.line l.region);
+  least : l.frequencies.items ≡ map (λ range. range.lo) (take l.line l.region.ranges);
   few : All (λ frequency. frequency ≤ 1000) l.frequencies.items;
 }

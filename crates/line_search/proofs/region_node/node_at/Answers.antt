@@ -6,12 +6,12 @@ use Rattle.line_search.proofs.region_node.node_at.Goals as goal
 
 pub returns-in-Some-clause-names : goal.returns-in-Some-clause-names
 returns-in-Some-clause-names c =
-    edge_names c.args.problem.now c.args.region.now c.in-Some.edge c.in-Some.side
+    edge_names c.args.region.now.problem c.args.region.now.ranges c.in-Some.edge c.in-Some.side
     (sym c.in-Some.is ∙ c.empty_edge.ensures.first)
 
 pub returns-in-Some-2-clause-names : goal.returns-in-Some-2-clause-names
 returns-in-Some-2-clause-names c =
-    bound_names c.args.problem.now c.args.region.now (concept_in c.args.best.now)
+    bound_names c.args.region.now.problem c.args.region.now.ranges (concept_in c.args.best.now)
     c.in-Some-2.multipliers
     (ap (option_map (λ multipliers. node.Bound multipliers)) (sym c.in-Some-2.is)
     ∙ c.in_ok-multipliers.ensures.node)

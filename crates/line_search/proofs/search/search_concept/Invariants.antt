@@ -5,6 +5,7 @@ use Rattle.line_search.proofs.search.search_concept.Given as goal
 
 abbrev pub invariant-loop-entry : goal.invariant-loop-entry
 invariant-loop-entry g l = record {
+  problem : l.search.walk.problem ≡ l.problem;
   searched : IsSearched l.problem l.search l.entry;
   steps : l.steps ≡ l.fn.steps + l.entry;
 }

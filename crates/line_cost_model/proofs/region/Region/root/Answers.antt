@@ -1,23 +1,21 @@
-use Rattle.std.proofs.Common.{◌∙◌, ap, sym, subst, ◌++◌, ◌∷◌, [], List, All}
+use Rattle.std.proofs.Common.{◌∙◌, List, replicate, ap, sym, subst}
 use Rattle.line_cost_model.specs.declared.range.LineRange.{LineRange}
-use Rattle.line_cost_model.specs.Regions.{IsRange, HasEachFeasible}
-use Rattle.line_cost_model.proofs.Roots.{root_more, root_whole, root_sound, root_has_each}
+use Rattle.line_cost_model.specs.Regions.{HasEachFeasible, greatest_in}
+use Rattle.line_cost_model.specs.RunningSums.{AreDriven}
+use Rattle.line_cost_model.proofs.Roots.{root_has_each}
+use Rattle.line_cost_model.proofs.RunningSums.{root_summed}
 use Rattle.line_cost_model.proofs.region.Region.root.Goals as goal
 
--- src/region.rt:38:9
-pub loop-line-preserved : goal.loop-line-preserved
-loop-line-preserved c =
-    c.in_ok-push.ensures.items ∙ ap (λ ranges. ranges ++ record { lo = 0; hi = c.most_of_line-hi.result } ∷ []) c.loop-line.invariant
-    ∙ sym (root_more c.args.problem.now c.loop-line.line c.most_of_line-hi.result c.most_of_line-hi.ensures)
-
--- src/region.rt:42:9
 pub invariant_of-result : goal.invariant_of-result
 invariant_of-result c =
-    let whole = root_whole c.args.problem.now c.loop-line.ranges.items c.line_count-line-end.result c.loop-line.line c.loop-line.invariant c.loop-line-test.false c.line_count-line-end.ensures.count in
-    subst (λ (ranges : List LineRange). All IsRange ranges) (sym whole) (root_sound c.args.problem.now c.line_count-line-end.ensures.sound)
+    root_summed c.args.problem.now c.in_ok-ranges.ranges.items c.in_ok-least.least.items
+    c.in_ok-greatest.greatest.items c.edge_count.ensures.sound c.in_ok-ranges.ensures.root c.in_ok-ranges.ensures.sound
+    (c.in_ok-least.ensures.items_if_clones_equal (λ y is. is)
+    ∙ ap (λ n. replicate n 0) c.edge_count.ensures.count)
+    (subst (λ (ranges : List LineRange). AreDriven c.args.problem.now (greatest_in ranges)
+    c.in_ok-greatest.greatest.items) c.deref.ensures.value c.in_ok-greatest.ensures)
 
--- src/region.rt:33:5
 pub returns-clause-each : goal.returns-clause-each
 returns-clause-each c =
-    let whole = root_whole c.args.problem.now c.loop-line.ranges.items c.line_count-line-end.result c.loop-line.line c.loop-line.invariant c.loop-line-test.false c.line_count-line-end.ensures.count in
-    subst (HasEachFeasible c.args.problem.now) (sym whole) (root_has_each c.args.problem.now c.line_count-line-end.ensures.sound)
+    subst (HasEachFeasible c.args.problem.now) (sym c.in_ok-ranges.ensures.root)
+    (root_has_each c.args.problem.now c.edge_count.ensures.sound)

@@ -1,5 +1,6 @@
 use Rattle.std.proofs.Common.{◌≡◌, List, false, ap, sym, subst, ◌∙◌}
 use Rattle.line_cost_model.specs.declared.range.LineRange.{LineRange}
+use Rattle.line_cost_model.specs.Problems.{ProblemParts}
 use Rattle.branch_certificate.specs.TreeFaults.{splits_outside}
 use Rattle.line_search.specs.Listings.{node_at}
 use Rattle.line_search.specs.Searches.{concept_in}
@@ -12,5 +13,7 @@ go_on-requires-clause-inside c =
     let region : List LineRange = c.args.self.now.walk.region in
     subst (λ at. splits_outside region at ≡ false)
     (sym (c.in_ok-node.ensures.node
-    ∙ ap (λ (region : List LineRange). node_at c.args.problem.now region best) c.region.ensures))
-    (split_inside c.args.problem.now region best).1
+    ∙ ap (λ (problem : ProblemParts). node_at problem c.region.result.now.ranges best)
+    c.region.ensures.problem
+    ∙ ap (λ (region : List LineRange). node_at c.args.self.now.walk.problem region best) c.region.ensures.ranges))
+    (split_inside c.args.self.now.walk.problem region best).1

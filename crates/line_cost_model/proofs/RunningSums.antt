@@ -1,0 +1,385 @@
+-- Running sums: what another frequency of a line changes, and how great they are.
+use Rattle.std.proofs.Common.{◌≡◌, ℕ, zero, suc, ◌+◌, ◌*◌, ◌≤◌, ◌<◌, ◌∙◌, Bool, true, false, ◌||◌, cond, if◌then◌else◌, nat_eq, List, [], ◌∷◌, length, get_or, set, map, take, replicate, zip, sum_by, slice_get, Some, None, option_map, unwrap_or, All, refl, ap, subst, sym, arith, inl, inr, get_or-set_other, get_or-set_same}
+use Rattle.std.specs.List.{IsDistinct, list_any}
+use Rattle.std.proofs.lemmas.Bool.{ne_eqb, eq-eqb, cases_eq}
+use Rattle.std.proofs.lemmas.Grind.{get_or_default_zero}
+use Rattle.std.proofs.lemmas.List.{take_all, length-map, length-set, get_or-map, get_or_default, get_or-replicate, length-replicate, map-set}
+use Rattle.std.proofs.lemmas.List.Elements.{All-set}
+use Rattle.std.proofs.lemmas.List.Folds.{list_any_at, list_any_more}
+use Rattle.std.proofs.lemmas.List.Sums.{sum_by-cons, sum_by-le}
+use Rattle.std.proofs.lemmas.Nat.{mul-le}
+use Rattle.std.proofs.lemmas.Option.{get_or_from_slice_get, none-some}
+use Rattle.std.proofs.lemmas.Slice.Zip.{get_or-zip, length-zip}
+use Rattle.line_cost_model.specs.declared.range.LineRange.{LineRange}
+use Rattle.line_cost_model.specs.Problems.{CostedLine, ProblemParts, IsProblem}
+use Rattle.line_cost_model.specs.Concepts.{cost_of, frequency_on, goes_over}
+use Rattle.line_cost_model.specs.Regions.{IsRange, greatest_in, least_in, range_of, root_of}
+use Rattle.line_cost_model.specs.RunningSums.{AreCounted, AreDriven, AreMoved, IsSummed}
+use Rattle.line_cost_model.proofs.FewLines.{few_lines, no_line}
+use Rattle.line_cost_model.proofs.Lowered.{is_new, or_false, or_true}
+
+-- ---- a line has another frequency
+
+sum_moved : (term : CostedLine × ℕ → ℕ) (lines : List CostedLine) (fs : List ℕ) (k f : ℕ)
+    → k < length lines → length fs ≡ length lines
+    → sum_by term (zip lines (set fs k f)) + term (get_or lines k no_line, get_or fs k 0)
+    ≡ sum_by term (zip lines fs) + term (get_or lines k no_line, f)
+sum_moved term [] fs k f h same = absurd (omega (arith, h))
+sum_moved term (line ∷ lines) [] k f h same = absurd (omega (arith, same))
+sum_moved term (line ∷ lines) (g ∷ fs) zero f h same =
+    let new = sum_by-cons term (line, f) (zip lines fs) in
+    let old = sum_by-cons term (line, g) (zip lines fs) in
+    omega (arith, new, old)
+sum_moved term (line ∷ lines) (g ∷ fs) (suc k) f h same =
+    let new = sum_by-cons term (line, g) (zip lines (set fs k f)) in
+    let old = sum_by-cons term (line, g) (zip lines fs) in
+    let more = sum_moved term lines fs k f (omega (arith, h)) (omega (arith, same)) in
+    omega (arith, new, old, more)
+
+abbrev of_edge : ℕ → CostedLine × ℕ → ℕ
+of_edge edge at = if goes_over edge at.0 then at.1 else 0
+
+abbrev of_cost : CostedLine × ℕ → ℕ
+of_cost at = at.0.cost * at.1
+
+module _ (lines : List CostedLine) (fs : List ℕ) (k : ℕ) (h : k < length lines)
+    (same : length fs ≡ length lines) where
+  driven_moved : (f edge : ℕ)
+      → frequency_on lines (set fs k f) edge + cond (goes_over edge (get_or lines k no_line)) (get_or fs k 0) 0
+      ≡ frequency_on lines fs edge + cond (goes_over edge (get_or lines k no_line)) f 0
+  driven_moved f edge = sum_moved (of_edge edge) lines fs k f h same
+
+  -- the own part of a line in a sum
+  own_driven : (edge : ℕ) → goes_over edge (get_or lines k no_line) ≡ true
+      → get_or fs k 0 ≤ frequency_on lines fs edge
+  own_driven edge over =
+      let own : cond (goes_over edge (get_or lines k no_line)) (get_or fs k 0) 0 ≡ get_or fs k 0 =
+      ap (λ b. cond b (get_or fs k 0) 0) over in
+      let nothing : ℕ = 0 in
+      let none : cond (goes_over edge (get_or lines k no_line)) nothing 0 ≡ nothing =
+      ap (λ b. cond b nothing 0) over in
+      omega (arith, driven_moved nothing edge, own, none)
+
+-- ---- how great sums are
+
+few_sum : (term : CostedLine × ℕ → ℕ) (most : ℕ) (lines : List CostedLine) (fs : List ℕ)
+    → length fs ≡ length lines
+    → ((k : ℕ) → k < length lines → term (get_or lines k no_line, get_or fs k 0) ≤ most)
+    → sum_by term (zip lines fs) ≤ length lines * most
+few_sum term most lines fs same each =
+    let long : length (zip lines fs) ≡ length lines = omega (arith, length-zip lines fs, same) in
+    subst (λ n. sum_by term (zip lines fs) ≤ n * most) long
+    (sum_by-le term most (zip lines fs) (λ k d h.
+    let within : k < length lines = omega (arith, h, long) in
+    subst (λ (at : CostedLine × ℕ). term at ≤ most)
+    (sym (get_or_default (zip lines fs) k d (no_line, 0) h
+    ∙ get_or-zip lines fs k (no_line, 0) within (omega (arith, within, same)))) (each k within)))
+
+gated_few : (over : Bool) (f most : ℕ) → f ≤ most → cond over f 0 ≤ most
+gated_few true f most few = few
+gated_few false f most few = omega arith
+
+pub few_driven : (lines : List CostedLine) (fs : List ℕ) (edge : ℕ) → length fs ≡ length lines
+    → All (λ f. f ≤ 1000) fs → frequency_on lines fs edge ≤ length lines * 1000
+few_driven lines fs edge same few = few_sum (of_edge edge) 1000 lines fs same (λ k h.
+    gated_few (goes_over edge (get_or lines k no_line)) (get_or fs k 0) 1000
+    (few k 0 (omega (arith, h, same))))
+
+few_cost : (problem : ProblemParts) (fs : List ℕ) → IsProblem problem
+    → length fs ≡ length problem.lines → All (λ f. f ≤ 1000) fs
+    → cost_of problem fs ≤ 5000000000000000000000000000000000000
+few_cost problem fs sound same few =
+    let all = few_sum of_cost 1000000000000000000000 problem.lines fs same (λ k h.
+    let times : get_or fs k 0 ≤ 1000 = few k 0 (omega (arith, h, same)) in
+    let most = mul-le (get_or problem.lines k no_line).cost (get_or fs k 0) 1000000000000000000 1000
+    (sound.lines k no_line h).cheap times in
+    omega (arith, most)) in
+    omega (arith, all, few_lines problem sound)
+
+none_driven : (lines : List CostedLine) (fs : List ℕ) (edge : ℕ) → length fs ≡ length lines
+    → ((k : ℕ) → get_or fs k 0 ≡ 0) → frequency_on lines fs edge ≡ 0
+none_driven lines fs edge same none =
+    let all = few_sum (of_edge edge) 0 lines fs same (λ k h.
+    gated_few (goes_over edge (get_or lines k no_line)) (get_or fs k 0) 0 (omega (arith, none k))) in
+    omega (arith, all)
+
+none_cost : (problem : ProblemParts) (fs : List ℕ) → length fs ≡ length problem.lines
+    → ((k : ℕ) → get_or fs k 0 ≡ 0) → cost_of problem fs ≡ 0
+none_cost problem fs same none =
+    let all = few_sum of_cost 0 problem.lines fs same (λ k h.
+    let own = ap (λ f. (get_or problem.lines k no_line).cost * f) (none k) in
+    omega (arith, own)) in
+    omega (arith, all)
+
+-- ---- both ends of ranges
+
+abbrev no_range : LineRange
+no_range = record { lo = 0; hi = 0 }
+
+least_few : (ranges : List LineRange) → All IsRange ranges → All (λ f. f ≤ 1000) (least_in ranges)
+least_few ranges sound k d h =
+    let lo_of : LineRange → ℕ = λ range. range.lo in
+    let within : k < length ranges = omega (arith, h, length-map ranges lo_of) in
+    let range : IsRange (get_or ranges k no_range) = sound k no_range within in
+    omega (arith, get_or-map lo_of ranges k no_range d within, range.in_order, range.few)
+
+pub greatest_few : (ranges : List LineRange) → All IsRange ranges
+    → All (λ f. f ≤ 1000) (greatest_in ranges)
+greatest_few ranges sound k d h =
+    let hi_of : LineRange → ℕ = λ range. range.hi in
+    let within : k < length ranges = omega (arith, h, length-map ranges hi_of) in
+    let range : IsRange (get_or ranges k no_range) = sound k no_range within in
+    omega (arith, get_or-map hi_of ranges k no_range d within, range.few)
+
+-- ---- the root
+
+zeros : (lines : List CostedLine) (most : CostedLine → ℕ) (k : ℕ)
+    → get_or (least_in (map (λ line. record { lo = 0; hi = most line }) lines)) k 0 ≡ 0
+zeros [] most k = refl
+zeros (line ∷ lines) most zero = refl
+zeros (line ∷ lines) most (suc k) = zeros lines most k
+
+pub root_summed : (problem : ProblemParts) (ranges : List LineRange) (least greatest : List ℕ)
+    → IsProblem problem → ranges ≡ root_of problem → All IsRange ranges → least ≡ replicate (length problem.edges) 0
+    → AreDriven problem (greatest_in ranges) greatest → IsSummed problem ranges least greatest 0
+root_summed problem ranges least greatest problem_is is sound zero_least greatest_are =
+    let each : length ranges ≡ length problem.lines = ap length is ∙ length-map problem.lines _ in
+    let long : length (least_in ranges) ≡ length problem.lines =
+    length-map ranges (λ range. range.lo) ∙ each in
+    let none : (k : ℕ) → get_or (least_in ranges) k 0 ≡ 0 =
+    λ k. ap (λ (ranges : List LineRange). get_or (least_in ranges) k 0) is ∙ zeros problem.lines _ k in
+    record {
+      problem_is = problem_is;
+      each = each;
+      sound = sound;
+      least_are = record {
+        size = ap length zero_least ∙ length-replicate (length problem.edges) 0;
+        told = λ edge h. ap (λ sums. get_or sums edge 0) zero_least
+            ∙ get_or-replicate (length problem.edges) edge 0 0 h
+            ∙ sym (none_driven problem.lines (least_in ranges) edge long none);
+      };
+      greatest_are = greatest_are;
+      cost_is = sym (none_cost problem (least_in ranges) long none);
+    }
+
+-- ---- sums move edge by edge
+
+module _ (edges : List ℕ) (k : ℕ) (apart : IsDistinct nat_eq edges) (h : k < length edges)
+    (now old : List ℕ) (before after value : ℕ) (size : length now ≡ length old)
+    (there : get_or edges k 0 < length old)
+    (so_far : (at : ℕ) → at < length old
+    → get_or now at 0 + cond (list_any (nat_eq at) (take k edges)) before 0
+    ≡ get_or old at 0 + cond (list_any (nat_eq at) (take k edges)) after 0)
+    (read : value ≡ get_or now (get_or edges k 0) value) where
+  pub value_is : value ≡ get_or old (get_or edges k 0) 0
+  value_is =
+      let edge = get_or edges k 0 in
+      let new = is_new edges k apart h in
+      let own : cond (list_any (nat_eq edge) (take k edges)) before 0 ≡ 0 = ap (λ b. cond b before 0) new in
+      let later : cond (list_any (nat_eq edge) (take k edges)) after 0 ≡ 0 = ap (λ b. cond b after 0) new in
+      omega (
+        arith,
+        read ∙ get_or_default_zero now edge value (omega (arith, size, there)),
+        so_far edge there,
+        own,
+        later,
+      )
+
+  pub edge_moved : (moved : ℕ) → moved + before ≡ value + after → (at : ℕ) → at < length old
+      → get_or (set now (get_or edges k 0) moved) at 0
+      + cond (list_any (nat_eq at) (take (k + 1) edges)) before 0
+      ≡ get_or old at 0 + cond (list_any (nat_eq at) (take (k + 1) edges)) after 0
+  edge_moved moved is at within =
+      let edge = get_or edges k 0 in
+      let more : list_any (nat_eq at) (take (k + 1) edges)
+      ≡ (list_any (nat_eq at) (take k edges) || nat_eq at edge) = list_any_more (nat_eq at) edges k 0 h in
+      elim (cases_eq at edge) [
+        | inl same ↦
+            let now_over : list_any (nat_eq at) (take (k + 1) edges) ≡ true =
+            more ∙ ap (λ b. list_any (nat_eq at) (take k edges) || b) (eq-eqb at edge same)
+            ∙ or_true (list_any (nat_eq at) (take k edges)) in
+            let here : get_or (set now edge moved) at 0 ≡ moved =
+            ap (λ n. get_or (set now edge moved) n 0) same
+            ∙ get_or-set_same now edge moved 0 (omega (arith, size, there)) in
+            let old_is : get_or old at 0 ≡ value = ap (λ n. get_or old n 0) same ∙ sym value_is in
+            let own : cond (list_any (nat_eq at) (take (k + 1) edges)) before 0 ≡ before =
+            ap (λ b. cond b before 0) now_over in
+            let later : cond (list_any (nat_eq at) (take (k + 1) edges)) after 0 ≡ after =
+            ap (λ b. cond b after 0) now_over in
+            omega (arith, here, old_is, own, later, is)
+        | inr other ↦
+            let as_before : list_any (nat_eq at) (take (k + 1) edges) ≡ list_any (nat_eq at) (take k edges) =
+            more ∙ ap (λ b. list_any (nat_eq at) (take k edges) || b) (ne_eqb at edge other)
+            ∙ or_false (list_any (nat_eq at) (take k edges)) in
+            subst (λ b. get_or (set now edge moved) at 0 + cond b before 0 ≡ get_or old at 0 + cond b after 0)
+            (sym as_before)
+            (ap (λ n. n + cond (list_any (nat_eq at) (take k edges)) before 0)
+            (get_or-set_other now edge at moved 0 other) ∙ so_far at within)
+      ]
+
+pub all_moved : (edges : List ℕ) (k : ℕ) (before after : ℕ) (now old : List ℕ) → length edges ≤ k
+    → ((at : ℕ) → at < length old
+    → get_or now at 0 + cond (list_any (nat_eq at) (take k edges)) before 0
+    ≡ get_or old at 0 + cond (list_any (nat_eq at) (take k edges)) after 0)
+    → AreMoved edges before after old now
+all_moved edges k before after now old past so_far =
+    subst (λ some. (at : ℕ) → at < length old → get_or now at 0 + cond (list_any (nat_eq at) some) before 0
+    ≡ get_or old at 0 + cond (list_any (nat_eq at) some) after 0) (take_all k edges past) so_far
+
+-- ---- the sums of a region
+
+driven_after : (problem : ProblemParts) (fs sums now : List ℕ) (line f : ℕ) → AreDriven problem fs sums
+    → length fs ≡ length problem.lines → line < length problem.lines → length now ≡ length sums
+    → AreMoved (get_or problem.lines line no_line).edges (get_or fs line 0) f sums now
+    → AreDriven problem (set fs line f) now
+driven_after problem fs sums now line f are same there size moved = record {
+  size = size ∙ are.size;
+  told = λ edge h.
+      omega (
+        arith,
+        are.told edge h,
+        moved edge (omega (arith, h, are.size)),
+        driven_moved problem.lines fs line there same f edge,
+      );
+}
+
+-- what the line at an index has
+read_at : {X : Type 0} (of : CostedLine → X) (lines : List CostedLine) (line : ℕ) (x : X)
+    → option_map of (slice_get lines line) ≡ Some x → x ≡ of (get_or lines line no_line)
+read_at of lines line x is =
+    elim (slice_get lines line) as (λ at. slice_get lines line ≡ at → option_map of at ≡ Some x
+    → x ≡ of (get_or lines line no_line)) [
+      | None ↦ λ _ none. absurd (none-some x none)
+      | Some at ↦ λ there same. ap (λ o. unwrap_or o x) (sym same)
+          ∙ sym (ap of (get_or_from_slice_get lines line at no_line there))
+    ] refl is
+
+pub region_moved : (problem : ProblemParts) (ranges : List LineRange)
+    (least greatest least_now greatest_now edges : List ℕ) (cost cost_now line lo hi price : ℕ)
+    → IsSummed problem ranges least greatest cost → line < length ranges → lo ≤ hi → hi ≤ 1000
+    → option_map (λ at. at.edges) (slice_get problem.lines line) ≡ Some edges
+    → option_map (λ at. at.cost) (slice_get problem.lines line) ≡ Some price
+    → length least_now ≡ length least → length greatest_now ≡ length greatest
+    → AreMoved edges (range_of ranges line).lo lo least least_now
+    → AreMoved edges (range_of ranges line).hi hi greatest greatest_now
+    → cost_now + price * (range_of ranges line).lo ≡ cost + price * lo
+    → IsSummed problem (set ranges line (record { lo = lo; hi = hi })) least_now greatest_now cost_now
+region_moved problem ranges least greatest least_now greatest_now edges cost cost_now line lo hi price
+    summed there order few edges_are price_is least_size greatest_size least_moved greatest_moved cost_is =
+    let range : LineRange = record { lo = lo; hi = hi } in
+    let lo_of : LineRange → ℕ = λ range. range.lo in
+    let hi_of : LineRange → ℕ = λ range. range.hi in
+    let within : line < length problem.lines = omega (arith, there, summed.each) in
+    let at = get_or problem.lines line no_line in
+    let edges_of : edges ≡ at.edges = read_at (λ (at : CostedLine). at.edges) problem.lines line edges edges_are in
+    let price_of : price ≡ at.cost = read_at (λ (at : CostedLine). at.cost) problem.lines line price price_is in
+    let lo_is = sym (get_or-map lo_of ranges line no_range 0 there) in
+    let hi_is = sym (get_or-map hi_of ranges line no_range 0 there) in
+    let lows = sym (map-set lo_of ranges line range) in
+    let highs = sym (map-set hi_of ranges line range) in
+    let low_long : length (map lo_of ranges) ≡ length problem.lines = length-map ranges lo_of ∙ summed.each in
+    let high_long : length (map hi_of ranges) ≡ length problem.lines = length-map ranges hi_of ∙ summed.each in
+    record {
+      problem_is = summed.problem_is;
+      each = length-set ranges line range ∙ summed.each;
+      sound = All-set IsRange ranges line range (record { in_order = order; few = few }) summed.sound;
+      least_are = subst (λ fs. AreDriven problem fs least_now) lows
+          (driven_after problem (map lo_of ranges) least least_now line lo summed.least_are low_long within
+          least_size
+          (subst (λ n. AreMoved at.edges n lo least least_now) lo_is
+          (subst (λ edges. AreMoved edges (range_of ranges line).lo lo least least_now) edges_of least_moved)));
+      greatest_are = subst (λ fs. AreDriven problem fs greatest_now) highs
+          (driven_after problem (map hi_of ranges) greatest greatest_now line hi summed.greatest_are high_long
+          within greatest_size
+          (subst (λ n. AreMoved at.edges n hi greatest greatest_now) hi_is
+          (subst (λ edges. AreMoved edges (range_of ranges line).hi hi greatest greatest_now) edges_of
+          greatest_moved)));
+      cost_is =
+          let moved = sum_moved of_cost problem.lines (map lo_of ranges) line lo within low_long in
+          let before : of_cost (at, get_or (map lo_of ranges) line 0) ≡ price * (range_of ranges line).lo =
+          (λ i. sym price_of i * sym lo_is i) in
+          let after : of_cost (at, lo) ≡ price * lo = ap (λ n. n * lo) (sym price_of) in
+          let whole : cost_now ≡ cost_of problem (set (map lo_of ranges) line lo) =
+          omega (arith, moved, before, after, cost_is, summed.cost_is) in
+          whole ∙ ap (cost_of problem) lows;
+    }
+
+-- the line at an index is counted in the sums of its edges and in the cost, and these are not too great
+sums_count : (problem : ProblemParts) (fs sums edges : List ℕ) (line before : ℕ)
+    → AreDriven problem fs sums → IsProblem problem → length fs ≡ length problem.lines
+    → All (λ f. f ≤ 1000) fs → line < length problem.lines
+    → option_map (λ at. at.edges) (slice_get problem.lines line) ≡ Some edges → before ≡ get_or fs line 0
+    → AreCounted before sums edges
+sums_count problem fs sums edges line before are sound same few within edges_are before_is =
+    let at = get_or problem.lines line no_line in
+    let edges_of : edges ≡ at.edges = read_at (λ (at : CostedLine). at.edges) problem.lines line edges edges_are in
+    let line_is = sound.lines line no_line within in
+    subst (λ edges. AreCounted before sums edges) (sym edges_of) (record {
+      there = λ k d h. omega (arith, line_is.there k d h, are.size);
+      distinct = line_is.distinct;
+      counted = λ k d h.
+          let edge = get_or at.edges k d in
+          let over : goes_over edge at ≡ true = list_any_at (nat_eq edge) at.edges k d h (eq-eqb edge edge refl) in
+          omega (
+            arith,
+            before_is,
+            own_driven problem.lines fs line within same edge over,
+            are.told edge (line_is.there k d h),
+          );
+      few = λ k d h.
+          let edge = get_or at.edges k d in
+          omega (
+            arith,
+            few_driven problem.lines fs edge same few,
+            are.told edge (line_is.there k d h),
+            few_lines problem sound,
+          );
+    })
+
+cost_counts : (problem : ProblemParts) (fs : List ℕ) (cost line price before : ℕ)
+    → cost ≡ cost_of problem fs → length fs ≡ length problem.lines → line < length problem.lines
+    → option_map (λ at. at.cost) (slice_get problem.lines line) ≡ Some price → before ≡ get_or fs line 0
+    → price * before ≤ cost
+cost_counts problem fs cost line price before cost_is same within price_is before_is =
+    let at = get_or problem.lines line no_line in
+    let price_of : price ≡ at.cost = read_at (λ (at : CostedLine). at.cost) problem.lines line price price_is in
+    let moved = sum_moved of_cost problem.lines fs line 0 within same in
+    let own : of_cost (at, get_or fs line 0) ≡ price * before = λ i. sym price_of i * sym before_is i in
+    let none : of_cost (at, 0) ≡ 0 = omega arith in
+    omega (arith, moved, own, none, cost_is)
+
+pub least_cost_few : (problem : ProblemParts) (ranges : List LineRange) (least greatest : List ℕ) (cost : ℕ)
+    → IsSummed problem ranges least greatest cost
+    → cost ≤ 5000000000000000000000000000000000000
+least_cost_few problem ranges least greatest cost summed =
+    omega (
+      arith,
+      summed.cost_is,
+      few_cost problem (least_in ranges) summed.problem_is (length-map ranges (λ range. range.lo) ∙ summed.each)
+          (least_few ranges summed.sound),
+    )
+
+-- what another range of a line takes off was counted before
+module _ (problem : ProblemParts) (ranges : List LineRange) (least greatest edges : List ℕ) (cost line : ℕ)
+    (summed : IsSummed problem ranges least greatest cost) (there : line < length ranges)
+    (edges_are : option_map (λ at. at.edges) (slice_get problem.lines line) ≡ Some edges) where
+  pub least_counts : AreCounted (range_of ranges line).lo least edges
+  least_counts = sums_count problem (least_in ranges) least edges line (range_of ranges line).lo
+      summed.least_are summed.problem_is (length-map ranges (λ range. range.lo) ∙ summed.each)
+      (least_few ranges summed.sound) (omega (arith, there, summed.each)) edges_are
+      (sym (get_or-map (λ range. range.lo) ranges line no_range 0 there))
+
+  pub greatest_counts : AreCounted (range_of ranges line).hi greatest edges
+  greatest_counts = sums_count problem (greatest_in ranges) greatest edges line (range_of ranges line).hi
+      summed.greatest_are summed.problem_is (length-map ranges (λ range. range.hi) ∙ summed.each)
+      (greatest_few ranges summed.sound) (omega (arith, there, summed.each)) edges_are
+      (sym (get_or-map (λ range. range.hi) ranges line no_range 0 there))
+
+pub least_cost_counts : (problem : ProblemParts) (ranges : List LineRange) (least greatest : List ℕ)
+    (cost line price : ℕ) → IsSummed problem ranges least greatest cost → line < length ranges
+    → option_map (λ at. at.cost) (slice_get problem.lines line) ≡ Some price
+    → price * (range_of ranges line).lo ≤ cost
+least_cost_counts problem ranges least greatest cost line price summed there price_is =
+    cost_counts problem (least_in ranges) cost line price (range_of ranges line).lo summed.cost_is
+    (length-map ranges (λ range. range.lo) ∙ summed.each) (omega (arith, there, summed.each)) price_is
+    (sym (get_or-map (λ range. range.lo) ranges line no_range 0 there))

@@ -1,6 +1,0 @@
-use Rattle.std.proofs.Common.{◌≡◌, map, take}
-use Rattle.line_cost_model.proofs.pass.costs_of.Given as goal
-
--- the costs are those of the lines so far
-abbrev pub invariant-loop-line : goal.invariant-loop-line
-invariant-loop-line l = l.costs.items ≡ take l.line (map (λ line. line.cost) l.problem.lines)

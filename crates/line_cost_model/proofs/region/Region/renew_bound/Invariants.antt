@@ -1,0 +1,6 @@
+use Rattle.line_cost_model.specs.Passes.{IsPass}
+use Rattle.line_cost_model.proofs.region.Region.renew_bound.Given as goal
+
+-- what is known before the edge
+abbrev pub invariant-loop-edge : goal.invariant-loop-edge
+invariant-loop-edge l = IsPass l.self.problem l.self.ranges l.bound.multipliers l.bound.left.items l.value l.edge

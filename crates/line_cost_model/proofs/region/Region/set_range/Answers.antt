@@ -1,0 +1,67 @@
+use Rattle.std.proofs.Common.{◌≡◌, ◌<◌, ◌≤◌, ◌+◌, ◌*◌, ◌∙◌, length, ap, sym, subst, arith}
+use Rattle.std.proofs.lemmas.List.{get_or_default}
+use Rattle.line_cost_model.specs.declared.range.LineRange.{LineRange}
+use Rattle.line_cost_model.specs.Regions.{RegionParts, range_of}
+use Rattle.line_cost_model.specs.RunningSums.{AreCounted, AreMoved}
+use Rattle.line_cost_model.proofs.RunningSums.{greatest_counts, least_counts, least_cost_counts}
+use Rattle.line_cost_model.proofs.RunningSums.{least_cost_few, region_moved}
+use Rattle.line_cost_model.proofs.region.Region.set_range.Goals as goal
+
+pub move_sums-requires : goal.move_sums-requires
+move_sums-requires c =
+    let r = c.self.inside in
+    let there : c.args.line < length r.ranges.items =
+    omega (arith, c.requires.there, ap (λ (r : RegionParts). length r.ranges) c.self.view_is) in
+    let before : c.index-before.result.now ≡ range_of r.ranges.items c.args.line =
+    c.index-before.ensures ∙ get_or_default r.ranges.items c.args.line _ _ there in
+    subst (λ (range : LineRange). AreCounted range.lo r.least.items c.line_edges-edges.result.now) (sym before)
+    (least_counts r.problem.now r.ranges.items r.least.items r.greatest.items c.line_edges-edges.result.now
+    r.least_cost c.args.line c.self.invariant there c.line_edges-edges.ensures)
+
+pub move_sums-requires-2 : goal.move_sums-requires-2
+move_sums-requires-2 c =
+    let r = c.self.inside in
+    let there : c.args.line < length r.ranges.items =
+    omega (arith, c.requires.there, ap (λ (r : RegionParts). length r.ranges) c.self.view_is) in
+    let before : c.index-before.result.now ≡ range_of r.ranges.items c.args.line =
+    c.index-before.ensures ∙ get_or_default r.ranges.items c.args.line _ _ there in
+    subst (λ (range : LineRange). AreCounted range.hi r.greatest.items c.line_edges-edges.result.now) (sym before)
+    (greatest_counts r.problem.now r.ranges.items r.least.items r.greatest.items
+    c.line_edges-edges.result.now r.least_cost c.args.line c.self.invariant there c.line_edges-edges.ensures)
+
+pub cost_moved-self-inside-requires-clause-counted :
+    goal.cost_moved-self-inside-requires-clause-counted
+cost_moved-self-inside-requires-clause-counted c =
+    let r = c.self.inside in
+    let there : c.args.line < length r.ranges.items =
+    omega (arith, c.requires.there, ap (λ (r : RegionParts). length r.ranges) c.self.view_is) in
+    let before : c.index-before.result.now ≡ range_of r.ranges.items c.args.line =
+    c.index-before.ensures ∙ get_or_default r.ranges.items c.args.line _ _ there in
+    subst (λ (range : LineRange). c.cost_of_line-cost.result * range.lo ≤ r.least_cost) (sym before)
+    (least_cost_counts r.problem.now r.ranges.items r.least.items r.greatest.items r.least_cost c.args.line
+    c.cost_of_line-cost.result c.self.invariant there c.cost_of_line-cost.ensures)
+
+pub cost_moved-self-inside-requires-clause-few : goal.cost_moved-self-inside-requires-clause-few
+cost_moved-self-inside-requires-clause-few c =
+    let r = c.self.inside in
+    least_cost_few r.problem.now r.ranges.items r.least.items r.greatest.items r.least_cost c.self.invariant
+
+pub invariant_of-self : goal.invariant_of-self
+invariant_of-self c =
+    let r = c.self.inside in
+    let there : c.args.line < length r.ranges.items =
+    omega (arith, c.requires.there, ap (λ (r : RegionParts). length r.ranges) c.self.view_is) in
+    let before : c.index-before.result.now ≡ range_of r.ranges.items c.args.line =
+    c.index-before.ensures ∙ get_or_default r.ranges.items c.args.line _ _ there in
+    let edges = c.line_edges-edges.result.now in
+    let price = c.cost_of_line-cost.result in
+    region_moved r.problem.now r.ranges.items r.least.items r.greatest.items c.move_sums.new.sums.items
+    c.move_sums-2.new.sums.items edges r.least_cost c.cost_moved-self-inside.result c.args.line c.args.lo
+    c.args.hi price c.self.invariant there c.requires.in_order c.requires.few c.line_edges-edges.ensures
+    c.cost_of_line-cost.ensures c.move_sums.ensures.size c.move_sums-2.ensures.size
+    (subst (λ (range : LineRange). AreMoved edges range.lo c.args.lo r.least.items
+    c.move_sums.new.sums.items) before c.move_sums.ensures.moved)
+    (subst (λ (range : LineRange). AreMoved edges range.hi c.args.hi r.greatest.items
+    c.move_sums-2.new.sums.items) before c.move_sums-2.ensures.moved)
+    (subst (λ (range : LineRange). c.cost_moved-self-inside.result + price * range.lo
+    ≡ r.least_cost + price * c.args.lo) before c.cost_moved-self-inside.ensures)
