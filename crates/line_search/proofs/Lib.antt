@@ -9,6 +9,7 @@ mod Judging
 mod Levels
 mod Lists
 mod NamedNodes
+mod NoConcepts
 mod PushedEdges
 mod PushedLines
 mod Refusals

@@ -32,7 +32,7 @@ use Rattle.line_search.proofs.Lengths.{listing_bound}
 
 -- ---- the concept within a budget
 
-abbrev by_parts : Option (List ℕ) → Option (List Node) → ℕ → Result FoundConcept Refusal
+abbrev pub by_parts : Option (List ℕ) → Option (List Node) → ℕ → Result FoundConcept Refusal
 by_parts best tree entries =
     ok_or (option_map (λ found. record { frequencies = found; tree = tree; entries = entries }) best)
     (why_none tree entries)

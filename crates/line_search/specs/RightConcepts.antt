@@ -1,6 +1,6 @@
 -- What is right about the concept that a search finds, and about the files that are made of it.
 use Rattle.std.specs.Prelude.{◌≡◌, ℕ, pos, ◌+◌, ◌*◌, ◌≤◌, List, [], ◌∷◌, length, take, Option, Some, None}
-use Rattle.std.specs.Prelude.{IfSome, Result, Ok, Err, ⊤}
+use Rattle.std.specs.Prelude.{◌⊎◌, IfSome, Result, Ok, Err, ⊤}
 use Rattle.giv_files.specs.declared.file_id.FileId.TheVariants as file
 use Rattle.giv_files.specs.declared.made.Made.{Made}
 use Rattle.giv_files.specs.declared.made.MadeFile.{MadeFile}
@@ -12,16 +12,19 @@ use Rattle.giv_files.specs.Settings.{BundleParts}
 use Rattle.giv_files.specs.Writing.{ReadsBack}
 use Rattle.ptn_network.specs.Networks.{network_in}
 use Rattle.line_pool.specs.Pools.{concept_faults}
+use Rattle.std.specs.List.{AllByRecursion}
+use Rattle.line_cost_model.specs.declared.range.LineRange.{LineRange}
 use Rattle.line_cost_model.specs.Chosen.{IsChosen}
 use Rattle.line_cost_model.specs.Concepts.{IsFeasible, cost_of}
 use Rattle.line_cost_model.specs.Problems.{ProblemParts}
 use Rattle.line_cost_model.specs.Regions.{concept_count, root_of}
 use Rattle.branch_certificate.specs.Certified.{Certifies}
 use Rattle.line_search.specs.Budgets.{nodes_in}
+use Rattle.line_search.specs.ConceptStage.{budget_of}
 use Rattle.line_search.specs.ConceptTables.{concept_rows}
 use Rattle.line_search.specs.GivenProblems.{problem_faults, problem_of}
 use Rattle.line_search.specs.Judged.{Marks, first_broken}
-use Rattle.line_search.specs.Listings.{best_after, listing}
+use Rattle.line_search.specs.Listings.{best_after, entries_by, listing, node_at, visit}
 
 -- no concept is feasible
 abbrev pub NoneIsFeasible : ProblemParts → Type 0
@@ -31,15 +34,35 @@ NoneIsFeasible problem = (concept : List ℕ) → ¬ IsFeasible problem concept
 abbrev pub found_by : ProblemParts → Option (List ℕ)
 found_by problem = best_after None (listing problem)
 
+-- the ends of each range are in order
+abbrev pub AreOrdered : List LineRange → Type 0
+AreOrdered region = AllByRecursion (λ range. range.lo ≤ range.hi) region
+
 -- What a search finds is right. What any first entries of a listing find is feasible. What all of
 -- them find is the chosen concept: no feasible one costs less, and none of equal cost comes before
--- it; and their nodes certify what it costs. Where they find none, no concept is feasible.
+-- it; and their nodes certify what it costs. Where they find none, no concept is feasible. And the
+-- entries of a region are what is said of it and, behind a split, the entries of both parts: however
+-- deep it is split, none are left out.
 pub record SearchIsRight (problem : ProblemParts) : Type 0 where
   pub feasible : (count : ℕ) → IfSome (best_after None (take count (listing problem))) (IsFeasible problem)
   pub chosen : IfSome (found_by problem) (IsChosen problem)
   pub certified : IfSome (found_by problem)
       (λ concept. Certifies problem (pos (cost_of problem concept)) (nodes_in (listing problem)))
   pub none : found_by problem ≡ None → NoneIsFeasible problem
+  pub unrolls : (region : List LineRange) (best : Option (List ℕ)) → AreOrdered region
+      → visit problem region best
+      ≡ entries_by (visit problem) region best (node_at problem region best)
+
+-- no concept is feasible, and the listing is within the budget
+pub record HasNone (bundle : BundleParts) : Type 0 where
+  pub none : NoneIsFeasible (problem_of bundle)
+  pub within : length (listing (problem_of bundle)) ≤ budget_of bundle
+
+-- no solution is the answer exactly there, where the inputs have no fault; want of memory is free
+pub record SaysNone (bundle : BundleParts) (result : Result Made StageFault) : Type 0 where
+  pub only : result ≡ Err (fault.Refused refusal.NoSolution) → HasNone bundle
+  pub always : HasNone bundle → (result ≡ Err (fault.Refused refusal.NoSolution))
+      ⊎ (result ≡ Err fault.NoMemory)
 
 -- a budget that is never spent: one less than twice the number of concepts of the root region, or
 -- more

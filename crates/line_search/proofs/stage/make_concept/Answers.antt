@@ -1,10 +1,15 @@
 use Rattle.line_search.proofs.ConceptReads.{files_given}
+use Rattle.line_search.proofs.NoConcepts.{none_told}
 use Rattle.line_search.proofs.SearchRight.{search_right}
 use Rattle.line_search.proofs.StageResults.{whole_given}
 use Rattle.line_search.proofs.stage.make_concept.Goals as goal
 
 pub returns-clause-right : goal.returns-clause-right
 returns-clause-right g c = search_right c.args.bundle.now
+
+pub returns-clause-none : goal.returns-clause-none
+returns-clause-none g c =
+    none_told c.args.bundle.now c.searched_concept.result c.searched_concept.ensures.made
 
 pub returns-clause-files : goal.returns-clause-files
 returns-clause-files g c =

@@ -1,0 +1,105 @@
+-- No solution is the answer exactly where no concept is feasible and the listing is within the budget.
+use Rattle.std.proofs.Common.{◌≡◌, ℕ, ◌≤◌, ◌∙◌, ◌⊎◌, Bool, true, false, cond, nat_le, List, []}
+use Rattle.std.proofs.Common.{length, take, ap, sym, subst, refl, inl, inr, Option, Some, None}
+use Rattle.std.proofs.Common.{IfSome, Result, Ok, Err, option_map}
+use Rattle.std.specs.Prelude.{ok_or}
+use Rattle.std.proofs.lemmas.Bool.{le-leb, leb-true}
+use Rattle.giv_files.specs.declared.made.Made.{Made}
+use Rattle.giv_files.specs.declared.refusal.Refusal.{Refusal}
+use Rattle.giv_files.specs.declared.refusal.Refusal.TheVariants as refusal
+use Rattle.giv_files.specs.declared.refusal.StageFault.{StageFault}
+use Rattle.giv_files.specs.declared.refusal.StageFault.TheVariants as stage
+use Rattle.giv_files.specs.Settings.{BundleParts}
+use Rattle.giv_files.specs.StageCalls.{StageGives}
+use Rattle.line_cost_model.specs.Chosen.{IsChosen}
+use Rattle.line_cost_model.specs.Problems.{ProblemParts}
+use Rattle.branch_certificate.specs.declared.node.Node.{Node}
+use Rattle.line_search.specs.Budgets.{last_found, nodes_in, result_within}
+use Rattle.line_search.specs.ConceptStage.{after_faults, budget_of, concept_stage, search_made}
+use Rattle.line_search.specs.GivenProblems.{problem_faults, problem_of}
+use Rattle.line_search.specs.Listings.{Entry, best_after, listing}
+use Rattle.line_search.specs.RightConcepts.{NoneIsFeasible, SaysNone, SearchIsRight, found_by}
+use Rattle.line_search.proofs.SearchRight.{search_right}
+use Rattle.line_search.proofs.StageResults.{by_parts}
+
+abbrev no_solution : Result Made Refusal
+no_solution = Err refusal.NoSolution
+
+-- ---- what is made where nothing was found
+
+none_found : (problem : ProblemParts) (best : Option (List ℕ)) (nodes : List Node) (entries : ℕ)
+    → search_made problem (by_parts best (Some nodes) entries) ≡ no_solution → best ≡ None
+none_found problem None nodes entries is = refl
+none_found problem (Some best) nodes entries is = absurd (cc)
+
+not_spent : (problem : ProblemParts) (best : Option (List ℕ)) (budget entries : ℕ)
+    → ¬ (search_made problem (ok_or (option_map (λ found. record {
+      frequencies = found;
+      tree = None;
+      entries = entries;
+    }) best) (refusal.Spent budget)) ≡ no_solution)
+not_spent problem None budget entries is = absurd (cc)
+not_spent problem (Some best) budget entries is = absurd (cc)
+
+module _ (problem : ProblemParts) (budget : ℕ) (all : List Entry) where
+  abbrev whole : Bool → Result Made Refusal
+  whole within = search_made problem (cond within
+      (by_parts (best_after None all) (Some (nodes_in all)) (length all))
+      (ok_or (last_found None (take budget all)) (refusal.Spent budget)))
+
+  only_within : (within : Bool) → nat_le (length all) budget ≡ within → whole within ≡ no_solution
+      → (best_after None all ≡ None) × (length all ≤ budget)
+  only_within true is none = (
+    none_found problem (best_after None all) (nodes_in all) (length all) none,
+    leb-true (length all) budget is,
+  )
+  only_within false is none = absurd (not_spent problem (best_after None (take budget all)) budget
+      (length (take budget all)) none)
+
+  only_none : search_made problem (result_within budget all) ≡ no_solution
+      → (best_after None all ≡ None) × (length all ≤ budget)
+  unfolding result_within
+  only_none none = only_within (nat_le (length all) budget) refl none
+
+  always_none : best_after None all ≡ None → length all ≤ budget
+      → search_made problem (result_within budget all) ≡ no_solution
+  unfolding result_within
+  always_none none within = ap whole (le-leb (length all) budget within)
+      ∙ ap (λ best. search_made problem (by_parts best (Some (nodes_in all)) (length all))) none
+
+-- ---- what the stage answers
+
+-- where the outcome is a refusal, this is the answer, or want of memory
+refused : (why : Refusal) (result : Result Made StageFault) → StageGives (Err why) result
+    → (result ≡ Err (stage.Refused why)) ⊎ (result ≡ Err stage.NoMemory)
+refused why (Ok made) gives = absurd (cc)
+refused why (Err (stage.Refused reason)) gives =
+    let same : why ≡ reason = cc in
+    inl (ap (λ reason. Err (stage.Refused reason)) (sym same))
+refused why (Err stage.NoMemory) gives = inr refl
+
+-- a chosen concept is feasible
+nothing_found : (problem : ProblemParts) (found : Option (List ℕ)) → IfSome found (IsChosen problem)
+    → NoneIsFeasible problem → found ≡ None
+nothing_found problem None chosen none = refl
+nothing_found problem (Some concept) chosen none = absurd (none concept chosen.feasible)
+
+pub none_told : (bundle : BundleParts) (result : Result Made StageFault)
+    → StageGives (concept_stage bundle) result → problem_faults bundle ≡ [] → SaysNone bundle result
+unfolding concept_stage
+none_told bundle result gives none =
+    let problem = problem_of bundle in
+    let budget = budget_of bundle in
+    let right : SearchIsRight problem = search_right bundle none in
+    let outcome = search_made problem (result_within budget (listing problem)) in
+    let given : StageGives outcome result =
+    subst (λ faults. StageGives (after_faults faults outcome) result) none gives in
+    record {
+      only = λ is.
+          let parts = only_none problem budget (listing problem) (subst (StageGives outcome) is given) in
+          record { none = right.none parts.0; within = parts.1 };
+      always = λ has.
+          refused refusal.NoSolution result (subst (λ outcome. StageGives outcome result)
+          (always_none problem budget (listing problem)
+          (nothing_found problem (found_by problem) right.chosen has.none) has.within) given);
+    }
