@@ -1,17 +1,16 @@
 -- The lists of events by their keys have all events that an event is joined to.
-use Rattle.std.proofs.Common.{◌≡◌, ◌≢◌, ℕ, suc, ◌+◌, ◌%◌, ◌<◌, ◌≤◌, ◌==◌, arith, Bool, true, false, ◌&&◌, not, nat_lt, cond, All, List, [], ◌∷◌, ◌++◌, length, filter, get_or, take, set, refl, ap, sym, ◌∙◌, inl, inr}
-use Rattle.std.specs.List.{count_by}
+use Rattle.std.proofs.Common.{◌≡◌, ℕ, suc, ◌+◌, ◌%◌, ◌<◌, ◌≤◌, ◌==◌, arith, Bool, true, false, ◌&&◌, not, nat_lt, cond, List, [], ◌∷◌, ◌++◌, length, filter, get_or, take, set, refl, ap, sym, ◌∙◌, inl, inr}
 use Rattle.std.specs.Ordering.{int_eq}
 use Rattle.std.proofs.lemmas.Bool.{and_parts, cases_eq, eq-eqb, eqb-true, ne_eqb, false≢true}
 use Rattle.std.proofs.lemmas.List.{length-set, get_or-set_same, get_or-set_other, append-nil}
-use Rattle.std.proofs.lemmas.List.Elements.{All-get_or, filter-append}
+use Rattle.std.proofs.lemmas.List.Elements.{filter-append}
 use Rattle.std.proofs.Math.Seq.{take-suc}
 use Rattle.event_tables.specs.Kinds.{is_arrival, same_direction}
-use Rattle.event_tables.specs.PeriodicRuns.{changes, headways, same_run, syncs}
+use Rattle.event_tables.specs.PeriodicRuns.{headways, same_run, syncs}
 use Rattle.event_activity.specs.declared.joining.Joining.{Joining}
 use Rattle.event_activity.specs.declared.joining.Joining.TheVariants as joining
 use Rattle.event_activity.specs.declared.run_event.RunEvent.{RunEvent}
-use Rattle.event_activity.specs.Activities.{joined, repeats, shares_edge}
+use Rattle.event_activity.specs.Activities.{joined}
 use Rattle.event_activity.specs.NextEvents.{AreNextEvents, NotesAt, key_from, key_of, may_end, stands_in}
 
 -- ---- filters
@@ -122,14 +121,6 @@ pub record NotedTo (by : Joining) (count : ℕ) (events : List RunEvent)
   pub size : length lists ≡ count
   pub each : (list : ℕ) → list < count
       → get_or lists list [] ≡ filter (stands_in by count list) events
-
-pub none_noted : (by : Joining) (count : ℕ) (lists : List (List RunEvent)) → length lists ≡ count
-    → All (λ list. list ≡ []) lists → NotedTo by count [] lists
-none_noted by count lists size empty = record {
-  size = size;
-  each = λ list h. All-get_or (λ (some : List RunEvent). some ≡ []) lists list []
-      (omega (arith, size, h)) empty;
-}
 
 -- one event more
 module _ (by : Joining) (count : ℕ) (some : 1 ≤ count) (events : List RunEvent) (i : ℕ)
