@@ -25,14 +25,14 @@ Holds kept times link =
     counts kept link.change ≡ true → asked times link.step ≤ time_at times link.step.to
 
 -- what a head is pushed to
-record IsPushed (times : List ℕ) (step : Step) (new : List ℕ) : Type 0 where
-  each : length new ≡ length times
-  grows : (event : ℕ) → time_at times event ≤ time_at new event
-  stays : (event : ℕ) → step.to ≢ event → time_at new event ≡ time_at times event
-  holds : asked times step ≤ time_at new step.to
-  one : (time_at new step.to ≡ time_at times step.to) ⊎ (time_at new step.to ≡ asked times step)
+pub record IsPushed (times : List ℕ) (step : Step) (new : List ℕ) : Type 0 where
+  pub each : length new ≡ length times
+  pub grows : (event : ℕ) → time_at times event ≤ time_at new event
+  pub stays : (event : ℕ) → step.to ≢ event → time_at new event ≡ time_at times event
+  pub holds : asked times step ≤ time_at new step.to
+  pub one : (time_at new step.to ≡ time_at times step.to) ⊎ (time_at new step.to ≡ asked times step)
 
-is_pushed : (times : List ℕ) (step : Step) → step.to < length times
+pub is_pushed : (times : List ℕ) (step : Step) → step.to < length times
     → IsPushed times step (head_pushed times step)
 is_pushed times step inside =
     let new = later_is (time_at times step.to) (asked times step) in

@@ -1,8 +1,10 @@
+mod Apart
 mod Canonical
 mod ChosenChanges
 mod DelaysByPlace
 pub mod DispositionMakes
 pub mod DispositionReads
+mod EndsOfChanges
 mod EventTests
 mod FirstTold
 mod Firsts
@@ -15,6 +17,7 @@ mod JudgedTexts
 mod Late
 mod Later
 mod MarksTell
+mod OnTrialFacts
 mod PassIsLeast
 mod Passing
 mod Places
@@ -22,16 +25,21 @@ pub mod ReasonsProve
 mod RefusedInputs
 mod ReportLine
 pub mod Rounds
+mod RunningDelay
+mod Settling
 mod SmallTimes
 mod SoonInputs
 mod SoonTimes
 mod StageResults
 pub mod TableParts
+mod Taking
+mod Testing
 mod TextsBack
 mod TightMore
 mod TrialDelay
 pub mod TrialFacts
 mod Tried
+mod Waits
 mod WrittenBy
 pub mod WrittenReasons
 mod WrittenRows

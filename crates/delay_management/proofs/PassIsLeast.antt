@@ -172,7 +172,7 @@ module _ (problem : DelayProblem) (links : List Link) (linked : IsLinked problem
     chosen = chosen_changes problem kept
 
     -- times that satisfy the steps satisfy the links that count, and conversely
-    steps_hold : (times : List ℕ) → All (Holds kept times) links
+    pub steps_hold : (times : List ℕ) → All (Holds kept times) links
         → All (λ step. asked times step ≤ time_at times step.to) (steps_with problem chosen)
     steps_hold times hold =
         let P = λ (step : Step). asked times step ≤ time_at times step.to in
@@ -182,7 +182,7 @@ module _ (problem : DelayProblem) (links : List Link) (linked : IsLinked problem
         (λ k d inside is. change_by problem (Holds kept times) all k d inside is))
         (λ k d inside. turns_by problem (Holds kept times) all k d inside refl)
 
-    links_hold : (times : List ℕ)
+    pub links_hold : (times : List ℕ)
         → All (λ step. asked times step ≤ time_at times step.to) (steps_with problem chosen)
         → All (Holds kept times) links
     links_hold times all =

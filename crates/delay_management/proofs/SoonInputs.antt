@@ -19,7 +19,6 @@ use Rattle.event_tables.specs.ExpandedFiles.{AreExpandedActivities, AreExpandedE
 use Rattle.event_tables.specs.ForwardOrder.{both_pass, event_with}
 use Rattle.event_tables.specs.Places.{AreNumbered}
 use Rattle.event_tables.specs.Schedules.{AreScheduleRows, IsScheduleRow, has_room, is_empty_row}
-use Rattle.event_tables.specs.Kinds.{is_arrival}
 use Rattle.event_tables.proofs.Numbering.{find_numbered}
 use Rattle.event_tables.proofs.RanksRise.{id_at, planned_rises}
 use Rattle.delay_management.specs.declared.step.Activity.{Activity}

@@ -69,7 +69,7 @@ module _ (events : List ExpandedEvent) where
       by false pushed passed = passed
 
 module _ (problem : DelayProblem) (links : List Link) (linked : IsLinked problem links) (kept : List Bool) where
-  all_slow : All (IsSlow problem.events (length problem.events)) links
+  pub all_slow : All (IsSlow problem.events (length problem.events)) links
   all_slow =
       let P = IsSlow problem.events (length problem.events) in
       let F = GoesForward problem.events in

@@ -78,7 +78,7 @@ pub all_open : (a n : ℕ) → replicate n true ≡ map (λ change. not (is_deci
 all_open a zero = refl
 all_open a (suc n) = ap (λ some. true ∷ some) (all_open (a + 1) n)
 
-not_kept : (decided : List Decided) (change : ℕ) → is_decided decided change ≡ false → is_kept decided change ≡ false
+pub not_kept : (decided : List Decided) (change : ℕ) → is_decided decided change ≡ false → is_kept decided change ≡ false
 not_kept [] change none = refl
 not_kept (last ∷ before) change none = by (eqb last.change change) last.kept none (not_kept before change)
   where
@@ -181,41 +181,6 @@ module _ (problem : DelayProblem) where
           once = (there, none, is.once);
           flags = is.flags ∙ same;
           undecided = two ∙ ap (λ some. slice_set some change false) is.undecided ∙ open_less n decided last there;
-          each = is.each;
-          told = is.told ∙ ap (λ some. least_times problem (chosen_changes problem some)) same;
-          small = is.small;
-        }
-
-  module _ (last : Decided) (decided : List Decided) (kept open_yet : List Bool) (times : List ℕ)
-      (is : IsTrial problem (last ∷ decided) kept open_yet times) where
-    pub last_there : last.change < n
-    unfolding AreOnce
-    last_there = is.once.0
-
-    pub kept_back : (kept_now open_now : List Bool) (now : List ℕ) → kept_now ≡ slice_set kept last.change false
-        → open_now ≡ slice_set open_yet last.change true → IsForward problem → now ≡ least_times problem (chosen_changes problem kept_now)
-        → All (λ time. time ≤ 600000000000) now → IsTrial problem decided kept_now open_now now
-    unfolding AreOnce
-    kept_back kept_now open_now now one two forward least small =
-        let flags = one ∙ ap (λ some. slice_set some last.change false) is.flags ∙ kept_less n decided last is.once.0 is.once.1 in
-        record {
-          once = is.once.2;
-          flags = flags;
-          undecided = two ∙ ap (λ some. slice_set some last.change true) is.undecided ∙ open_more n decided last is.once.0 is.once.1;
-          each = least_each forward kept_now now least;
-          told = least ∙ ap (λ some. least_times problem (chosen_changes problem some)) flags;
-          small = small;
-        }
-
-    pub dropped_back : last.kept ≡ false → (open_now : List Bool) → open_now ≡ slice_set open_yet last.change true
-        → IsTrial problem decided kept open_now times
-    unfolding AreOnce
-    dropped_back out open_now two =
-        let same = sym (kept_same n decided last out) in
-        record {
-          once = is.once.2;
-          flags = is.flags ∙ same;
-          undecided = two ∙ ap (λ some. slice_set some last.change true) is.undecided ∙ open_more n decided last is.once.0 is.once.1;
           each = is.each;
           told = is.told ∙ ap (λ some. least_times problem (chosen_changes problem some)) same;
           small = is.small;

@@ -1,5 +1,5 @@
 -- How late times are: the delay of all arrivals, and the changes that are missed.
-use Rattle.std.specs.Prelude.{ℕ, ℤ, pos, ◌+◌, ◌+ℤ◌, ◌-ℤ◌, nat_lt, Bool, List, length, filter, zip}
+use Rattle.std.specs.Prelude.{ℕ, ℤ, pos, ◌+◌, ◌+ℤ◌, ◌-ℤ◌, nat_lt, if◌then◌else◌, Bool, List, length, filter, zip}
 use Rattle.std.specs.List.{fold}
 use Rattle.event_tables.specs.declared.expanded_event.ExpandedEvent.{ExpandedEvent}
 use Rattle.event_tables.specs.Kinds.{is_arrival}
@@ -18,6 +18,11 @@ arrives timed = is_arrival timed.0.kind
 abbrev pub delay_at : List ExpandedEvent → List ℕ → ℤ
 delay_at events times =
     fold (λ sum timed. sum +ℤ lateness timed) (pos 0) (filter arrives (zip events times))
+
+-- how much later than at one time an event is at another, where it is an arrival
+abbrev pub more_delay : ExpandedEvent → ℕ → ℕ → ℤ
+more_delay event before time =
+    if is_arrival event.kind then pos time -ℤ pos before else pos 0
 
 -- a change is missed where its departure is earlier than its least minutes as planned allow
 abbrev pub is_missed : List ℕ → Activity → Bool

@@ -1,3 +1,4 @@
+pub mod ChangeEnds
 pub mod DispositionStage
 pub mod EarlyEvents
 pub mod Judged
@@ -5,6 +6,7 @@ pub mod Lateness
 pub mod Laws
 pub mod LeastTimes
 pub mod Links
+pub mod Markings
 pub mod Marks
 pub mod OnTrial
 pub mod Problems

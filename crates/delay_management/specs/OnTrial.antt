@@ -1,9 +1,22 @@
 -- Inner words: what is known of decisions on trial.
-use Rattle.std.specs.Prelude.{ℕ, ◌≡◌, ◌≤◌, ◌<◌, Bool, false, not, List, [], ◌∷◌, length, map, All, ⊤}
+use Rattle.std.specs.Prelude.{ℕ, ℤ, ◌≡◌, ◌≢◌, ◌≤◌, ◌<◌, ◌&&◌, ◌⊎◌, Bool, true, false, not, List, [], ◌∷◌, ◌++◌, length, map, get_or, replicate, slice_set, All, Option, Some, None, ⊤}
 use Rattle.std.specs.List.{range_with_len}
+use Rattle.std.specs.List.Sorted.{IsNonDecreasingBy}
+use Rattle.event_tables.specs.ForwardRanks.{forward_rank}
 use Rattle.delay_management.specs.declared.decided.Decided.{Decided}
-use Rattle.delay_management.specs.Problems.{DelayProblem}
+use Rattle.delay_management.specs.declared.ends.ChangeEnd.{ChangeEnd}
+use Rattle.delay_management.specs.declared.links.Link.{Link}
+use Rattle.delay_management.specs.declared.moved.Moved.{Moved}
+use Rattle.delay_management.specs.declared.step.Activity.{Activity}
+use Rattle.delay_management.specs.declared.step.Step.{Step}
+use Rattle.delay_management.specs.declared.taken.Taken.{Taken}
+use Rattle.delay_management.specs.ChangeEnds.{HasEnds}
+use Rattle.delay_management.specs.Lateness.{delay_at, is_broken}
+use Rattle.delay_management.specs.LeastTimes.{asked, least_times, time_at}
+use Rattle.delay_management.specs.Links.{IsLinked, counts, head_pushed}
+use Rattle.delay_management.specs.Problems.{DelayProblem, earliest_at}
 use Rattle.delay_management.specs.Trials.{is_decided, is_kept, times_of}
+use Rattle.delay_management.specs.Waiting.{chosen_changes}
 
 -- each change is there, and is decided once
 unfoldable pub AreOnce : ℕ → List Decided → Type 0
@@ -27,3 +40,146 @@ pub record IsTrial (problem : DelayProblem) (decided : List Decided) (kept open_
   pub each : length times ≡ length problem.events
   pub told : times ≡ times_of (record { problem = problem; decided = decided })
   pub small : All (λ time. time ≤ 600000000000) times
+
+-- ---- times that are changed on trial
+
+-- a day with its links, its times, which of its changes are open, the events that were made later,
+-- the last one first, and which links wait to be looked at
+pub record TrialTimes : Type 0 where
+  pub problem : DelayProblem
+  pub links : List Link
+  pub times : List ℕ
+  pub open_yet : List Bool
+  pub noted : List Moved
+  pub waiting : List Bool
+
+-- a change is marked where it is open and broken
+abbrev pub AreTested : List Activity → List ℕ → List Bool → List Bool → Type 0
+AreTested changes times open_yet broken = (k : ℕ) (d : Activity) → k < length changes
+    → get_or broken k false ≡ (get_or open_yet k false && is_broken times (get_or changes k d))
+
+-- the same but for the changes that begin or end at an event
+abbrev pub AreTestedBut : ℕ → List Activity → List ℕ → List Bool → List Bool → Type 0
+AreTestedBut event changes times open_yet broken = (k : ℕ) (d : Activity) → k < length changes
+    → (get_or changes k d).step.from ≢ event → (get_or changes k d).step.to ≢ event
+    → get_or broken k false ≡ (get_or open_yet k false && is_broken times (get_or changes k d))
+
+-- times on trial with their delay and the marks of open changes that they break
+pub record IsOnTrial (all : TrialTimes) (ends : List ChangeEnd) (delay : ℤ) (broken : List Bool)
+    : Type 0 where
+  pub linked : IsLinked all.problem all.links
+  pub all_ends : HasEnds all.problem.changes ends
+  pub in_order : IsNonDecreasingBy (λ end. end.event) ends
+  pub each : length all.times ≡ length all.problem.events
+  pub small : All (λ time. time ≤ 1000000000000000000) all.times
+  pub late : delay ≡ delay_at all.problem.events all.times
+  pub flags : length all.open_yet ≡ length all.problem.changes
+  pub marks : length broken ≡ length all.problem.changes
+  pub tested : AreTested all.problem.changes all.times all.open_yet broken
+  pub noted : All (λ moved. (moved.event < length all.problem.events)
+      × (moved.before ≤ 1000000000000000000)) all.noted
+  pub waits : length all.waiting ≡ length all.links
+
+-- times as they were before events were made later, the last one first
+abbrev pub rewound : List Moved → List ℕ → List ℕ
+rewound [] times = times
+rewound (last ∷ before) times = rewound before (slice_set times last.event last.before)
+
+-- between the times at first and those where so many events that were made later are left
+abbrev pub IsUndoing : ℕ → TrialTimes → TrialTimes → Type 0
+IsUndoing left old new = (top rest : List Moved) → old.noted ≡ top ++ rest → length rest ≡ left
+    → (more : List Moved) × (new ≡ record old { times = new.times; noted = more ++ rest })
+    × (rewound more new.times ≡ rewound top old.times)
+
+-- the times before can be had again
+abbrev pub CanGoBack : TrialTimes → TrialTimes → Type 0
+CanGoBack old new = (top : List Moved) × (new.noted ≡ top ++ old.noted)
+    × (rewound top new.times ≡ old.times)
+
+-- what follows where events are made later
+pub record Follows (old new : TrialTimes) : Type 0 where
+  pub problem : new.problem ≡ old.problem
+  pub links : new.links ≡ old.links
+  pub open_yet : new.open_yet ≡ old.open_yet
+  pub back : CanGoBack old new
+
+-- a link that counts has its minutes
+abbrev pub IsHeld : List Bool → List ℕ → Link → Type 0
+IsHeld kept times link =
+    counts kept link.change ≡ true → asked times link.step ≤ time_at times link.step.to
+
+-- times on the way to the least ones where some changes are kept, and links before one that do not
+-- wait: no time is below the earliest or above the least one, and links that do not wait hold
+pub record IsSettling (kept : List Bool) (all : TrialTimes) (from : ℕ) : Type 0 where
+  pub earliest : (event : ℕ) → event < length all.problem.events
+      → earliest_at all.problem event ≤ time_at all.times event
+  pub most : (event : ℕ) → event < length all.problem.events → time_at all.times event
+      ≤ time_at (least_times all.problem (chosen_changes all.problem kept)) event
+  pub held : (k : ℕ) (d : Link) → k < length all.links → get_or all.waiting k false ≡ false
+      → IsHeld kept all.times (get_or all.links k d)
+  pub done : (k : ℕ) → k < from → get_or all.waiting k false ≡ false
+
+-- no link waits
+abbrev pub NoneWaits : TrialTimes → Type 0
+NoneWaits all = (k : ℕ) → get_or all.waiting k false ≡ false
+
+-- the links of a kind wait besides others
+pub record WaitBy (P : Link → Type 0) (links : List Link) (old new : List Bool) : Type 0 where
+  pub size : length new ≡ length old
+  pub out : (k : ℕ) (d : Link) → k < length links → get_or new k false ≡ false
+      → (get_or old k false ≡ false) × (P (get_or links k d) → ⊥)
+  pub only : (k : ℕ) (d : Link) → get_or old k false ≡ false
+      → (get_or new k false ≡ false) ⊎ ((k < length links) × P (get_or links k d))
+
+-- what follows where the head of a step is no earlier than the step asks: where it is later, the
+-- links out of it wait
+pub record Pushes (step : Step) (old new : TrialTimes) : Type 0 where
+  pub follows : Follows old new
+  pub times : new.times ≡ head_pushed old.times step
+  pub waits : (new ≡ old) ⊎ WaitBy (λ link. link.rank ≡ forward_rank old.problem.events step.to)
+      old.links old.waiting new.waiting
+
+-- the first change that is open and broken
+abbrev pub TellsBroken : TrialTimes → Option ℕ → Type 0
+TellsBroken all None = (k : ℕ) (d : Activity) → k < length all.problem.changes
+    → (get_or all.open_yet k false && is_broken all.times (get_or all.problem.changes k d)) ≡ false
+TellsBroken all (Some at) = (at < length all.problem.changes)
+    × ((k : ℕ) (d : Activity) → k < at
+    → (get_or all.open_yet k false && is_broken all.times (get_or all.problem.changes k d)) ≡ false)
+    × ((d : Activity)
+    → (get_or all.open_yet at false && is_broken all.times (get_or all.problem.changes at d)) ≡ true)
+
+-- the event that was made later last is no more noted, where more than so many are
+abbrev pub IsLastMoved : ℕ → TrialTimes → TrialTimes → Option Moved → Type 0
+IsLastMoved left old new None = (new ≡ old) × (length old.noted ≤ left)
+IsLastMoved left old new (Some last) = (left < length old.noted)
+    × (last.event < length old.problem.events) × (last.before ≤ 1000000000000000000)
+    × (old ≡ record new { noted = last ∷ new.noted })
+
+-- times on trial before anything is decided
+pub record StartsTrial (problem : DelayProblem) (all : TrialTimes) : Type 0 where
+  pub problem_is : all.problem ≡ problem
+  pub times : all.times ≡ least_times problem (chosen_changes problem [])
+  pub least_small : All (λ time. time ≤ 600000000000) all.times
+  pub open_yet : all.open_yet ≡ replicate (length problem.changes) true
+  pub noted : all.noted ≡ []
+  pub none : NoneWaits all
+
+-- what is decided, the last decision first
+abbrev pub decided_in : List Taken → List Decided
+decided_in taken = map (λ last. last.decided) taken
+
+-- the times behind fewer decisions can be had again
+unfoldable pub AreSaved : DelayProblem → List Taken → List Moved → List ℕ → Type 0
+AreSaved problem [] noted times = ⊤
+AreSaved problem (last ∷ before) noted times = (top rest : List Moved) × (noted ≡ top ++ rest)
+    × (length rest ≡ last.moved)
+    × (rewound top times ≡ times_of (record { problem = problem; decided = decided_in before }))
+    × AreSaved problem before rest
+    (times_of (record { problem = problem; decided = decided_in before }))
+
+-- decisions with their times on trial
+pub record IsTaken (all : TrialTimes) (taken : List Taken) (kept : List Bool) : Type 0 where
+  pub trial : IsTrial all.problem (decided_in taken) kept all.open_yet all.times
+  pub saved : AreSaved all.problem taken all.noted all.times
+  pub rest : NoneWaits all

@@ -1,7 +1,7 @@
 // How late times are.
 ghost use Rattle.std.specs.Prelude.{◌≡◌, ◌≤◌, ◌≤ℤ◌, pos, neg_ℤ, length, All};
 ghost use Rattle.event_tables.specs.Kinds.{is_arrival};
-ghost use Rattle.delay_management.specs.Lateness.{delay_at, is_missed, lateness, missed_at};
+ghost use Rattle.delay_management.specs.Lateness.{delay_at, is_missed, lateness, missed_at, more_delay};
 ghost use Rattle.delay_management.specs.Problems.{Joins};
 
 use crate::step::Activity;
@@ -38,6 +38,21 @@ fn lateness(event: &ExpandedEvent, time: u64) -> i128
     ensures least { neg_ℤ (pos 1000000000000000000) ≤ℤ result }
 {
     i128::from(time) - i128::from(event.time)
+}
+
+/// How much later than at one time an event is at another, where it is an arrival.
+pub(crate) fn more_delay(event: &ExpandedEvent, before: u64, time: u64) -> i128
+    requires before { before ≤ 1000000000000000000 }
+    requires time { time ≤ 1000000000000000000 }
+    ensures value { result ≡ more_delay event.now before time }
+    ensures most { result ≤ℤ pos 1000000000000000000 }
+    ensures least { neg_ℤ (pos 1000000000000000000) ≤ℤ result }
+{
+    if is_arrival(event.kind) {
+        i128::from(time) - i128::from(before)
+    } else {
+        0
+    }
 }
 
 /// How many changes are missed.

@@ -1,6 +1,7 @@
 // Steps in the forward order of their first events.
 ghost use Rattle.std.specs.Prelude.{◌≡◌, ◌<◌, ◌≤◌, ◌++◌, length, All, IfOk, OnOk};
 ghost use Rattle.std.specs.List.Sorted.{IsNonDecreasingBy, IsPermutation};
+ghost use Rattle.delay_management.specs.ChangeEnds.{IsFirst};
 ghost use Rattle.delay_management.specs.Links.{change_links, link_of, ride_links, turn_links};
 
 use crate::step::{Activity, Step};
@@ -38,6 +39,14 @@ pub(crate) fn links_in_order(
     let mut links = all_links(alloc, events, rides, turns, changes)?;
     links.sort_unstable_by_key(|link| link.rank);
     Ok(links)
+}
+
+/// Where the links of events of at least a rank begin.
+pub(crate) fn first_link(links: &[Link], rank: u64) -> usize
+    requires { IsNonDecreasingBy (λ link. link.rank) links.now }
+    ensures { IsFirst (λ link. link.rank) links.now rank result }
+{
+    links.partition_point(|link| link.rank < rank)
 }
 
 // The links of drives and waits, of turns, and of changes.

@@ -29,20 +29,6 @@ pub(crate) fn pushed_along(
     Ok(times)
 }
 
-/// The same times in the place of others.
-pub(crate) fn push_anew(times: &mut Vec<u64>, earliest: &[u64], links: &[Link], kept: &[bool])
-    requires each { length times.old.items ≡ length earliest.now }
-    requires few { length links.now ≤ 502000 }
-    requires soon { All (λ time. time ≤ 8589934590) earliest.now }
-    requires ends { All (λ link. (link.step.from < length earliest.now)
-        × (link.step.to < length earliest.now)) links.now }
-    ensures times { times.new.items ≡ pushed_along kept.now links.now earliest.now }
-    ensures small { All (λ time. time ≤ 1000000000000000000) times.new.items }
-{
-    times.copy_from_slice(earliest);
-    push_along(times, links, kept);
-}
-
 // Pushes times along links, one after the other, where the links of chosen changes count.
 fn push_along(times: &mut Vec<u64>, links: &[Link], kept: &[bool])
     requires few { length links.now ≤ 502000 }
@@ -59,8 +45,8 @@ fn push_along(times: &mut Vec<u64>, links: &[Link], kept: &[bool])
     }
 }
 
-// Whether the link of a change, or of none, counts.
-fn counts(kept: &[bool], change: Option<u32>) -> bool
+/// Whether the link of a change, or of none, counts.
+pub(crate) fn counts(kept: &[bool], change: Option<u32>) -> bool
     ensures { result ≡ counts kept.now change }
 {
     match change {

@@ -9,12 +9,13 @@ ghost use Rattle.event_tables.specs.ExpandedFiles.{AreExpandedActivities, AreExp
 ghost use Rattle.event_tables.specs.Schedules.{AreScheduleRows};
 ghost use Rattle.delay_management.specs.DispositionStage.{disposition_faults, problem_in, turnover_in};
 ghost use Rattle.delay_management.specs.LeastTimes.{IsLeast, least_times};
+ghost use Rattle.delay_management.specs.Links.{IsLinked};
 ghost use Rattle.delay_management.specs.Problems.{IsForward, Joins, earliest_at, planned_at, problem_over};
 ghost use Rattle.delay_management.specs.Waiting.{chosen_changes};
 
 use crate::delays::{delayed_activities, earliest_times};
 use crate::links::{Link, links_in_order};
-use crate::pass::{push_anew, pushed_along};
+use crate::pass::pushed_along;
 use crate::step::{Activity, Step};
 use crate::turns::turns_of;
 use event_tables::{
@@ -133,13 +134,11 @@ impl Propagation {
         pushed_along(alloc, &self.earliest, &self.links, kept)
     }
 
-    /// The same times in the place of others. No memory is taken.
-    pub(crate) fn push_least(&self, times: &mut Vec<u64>, kept: &[bool])
-        requires { length times.old.items ≡ length self.now.events }
-        ensures times { times.new.items ≡ least_times self.now (chosen_changes self.now kept.now) }
-        ensures small { All (λ time. time ≤ 600000000000) times.new.items }
+    /// The links, in their forward order.
+    pub(crate) fn links(&self) -> &[Link]
+        ensures { IsLinked self.now result.now }
     {
-        push_anew(times, &self.earliest, &self.links, kept);
+        &self.links
     }
 
     /// The events.

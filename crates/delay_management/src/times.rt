@@ -57,15 +57,6 @@ impl Propagation {
         Ok(Times { times })
     }
 
-    /// The least times where some changes are kept, in the place of others. No memory is taken.
-    pub(crate) fn refresh(&self, times: &mut Times, kept: &[bool])
-        requires { length times.old ≡ length self.now.events }
-        ensures times { times.new ≡ least_times self.now (chosen_changes self.now kept.now) }
-        ensures small { All (λ time. time ≤ 600000000000) times.new }
-    {
-        self.push_least(&mut times.times, kept);
-    }
-
     /// How many events there are.
     pub fn event_count(&self) -> usize
         ensures count { result ≡ length self.now.events }
@@ -130,8 +121,8 @@ fn time_of(times: &[u64], event: usize) -> i64
     times[event] as i64
 }
 
-// Whether times break a change.
-fn is_broken(times: &[u64], change: &Activity) -> bool
+/// Whether times break a change.
+pub(crate) fn is_broken(times: &[u64], change: &Activity) -> bool
     requires ends { Joins (length times.now) change.now.step }
     requires small { All (λ time. time ≤ 1000000000000000000) times.now }
     ensures { result ≡ is_broken times.now change.now }

@@ -1,13 +1,13 @@
 // Decisions on trial.
-ghost use Rattle.std.specs.Prelude.{[], ◌≡◌, ◌&&◌, ◌<◌, ◌≤◌, ◌≤ℤ◌, ◌∷◌, get_or, not, pos, true, false, drop, length, slice_get, slice_set, Some, IfOk, OnOk, OnErr};
-ghost use Rattle.delay_management.specs.declared.step.Activity.{Activity};
-ghost use Rattle.delay_management.specs.Lateness.{delay_at, is_broken};
+ghost use Rattle.std.specs.Prelude.{[], ◌≡◌, ◌<◌, ◌≤◌, ◌≤ℤ◌, ◌∷◌, pos, true, false, drop, length, slice_get, slice_set, IfOk, OnOk, OnErr};
+ghost use Rattle.delay_management.specs.Lateness.{delay_at};
 ghost use Rattle.delay_management.specs.Problems.{IsForward};
 ghost use Rattle.delay_management.specs.Trials.{first_broken, is_decided, times_of};
 
 use crate::decided::Decided;
+use crate::on_trial::TimesOnTrial;
 use crate::propagation::Propagation;
-use crate::times::Times;
+use crate::taken::Taken;
 use plan_num::NoMemory;
 use std::alloc::Global;
 use std::marker::Model;
@@ -17,24 +17,24 @@ use std::marker::Model;
 /// decision first.
 #[derive(Drop)]
 pub struct Trial<'a> {
-    problem: &'a Propagation,
-    taken: Vec<Decided>,
+    times: TimesOnTrial<'a>,
+    taken: Vec<Taken>,
     kept: Vec<bool>,
-    undecided: Vec<bool>,
-    times: Times,
 }
 
 impl<'a> Model for Trial<'a> {
     ghost use Rattle.std.specs.Prelude.{reverse};
-    ghost use Rattle.delay_management.specs.OnTrial.{IsTrial};
+    ghost use Rattle.delay_management.specs.OnTrial.{IsTaken, decided_in};
     ghost use Rattle.delay_management.specs.Trials.{TrialParts};
 
     ghost Value = { TrialParts };
 
-    ghost view = { λ t. record { problem = t.problem.now; decided = reverse t.taken.items } };
+    ghost view = { λ t. record {
+      problem = t.times.problem;
+      decided = decided_in (reverse t.taken.items);
+    } };
 
-    ghost invariant = { λ t. IsTrial t.problem.now (reverse t.taken.items) t.kept.items
-        t.undecided.items t.times };
+    ghost invariant = { λ t. IsTaken t.times (reverse t.taken.items) t.kept.items };
 }
 
 impl<'a> Trial<'a> {
@@ -42,16 +42,11 @@ impl<'a> Trial<'a> {
     pub fn new(alloc: Global, problem: &'a Propagation) -> Result<Trial<'a>, NoMemory>
         ensures { IfOk result (λ trial. trial ≡ record { problem = problem.now; decided = [] }) }
     {
-        let count = problem.change_count();
-        let kept = vec![in alloc; false; count]?;
-        let undecided = vec![in alloc; true; count]?;
-        let times = problem.least(alloc, &kept)?;
+        let _forward = problem.change_count();
         Ok(Trial {
-            problem,
+            times: TimesOnTrial::new(alloc, problem)?,
             taken: Vec::new(alloc),
-            kept,
-            undecided,
-            times,
+            kept: vec![in alloc; false; problem.change_count()]?,
         })
     }
 
@@ -61,7 +56,7 @@ impl<'a> Trial<'a> {
         ensures few { length self.now.problem.changes ≤ 502000 }
         ensures forward { IsForward self.now.problem }
     {
-        self.problem.change_count()
+        self.times.problem().change_count()
     }
 
     /// Whether a change is decided.
@@ -69,7 +64,7 @@ impl<'a> Trial<'a> {
         requires { change < length self.now.problem.changes }
         ensures { result ≡ is_decided self.now.decided change }
     {
-        !self.undecided[change]
+        !self.times.is_open(change)
     }
 
     /// A change that is not decided is kept.
@@ -81,12 +76,23 @@ impl<'a> Trial<'a> {
         }) }
         ensures err { OnErr result (self.new ≡ self.old) }
     {
-        let _forward = self.problem.change_count();
-        self.taken.push(Decided { change, kept: true })?;
-        set_at(&mut self.undecided, change, false);
+        let step = self.times.problem().changes()[change].step;
+        let moved = self.times.moved();
+        self.taken.push(Taken::new(change, true, moved))?;
         set_at(&mut self.kept, change, true);
-        self.problem.refresh(&mut self.times, &self.kept);
-        Ok(())
+        self.times.set_open(change, false);
+        self.times.wait_at(step.from);
+        match self.times.settle(&self.kept) {
+            Ok(()) => Ok(()),
+            Err(NoMemory) => {
+                self.times.forget();
+                self.times.undo(moved);
+                self.times.set_open(change, true);
+                set_at(&mut self.kept, change, false);
+                let _ = self.taken.pop();
+                Err(NoMemory)
+            }
+        }
     }
 
     /// A change that is not decided is dropped.
@@ -98,11 +104,10 @@ impl<'a> Trial<'a> {
         }) }
         ensures err { OnErr result (self.new ≡ self.old) }
     {
-        self.taken.push(Decided {
-            change,
-            kept: false,
-        })?;
-        set_at(&mut self.undecided, change, false);
+        let _linked = self.times.problem();
+        let moved = self.times.moved();
+        self.taken.push(Taken::new(change, false, moved))?;
+        self.times.set_open(change, false);
         Ok(())
     }
 
@@ -111,14 +116,12 @@ impl<'a> Trial<'a> {
         ensures last { result ≡ slice_get self.old.decided 0 }
         ensures rest { self.new ≡ record self.old { decided = drop 1 self.old.decided } }
     {
-        let _forward = self.problem.change_count();
+        let _linked = self.times.problem();
         let last = self.taken.pop()?;
-        set_at(&mut self.undecided, last.change, true);
-        if last.kept {
-            set_at(&mut self.kept, last.change, false);
-            self.problem.refresh(&mut self.times, &self.kept);
-        }
-        Some(last)
+        self.times.undo(last.moved);
+        self.times.set_open(last.decided.change, true);
+        set_at(&mut self.kept, last.decided.change, false);
+        Some(last.decided)
     }
 
     /// How late all arrivals are together.
@@ -127,32 +130,15 @@ impl<'a> Trial<'a> {
         ensures least { pos 0 ≤ℤ result }
         ensures most { result ≤ℤ pos 60000000000000000 }
     {
-        let _count = self.problem.event_count();
-        let _forward = self.problem.change_count();
-        self.problem.delay(&self.times)
+        let _linked = self.times.problem();
+        self.times.delay()
     }
 
     /// The first change that is not decided and that the least times break.
     pub fn first_broken(&self) -> Option<usize>
         ensures { result ≡ first_broken self.now }
     {
-        let count = self.problem.change_count();
-        for change in 0..count {
-            if self.is_open(change) {
-                return Some(change);
-            }
-        }
-        None
-    }
-
-    // Whether a change is not decided, and the times break it.
-    fn is_open(&self, change: usize) -> bool
-        requires { change < length self.now.problem.changes }
-        ensures { (d : Activity) → result ≡ (not (is_decided self.now.decided change)
-            && is_broken (times_of self.now) (get_or self.now.problem.changes change d)) }
-    {
-        let _forward = self.problem.change_count();
-        self.undecided[change] && self.problem.broken(&self.times, change)
+        self.times.first_broken()
     }
 }
 

@@ -1,55 +1,49 @@
-use Rattle.std.proofs.Common.{◌∙◌, ap, subst, arith}
+use Rattle.std.proofs.Common.{◌∙◌, ap, arith, drop, length, subst, sym}
 use Rattle.std.specs.Prelude.{reverse}
-use Rattle.delay_management.specs.LeastTimes.{least_times}
-use Rattle.delay_management.specs.OnTrial.{IsTrial}
-use Rattle.delay_management.specs.Waiting.{chosen_changes}
-use Rattle.delay_management.proofs.TrialFacts.{dropped_back, kept_back, kept_size, last_there, open_size, reversed}
+use Rattle.delay_management.specs.OnTrial.{IsTaken, TrialTimes, decided_in}
+use Rattle.delay_management.specs.Problems.{DelayProblem}
+use Rattle.delay_management.specs.Trials.{TrialParts}
+use Rattle.delay_management.proofs.Taking.{last_there, taken_back, undone_problem}
+use Rattle.delay_management.proofs.TrialFacts.{kept_size, reversed}
 use Rattle.delay_management.proofs.trial.Trial.take_back.Goals as goal
+
+pub set_open-requires : goal.set_open-requires
+set_open-requires c =
+    let all = c.self.inside.times in let last = c.in_ok-last.last in let before = c.pop.new.self.items in
+    let told = subst (λ taken. IsTaken all taken c.self.inside.kept.items)
+    (ap reverse c.in_ok-last.ensures.items ∙ reversed before last) c.self.invariant in
+    let linked = c.problem-linked.ensures.linked in
+    omega (
+      arith,
+      last_there all last (reverse before) c.self.inside.kept.items linked told,
+      ap (λ (p : DelayProblem). length p.changes) (undone_problem all last (reverse before) c.self.inside.kept.items linked told c.undo.new.self c.undo.ensures),
+    )
 
 pub set_at-requires : goal.set_at-requires
 set_at-requires c =
-    let problem = c.self.inside.problem.now in
-    let last = c.in_ok-last.last in
-    let told = subst (λ all. IsTrial problem all c.self.inside.kept.items c.self.inside.undecided.items c.self.inside.times)
-    (ap reverse c.in_ok-last.ensures.items ∙ reversed c.pop.new.self.items last) c.self.invariant in
+    let all = c.self.inside.times in let last = c.in_ok-last.last in let before = c.pop.new.self.items in
+    let told = subst (λ taken. IsTaken all taken c.self.inside.kept.items)
+    (ap reverse c.in_ok-last.ensures.items ∙ reversed before last) c.self.invariant in
     omega (
       arith,
-      last_there problem last (reverse c.pop.new.self.items) c.self.inside.kept.items c.self.inside.undecided.items c.self.inside.times told,
-      open_size problem (reverse c.self.inside.taken.items) c.self.inside.kept.items c.self.inside.undecided.items c.self.inside.times c.self.invariant,
+      last_there all last (reverse before) c.self.inside.kept.items c.problem-linked.ensures.linked told,
+      kept_size all.problem _ c.self.inside.kept.items all.open_yet all.times c.self.invariant.trial,
     )
 
-pub set_at-requires-then-last : goal.set_at-requires-then-last
-set_at-requires-then-last c =
-    let problem = c.self.inside.problem.now in
-    let last = c.in_ok-last.last in
-    let told = subst (λ all. IsTrial problem all c.self.inside.kept.items c.self.inside.undecided.items c.self.inside.times)
-    (ap reverse c.in_ok-last.ensures.items ∙ reversed c.pop.new.self.items last) c.self.invariant in
-    omega (
-      arith,
-      last_there problem last (reverse c.pop.new.self.items) c.self.inside.kept.items c.self.inside.undecided.items c.self.inside.times told,
-      kept_size problem (reverse c.self.inside.taken.items) c.self.inside.kept.items c.self.inside.undecided.items c.self.inside.times c.self.invariant,
-    )
+pub invariant_of-self-2 : goal.invariant_of-self-2
+invariant_of-self-2 c =
+    let all = c.self.inside.times in let last = c.in_ok-last.last in let before = c.pop.new.self.items in
+    let told = subst (λ taken. IsTaken all taken c.self.inside.kept.items)
+    (ap reverse c.in_ok-last.ensures.items ∙ reversed before last) c.self.invariant in
+    taken_back all last (reverse before) c.self.inside.kept.items c.problem-linked.ensures.linked told
+    c.undo.new.self c.set_open.new.self c.set_at.new.flags.items c.undo.ensures c.set_open.ensures c.set_at.ensures
 
-pub refresh-requires : goal.refresh-requires
-refresh-requires c = c.self.invariant.each
-
-pub invariant_of-self-then-last : goal.invariant_of-self-then-last
-invariant_of-self-then-last c =
-    let problem = c.self.inside.problem.now in
-    let last = c.in_ok-last.last in
-    let told = subst (λ all. IsTrial problem all c.self.inside.kept.items c.self.inside.undecided.items c.self.inside.times)
-    (ap reverse c.in_ok-last.ensures.items ∙ reversed c.pop.new.self.items last) c.self.invariant in
-    kept_back problem last (reverse c.pop.new.self.items) c.self.inside.kept.items c.self.inside.undecided.items c.self.inside.times told
-    c.set_at-then-last.new.flags.items c.set_at.new.flags.items c.refresh.new.times c.set_at-then-last.ensures c.set_at.ensures
-    c.change_count-forward.ensures.forward
-    (c.refresh.ensures.times ∙ ap (λ kept. least_times problem (chosen_changes problem kept)) c.deref.ensures.value)
-    c.refresh.ensures.small
-
-pub invariant_of-self-else-last : goal.invariant_of-self-else-last
-invariant_of-self-else-last c =
-    let problem = c.self.inside.problem.now in
-    let last = c.in_ok-last.last in
-    let told = subst (λ all. IsTrial problem all c.self.inside.kept.items c.self.inside.undecided.items c.self.inside.times)
-    (ap reverse c.in_ok-last.ensures.items ∙ reversed c.pop.new.self.items last) c.self.invariant in
-    dropped_back problem last (reverse c.pop.new.self.items) c.self.inside.kept.items c.self.inside.undecided.items c.self.inside.times told
-    c.if-last.false c.set_at.new.flags.items c.set_at.ensures
+pub returns-clause-rest : goal.returns-clause-rest
+returns-clause-rest c =
+    let all = c.self.inside.times in let last = c.in_ok-last.last in let before = c.pop.new.self.items in
+    let parts = ap reverse c.in_ok-last.ensures.items ∙ reversed before last in
+    let told = subst (λ taken. IsTaken all taken c.self.inside.kept.items) parts c.self.invariant in
+    let problem_is = ap (λ (t : TrialTimes). t.problem) c.set_open.ensures
+    ∙ undone_problem all last (reverse before) c.self.inside.kept.items c.problem-linked.ensures.linked told c.undo.new.self c.undo.ensures in
+    (λ i. record { problem = problem_is i; decided = ap (λ taken. drop 1 (decided_in taken)) (sym parts) i })
+    ∙ ap (λ (t : TrialParts). record { problem = t.problem; decided = drop 1 t.decided }) c.self.view_is

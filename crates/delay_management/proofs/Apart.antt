@@ -1,0 +1,30 @@
+-- Two numbers are the same or not, and one is less or not; and what stands in a list where one place was set.
+use Rattle.std.proofs.Common.{◌≡◌, ◌≢◌, ◌∙◌, ℕ, ◌<◌, ◌≤◌, true, false, eqb, ltb, List, length, get_or, slice_set, refl, ap}
+use Rattle.std.proofs.lemmas.Bool.{eqb-true, eqb-false, ltb-true, ltb-false}
+use Rattle.std.proofs.lemmas.List.{get_or-set_same, get_or-set_other, set-get_or, set-set}
+
+pub by_same : {P : Type 0} (a b : ℕ) → (a ≡ b → P) → (a ≢ b → P) → P
+by_same {P} a b same apart =
+    elim (eqb a b) as (λ t. eqb a b ≡ t → P) [
+      | true ↦ λ is. same (eqb-true a b is)
+      | false ↦ λ is. apart (eqb-false a b is)
+    ] refl
+
+pub by_less : {P : Type 0} (a b : ℕ) → (a < b → P) → (b ≤ a → P) → P
+by_less {P} a b less most =
+    elim (ltb a b) as (λ t. ltb a b ≡ t → P) [
+      | true ↦ λ is. less (ltb-true a b is)
+      | false ↦ λ is. most (ltb-false a b is)
+    ] refl
+
+module _ {X : Type 0} (old new : List X) (place : ℕ) (x d : X) (is : new ≡ slice_set old place x) where
+  pub set_here : place < length old → get_or new place d ≡ x
+  set_here inside = ap (λ xs. get_or xs place d) is ∙ get_or-set_same old place x d inside
+
+  pub set_there : (k : ℕ) → k ≢ place → get_or new k d ≡ get_or old k d
+  set_there k other = ap (λ xs. get_or xs k d) is ∙ get_or-set_other old place k x d other
+
+-- a place that was set, and has its value again
+pub set_back : {X : Type 0} (old : List X) (place : ℕ) (x d : X)
+    → slice_set (slice_set old place x) place (get_or old place d) ≡ old
+set_back old place x d = set-set old place x (get_or old place d) ∙ set-get_or old place d

@@ -1,0 +1,55 @@
+// The ends of changes by their events.
+ghost use Rattle.std.specs.Prelude.{◌≡◌, ◌<◌, ◌≤◌, length, All, IfOk};
+ghost use Rattle.std.specs.List.Sorted.{IsNonDecreasingBy};
+ghost use Rattle.delay_management.specs.ChangeEnds.{HasEnds, IsFirst};
+
+use crate::step::Activity;
+use plan_num::NoMemory;
+use std::alloc::Global;
+
+/// A change, by its index, at its first or its second event.
+#[derive(Clone, Copy, Debug, PartialEq, Eq)]
+pub(crate) struct ChangeEnd {
+    pub(crate) event: u32,
+    pub(crate) change: u32,
+}
+
+/// Both ends of each change, by their events.
+pub(crate) fn ends_in_order(alloc: Global, changes: &[Activity]) -> Result<Vec<ChangeEnd>, NoMemory>
+    requires { length changes.now ≤ 502000 }
+    ensures ends { IfOk result (λ ends. HasEnds changes.now ends.items) }
+    ensures in_order { IfOk result (λ ends. IsNonDecreasingBy (λ end. end.event) ends.items) }
+{
+    let mut ends = all_ends(alloc, changes)?;
+    ends.sort_unstable_by_key(|end| end.event);
+    Ok(ends)
+}
+
+// Both ends of each change.
+fn all_ends(alloc: Global, changes: &[Activity]) -> Result<Vec<ChangeEnd>, NoMemory>
+    requires { length changes.now ≤ 502000 }
+    ensures { IfOk result (λ ends. HasEnds changes.now ends.items) }
+{
+    let mut ends = Vec::with_capacity(alloc, 2 * changes.len())?;
+    for index in 0..changes.len() {
+        let step = &changes[index].step;
+        let change = index as u32;
+        ends.push(ChangeEnd {
+            event: step.from,
+            change,
+        })?;
+        ends.push(ChangeEnd {
+            event: step.to,
+            change,
+        })?;
+    }
+    Ok(ends)
+}
+
+/// Where the ends at an event begin.
+pub(crate) fn first_end(ends: &[ChangeEnd], event: u32) -> usize
+    requires { IsNonDecreasingBy (λ end. end.event) ends.now }
+    ensures { IsFirst (λ end. end.event) ends.now event result }
+{
+    ends.partition_point(|end| end.event < event)
+}

@@ -1,0 +1,8 @@
+// Events whose times are changed on trial.
+
+/// An event, and its time before it was made later.
+#[derive(Clone, Copy, Debug, PartialEq, Eq)]
+pub(crate) struct Moved {
+    pub(crate) event: u32,
+    pub(crate) before: u64,
+}

@@ -1,0 +1,281 @@
+// Times on trial, and what they tell.
+ghost use Rattle.std.specs.Prelude.{◌≡◌, ◌+◌, ◌∷◌, ◌++◌, ◌<◌, ◌≤◌, false, get_or, length, slice_set, List, IfOk, OnErr, OnOk};
+ghost use Rattle.std.specs.List.Sorted.{IsNonDecreasingBy};
+ghost use Rattle.event_tables.specs.ForwardRanks.{forward_rank};
+ghost use Rattle.delay_management.specs.declared.moved.Moved.{Moved};
+ghost use Rattle.delay_management.specs.Lateness.{delay_at};
+ghost use Rattle.delay_management.specs.LeastTimes.{asked, least_times};
+ghost use Rattle.delay_management.specs.Links.{IsLinked};
+ghost use Rattle.delay_management.specs.OnTrial.{Follows, IsLastMoved, IsSettling, NoneWaits, Pushes, StartsTrial, TellsBroken, WaitBy, rewound};
+ghost use Rattle.delay_management.specs.Problems.{Joins};
+ghost use Rattle.delay_management.specs.Waiting.{chosen_changes};
+
+use crate::ends::{ChangeEnd, ends_in_order};
+use crate::lateness::{delay_at, more_delay};
+use crate::links::{Link, first_link};
+use crate::marking::Marking;
+use crate::moved::Moved;
+use crate::pass::counts;
+use crate::propagation::Propagation;
+use crate::reasons::asked;
+use crate::step::Step;
+use crate::tested::{test, test_all, test_at};
+use event_tables::forward_rank;
+use plan_num::NoMemory;
+use std::alloc::Global;
+use std::marker::Model;
+
+/// The times of a day while they are changed on trial: how late they are together, which open
+/// changes they break, which events were made later and when these were before, and which links
+/// wait to be looked at. Contracts see it as the day with its links, the times, which changes are
+/// open, the events that were made later, the last one first, and the links that wait.
+#[derive(Drop)]
+pub(crate) struct TimesOnTrial<'a> {
+    problem: &'a Propagation,
+    links: &'a [Link],
+    ends: Vec<ChangeEnd>,
+    times: Vec<u64>,
+    delay: i128,
+    undecided: Vec<bool>,
+    broken: Marking,
+    trail: Vec<Moved>,
+    waiting: Marking,
+}
+
+impl<'a> Model for TimesOnTrial<'a> {
+    ghost use Rattle.std.specs.Prelude.{reverse};
+    ghost use Rattle.delay_management.specs.OnTrial.{IsOnTrial, TrialTimes};
+
+    ghost Value = { TrialTimes };
+
+    ghost view = { λ t. record {
+      problem = t.problem.now;
+      links = t.links.now;
+      times = t.times.items;
+      open_yet = t.undecided.items;
+      noted = reverse t.trail.items;
+      waiting = t.waiting;
+    } };
+
+    ghost invariant = { λ t. IsOnTrial (record {
+      problem = t.problem.now;
+      links = t.links.now;
+      times = t.times.items;
+      open_yet = t.undecided.items;
+      noted = reverse t.trail.items;
+      waiting = t.waiting;
+    }) t.ends.items t.delay t.broken };
+}
+
+impl<'a> TimesOnTrial<'a> {
+    /// The least times where no change is kept; all changes are open.
+    pub(crate) fn new(alloc: Global, problem: &'a Propagation) -> Result<TimesOnTrial<'a>, NoMemory>
+        ensures { IfOk result (λ all. StartsTrial problem.now all) }
+    {
+        let count = problem.change_count();
+        let links = problem.links();
+        let times = problem.least_times(alloc, &[])?;
+        let undecided = vec![in alloc; true; count]?;
+        let mut broken = Marking::none(alloc, count)?;
+        test_all(&mut broken, problem.changes(), &times, &undecided);
+        Ok(TimesOnTrial {
+            problem,
+            links,
+            ends: ends_in_order(alloc, problem.changes())?,
+            delay: delay_at(problem.events(), &times),
+            times,
+            undecided,
+            broken,
+            trail: Vec::new(alloc),
+            waiting: Marking::none(alloc, links.len())?,
+        })
+    }
+
+    /// The day.
+    pub(crate) fn problem(&self) -> &'a Propagation
+        ensures value { result.now ≡ self.now.problem }
+        ensures linked { IsLinked self.now.problem self.now.links }
+    {
+        self.problem
+    }
+
+    /// A change is open from now on, or it is no more.
+    pub(crate) fn set_open(&mut self, change: usize, is: bool)
+        requires { change < length self.old.problem.changes }
+        ensures { self.new ≡ record self.old {
+          open_yet = slice_set self.old.open_yet change is;
+        } }
+    {
+        self.undecided[change] = is;
+        test(
+            &mut self.broken,
+            self.problem.changes(),
+            &self.times,
+            &self.undecided,
+            change,
+        );
+    }
+
+    /// Whether a change is open.
+    pub(crate) fn is_open(&self, change: usize) -> bool
+        requires { change < length self.now.problem.changes }
+        ensures { result ≡ get_or self.now.open_yet change false }
+    {
+        self.undecided[change]
+    }
+
+    /// How late all arrivals are together.
+    pub(crate) fn delay(&self) -> i128
+        ensures { result ≡ delay_at self.now.problem.events self.now.times }
+    {
+        self.delay
+    }
+
+    /// The first change that is open and broken.
+    pub(crate) fn first_broken(&self) -> Option<usize>
+        ensures { TellsBroken self.now result }
+    {
+        self.broken.next(0)
+    }
+
+    // The time of an event is another one.
+    fn set_time(&mut self, event: u32, time: u64)
+        requires there { event < length self.old.problem.events }
+        requires small { time ≤ 1000000000000000000 }
+        ensures { self.new ≡ record self.old { times = slice_set self.old.times event time } }
+    {
+        let at = event as usize;
+        let more = more_delay(&self.problem.events()[at], self.times[at], time);
+        self.delay += more;
+        self.times[at] = time;
+        test_at(
+            &mut self.broken,
+            &self.ends,
+            event,
+            self.problem.changes(),
+            &self.times,
+            &self.undecided,
+        );
+    }
+
+    /// The links out of an event wait.
+    pub(crate) fn wait_at(&mut self, event: u32)
+        requires { event < length self.old.problem.events }
+        ensures same { self.new ≡ record self.old { waiting = self.new.waiting } }
+        ensures waits { WaitBy (λ link. link.rank ≡ forward_rank self.old.problem.events event)
+            self.old.links self.old.waiting self.new.waiting }
+    {
+        let rank = forward_rank(self.problem.events(), event);
+        wait_behind(&mut self.waiting, self.links, rank);
+    }
+
+    /// No link waits any more.
+    pub(crate) fn forget(&mut self)
+        ensures same { self.new ≡ record self.old { waiting = self.new.waiting } }
+        ensures none { NoneWaits self.new }
+    {
+        self.waiting.clear();
+    }
+
+    /// Takes the links that wait in their order, and makes heads later where they ask for it, until
+    /// none waits.
+    pub(crate) fn settle(&mut self, kept: &[bool]) -> Result<(), NoMemory>
+        requires { IsSettling kept.now self.old 0 }
+        ensures follows { Follows self.old self.new }
+        ensures least { OnOk result (self.new.times
+            ≡ least_times self.old.problem (chosen_changes self.old.problem kept.now)) }
+        ensures none { OnOk result (NoneWaits self.new) }
+    {
+        let mut from = 0;
+        while let Some(at) = self.waiting.next(from) {
+            self.take_link(at, kept)?;
+            from = at + 1;
+        }
+        Ok(())
+    }
+
+    // The link at a place waits no more: its head is no earlier than it asks, where it counts.
+    fn take_link(&mut self, at: usize, kept: &[bool]) -> Result<(), NoMemory>
+        requires there { at < length self.old.links }
+        requires settling { IsSettling kept.now self.old at }
+        ensures follows { Follows self.old self.new }
+        ensures on { OnOk result (IsSettling kept.now self.new (at + 1)) }
+    {
+        self.waiting.set(at, false);
+        let link = self.links[at];
+        if counts(kept, link.change) {
+            self.push(link.step)?;
+        }
+        Ok(())
+    }
+
+    // The head of a step, no earlier than the step asks.
+    fn push(&mut self, step: Step) -> Result<(), NoMemory>
+        requires joins { Joins (length self.old.problem.events) step }
+        requires small { asked self.old.times step ≤ 1000000000000000000 }
+        ensures ok { OnOk result (Pushes step self.old self.new) }
+        ensures err { OnErr result (self.new ≡ self.old) }
+    {
+        let asked = asked(&self.times, &step);
+        let before = self.times[step.to as usize];
+        if before < asked {
+            self.note(step.to, before)?;
+            self.set_time(step.to, asked);
+            self.wait_at(step.to);
+        }
+        Ok(())
+    }
+
+    // The time of an event is noted.
+    fn note(&mut self, event: u32, before: u64) -> Result<(), NoMemory>
+        requires there { event < length self.old.problem.events }
+        requires small { before ≤ 1000000000000000000 }
+        ensures ok { OnOk result (self.new ≡ record self.old {
+          noted = record { event = event; before = before } ∷ self.old.noted;
+        }) }
+        ensures err { OnErr result (self.new ≡ self.old) }
+    {
+        self.trail.push(Moved { event, before })?;
+        Ok(())
+    }
+
+    /// How many events were made later.
+    pub(crate) fn moved(&self) -> usize
+        ensures { result ≡ length self.now.noted }
+    {
+        self.trail.len()
+    }
+
+    /// Events that were made later have their times before again, until so many are left.
+    pub(crate) fn undo(&mut self, left: usize)
+        ensures { (top rest : List Moved) → self.old.noted ≡ top ++ rest → length rest ≡ left
+            → self.new ≡ record self.old { times = rewound top self.old.times; noted = rest } }
+    {
+        while let Some(last) = self.last_moved(left) {
+            self.set_time(last.event, last.before);
+        }
+    }
+
+    // The last event that was made later, where more than so many are left; it is no more noted.
+    fn last_moved(&mut self, left: usize) -> Option<Moved>
+        ensures { IsLastMoved left self.old self.new result }
+    {
+        if self.trail.len() <= left {
+            return None;
+        }
+        self.trail.pop()
+    }
+}
+
+// The links of a rank wait.
+fn wait_behind(waiting: &mut Marking, links: &[Link], rank: u64)
+    requires in_order { IsNonDecreasingBy (λ link. link.rank) links.now }
+    requires each { length waiting.old ≡ length links.now }
+    ensures { WaitBy (λ link. link.rank ≡ rank) links.now waiting.old waiting.new }
+{
+    let mut at = first_link(links, rank);
+    while at < links.len() && links[at].rank == rank {
+        waiting.set(at, true);
+        at += 1;
+    }
+}
