@@ -1,5 +1,5 @@
 -- What times on trial tell, where one of them, a change or a note is another one.
-use Rattle.std.proofs.Common.{◌≡◌, ◌∙◌, ℕ, ℤ, ◌+◌, ◌<◌, ◌≤◌, ◌+ℤ◌, ◌&&◌, Bool, false, List, ◌∷◌, ◌++◌, length, get_or, nat_lt, slice_set, All, Option, None, Some, ap, sym, subst, arith}
+use Rattle.std.proofs.Common.{◌≡◌, ◌∙◌, ℕ, ℤ, ◌<◌, ◌≤◌, ◌+ℤ◌, ◌&&◌, Bool, false, List, ◌∷◌, ◌++◌, length, get_or, slice_set, All, Option, None, Some, ap, sym, subst, arith}
 use Rattle.std.specs.Prelude.{MatchOption, option_to_list, reverse}
 use Rattle.std.proofs.lemmas.List.{append-nil, length-reverse, length-set}
 use Rattle.std.proofs.lemmas.List.Elements.{All-head, All-set, All-tail}
@@ -10,7 +10,7 @@ use Rattle.delay_management.specs.declared.moved.Moved.{Moved}
 use Rattle.delay_management.specs.declared.step.Activity.{Activity}
 use Rattle.delay_management.specs.Lateness.{is_broken, more_delay}
 use Rattle.delay_management.specs.LeastTimes.{time_at}
-use Rattle.delay_management.specs.OnTrial.{AreTested, AreTestedBut, IsLastMoved, IsOnTrial, TrialTimes}
+use Rattle.delay_management.specs.OnTrial.{AreTested, IsLastMoved, IsOnTrial, TrialTimes}
 use Rattle.delay_management.proofs.Apart.{set_there}
 use Rattle.delay_management.proofs.RunningDelay.{Bounded, delay_bounded, later_at}
 use Rattle.delay_management.proofs.Testing.{one_tested, same_size}
@@ -45,16 +45,6 @@ module _ (all : TrialTimes) (ends : List ChangeEnd) (delay : ℤ) (broken : List
     noted = on.noted;
     waits = on.waits;
   }
-
-  -- changes at other events are tested as before
-  pub tested_but : (event time : ℕ) → AreTestedBut event all.problem.changes (slice_set all.times event time) all.open_yet broken
-  tested_but event time k d inside from to =
-      let new = slice_set all.times event time in
-      let change = get_or all.problem.changes k d in
-      let first = set_there all.times new event time 0 (λ i. new) change.step.from from in
-      let second = set_there all.times new event time 0 (λ i. new) change.step.to to in
-      on.tested k d inside
-      ∙ (λ i. get_or all.open_yet k false && nat_lt (sym second i) (sym first i + (change.step.lower + change.step.extra)))
 
   -- the time of an event is another one
   pub timed : (event time before : ℕ) (seen : List ExpandedEvent) (d : ExpandedEvent) (more : ℤ) (new : List Bool)

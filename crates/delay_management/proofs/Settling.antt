@@ -1,8 +1,8 @@
 -- Times on the way to the least ones: links that wait are looked at in their order, and heads that are made later
 -- let the links out of them wait.
-use Rattle.std.proofs.Common.{◌≡◌, ◌≢◌, ◌∙◌, ℕ, suc, ◌+◌, ◌<◌, ◌≤◌, ◌⊎◌, inl, inr, Bool, true, false, cond, List, [], ◌∷◌, ◌++◌, length, get_or, slice_set, All, None, Some, ap, drop, sym, subst, arith}
+use Rattle.std.proofs.Common.{◌≡◌, ◌≢◌, ◌∙◌, ℕ, ◌+◌, ◌<◌, ◌≤◌, ◌⊎◌, inl, inr, Bool, true, false, cond, List, [], ◌∷◌, ◌++◌, length, get_or, slice_set, All, None, Some, ap, drop, sym, subst, arith}
 use Rattle.std.proofs.lemmas.Bool.{false≢true, lt-ltb}
-use Rattle.std.proofs.lemmas.List.{append_assoc, get_or_default, length-append}
+use Rattle.std.proofs.lemmas.List.{append_assoc, get_or_default}
 use Rattle.event_tables.specs.ForwardRanks.{forward_rank}
 use Rattle.delay_management.specs.declared.links.Link.{Link}
 use Rattle.delay_management.specs.declared.moved.Moved.{Moved}
@@ -276,9 +276,6 @@ module _ (all : TrialTimes) (linked : IsLinked all.problem all.links) (each : le
 
 -- ---- events that were made later have their times before again
 
-pub undoing_from : (left : ℕ) (all : TrialTimes) → IsUndoing left all all
-undoing_from left all top rest parts size = (top, ap (λ noted. record all { noted = noted }) parts, λ i. rewound top all.times)
-
 pub undone_one : (left : ℕ) (first old popped new : TrialTimes) (last : Moved) → IsUndoing left first old
     → IsLastMoved left old popped (Some last) → new ≡ record popped { times = slice_set popped.times last.event last.before }
     → IsUndoing left first new
@@ -308,25 +305,3 @@ undone_one left first old popped new last is moved timed top rest parts size =
           from ∙ ap step same ∙ (λ i. record first { times = sym times i; noted = rests i }),
           ap (rewound more) (times ∙ (λ i. slice_set old.times (first_note i).event (first_note i).before)) ∙ told,
         )
-
-pub undone : (left : ℕ) (first old new : TrialTimes) → IsUndoing left first old → IsLastMoved left old new None
-    → (top rest : List Moved) → first.noted ≡ top ++ rest → length rest ≡ left
-    → new ≡ record first { times = rewound top first.times; noted = rest }
-undone left first old new is none top rest parts size = by so_far.0 so_far.1 so_far.2
-  where
-    so_far : (more : List Moved) × (old ≡ record first { times = old.times; noted = more ++ rest })
-        × (rewound more old.times ≡ rewound top first.times)
-    so_far = is top rest parts size
-
-    by : (more : List Moved) → old ≡ record first { times = old.times; noted = more ++ rest }
-        → rewound more old.times ≡ rewound top first.times → new ≡ record first { times = rewound top first.times; noted = rest }
-    by [] same told = none.0 ∙ same ∙ ap (λ times. record first { times = times; noted = rest }) told
-    by (m ∷ more) same told =
-        let length_is = ap (λ (t : TrialTimes). length t.noted) same ∙ ap (λ n. suc n) (length-append more rest) in
-        absurd (omega (arith, length_is, none.1, size))
-
-pub less_left : (left : ℕ) (old popped new : TrialTimes) (last : Moved) → IsLastMoved left old popped (Some last)
-    → new ≡ record popped { times = slice_set popped.times last.event last.before } → length new.noted < length old.noted
-less_left left old popped new last moved timed =
-    let one = ap (λ (t : TrialTimes). length t.noted) timed in
-    let two = ap (λ (t : TrialTimes). length t.noted) moved.3 in omega (arith, one, two)

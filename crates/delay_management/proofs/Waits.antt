@@ -23,17 +23,6 @@ module _ (links : List Link) (rank : ℕ) (first : List Bool) where
     pub only : (k : ℕ) (d : Link) → get_or first k false ≡ false
         → (get_or now k false ≡ false) ⊎ ((k < length links) × ((get_or links k d).rank ≡ rank))
 
-  pub waits_from : (at : ℕ) → length first ≡ length links
-      → ((k : ℕ) (d : Link) → k < at → (get_or links k d).rank < rank)
-      → ((k : ℕ) (d : Link) → at ≤ k → k < length links → rank ≤ (get_or links k d).rank) → WaitTo at first
-  waits_from at size before behind = record {
-    size = size;
-    behind = behind;
-    ahead = λ k low i. get_or first k false;
-    out = λ k d less inside none. (none, λ same. let below = before k d less in omega (arith, below, same));
-    only = λ k d none. inl none;
-  }
-
   pub one_waits : (at : ℕ) (old new : List Bool) (e : Link) → WaitTo at old → at < length links
       → (get_or links at e).rank ≡ rank → new ≡ slice_set old at true → WaitTo (at + 1) new
   one_waits at old new e is inside same set = record {
