@@ -15,6 +15,7 @@ mod Tried
 mod Walking
 pub mod WriteFew
 pub mod WriteInside
+pub mod WriteLines
 pub mod WriteMultipliers
 pub mod WriteRows
 pub mod WriteTrees

@@ -89,7 +89,7 @@ module _ (problem : ProblemParts) (sound : IsProblem problem) where
       (multipliers_inside rest (λ k d h. named (suc k) d (omega arith))
       (λ k d h. amounts (suc k) d (omega arith)))
 
-  node_inside : (one : Node) → NamesWhatIs problem one → CanBeWritten one
+  pub node_inside : (one : Node) → NamesWhatIs problem one → CanBeWritten one
       → All (λ row. InColumns tree_columns row.cells) (node_rows problem one)
   node_inside (node.Split line at) named can =
       one_row _ (of_id 0 at 0 (line_id problem line) (omega arith) (line_there line named) can

@@ -2,8 +2,8 @@
 use Rattle.std.proofs.Common.{◌≡◌, ℕ, ℤ, pos, ◌<◌, ◌≤◌, ◌≤ℤ◌, ◌^◌, arith, Bool}
 use Rattle.std.proofs.Common.{true, false, not, nat_lt, int_eq, List, [], ◌∷◌, ◌++◌}
 use Rattle.std.proofs.Common.{length, get_or, map, refl, sym, ap, subst, ◌∙◌}
-use Rattle.std.proofs.Common.{append_assoc, append-nil, Result}
-use Rattle.std.proofs.Common.{Ok, Err, IfOk, All}
+use Rattle.std.proofs.Common.{append_assoc, append-nil}
+use Rattle.std.proofs.Common.{All}
 use Rattle.std.specs.List.{flat_map}
 use Rattle.std.proofs.lemmas.Bool.Decides.{Decides-int_eq}
 use Rattle.std.proofs.lemmas.Int.{ints}
@@ -16,7 +16,7 @@ use Rattle.giv_files.specs.Columns.{tree_columns}
 use Rattle.giv_files.specs.Inputs.{records}
 use Rattle.giv_files.specs.Reading.{table_of}
 use Rattle.giv_files.specs.Tables.{TableRow}
-use Rattle.giv_files.specs.Writing.{ReadsBack, table_text}
+use Rattle.giv_files.specs.Writing.{ReadsBack}
 use Rattle.giv_files.proofs.Accepted.{KeepRules, accepted, whole_accepted}
 use Rattle.line_cost_model.specs.declared.edge.BoundedEdge.{BoundedEdge}
 use Rattle.line_cost_model.specs.declared.multipliers.Multiplier.{Multiplier}
@@ -33,8 +33,7 @@ use Rattle.branch_certificate.specs.TreeFiles.{NamedIds, ids_of, is_due}
 use Rattle.branch_certificate.specs.TreeFiles.{nodes_of, tree_input, tree_rules, tree_row, tree_of}
 use Rattle.branch_certificate.specs.TreeFiles.{read_faults}
 use Rattle.branch_certificate.specs.TreeTexts.{CanBeWritten, NamesWhatIs, edge_id, line_id}
-use Rattle.branch_certificate.specs.TreeTexts.{node_rows, side_place, ReadsBackAs, tree_header}
-use Rattle.branch_certificate.specs.TreeTexts.{tree_text}
+use Rattle.branch_certificate.specs.TreeTexts.{node_rows, side_place, ReadsBackAs}
 use Rattle.branch_certificate.proofs.ReadRules.{out_of_order, or_false, split_says, empty_says}
 use Rattle.branch_certificate.proofs.ReadRules.{multiplier_says}
 use Rattle.branch_certificate.proofs.ReadSteps.{node_more, bound_more}
@@ -229,20 +228,3 @@ module _ (problem : ProblemParts) (sound : IsProblem problem) where
             ∙ all.1.whole [] refl
             ∙ ap (λ some. nodes ++ some) (nodes_none ids) ∙ append-nil nodes;
       }
-
-  module _ {E : Type 0} (nodes : List Node) (table : List TableRow)
-      (is : table ≡ flat_map (node_rows problem) nodes) where
-    -- the clauses of a table that is written, as those of a tree
-    pub text_told : (r : Result (List ℕ) E)
-        → IfOk r (λ text. text ≡ table_text tree_header tree_columns table)
-        → IfOk r (λ text. text ≡ tree_text problem nodes)
-    unfolding tree_text
-    text_told (Ok text) h = h ∙ ap (table_text tree_header tree_columns) is
-    text_told (Err error) h = tt
-
-    pub back_told : All (NamesWhatIs problem) nodes → All CanBeWritten nodes
-        → (r : Result (List ℕ) E)
-        → IfOk r (ReadsBack tree_columns table) → IfOk r (λ text. ReadsBackAs problem nodes text)
-    back_told named can (Ok text) h =
-        nodes_back nodes named can text (subst (λ rows. ReadsBack tree_columns rows text) is h)
-    back_told named can (Err error) h = tt

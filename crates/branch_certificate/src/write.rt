@@ -1,9 +1,14 @@
 // Writing a tree.
-ghost use Rattle.std.specs.Prelude.{◌≡◌, ◌<◌, ◌++◌, ◌∷◌, [], length, map, pos, All, IfOk, OnOk};
+ghost use Rattle.std.specs.Prelude.{◌≡◌, ◌<◌, ◌≤◌, ◌++◌, ◌∷◌, [], length, map, pos, All, IfOk, OnOk};
+ghost use Rattle.std.specs.Prelude.{drop};
+ghost use Rattle.std.specs.List.{flat_map};
+ghost use Rattle.giv_files.specs.Columns.{tree_columns};
+ghost use Rattle.giv_files.specs.Writing.{line_text, table_text};
+ghost use Rattle.line_cost_model.specs.Multipliers.{AreMultipliers};
 ghost use Rattle.line_cost_model.specs.Problems.{IsProblem};
-ghost use Rattle.branch_certificate.specs.TreeTexts.{CanBeWritten, NamesWhatIs, ReadsBackAs};
-ghost use Rattle.branch_certificate.specs.TreeTexts.{edge_id, line_id, node_rows, row_with};
-ghost use Rattle.branch_certificate.specs.TreeTexts.{side_place, tree_text};
+ghost use Rattle.branch_certificate.specs.TreeTexts.{CanBeWritten, IsSmallSplit, NamesWhatIs};
+ghost use Rattle.branch_certificate.specs.TreeTexts.{ReadsBackAs, edge_id, line_id, node_rows};
+ghost use Rattle.branch_certificate.specs.TreeTexts.{row_with, side_place, tree_header, tree_text};
 
 use crate::node::Node;
 use crate::tree::Tree;
@@ -13,19 +18,53 @@ use plan_num::{NoMemory, Text};
 use std::alloc::Global;
 
 /// The text of a tree over a line problem, which `read_tree` reads back. Each split of a node is at
-/// 1,000,000,000 at most.
+/// 1,000,000,000 at most. It is written node by node, with no table beside it.
 pub fn write_tree(alloc: Global, problem: &LineProblem, tree: &Tree) -> Result<Text, NoMemory>
     requires names { All (NamesWhatIs problem.now) tree.now }
-    requires written { All CanBeWritten tree.now }
+    requires small { All IsSmallSplit tree.now }
     ensures text { IfOk result (λ text. text ≡ tree_text problem.now tree.now) }
     ensures back { IfOk result (λ text. ReadsBackAs problem.now tree.now text) }
 {
     // A count tells what always holds of a problem.
     let _ = problem.edge_count();
-    let mut table = Table::new(alloc);
+    let mut bytes = Vec::from_slice(alloc, b"# kind; id; value; multiplier")?;
+    bytes.push(b'\n')?;
     for i in 0..tree.len() {
-        push_node(&mut table, problem, tree.node(i))?;
+        push_node(alloc, &mut bytes, problem, tree.node(i))?;
     }
+    Ok(Text::from_vec(bytes))
+}
+
+// The lines of a node go behind others.
+fn push_node(
+    alloc: Global,
+    bytes: &mut Vec<u8>,
+    problem: &LineProblem,
+    node: &Node,
+) -> Result<(), NoMemory>
+    requires sound { IsProblem problem.now }
+    requires names { NamesWhatIs problem.now node.now }
+    requires small { IsSmallSplit node.now }
+    ensures lines { OnOk result (bytes.new.items ≡ bytes.old.items
+        ++ flat_map (line_text tree_columns) (node_rows problem.now node.now)) }
+    ensures written { OnOk result (CanBeWritten node.now) }
+{
+    let text = node_text(alloc, problem, node)?;
+    bytes.extend_from_slice(behind_header(text.as_bytes()))?;
+    Ok(())
+}
+
+// The text of a table with the rows of a node.
+fn node_text(alloc: Global, problem: &LineProblem, node: &Node) -> Result<Text, NoMemory>
+    requires sound { IsProblem problem.now }
+    requires names { NamesWhatIs problem.now node.now }
+    requires small { IsSmallSplit node.now }
+    ensures text { IfOk result (λ text. text
+        ≡ table_text tree_header tree_columns (node_rows problem.now node.now)) }
+    ensures written { IfOk result (λ _. CanBeWritten node.now) }
+{
+    let mut table = Table::new(alloc);
+    push_rows(&mut table, problem, node)?;
     write_table(
         alloc,
         b"# kind; id; value; multiplier",
@@ -34,11 +73,21 @@ pub fn write_tree(alloc: Global, problem: &LineProblem, tree: &Tree) -> Result<T
     )
 }
 
+// What stands behind the header of a text.
+fn behind_header(text: &[u8]) -> &[u8]
+    requires { 30 ≤ length text.now }
+    ensures { result.now ≡ drop 30 text.now }
+{
+    &text[30..]
+}
+
 // The rows of a node go behind others.
-fn push_node(table: &mut Table<4>, problem: &LineProblem, node: &Node) -> Result<(), NoMemory>
+fn push_rows(table: &mut Table<4>, problem: &LineProblem, node: &Node) -> Result<(), NoMemory>
     requires sound { IsProblem problem.now }
     requires names { NamesWhatIs problem.now node.now }
-    ensures { OnOk result (table.new ≡ table.old ++ node_rows problem.now node.now) }
+    requires small { IsSmallSplit node.now }
+    ensures rows { OnOk result (table.new ≡ table.old ++ node_rows problem.now node.now) }
+    ensures written { OnOk result (CanBeWritten node.now) }
 {
     match node {
         Node::Split { line, at } => {
@@ -62,7 +111,8 @@ fn push_bound(
     requires sound { IsProblem problem.now }
     requires names { All
         (λ multiplier. multiplier.edge < length problem.now.edges) multipliers.now }
-    ensures { OnOk result (table.new ≡ table.old
+    ensures sound { OnOk result (AreMultipliers multipliers.now) }
+    ensures rows { OnOk result (table.new ≡ table.old
         ++ row_with 2 (pos (length multipliers.now)) 0 0
         ∷ map (λ multiplier. row_with 3 (edge_id problem.now multiplier.edge) 0 multiplier.amount)
         multipliers.now) }

@@ -1,61 +1,46 @@
-use Rattle.std.proofs.Common.{refl, sym, ap, subst, ◌∙◌, arith, All}
-use Rattle.std.specs.List.{flat_map}
+use Rattle.std.proofs.Common.{◌++◌, ◌∷◌, [], ap, subst, ◌∙◌, arith, All}
 use Rattle.std.proofs.lemmas.List.{take_all}
+use Rattle.std.proofs.lemmas.List.Elements.{All-nil}
 use Rattle.giv_files.specs.Columns.{tree_columns}
-use Rattle.giv_files.specs.Writing.{InColumns}
-use Rattle.giv_files.proofs.Headers.{plain_header}
-use Rattle.branch_certificate.specs.TreeTexts.{node_rows, tree_header}
-use Rattle.branch_certificate.proofs.WriteInside.{columns_written, rows_inside}
-use Rattle.branch_certificate.proofs.WriteRows.{rows_more}
-use Rattle.branch_certificate.proofs.WriteTrees.{text_told, back_told}
+use Rattle.giv_files.specs.Writing.{line_text}
+use Rattle.branch_certificate.specs.TreeTexts.{CanBeWritten, IsSmallSplit, NamesWhatIs, node_rows, tree_header}
+use Rattle.branch_certificate.proofs.WriteLines.{all_lines, items_more, lines_more, text_back}
+use Rattle.line_cost_model.proofs.Proving.{holds_at}
 use Rattle.branch_certificate.proofs.write.write_tree.Goals as goal
 
-pub loop-i-preserved : goal.loop-i-preserved
-loop-i-preserved c =
-    rows_more (node_rows c.args.problem.now) c.args.tree.now c.loop-i.i c.node.result.now
-    c.loop-i.table _ c.in_ok-push_node.ensures c.loop-i.invariant c.node.ensures
+pub loop-i-init : goal.loop-i-init
+loop-i-init c = record {
+  lines = c.in_ok-push.ensures.items ∙ ap (λ some. some ++ 10 ∷ []) c.in_ok-bytes.ensures.items;
+  written = All-nil CanBeWritten;
+}
 
-pub write_table-requires : goal.write_table-requires
-write_table-requires c =
-    let problem = c.args.problem.now in
-    let nodes = c.args.tree.now in
-    let is = c.loop-i.invariant ∙ ap (flat_map (node_rows problem))
-    (take_all c.loop-i.i nodes (omega arith)) in
-    let inside = rows_inside problem c.edge_count.ensures.sound nodes c.requires.names
-    c.requires.written in (
-      omega arith,
-      (
-        omega arith,
-        (
-          omega arith,
-          (
-            omega arith,
-            (
-              columns_written,
-              (
-                subst (All (λ row. InColumns tree_columns row.cells)) (sym is) inside,
-                (refl, plain_header tree_header refl),
-              ),
-            ),
-          ),
-        ),
-      ),
-    )
+pub push_node-requires-clause-names : goal.push_node-requires-clause-names
+push_node-requires-clause-names c =
+    holds_at (NamesWhatIs c.args.problem.now) c.args.tree.now c.loop-i.i c.node.result.now c.requires.names
+    c.node.ensures
+
+pub push_node-requires-clause-small : goal.push_node-requires-clause-small
+push_node-requires-clause-small c =
+    holds_at IsSmallSplit c.args.tree.now c.loop-i.i c.node.result.now c.requires.small c.node.ensures
+
+pub loop-i-preserved : goal.loop-i-preserved
+loop-i-preserved c = record {
+  lines = lines_more tree_header (line_text tree_columns) (node_rows c.args.problem.now) c.args.tree.now
+      c.loop-i.i c.node.result.now c.loop-i.bytes.items c.push_node.new.bytes.items
+      c.in_ok-push_node.ensures.lines c.loop-i.invariant.lines c.node.ensures;
+  written = items_more CanBeWritten c.args.tree.now c.loop-i.i c.node.result.now c.loop-i.invariant.written
+      c.in_ok-push_node.ensures.written c.node.ensures;
+}
 
 pub returns-clause-text : goal.returns-clause-text
 returns-clause-text c =
-    let problem = c.args.problem.now in
-    let nodes = c.args.tree.now in
-    let is = c.loop-i.invariant ∙ ap (flat_map (node_rows problem))
-    (take_all c.loop-i.i nodes (omega arith)) in
-    text_told problem c.edge_count.ensures.sound nodes c.loop-i.table is c.write_table.result
-    c.write_table.ensures.text
+    c.from_vec.ensures ∙ c.loop-i.invariant.lines
+    ∙ all_lines c.args.problem.now c.args.tree.now c.loop-i.i (omega arith)
 
 pub returns-clause-back : goal.returns-clause-back
 returns-clause-back c =
-    let problem = c.args.problem.now in
-    let nodes = c.args.tree.now in
-    let is = c.loop-i.invariant ∙ ap (flat_map (node_rows problem))
-    (take_all c.loop-i.i nodes (omega arith)) in
-    back_told problem c.edge_count.ensures.sound nodes c.loop-i.table is c.requires.names
-    c.requires.written c.write_table.result c.write_table.ensures.back
+    text_back c.args.problem.now c.edge_count.ensures.sound c.args.tree.now c.requires.names
+    (subst (λ some. All CanBeWritten some) (take_all c.loop-i.i c.args.tree.now (omega arith))
+    c.loop-i.invariant.written) c.from_vec.result
+    (c.from_vec.ensures ∙ c.loop-i.invariant.lines
+    ∙ all_lines c.args.problem.now c.args.tree.now c.loop-i.i (omega arith))

@@ -1,8 +1,14 @@
--- The table has the rows of the nodes so far.
-use Rattle.std.proofs.Common.{◌≡◌, take}
+-- The lines of the nodes so far, each of which can be written.
+use Rattle.std.proofs.Common.{◌≡◌, ◌++◌, ◌∷◌, All, take}
 use Rattle.std.specs.List.{flat_map}
-use Rattle.branch_certificate.specs.TreeTexts.{node_rows}
+use Rattle.giv_files.specs.Columns.{tree_columns}
+use Rattle.giv_files.specs.Writing.{line_text}
+use Rattle.branch_certificate.specs.TreeTexts.{CanBeWritten, node_rows, tree_header}
 use Rattle.branch_certificate.proofs.write.write_tree.Given as goal
 
 abbrev pub invariant-loop-i : goal.invariant-loop-i
-invariant-loop-i l = l.table ≡ flat_map (node_rows l.problem) (take l.i l.tree)
+invariant-loop-i l = record {
+  lines : l.bytes.items ≡ tree_header
+      ++ 10 ∷ flat_map (line_text tree_columns) (flat_map (node_rows l.problem) (take l.i l.tree));
+  written : All CanBeWritten (take l.i l.tree);
+}

@@ -1,0 +1,89 @@
+-- The text of a tree, node by node.
+use Rattle.std.proofs.Common.{◌≡◌, ℕ, ◌+◌, ◌≤◌, List, [], ◌∷◌, ◌++◌, length, take, drop, slice_get, get_or}
+use Rattle.std.proofs.Common.{Some, All, ap, subst, sym, ◌∙◌, refl, arith, append_assoc}
+use Rattle.std.specs.List.{flat_map}
+use Rattle.std.proofs.Math.Seq.{drop-append_seam}
+use Rattle.std.proofs.lemmas.Grind.{flat_map-append}
+use Rattle.std.proofs.lemmas.List.{length-append, take_all, take_more}
+use Rattle.std.proofs.lemmas.List.Elements.{All-push}
+use Rattle.std.proofs.lemmas.Option.{get_or_from_slice_get, slice_get_within}
+use Rattle.giv_files.specs.Columns.{tree_columns}
+use Rattle.giv_files.specs.Tables.{TableRow}
+use Rattle.giv_files.specs.Writing.{line_text, table_text}
+use Rattle.giv_files.proofs.Headers.{plain_header}
+use Rattle.giv_files.proofs.WrittenBack.{written_back}
+use Rattle.line_cost_model.specs.Problems.{IsProblem, ProblemParts}
+use Rattle.branch_certificate.specs.declared.node.Node.{Node}
+use Rattle.branch_certificate.specs.declared.node.Node.TheVariants as node
+use Rattle.branch_certificate.specs.TreeTexts.{CanBeWritten, IsSmallSplit, NamesWhatIs, ReadsBackAs, node_rows}
+use Rattle.branch_certificate.specs.TreeTexts.{tree_header, tree_text}
+use Rattle.branch_certificate.proofs.WriteInside.{columns_written, rows_inside}
+use Rattle.branch_certificate.proofs.WriteRows.{rows_more}
+use Rattle.branch_certificate.proofs.WriteTrees.{nodes_back}
+
+-- the lines of the first items, with those of one more
+pub lines_more : {X Y : Type 0} (header : List ℕ) (line : Y → List ℕ) (rows : X → List Y) (xs : List X)
+    (i : ℕ) (x : X) (old new : List ℕ) → new ≡ old ++ flat_map line (rows x)
+    → old ≡ header ++ 10 ∷ flat_map line (flat_map rows (take i xs)) → slice_get xs i ≡ Some x
+    → new ≡ header ++ 10 ∷ flat_map line (flat_map rows (take (i + 1) xs))
+lines_more header line rows xs i x old new pushed are there =
+    let before = flat_map rows (take i xs) in
+    pushed ∙ ap (λ some. some ++ flat_map line (rows x)) are
+    ∙ append_assoc header (10 ∷ flat_map line before) (flat_map line (rows x))
+    ∙ ap (λ some. header ++ 10 ∷ some) (sym (flat_map-append line before (rows x))
+    ∙ ap (flat_map line) (rows_more rows xs i x before (before ++ rows x) refl refl there))
+
+-- what holds of the first items, and of one more
+pub items_more : {X : Type 0} (P : X → Type 0) (xs : List X) (i : ℕ) (x : X) → All P (take i xs) → P x
+    → slice_get xs i ≡ Some x → All P (take (i + 1) xs)
+items_more P xs i x all own there =
+    subst (All P) (sym (take_more xs i x (slice_get_within xs i x there)
+    ∙ ap (λ item. take i xs ++ item ∷ []) (get_or_from_slice_get xs i x x there)))
+    (All-push P (take i xs) x all own)
+
+-- what stands behind the header
+pub behind_it : (rows : List TableRow)
+    → drop 30 (table_text tree_header tree_columns rows) ≡ flat_map (line_text tree_columns) rows
+unfolding table_text
+behind_it rows =
+    let lines = flat_map (line_text tree_columns) rows in
+    ap (drop 30) (sym (append_assoc tree_header (10 ∷ []) lines))
+    ∙ drop-append_seam (tree_header ++ 10 ∷ []) lines
+
+pub long_text : (rows : List TableRow) (text : List ℕ) → text ≡ table_text tree_header tree_columns rows
+    → 30 ≤ length text
+unfolding table_text
+long_text rows text is =
+    let lines = flat_map (line_text tree_columns) rows in
+    let all = ap length is ∙ length-append tree_header (10 ∷ lines) in
+    omega (arith, all)
+
+-- the lines of all nodes are the text of the tree
+pub all_lines : (problem : ProblemParts) (nodes : List Node) (i : ℕ) → length nodes ≤ i
+    → tree_header ++ 10 ∷ flat_map (line_text tree_columns) (flat_map (node_rows problem) (take i nodes))
+    ≡ tree_text problem nodes
+unfolding tree_text table_text
+all_lines problem nodes i past =
+    ap (λ nodes. tree_header ++ 10 ∷ flat_map (line_text tree_columns) (flat_map (node_rows problem) nodes))
+    (take_all i nodes past)
+
+-- and it is read back
+pub text_back : (problem : ProblemParts) → IsProblem problem → (nodes : List Node)
+    → All (NamesWhatIs problem) nodes → All CanBeWritten nodes → (text : List ℕ)
+    → text ≡ tree_text problem nodes → ReadsBackAs problem nodes text
+unfolding tree_text
+text_back problem sound nodes named can text is =
+    subst (ReadsBackAs problem nodes) (sym is)
+    (nodes_back problem sound nodes named can (tree_text problem nodes)
+    (written_back tree_header tree_columns (flat_map (node_rows problem) nodes) (omega arith) columns_written
+    (rows_inside problem sound nodes named can) (refl, plain_header tree_header refl)))
+
+-- the splits of nodes that can be written are not too great
+pub small_splits : (nodes : List Node) → All CanBeWritten nodes → All IsSmallSplit nodes
+small_splits nodes can k d h = small (get_or nodes k d) (can k d h)
+  where
+    small : (one : Node) → CanBeWritten one → IsSmallSplit one
+    small (node.Split line at) can = can
+    small (node.Empty edge side) can = tt
+    small (node.Bound multipliers) can = tt
+    small node.Point can = tt
