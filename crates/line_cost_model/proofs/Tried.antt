@@ -1,13 +1,12 @@
 -- The definitions on small line problems.
-use Rattle.std.proofs.Common.{◌≡◌, ℕ, List, [], ◌∷◌, refl, pos, true, false, Some, None}
+use Rattle.std.proofs.Common.{◌≡◌, ℕ, length, List, [], ◌∷◌, refl, pos, true, false, Some, None}
 use Rattle.line_cost_model.specs.declared.edge.BoundedEdge.{BoundedEdge}
 use Rattle.line_cost_model.specs.declared.range.LineRange.{LineRange}
 use Rattle.line_cost_model.specs.declared.side.Side.TheVariants as side
 use Rattle.line_cost_model.specs.Problems.{CostedLine, ProblemParts}
 use Rattle.line_cost_model.specs.Concepts.{cost_of, is_feasible}
-use Rattle.line_cost_model.specs.Regions.{concepts_in, concept_count, root_of, empty_edge, part_up_to}
+use Rattle.line_cost_model.specs.Regions.{concept_count, concepts_in, root_of, empty_edge, part_up_to}
 use Rattle.line_cost_model.specs.DualBounds.{bound_by, multipliers_of, dual_bound, are_within}
-use Rattle.line_cost_model.specs.Chosen.{feasible_concepts, chosen_concept, comes_before}
 
 abbrev edge : ℕ → ℕ → ℕ → BoundedEdge
 edge id least most = record { id = pos id; least = least; most = most }
@@ -32,6 +31,10 @@ count : concept_count (root_of two) ≡ 16
 unfolding concept_count
 count = refl
 
+listed : length (concepts_in (root_of two)) ≡ 16
+unfolding concepts_in
+listed = refl
+
 feasible : is_feasible two (1 ∷ 1 ∷ []) ≡ true
 unfolding is_feasible
 feasible = refl
@@ -44,14 +47,6 @@ too_few = refl
 too_short : is_feasible two (2 ∷ []) ≡ false
 unfolding is_feasible
 too_short = refl
-
-all_feasible : feasible_concepts two ≡ (1 ∷ 1 ∷ []) ∷ (1 ∷ 2 ∷ []) ∷ (2 ∷ 0 ∷ []) ∷ (2 ∷ 1 ∷ []) ∷ (3 ∷ 0 ∷ []) ∷ []
-unfolding feasible_concepts is_feasible concepts_in
-all_feasible = refl
-
-chosen : chosen_concept two ≡ Some (1 ∷ 1 ∷ [])
-unfolding chosen_concept feasible_concepts is_feasible concepts_in
-chosen = refl
 
 costs : cost_of two (1 ∷ 1 ∷ []) ≡ 27000000
 costs = refl
@@ -76,10 +71,6 @@ none : empty_edge dense (root_of dense) ≡ Some (1, side.Under)
 unfolding empty_edge
 none = refl
 
-nothing : chosen_concept dense ≡ None
-unfolding chosen_concept feasible_concepts is_feasible concepts_in
-nothing = refl
-
 -- where an edge is missed on both sides, too many drives are told
 both : empty_edge (record { edges = edge 1 3 0 ∷ []; lines = line 1 1 (0 ∷ []) ∷ [] }) (range 1 1 ∷ []) ≡ Some (0, side.Over)
 unfolding empty_edge
@@ -90,10 +81,6 @@ both = refl
 -- the second edge may be left out
 abbrev loose : ProblemParts
 loose = record { edges = edge 1 2 3 ∷ edge 2 0 3 ∷ []; lines = lines }
-
-loosely : chosen_concept loose ≡ Some (0 ∷ 2 ∷ [])
-unfolding chosen_concept feasible_concepts is_feasible concepts_in
-loosely = refl
 
 -- one drive is missing on the first edge, for which the second line is open
 multiplier : multipliers_of loose (range 1 1 ∷ range 0 3 ∷ []) ≡ record { edge = 0; amount = 12000000 } ∷ []
@@ -112,18 +99,3 @@ shared : multipliers_of (record { edges = edge 1 2 9 ∷ edge 2 3 9 ∷ []; line
     ≡ record { edge = 0; amount = 7 } ∷ record { edge = 1; amount = 3 } ∷ []
 unfolding multipliers_of
 shared = refl
-
--- ---- the order
-
--- two lines of equal cost: the concept with the lesser frequency of the line of lesser id comes
--- first
-abbrev equal : ProblemParts
-equal = record { edges = edge 1 1 1 ∷ []; lines = line 1 5000000 (0 ∷ []) ∷ line 2 5000000 (0 ∷ []) ∷ [] }
-
-equally : chosen_concept equal ≡ Some (0 ∷ 1 ∷ [])
-unfolding chosen_concept feasible_concepts is_feasible concepts_in
-equally = refl
-
--- costs are looked at first: the second line stands before the first
-dearer : comes_before (record { edges = []; lines = line 1 5 [] ∷ line 2 6 [] ∷ [] }) (1 ∷ 0 ∷ []) (0 ∷ 1 ∷ []) ≡ true
-dearer = refl
