@@ -143,10 +143,10 @@ int main(int argc, char **argv) {
         fprintf(f, "# kind; id; value; multiplier\n");
         for (Node &node : tree) {
             if (node.kind == 0) fprintf(f, "split; %lld; %d; 0\n", lines[node.index].id, node.at);
-            if (node.kind == 1) fprintf(f, "empty; %lld; %s; 0\n", edges[node.index].id, node.at ? "under" : "over");
+            if (node.kind == 1) fprintf(f, "empty; %lld; %d; 0\n", edges[node.index].id, node.at);
             if (node.kind == 4) fprintf(f, "point; 0; 0; 0\n");
             if (node.kind == 2) fprintf(f, "bound; %zu; 0; 0\n", node.multipliers.size());
-            for (Multiplier &m : node.multipliers) fprintf(f, "multiplier; %lld; 0; %s\n", edges[m.edge].id, fixed(m.amount).c_str());
+            for (Multiplier &m : node.multipliers) fprintf(f, "mult; %lld; 0; %s\n", edges[m.edge].id, fixed(m.amount).c_str());
         }
         fclose(f);
     }

@@ -14,7 +14,7 @@ use Rattle.line_cost_model.specs.declared.range.LineRange.{LineRange}
 use Rattle.line_cost_model.specs.Problems.{CostedLine, ProblemParts, IsProblem}
 use Rattle.line_cost_model.specs.Concepts.{cost_of, frequency_on, goes_over}
 use Rattle.line_cost_model.specs.Regions.{IsRange, greatest_in, least_in, range_of, root_of}
-use Rattle.line_cost_model.specs.RunningSums.{AreCounted, AreDriven, AreMoved, IsSummed}
+use Rattle.line_cost_model.specs.RunningSums.{AreCounted, AreDriven, AreMoved, IsSummed, missed_count}
 use Rattle.line_cost_model.proofs.FewLines.{few_lines, no_line}
 use Rattle.line_cost_model.proofs.Lowered.{is_new, or_false, or_true}
 
@@ -141,8 +141,10 @@ zeros (line ∷ lines) most (suc k) = zeros lines most k
 
 pub root_summed : (problem : ProblemParts) (ranges : List LineRange) (least greatest : List ℕ)
     → IsProblem problem → ranges ≡ root_of problem → All IsRange ranges → least ≡ replicate (length problem.edges) 0
-    → AreDriven problem (greatest_in ranges) greatest → IsSummed problem ranges least greatest 0
-root_summed problem ranges least greatest problem_is is sound zero_least greatest_are =
+    → AreDriven problem (greatest_in ranges) greatest
+    → (empty : ℕ) → empty ≡ missed_count problem.edges least greatest
+    → IsSummed problem ranges least greatest 0 empty
+root_summed problem ranges least greatest problem_is is sound zero_least greatest_are empty empty_is =
     let each : length ranges ≡ length problem.lines = ap length is ∙ length-map problem.lines _ in
     let long : length (least_in ranges) ≡ length problem.lines =
     length-map ranges (λ range. range.lo) ∙ each in
@@ -160,6 +162,7 @@ root_summed problem ranges least greatest problem_is is sound zero_least greates
       };
       greatest_are = greatest_are;
       cost_is = sym (none_cost problem (least_in ranges) long none);
+      empty_is = empty_is;
     }
 
 -- ---- sums move edge by edge
@@ -255,17 +258,21 @@ read_at of lines line x is =
     ] refl is
 
 pub region_moved : (problem : ProblemParts) (ranges : List LineRange)
-    (least greatest least_now greatest_now edges : List ℕ) (cost cost_now line lo hi price : ℕ)
-    → IsSummed problem ranges least greatest cost → line < length ranges → lo ≤ hi → hi ≤ 1000
+    (least greatest least_now greatest_now edges : List ℕ)
+    (cost cost_now empty empty_now line lo hi price : ℕ)
+    → IsSummed problem ranges least greatest cost empty → line < length ranges → lo ≤ hi → hi ≤ 1000
     → option_map (λ at. at.edges) (slice_get problem.lines line) ≡ Some edges
     → option_map (λ at. at.cost) (slice_get problem.lines line) ≡ Some price
     → length least_now ≡ length least → length greatest_now ≡ length greatest
     → AreMoved edges (range_of ranges line).lo lo least least_now
     → AreMoved edges (range_of ranges line).hi hi greatest greatest_now
     → cost_now + price * (range_of ranges line).lo ≡ cost + price * lo
+    → empty_now ≡ missed_count problem.edges least_now greatest_now
     → IsSummed problem (set ranges line (record { lo = lo; hi = hi })) least_now greatest_now cost_now
-region_moved problem ranges least greatest least_now greatest_now edges cost cost_now line lo hi price
-    summed there order few edges_are price_is least_size greatest_size least_moved greatest_moved cost_is =
+    empty_now
+region_moved problem ranges least greatest least_now greatest_now edges cost cost_now empty empty_now line
+    lo hi price summed there order few edges_are price_is least_size greatest_size least_moved
+    greatest_moved cost_is empty_is =
     let range : LineRange = record { lo = lo; hi = hi } in
     let lo_of : LineRange → ℕ = λ range. range.lo in
     let hi_of : LineRange → ℕ = λ range. range.hi in
@@ -302,6 +309,7 @@ region_moved problem ranges least greatest least_now greatest_now edges cost cos
           let whole : cost_now ≡ cost_of problem (set (map lo_of ranges) line lo) =
           omega (arith, moved, before, after, cost_is, summed.cost_is) in
           whole ∙ ap (cost_of problem) lows;
+      empty_is = empty_is;
     }
 
 -- the line at an index is counted in the sums of its edges and in the cost, and these are not too great
@@ -349,9 +357,9 @@ cost_counts problem fs cost line price before cost_is same within price_is befor
     omega (arith, moved, own, none, cost_is)
 
 pub least_cost_few : (problem : ProblemParts) (ranges : List LineRange) (least greatest : List ℕ) (cost : ℕ)
-    → IsSummed problem ranges least greatest cost
+    (empty : ℕ) → IsSummed problem ranges least greatest cost empty
     → cost ≤ 5000000000000000000000000000000000000
-least_cost_few problem ranges least greatest cost summed =
+least_cost_few problem ranges least greatest cost empty summed =
     omega (
       arith,
       summed.cost_is,
@@ -360,8 +368,8 @@ least_cost_few problem ranges least greatest cost summed =
     )
 
 -- what another range of a line takes off was counted before
-module _ (problem : ProblemParts) (ranges : List LineRange) (least greatest edges : List ℕ) (cost line : ℕ)
-    (summed : IsSummed problem ranges least greatest cost) (there : line < length ranges)
+module _ (problem : ProblemParts) (ranges : List LineRange) (least greatest edges : List ℕ) (cost empty line : ℕ)
+    (summed : IsSummed problem ranges least greatest cost empty) (there : line < length ranges)
     (edges_are : option_map (λ at. at.edges) (slice_get problem.lines line) ≡ Some edges) where
   pub least_counts : AreCounted (range_of ranges line).lo least edges
   least_counts = sums_count problem (least_in ranges) least edges line (range_of ranges line).lo
@@ -376,10 +384,21 @@ module _ (problem : ProblemParts) (ranges : List LineRange) (least greatest edge
       (sym (get_or-map (λ range. range.hi) ranges line no_range 0 there))
 
 pub least_cost_counts : (problem : ProblemParts) (ranges : List LineRange) (least greatest : List ℕ)
-    (cost line price : ℕ) → IsSummed problem ranges least greatest cost → line < length ranges
+    (cost empty line price : ℕ) → IsSummed problem ranges least greatest cost empty → line < length ranges
     → option_map (λ at. at.cost) (slice_get problem.lines line) ≡ Some price
     → price * (range_of ranges line).lo ≤ cost
-least_cost_counts problem ranges least greatest cost line price summed there price_is =
+least_cost_counts problem ranges least greatest cost empty line price summed there price_is =
     cost_counts problem (least_in ranges) cost line price (range_of ranges line).lo summed.cost_is
     (length-map ranges (λ range. range.lo) ∙ summed.each) (omega (arith, there, summed.each)) price_is
     (sym (get_or-map (λ range. range.lo) ranges line no_range 0 there))
+
+-- the edges of a line are there, and each of them once
+pub line_edges : (problem : ProblemParts) (line : ℕ) (edges : List ℕ) → IsProblem problem
+    → line < length problem.lines
+    → option_map (λ at. at.edges) (slice_get problem.lines line) ≡ Some edges
+    → All (λ edge. edge < length problem.edges) edges × IsDistinct nat_eq edges
+line_edges problem line edges sound within edges_are =
+    let line_is = sound.lines line no_line within in
+    subst (λ edges. All (λ edge. edge < length problem.edges) edges × IsDistinct nat_eq edges)
+    (sym (read_at (λ (at : CostedLine). at.edges) problem.lines line edges edges_are))
+    (line_is.there, line_is.distinct)

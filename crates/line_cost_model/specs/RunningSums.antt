@@ -1,7 +1,8 @@
 -- Inner words: the running sums of a region. A reader of the contracts of this crate needs none of
 -- them.
-use Rattle.std.specs.Prelude.{◌≡◌, ℕ, ◌+◌, ◌<◌, ◌≤◌, nat_eq, if◌then◌else◌, List, length, get_or, All}
-use Rattle.std.specs.List.{IsDistinct, list_any}
+use Rattle.std.specs.Prelude.{◌≡◌, ℕ, pos, ◌||◌, nat_lt, sum_by, ◌+◌, ◌<◌, ◌≤◌, nat_eq, if◌then◌else◌, List, length, get_or, All}
+use Rattle.std.specs.List.{IsDistinct, list_any, range_with_len}
+use Rattle.line_cost_model.specs.declared.edge.BoundedEdge.{BoundedEdge}
 use Rattle.line_cost_model.specs.declared.range.LineRange.{LineRange}
 use Rattle.line_cost_model.specs.Problems.{IsProblem, ProblemParts}
 use Rattle.line_cost_model.specs.Concepts.{cost_of, frequency_on}
@@ -27,12 +28,33 @@ AreMoved edges before after sums now =
     → get_or now edge 0 + (if list_any (nat_eq edge) edges then before else 0)
     ≡ get_or sums edge 0 + (if list_any (nat_eq edge) edges then after else 0)
 
+-- an edge that is not there
+abbrev pub no_bounds : BoundedEdge
+no_bounds = record { id = pos 0; least = 0; most = 0 }
+
+-- an edge is driven too often by the least frequencies, or not often enough by the greatest: 1 for
+-- one that is, and 0 for another
+abbrev pub missed : BoundedEdge → ℕ → ℕ → ℕ
+missed bounds least greatest =
+    if nat_lt bounds.most least || nat_lt greatest bounds.least then 1 else 0
+
+-- the same of the edge at an index, by sums over edges
+abbrev pub missed_at : List BoundedEdge → List ℕ → List ℕ → ℕ → ℕ
+missed_at edges least greatest edge =
+    missed (get_or edges edge no_bounds) (get_or least edge 0) (get_or greatest edge 0)
+
+-- how many edges are so
+abbrev pub missed_count : List BoundedEdge → List ℕ → List ℕ → ℕ
+missed_count edges least greatest =
+    sum_by (missed_at edges least greatest) (range_with_len 0 (length edges))
+
 -- what always holds of a region
 pub record IsSummed (problem : ProblemParts) (ranges : List LineRange) (least greatest : List ℕ)
-    (cost : ℕ) : Type 0 where
+    (cost empty : ℕ) : Type 0 where
   pub problem_is : IsProblem problem
   pub each : length ranges ≡ length problem.lines
   pub sound : All IsRange ranges
   pub least_are : AreDriven problem (least_in ranges) least
   pub greatest_are : AreDriven problem (greatest_in ranges) greatest
   pub cost_is : cost ≡ cost_of problem (least_in ranges)
+  pub empty_is : empty ≡ missed_count problem.edges least greatest

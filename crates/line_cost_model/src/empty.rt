@@ -12,6 +12,9 @@ impl<'a> Region<'a> {
         ensures first { result ≡ empty_edge self.now.problem self.now.ranges }
         ensures none { IfSome result (λ _. HasNoFeasible self.now.problem self.now.ranges) }
     {
+        if self.has_no_empty_edge() {
+            return None;
+        }
         for edge in 0..self.edge_count() {
             if let Some(side) = self.empty_side(edge) {
                 return Some((edge, side));

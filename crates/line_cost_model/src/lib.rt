@@ -9,6 +9,7 @@ mod edge;
 mod empty;
 mod evidence;
 mod line;
+mod missed;
 mod multipliers;
 mod pass;
 mod problem;

@@ -1,16 +1,18 @@
 // Regions of concepts.
 ghost use Rattle.std.specs.Prelude.{◌≡◌, ◌<◌, ◌≤◌, pos, length, IfOk, All, take, map, slice_get, Some};
-ghost use Rattle.std.specs.Prelude.{None, nat_lt, if◌then◌else◌, option_map};
+ghost use Rattle.std.specs.Prelude.{IsTrue, None, nat_lt, if◌then◌else◌, option_map};
 ghost use Rattle.line_cost_model.specs.declared.side.Side.TheVariants as side;
 ghost use Rattle.std.specs.List.{list_any};
 ghost use Rattle.line_cost_model.specs.Concepts.{cost_of};
 ghost use Rattle.line_cost_model.specs.DualBounds.{shortfall};
 ghost use Rattle.line_cost_model.specs.EmptySides.{is_empty_on};
 ghost use Rattle.line_cost_model.specs.Problems.{IsProblem};
-ghost use Rattle.line_cost_model.specs.Regions.{HasEachFeasible, IsRange, empty_side, has_several};
+ghost use Rattle.line_cost_model.specs.Regions.{HasEachFeasible, IsRange, empty_edge, empty_side};
+ghost use Rattle.line_cost_model.specs.Regions.{has_several};
 ghost use Rattle.line_cost_model.specs.Regions.{least_in, range_of, root_of, with_range};
 
 use crate::edge::BoundedEdge;
+use crate::missed::{missed_among, missed_count};
 use crate::problem::LineProblem;
 use crate::range::LineRange;
 use crate::running::{cost_moved, greatest_sums, move_sums, root_ranges};
@@ -21,8 +23,9 @@ use std::alloc::Global;
 use std::marker::Model;
 
 /// A range of frequencies for each line of a problem. Contracts see it as the problem and the list
-/// of these ranges. It keeps how often each edge is driven at least and at most, and what the least
-/// frequencies cost, so that another range for a line takes one step for each of its edges.
+/// of these ranges. It keeps how often each edge is driven at least and at most, how many edges show
+/// that there is no feasible concept, and what the least frequencies cost, so that another range for
+/// a line takes some steps for each of its edges alone.
 #[derive(Drop)]
 pub struct Region<'a> {
     problem: &'a LineProblem,
@@ -30,6 +33,7 @@ pub struct Region<'a> {
     least: Vec<u64>,
     greatest: Vec<u64>,
     least_cost: u128,
+    empty: usize,
 }
 
 impl<'a> Model for Region<'a> {
@@ -41,7 +45,7 @@ impl<'a> Model for Region<'a> {
     ghost view = { λ r. record { problem = r.problem.now; ranges = r.ranges.items } };
 
     ghost invariant = { λ r. IsSummed r.problem.now r.ranges.items r.least.items r.greatest.items
-        r.least_cost };
+        r.least_cost r.empty };
 }
 
 impl<'a> Region<'a> {
@@ -55,12 +59,14 @@ impl<'a> Region<'a> {
         let ranges = root_ranges(alloc, problem)?;
         let least = vec![in alloc; 0; problem.edge_count()]?;
         let greatest = greatest_sums(alloc, problem, &ranges)?;
+        let empty = missed_count(problem, &least, &greatest);
         Ok(Region {
             problem,
             ranges,
             least,
             greatest,
             least_cost: 0,
+            empty,
         })
     }
 
@@ -87,9 +93,12 @@ impl<'a> Region<'a> {
         let before = self.ranges[line];
         let edges = self.problem.line_edges(line);
         let cost = self.problem.cost_of_line(line);
+        let missed = missed_among(self.problem, &self.least, &self.greatest, edges);
         self.ranges[line] = LineRange { lo, hi };
         move_sums(&mut self.least, edges, before.lo, lo);
         move_sums(&mut self.greatest, edges, before.hi, hi);
+        self.empty = self.empty + missed_among(self.problem, &self.least, &self.greatest, edges)
+            - missed;
         self.least_cost = cost_moved(self.least_cost, cost, before.lo, lo);
     }
 
@@ -110,6 +119,7 @@ impl<'a> Region<'a> {
             least: Vec::from_slice(alloc, &self.least)?,
             greatest: Vec::from_slice(alloc, &self.greatest)?,
             least_cost: self.least_cost,
+            empty: self.empty,
         })
     }
 
@@ -151,6 +161,13 @@ impl<'a> Region<'a> {
         ensures { result.now ≡ self.now.ranges }
     {
         &self.ranges
+    }
+
+    /// Whether no edge shows that the region has no feasible concept.
+    pub(crate) fn has_no_empty_edge(&self) -> bool
+        ensures { IsTrue result → empty_edge self.now.problem self.now.ranges ≡ None }
+    {
+        self.empty == 0
     }
 
     /// On which side the edge at an index shows that the region has no feasible concept, where it

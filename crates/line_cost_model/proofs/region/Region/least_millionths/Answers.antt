@@ -5,4 +5,4 @@ pub returns-clause-few : goal.returns-clause-few
 returns-clause-few c =
     let inside = c.self.inside in
     least_cost_few inside.problem.now inside.ranges.items inside.least.items inside.greatest.items
-    inside.least_cost c.self.invariant
+    inside.least_cost inside.empty c.self.invariant

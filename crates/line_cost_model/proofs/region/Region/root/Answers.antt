@@ -1,7 +1,7 @@
 use Rattle.std.proofs.Common.{◌∙◌, List, replicate, ap, sym, subst}
 use Rattle.line_cost_model.specs.declared.range.LineRange.{LineRange}
 use Rattle.line_cost_model.specs.Regions.{HasEachFeasible, greatest_in}
-use Rattle.line_cost_model.specs.RunningSums.{AreDriven}
+use Rattle.line_cost_model.specs.RunningSums.{AreDriven, missed_count}
 use Rattle.line_cost_model.proofs.Roots.{root_has_each}
 use Rattle.line_cost_model.proofs.RunningSums.{root_summed}
 use Rattle.line_cost_model.proofs.region.Region.root.Goals as goal
@@ -14,6 +14,9 @@ invariant_of-result c =
     ∙ ap (λ n. replicate n 0) c.edge_count.ensures.count)
     (subst (λ (ranges : List LineRange). AreDriven c.args.problem.now (greatest_in ranges)
     c.in_ok-greatest.greatest.items) c.deref.ensures.value c.in_ok-greatest.ensures)
+    c.missed_count-empty.result
+    (c.missed_count-empty.ensures ∙ (λ i. missed_count c.args.problem.now.edges
+    (c.deref-2.ensures.value i) (c.deref-3.ensures.value i)))
 
 pub returns-clause-each : goal.returns-clause-each
 returns-clause-each c =
