@@ -7,7 +7,7 @@ ghost use Rattle.branch_certificate.specs.Walks.{SplitsOne, first_by_kind, first
 
 use crate::fault::TreeFault;
 use crate::node::Node;
-use line_cost_model::Region;
+use line_cost_model::SummedRegion;
 use plan_num::NoMemory;
 
 /// The first places, so far, of each kind of fault of a leaf.
@@ -37,7 +37,7 @@ impl FirstFaults {
     pub(crate) fn note(
         &mut self,
         best: i128,
-        region: &Region,
+        region: &SummedRegion,
         place: usize,
         node: &Node,
         left: &mut Vec<u64>,
@@ -85,7 +85,7 @@ fn first_place(first: Option<usize>, fails: bool, place: usize) -> Option<usize>
 }
 
 /// Whether a node splits the range of a line outside of it.
-pub(crate) fn splits_outside(region: &Region, node: &Node) -> bool
+pub(crate) fn splits_outside(region: &SummedRegion, node: &Node) -> bool
     requires { SplitsOne region.now.ranges node.now }
     ensures { result ≡ splits_outside region.now.ranges node.now }
 {
@@ -99,7 +99,7 @@ pub(crate) fn splits_outside(region: &Region, node: &Node) -> bool
 }
 
 // Whether a node names an edge as empty that is not.
-fn is_not_empty(region: &Region, node: &Node) -> bool
+fn is_not_empty(region: &SummedRegion, node: &Node) -> bool
     requires { NamesWhatIs region.now.problem node.now }
     ensures { result ≡ is_not_empty region.now.problem region.now.ranges node.now }
 {
@@ -110,7 +110,7 @@ fn is_not_empty(region: &Region, node: &Node) -> bool
 }
 
 // Whether a node has multipliers that take more off an open line than it costs.
-fn exceeds_costs(region: &Region, node: &Node, left: &mut Vec<u64>) -> Result<bool, NoMemory>
+fn exceeds_costs(region: &SummedRegion, node: &Node, left: &mut Vec<u64>) -> Result<bool, NoMemory>
     requires { NamesWhatIs region.now.problem node.now }
     ensures { IfOk result
         (λ exceeds. exceeds ≡ exceeds_costs region.now.problem region.now.ranges node.now) }
@@ -122,7 +122,7 @@ fn exceeds_costs(region: &Region, node: &Node, left: &mut Vec<u64>) -> Result<bo
 }
 
 // Whether a node has a bound that is below a cost.
-fn is_below(best: i128, region: &Region, node: &Node) -> bool
+fn is_below(best: i128, region: &SummedRegion, node: &Node) -> bool
     requires { NamesWhatIs region.now.problem node.now }
     ensures { result ≡ is_below region.now.problem best region.now.ranges node.now }
 {
@@ -133,7 +133,7 @@ fn is_below(best: i128, region: &Region, node: &Node) -> bool
 }
 
 // Whether a node is a point over a region that is no one concept, or that costs less.
-fn is_no_point(best: i128, region: &Region, node: &Node) -> bool
+fn is_no_point(best: i128, region: &SummedRegion, node: &Node) -> bool
     ensures { result ≡ is_no_point region.now.problem best region.now.ranges node.now }
 {
     match node {

@@ -7,7 +7,7 @@ ghost use Rattle.branch_certificate.specs.TreeFaults.{splits_outside};
 ghost use Rattle.branch_certificate.specs.Walks.{IsOpenSplit, SplitsOne, behind_node, waiting_of};
 
 use crate::node::Node;
-use line_cost_model::{LineProblem, Region};
+use line_cost_model::{LineProblem, SummedRegion};
 use plan_num::NoMemory;
 use std::alloc::Global;
 use std::marker::Model;
@@ -26,7 +26,7 @@ pub(crate) struct OpenSplit {
 /// line problem, that region and those of the upper parts that wait.
 #[derive(Drop)]
 pub struct RegionWalk<'a> {
-    region: Region<'a>,
+    region: SummedRegion<'a>,
     splits: Vec<OpenSplit>,
 }
 
@@ -55,7 +55,7 @@ impl<'a> RegionWalk<'a> {
         }) }
         ensures each { IfOk result (λ _. HasEachFeasible problem.now (root_of problem.now)) }
     {
-        let region = Region::root(alloc, problem)?;
+        let region = SummedRegion::root(alloc, problem)?;
         Ok(RegionWalk {
             region,
             splits: Vec::new(alloc),
@@ -63,7 +63,7 @@ impl<'a> RegionWalk<'a> {
     }
 
     /// The region of the node.
-    pub fn region(&self) -> &Region<'a>
+    pub fn region(&self) -> &SummedRegion<'a>
         ensures problem { result.now.problem ≡ self.now.problem }
         ensures ranges { result.now.ranges ≡ self.now.region }
     {
@@ -124,7 +124,7 @@ pub fn go_on<'a>(walk: &mut RegionWalk<'a>, node: &Node) -> Result<bool, NoMemor
 
 // From the end of a part on to the innermost upper part that waits, where there is one. The range
 // of a split whose parts are both walked is as it was before.
-fn leave<'a>(region: &mut Region<'a>, splits: &mut Vec<OpenSplit>) -> Result<bool, NoMemory>
+fn leave<'a>(region: &mut SummedRegion<'a>, splits: &mut Vec<OpenSplit>) -> Result<bool, NoMemory>
     requires { All (IsOpenSplit (length region.old.ranges)) splits.old.items }
     ensures waiting { IfOk result (λ more. MatchBool more
         (region.new.ranges ∷ waiting_of (reverse splits.new.items) region.new.ranges

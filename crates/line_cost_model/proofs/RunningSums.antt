@@ -402,3 +402,22 @@ line_edges problem line edges sound within edges_are =
     subst (λ edges. All (λ edge. edge < length problem.edges) edges × IsDistinct nat_eq edges)
     (sym (read_at (λ (at : CostedLine). at.edges) problem.lines line edges edges_are))
     (line_is.there, line_is.distinct)
+
+-- one line more has the range that it has in a region
+pub range_taken : (ranges region now : List LineRange) (line lo hi : ℕ) → line < length ranges
+    → ((at : ℕ) → at < line → range_of ranges at ≡ range_of region at)
+    → lo ≡ (range_of region line).lo → hi ≡ (range_of region line).hi
+    → now ≡ set ranges line (record { lo = lo; hi = hi }) → (at : ℕ) → at < line + 1
+    → range_of now at ≡ range_of region at
+range_taken ranges region now line lo hi there done lo_is hi_is now_is at before = elim (cases_eq at line) [
+  | inl same ↦
+      let taken : range_of now line ≡ range_of region line =
+      ap (λ (ranges : List LineRange). range_of ranges line) now_is
+      ∙ get_or-set_same ranges line (record { lo = lo; hi = hi }) no_range there
+      ∙ (λ i. record { lo = lo_is i; hi = hi_is i }) in
+      subst (λ at. range_of now at ≡ range_of region at) (sym same) taken
+  | inr other ↦
+      ap (λ (ranges : List LineRange). range_of ranges at) now_is
+      ∙ get_or-set_other ranges line at (record { lo = lo; hi = hi }) no_range other
+      ∙ done at (omega (arith, before, other))
+]

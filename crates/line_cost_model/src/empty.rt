@@ -1,11 +1,32 @@
 // Regions without a feasible concept.
-ghost use Rattle.std.specs.Prelude.{◌≡◌, IfSome};
-ghost use Rattle.line_cost_model.specs.Regions.{HasNoFeasible, empty_edge};
+ghost use Rattle.std.specs.Prelude.{◌≡◌, ◌<◌, length, slice_get, Some, option_map, IfSome};
+ghost use Rattle.line_cost_model.specs.Regions.{HasNoFeasible, empty_edge, empty_side};
 
+use crate::problem::LineProblem;
 use crate::region::Region;
 use crate::side::Side;
+use crate::summed::SummedRegion;
+use crate::sums::ends_on;
 
-impl<'a> Region<'a> {
+impl LineProblem {
+    /// The first edge that shows that a region has no feasible concept, and how: its least
+    /// frequencies drive it too often, or its greatest ones not often enough. The region has a
+    /// range for each line.
+    pub fn empty_edge(&self, region: &Region) -> Option<(usize, Side)>
+        requires { length region.now ≡ length self.now.lines }
+        ensures first { result ≡ empty_edge self.now region.now }
+        ensures none { IfSome result (λ _. HasNoFeasible self.now region.now) }
+    {
+        for edge in 0..self.edge_count() {
+            if let Some(side) = empty_side(self, region, edge) {
+                return Some((edge, side));
+            }
+        }
+        None
+    }
+}
+
+impl<'a> SummedRegion<'a> {
     /// The first edge that shows that the region has no feasible concept, and how: the least
     /// frequencies drive it too often, or the greatest ones not often enough.
     pub fn empty_edge(&self) -> Option<(usize, Side)>
@@ -20,6 +41,24 @@ impl<'a> Region<'a> {
                 return Some((edge, side));
             }
         }
+        None
+    }
+}
+
+// On which side the edge at an index shows that a region has no feasible concept, where it does.
+fn empty_side(problem: &LineProblem, region: &Region, edge: usize) -> Option<Side>
+    requires there { edge < length problem.now.edges }
+    requires each { length region.now ≡ length problem.now.lines }
+    ensures { option_map (empty_side problem.now.lines region.now edge)
+        (slice_get problem.now.edges edge) ≡ Some result }
+{
+    let bounds = problem.bounds_of(edge);
+    let (least, greatest) = ends_on(problem, region, edge);
+    if u128::from(bounds.most) < least {
+        Some(Side::Over)
+    } else if greatest < u128::from(bounds.least) {
+        Some(Side::Under)
+    } else {
         None
     }
 }

@@ -3,11 +3,11 @@ ghost use Rattle.std.specs.Prelude.{◌≡◌, ◌<◌, pos, length, IfOk, All};
 ghost use Rattle.line_cost_model.specs.DualBounds.{are_within, bound_by};
 
 use crate::multipliers::Multipliers;
-use crate::region::Region;
+use crate::summed::SummedRegion;
 use crate::sums::signed;
 use plan_num::NoMemory;
 
-impl<'a> Region<'a> {
+impl<'a> SummedRegion<'a> {
     /// Whether multipliers are within the costs of the open lines of the region: they take off none
     /// of these more than it costs. The room for what is left of these is kept.
     pub fn are_within(

@@ -17,10 +17,12 @@ mod range;
 mod region;
 mod running;
 mod side;
+mod summed;
 mod sums;
 
-pub use bound::Bound;
+pub use bound::{Bound, KeptBound};
 pub use multipliers::Multipliers;
 pub use problem::LineProblem;
 pub use region::Region;
 pub use side::Side;
+pub use summed::SummedRegion;

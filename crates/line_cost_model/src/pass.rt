@@ -11,10 +11,10 @@ ghost use Rattle.line_cost_model.specs.Regions.{has_several};
 
 use crate::problem::LineProblem;
 use crate::range::LineRange;
-use crate::region::Region;
+use crate::summed::SummedRegion;
 use plan_num::NoMemory;
 
-impl<'a> Region<'a> {
+impl<'a> SummedRegion<'a> {
     /// The costs of all lines take the place of what was left of them.
     pub(crate) fn renew_costs(&self, left: &mut Vec<u64>) -> Result<(), NoMemory>
         ensures { OnOk result
@@ -59,7 +59,7 @@ fn renew_costs(problem: &LineProblem, left: &mut Vec<u64>) -> Result<(), NoMemor
 }
 
 /// How many drives are missing on the edge at an index, and its multiplier.
-pub(crate) fn next_multiplier(region: &Region, edge: usize, left: &[u64]) -> (u64, u64)
+pub(crate) fn next_multiplier(region: &SummedRegion, edge: usize, left: &[u64]) -> (u64, u64)
     requires there { edge < length region.now.problem.edges }
     requires left { length left.now ≡ length region.now.problem.lines }
     ensures shortfall { option_map (shortfall region.now.problem.lines region.now.ranges edge)

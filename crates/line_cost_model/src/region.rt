@@ -1,222 +1,88 @@
 // Regions of concepts.
-ghost use Rattle.std.specs.Prelude.{◌≡◌, ◌<◌, ◌≤◌, pos, length, IfOk, All, take, map, slice_get, Some};
-ghost use Rattle.std.specs.Prelude.{IsTrue, None, nat_lt, if◌then◌else◌, option_map};
-ghost use Rattle.line_cost_model.specs.declared.side.Side.TheVariants as side;
-ghost use Rattle.std.specs.List.{list_any};
-ghost use Rattle.line_cost_model.specs.Concepts.{cost_of};
-ghost use Rattle.line_cost_model.specs.DualBounds.{shortfall};
-ghost use Rattle.line_cost_model.specs.EmptySides.{is_empty_on};
-ghost use Rattle.line_cost_model.specs.Problems.{IsProblem};
-ghost use Rattle.line_cost_model.specs.Regions.{HasEachFeasible, IsRange, empty_edge, empty_side};
-ghost use Rattle.line_cost_model.specs.Regions.{has_several};
-ghost use Rattle.line_cost_model.specs.Regions.{least_in, range_of, root_of, with_range};
+ghost use Rattle.std.specs.Prelude.{◌≡◌, ◌<◌, ◌≤◌, length, IfOk, All};
+ghost use Rattle.line_cost_model.specs.Regions.{IsRange, IsInside, HasEachFeasible, root_of};
+ghost use Rattle.line_cost_model.specs.Regions.{range_of, with_range};
 
-use crate::edge::BoundedEdge;
-use crate::missed::{missed_among, missed_count};
 use crate::problem::LineProblem;
 use crate::range::LineRange;
-use crate::running::{cost_moved, greatest_sums, move_sums, root_ranges};
-use crate::side::Side;
-use crate::sums::signed;
+use crate::running::root_ranges;
 use plan_num::NoMemory;
 use std::alloc::Global;
 use std::marker::Model;
 
-/// A range of frequencies for each line of a problem. Contracts see it as the problem and the list
-/// of these ranges. It keeps how often each edge is driven at least and at most, how many edges show
-/// that there is no feasible concept, and what the least frequencies cost, so that another range for
-/// a line takes some steps for each of its edges alone.
-#[derive(Drop)]
-pub struct Region<'a> {
-    problem: &'a LineProblem,
+/// A range of frequencies for each line. Contracts see it as the list of these ranges.
+#[derive(Debug, Drop)]
+pub struct Region {
     ranges: Vec<LineRange>,
-    least: Vec<u64>,
-    greatest: Vec<u64>,
-    least_cost: u128,
-    empty: usize,
 }
 
-impl<'a> Model for Region<'a> {
-    ghost use Rattle.line_cost_model.specs.Regions.{RegionParts};
-    ghost use Rattle.line_cost_model.specs.RunningSums.{IsSummed};
+impl Model for Region {
+    ghost use Rattle.std.specs.Prelude.{List, All};
+    ghost use Rattle.line_cost_model.specs.declared.range.LineRange.{LineRange};
+    ghost use Rattle.line_cost_model.specs.Regions.{IsRange};
 
-    ghost Value = { RegionParts };
+    ghost Value = { List LineRange };
 
-    ghost view = { λ r. record { problem = r.problem.now; ranges = r.ranges.items } };
+    ghost view = { λ region. region.ranges.items };
 
-    ghost invariant = { λ r. IsSummed r.problem.now r.ranges.items r.least.items r.greatest.items
-        r.least_cost r.empty };
+    ghost invariant = { λ region. All IsRange region.ranges.items };
 }
 
-impl<'a> Region<'a> {
+impl Region {
     /// The region with all feasible concepts: each line has a frequency from 0 to the least of the
     /// maximal frequencies of its edges.
-    pub fn root(alloc: Global, problem: &'a LineProblem) -> Result<Region<'a>, NoMemory>
-        ensures root { IfOk result
-            (λ region. region ≡ record { problem = problem.now; ranges = root_of problem.now }) }
-        ensures each { IfOk result (λ region. HasEachFeasible problem.now region.ranges) }
+    pub fn root(alloc: Global, problem: &LineProblem) -> Result<Region, NoMemory>
+        ensures root { IfOk result (λ region. region ≡ root_of problem.now) }
+        ensures each { IfOk result (λ region. HasEachFeasible problem.now region) }
     {
         let ranges = root_ranges(alloc, problem)?;
-        let least = vec![in alloc; 0; problem.edge_count()]?;
-        let greatest = greatest_sums(alloc, problem, &ranges)?;
-        let empty = missed_count(problem, &least, &greatest);
-        Ok(Region {
-            problem,
-            ranges,
-            least,
-            greatest,
-            least_cost: 0,
-            empty,
-        })
+        Ok(Region { ranges })
     }
 
     /// The least and the greatest frequency of the line at an index.
     pub fn ends(&self, line: usize) -> (u32, u32)
-        requires { line < length self.now.ranges }
-        ensures ends { result
-            ≡ ((range_of self.now.ranges line).lo, (range_of self.now.ranges line).hi) }
-        ensures sound { All IsRange self.now.ranges }
-        ensures each { length self.now.ranges ≡ length self.now.problem.lines }
+        requires { line < length self.now }
+        ensures ends { result ≡ ((range_of self.now line).lo, (range_of self.now line).hi) }
+        ensures sound { All IsRange self.now }
     {
         let range = self.ranges[line];
         (range.lo, range.hi)
     }
 
-    /// The range of the line at an index becomes another one.
-    pub fn set_range(&mut self, line: usize, lo: u32, hi: u32)
-        requires there { line < length self.old.ranges }
+    /// The range of the line at an index becomes one inside it.
+    pub fn narrow(&mut self, line: usize, lo: u32, hi: u32)
+        requires there { line < length self.old }
         requires in_order { lo ≤ hi }
-        requires few { hi ≤ 1000 }
-        ensures { self.new
-            ≡ record self.old { ranges = with_range self.old.ranges line lo hi } }
+        requires inside { IsInside (record { lo = lo; hi = hi }) (range_of self.old line) }
+        ensures { self.new ≡ with_range self.old line lo hi }
     {
-        let before = self.ranges[line];
-        let edges = self.problem.line_edges(line);
-        let cost = self.problem.cost_of_line(line);
-        let missed = missed_among(self.problem, &self.least, &self.greatest, edges);
         self.ranges[line] = LineRange { lo, hi };
-        move_sums(&mut self.least, edges, before.lo, lo);
-        move_sums(&mut self.greatest, edges, before.hi, hi);
-        self.empty = self.empty + missed_among(self.problem, &self.least, &self.greatest, edges)
-            - missed;
-        self.least_cost = cost_moved(self.least_cost, cost, before.lo, lo);
     }
 
-    /// Whether some line may have several frequencies.
-    pub fn has_several(&self) -> bool
-        ensures { result ≡ list_any has_several self.now.ranges }
+    /// The range of the line at an index becomes one that it lies inside.
+    pub fn restore(&mut self, line: usize, lo: u32, hi: u32)
+        requires there { line < length self.old }
+        requires inside { IsInside (range_of self.old line) (record { lo = lo; hi = hi }) }
+        requires few { hi ≤ 1000 }
+        ensures { self.new ≡ with_range self.old line lo hi }
     {
-        self.ranges.iter().any(|range| range.has_several())
+        let range = LineRange { lo, hi };
+        self.ranges[line] = range;
     }
 
     /// A region with the same ranges.
-    pub fn copy(&self, alloc: Global) -> Result<Region<'a>, NoMemory>
+    pub fn copy(&self, alloc: Global) -> Result<Region, NoMemory>
         ensures { IfOk result (λ region. region ≡ self.now) }
     {
-        Ok(Region {
-            problem: self.problem,
-            ranges: Vec::from_slice(alloc, &self.ranges)?,
-            least: Vec::from_slice(alloc, &self.least)?,
-            greatest: Vec::from_slice(alloc, &self.greatest)?,
-            least_cost: self.least_cost,
-            empty: self.empty,
-        })
-    }
-
-    /// The line problem.
-    pub fn problem(&self) -> &LineProblem
-        ensures problem { result.now ≡ self.now.problem }
-        ensures each { length self.now.ranges ≡ length self.now.problem.lines }
-    {
-        let _ = &self.ranges;
-        self.problem
-    }
-
-    /// How many edges there are.
-    pub(crate) fn edge_count(&self) -> usize
-        ensures count { result ≡ length self.now.problem.edges }
-        ensures sound { IsProblem self.now.problem }
-    {
-        self.problem.edge_count()
-    }
-
-    /// What the least frequencies cost, in millionths.
-    pub fn least_cost(&self) -> i128
-        ensures { result ≡ pos (cost_of self.now.problem (least_in self.now.ranges)) }
-    {
-        signed(self.least_millionths())
-    }
-
-    /// The same without a sign.
-    pub(crate) fn least_millionths(&self) -> u128
-        ensures cost { result ≡ cost_of self.now.problem (least_in self.now.ranges) }
-        ensures few { result ≤ 5000000000000000000000000000000000000 }
-        ensures sound { IsProblem self.now.problem }
-    {
-        self.least_cost
+        let ranges = Vec::from_slice(alloc, &self.ranges)?;
+        Ok(Region { ranges })
     }
 
     /// The ranges.
     pub(crate) fn ranges(&self) -> &[LineRange]
-        ensures { result.now ≡ self.now.ranges }
+        ensures ranges { result.now ≡ self.now }
+        ensures sound { All IsRange self.now }
     {
         &self.ranges
-    }
-
-    /// Whether no edge shows that the region has no feasible concept.
-    pub(crate) fn has_no_empty_edge(&self) -> bool
-        ensures { IsTrue result → empty_edge self.now.problem self.now.ranges ≡ None }
-    {
-        self.empty == 0
-    }
-
-    /// On which side the edge at an index shows that the region has no feasible concept, where it
-    /// does.
-    pub(crate) fn empty_side(&self, edge: usize) -> Option<Side>
-        requires { edge < length self.now.problem.edges }
-        ensures { option_map (empty_side self.now.problem.lines self.now.ranges edge)
-            (slice_get self.now.problem.edges edge) ≡ Some result }
-    {
-        let bounds = self.problem.bounds_of(edge);
-        side_of(bounds, self.least[edge], self.greatest[edge])
-    }
-
-    /// Whether the least frequencies drive an edge too often, or the greatest ones not often
-    /// enough.
-    pub fn is_empty_on(&self, edge: usize, side: Side) -> bool
-        requires { edge < length self.now.problem.edges }
-        ensures { option_map (is_empty_on self.now.problem self.now.ranges edge side)
-            (slice_get self.now.problem.edges edge) ≡ Some result }
-    {
-        let bounds = self.problem.bounds_of(edge);
-        match side {
-            Side::Over => u64::from(bounds.most) < self.least[edge],
-            Side::Under => self.greatest[edge] < u64::from(bounds.least),
-        }
-    }
-
-    /// How many drives the least frequencies leave missing on the edge at an index.
-    pub(crate) fn shortfall(&self, edge: usize) -> u64
-        requires { edge < length self.now.problem.edges }
-        ensures shortfall { option_map (shortfall self.now.problem.lines self.now.ranges edge)
-            (slice_get self.now.problem.edges edge) ≡ Some result }
-        ensures few { result < 4294967296 }
-    {
-        let bounds = self.problem.bounds_of(edge);
-        u64::from(bounds.least).saturating_sub(self.least[edge])
-    }
-}
-
-// On which side an edge with these bounds is missed, where it is.
-fn side_of(bounds: BoundedEdge, least: u64, greatest: u64) -> Option<Side>
-    ensures { result ≡ (if nat_lt bounds.most least then Some side.Over
-        else (if nat_lt greatest bounds.least then Some side.Under else None)) }
-{
-    if u64::from(bounds.most) < least {
-        Some(Side::Over)
-    } else if greatest < u64::from(bounds.least) {
-        Some(Side::Under)
-    } else {
-        None
     }
 }

@@ -2,7 +2,7 @@
 ghost use Rattle.std.specs.Prelude.{◌≡◌, ◌<◌, ◌≤◌, ◌+◌, ◌*◌, nat_eq, get_or, length, map, IfOk, All};
 ghost use Rattle.std.specs.Prelude.{if◌then◌else◌, vec_len};
 ghost use Rattle.std.specs.List.{IsDistinct, list_any};
-ghost use Rattle.line_cost_model.specs.Regions.{IsRange, greatest_in, root_of};
+ghost use Rattle.line_cost_model.specs.Regions.{HasEachFeasible, IsRange, greatest_in, root_of};
 ghost use Rattle.line_cost_model.specs.RunningSums.{AreCounted, AreDriven, AreMoved};
 
 use crate::problem::LineProblem;
@@ -15,6 +15,7 @@ use std::alloc::Global;
 pub(crate) fn root_ranges(alloc: Global, problem: &LineProblem) -> Result<Vec<LineRange>, NoMemory>
     ensures root { IfOk result (λ ranges. ranges.items ≡ root_of problem.now) }
     ensures sound { IfOk result (λ ranges. All IsRange ranges.items) }
+    ensures each { IfOk result (λ ranges. HasEachFeasible problem.now ranges.items) }
 {
     let mut ranges = Vec::new(alloc);
     for line in 0..problem.line_count() {

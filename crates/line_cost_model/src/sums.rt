@@ -1,10 +1,11 @@
 // How often edges are driven, and what concepts cost.
 ghost use Rattle.std.specs.Prelude.{◌≡◌, ◌<◌, ◌≤◌, pos, length, map, All};
 ghost use Rattle.line_cost_model.specs.Concepts.{frequency_on, cost_of};
-ghost use Rattle.line_cost_model.specs.Regions.{IsRange, greatest_in};
+ghost use Rattle.line_cost_model.specs.Regions.{IsRange, greatest_in, least_in};
 
 use crate::problem::LineProblem;
 use crate::range::LineRange;
+use crate::region::Region;
 
 /// How often a concept drives the edge at an index.
 pub(crate) fn frequency_on(problem: &LineProblem, frequencies: &[u32], edge: usize) -> u128
@@ -40,6 +41,25 @@ fn narrowed(drives: u128) -> u64
     ensures { result ≡ drives }
 {
     drives as u64
+}
+
+/// How often the edge at an index is driven at least, and at most, by the concepts of a region.
+pub(crate) fn ends_on(problem: &LineProblem, region: &Region, edge: usize) -> (u128, u128)
+    requires there { edge < length problem.now.edges }
+    requires each { length region.now ≡ length problem.now.lines }
+    ensures { result ≡ (
+      frequency_on problem.now.lines (least_in region.now) edge,
+      frequency_on problem.now.lines (greatest_in region.now) edge,
+    ) }
+{
+    let ranges = region.ranges();
+    let mut least = 0u128;
+    let mut greatest = 0u128;
+    for line in problem.lines_over(edge) {
+        least += u128::from(ranges[*line].lo);
+        greatest += u128::from(ranges[*line].hi);
+    }
+    (least, greatest)
 }
 
 /// What a concept costs, in millionths.

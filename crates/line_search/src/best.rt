@@ -3,7 +3,7 @@ ghost use Rattle.std.specs.Prelude.{◌≡◌, ◌<◌, ◌≤◌, length, All, 
 ghost use Rattle.line_cost_model.specs.Regions.{least_in, range_of};
 ghost use Rattle.line_search.specs.Searches.{IsPriced};
 
-use line_cost_model::{LineProblem, Region};
+use line_cost_model::{LineProblem, SummedRegion};
 use plan_num::NoMemory;
 use std::alloc::Global;
 
@@ -16,7 +16,7 @@ pub(crate) struct BestConcept {
 
 impl BestConcept {
     /// The concept of least frequencies in a region.
-    pub(crate) fn least_in(alloc: Global, region: &Region) -> Result<BestConcept, NoMemory>
+    pub(crate) fn least_in(alloc: Global, region: &SummedRegion) -> Result<BestConcept, NoMemory>
         ensures least { IfOk result (λ best. best.frequencies.items ≡ least_in region.now.ranges) }
         ensures priced { IfOk result (IsPriced region.now.problem) }
     {
@@ -31,7 +31,7 @@ impl BestConcept {
 fn least_frequencies(
     alloc: Global,
     problem: &LineProblem,
-    region: &Region,
+    region: &SummedRegion,
 ) -> Result<Vec<u32>, NoMemory>
     requires each { length region.now.ranges ≡ length problem.now.lines }
     ensures least { IfOk result (λ all. all.items ≡ least_in region.now.ranges) }
@@ -45,7 +45,7 @@ fn least_frequencies(
 }
 
 // The least frequency of a line in a region.
-fn least_of(region: &Region, line: usize) -> u32
+fn least_of(region: &SummedRegion, line: usize) -> u32
     requires { line < length region.now.ranges }
     ensures least { result ≡ (range_of region.now.ranges line).lo }
     ensures few { result ≤ 1000 }

@@ -3,11 +3,11 @@ ghost use Rattle.std.specs.Prelude.{◌≡◌, ◌<◌, length, option_map};
 ghost use Rattle.line_search.specs.Listings.{first_open};
 ghost use Rattle.line_search.specs.Searches.{dearer};
 
-use line_cost_model::{LineProblem, Region};
+use line_cost_model::{LineProblem, SummedRegion};
 
 /// The first open line of a region in the order of lines: the dearest of the lines whose ranges
 /// have several values, and the one of least id among these.
-pub(crate) fn first_open(region: &Region) -> Option<usize>
+pub(crate) fn first_open(region: &SummedRegion) -> Option<usize>
     ensures first { result ≡ first_open region.now.problem region.now.ranges }
     ensures each { length region.now.ranges ≡ length region.now.problem.lines }
 {
@@ -15,7 +15,7 @@ pub(crate) fn first_open(region: &Region) -> Option<usize>
 }
 
 // The first open line of a region of a problem.
-fn first_of(problem: &LineProblem, region: &Region) -> Option<usize>
+fn first_of(problem: &LineProblem, region: &SummedRegion) -> Option<usize>
     requires each { length region.now.ranges ≡ length problem.now.lines }
     ensures { result ≡ first_open problem.now region.now.ranges }
 {

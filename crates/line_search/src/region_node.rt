@@ -10,7 +10,7 @@ ghost use Rattle.line_search.specs.Searches.{ArePriced, concept_in};
 use crate::best::BestConcept;
 use crate::first_open::first_open;
 use branch_certificate::Node;
-use line_cost_model::{Bound, Multipliers, Region};
+use line_cost_model::{KeptBound, Multipliers, SummedRegion};
 use plan_num::NoMemory;
 use std::alloc::Global;
 
@@ -19,9 +19,9 @@ use std::alloc::Global;
 /// for a bound is kept.
 pub(crate) fn node_at(
     alloc: Global,
-    region: &Region,
+    region: &SummedRegion,
     best: &Option<BestConcept>,
-    bound: &mut Bound,
+    bound: &mut KeptBound,
 ) -> Result<Node, NoMemory>
     requires { ArePriced region.now.problem best.now }
     ensures node { IfOk result
@@ -41,9 +41,9 @@ pub(crate) fn node_at(
 // The multipliers of a region, where its dual bound is not below what the best concept costs.
 fn bound_at(
     alloc: Global,
-    region: &Region,
+    region: &SummedRegion,
     best: &Option<BestConcept>,
-    bound: &mut Bound,
+    bound: &mut KeptBound,
 ) -> Result<Option<Multipliers>, NoMemory>
     requires { ArePriced region.now.problem best.now }
     ensures node { IfOk result (λ found. option_map (λ ms. node.Bound ms) found
@@ -63,7 +63,7 @@ fn bound_at(
 
 // The split of a region at the middle of the range of its first open line; without one it is a
 // single concept.
-fn split_at(region: &Region) -> Node
+fn split_at(region: &SummedRegion) -> Node
     ensures node { result
         ≡ unwrap_or (as_split region.now.problem region.now.ranges) node.Point }
     ensures names { NamesWhatIs region.now.problem result }
@@ -79,7 +79,7 @@ fn split_at(region: &Region) -> Node
 }
 
 // The middle of the range of a line, rounded down.
-fn middle(region: &Region, line: usize) -> u32
+fn middle(region: &SummedRegion, line: usize) -> u32
     requires { line < length region.now.ranges }
     ensures middle { result ≡ middle (range_of region.now.ranges line) }
     ensures few { result ≤ 1000 }

@@ -9,7 +9,7 @@ ghost use Rattle.line_search.specs.Searches.{TakesEntry, concept_in, entry_of};
 use crate::best::BestConcept;
 use crate::region_node::node_at;
 use branch_certificate::{Node, RegionWalk, Tree, go_on};
-use line_cost_model::{Bound, LineProblem, Region};
+use line_cost_model::{KeptBound, LineProblem, SummedRegion};
 use plan_num::{Ledger, NoMemory, Steps};
 use std::alloc::Global;
 
@@ -20,7 +20,7 @@ pub(crate) struct Search<'a> {
     walk: RegionWalk<'a>,
     tree: Tree,
     best: Option<BestConcept>,
-    bound: Bound,
+    bound: KeptBound,
 }
 
 /// What a search within a budget found: the best concept, the nodes of all entries where the
@@ -67,7 +67,7 @@ impl<'a> Search<'a> {
             walk,
             tree: Tree::new(alloc),
             best: None,
-            bound: Bound::new(alloc),
+            bound: KeptBound::new(alloc),
         })
     }
 
@@ -112,7 +112,7 @@ impl<'a> Search<'a> {
 // The concept of a region, where it is said to be a single one, is the best now.
 fn take_found(
     alloc: Global,
-    region: &Region,
+    region: &SummedRegion,
     node: &Node,
     best: &mut Option<BestConcept>,
 ) -> Result<(), NoMemory>

@@ -47,14 +47,14 @@ fn ranges_end_at_the_least_maximum(rt: HostRuntime) -> Result<(), Fail> {
 
 // The range of a line becomes one inside it; whether it is one is told.
 fn narrow(region: &mut Region, line: usize, lo: u32, hi: u32) -> bool
-    requires { line < length region.old.ranges }
-    ensures { length region.new.ranges ≡ length region.old.ranges }
+    requires { line < length region.old }
+    ensures { length region.new ≡ length region.old }
 {
     let (least, most) = region.ends(line);
     if lo > hi || lo < least || hi > most {
         return false;
     }
-    region.set_range(line, lo, hi);
+    region.narrow(line, lo, hi);
     true
 }
 
@@ -62,14 +62,14 @@ fn narrow(region: &mut Region, line: usize, lo: u32, hi: u32) -> bool
 type Ends = (u32, u32);
 
 // The region of a problem in which its two lines have these ranges.
-fn region_of<'a>(
+fn region_of(
     alloc: Global,
-    problem: &'a LineProblem,
+    problem: &LineProblem,
     first: Ends,
     second: Ends,
-) -> Result<Region<'a>, NoMemory>
+) -> Result<Region, NoMemory>
     requires { length problem.now.lines ≡ 2 }
-    ensures { IfOk result (λ region. length region.ranges ≡ 2) }
+    ensures { IfOk result (λ region. length region ≡ 2) }
 {
     let mut region = Region::root(alloc, problem)?;
     if narrow(&mut region, 0, first.0, first.1) && narrow(&mut region, 1, second.0, second.1) {
@@ -92,7 +92,7 @@ fn empty_regions_are_told(rt: HostRuntime) -> Result<(), Fail> {
     let problem = two_edges(rt.alloc(), 1, 3)?;
     for (first, second, edge) in EMPTY {
         let region = region_of(rt.alloc(), &problem, first, second)?;
-        assert_eq!(rt; region.empty_edge(), edge);
+        assert_eq!(rt; problem.empty_edge(&region), edge);
     }
     Ok(())
 }
@@ -103,8 +103,8 @@ fn a_range_is_restored(rt: HostRuntime) -> Result<(), Fail> {
     let mut often = region_of(rt.alloc(), &problem, (2, 2), (2, 3))?;
     let (lo, hi) = often.ends(1);
     assert_eq!(rt; (lo, hi), (2, 3));
-    often.set_range(1, 0, 3);
-    assert_eq!(rt; often.empty_edge(), None);
+    often.restore(1, 0, 3);
+    assert_eq!(rt; problem.empty_edge(&often), None);
     Ok(())
 }
 
@@ -131,10 +131,9 @@ const BOUNDS: [(Ends, Ends, i128, &[(usize, i64)]); 5] = [
 #[test]
 fn regions_are_bounded(rt: HostRuntime) -> Result<(), Fail> {
     let problem = two_edges(rt.alloc(), 0, 3)?;
-    let mut bound = Bound::new(rt.alloc());
     for (first, second, value, multipliers) in BOUNDS {
         let region = region_of(rt.alloc(), &problem, first, second)?;
-        region.renew_bound(&mut bound)?;
+        let bound = problem.dual_bound(rt.alloc(), &region)?;
         is_bound(&rt, &bound, value, multipliers);
     }
     Ok(())
@@ -142,7 +141,7 @@ fn regions_are_bounded(rt: HostRuntime) -> Result<(), Fail> {
 
 // The ends of both ranges of a region.
 fn both_ends(region: &Region) -> (Ends, Ends)
-    requires { length region.now.ranges ≡ 2 }
+    requires { length region.now ≡ 2 }
 {
     (region.ends(0), region.ends(1))
 }
@@ -161,8 +160,7 @@ fn a_copied_region_has_the_same_ends(rt: HostRuntime) -> Result<(), Fail> {
 fn what_one_edge_takes_the_next_has_no_more(rt: HostRuntime) -> Result<(), Fail> {
     let problem = two_edges(rt.alloc(), 3, 9)?;
     let region = Region::root(rt.alloc(), &problem)?;
-    let mut bound = Bound::new(rt.alloc());
-    region.renew_bound(&mut bound)?;
+    let bound = problem.dual_bound(rt.alloc(), &region)?;
     is_bound(&rt, &bound, 33_000_000, &[(0, 12_000_000), (1, 3_000_000)]);
     Ok(())
 }

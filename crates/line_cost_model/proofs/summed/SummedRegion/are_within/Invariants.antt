@@ -1,6 +1,6 @@
 use Rattle.std.proofs.Common.{◌≡◌, map, take, true}
 use Rattle.line_cost_model.specs.DualBounds.{are_within, left_of}
-use Rattle.line_cost_model.proofs.region.Region.are_within.Given as goal
+use Rattle.line_cost_model.proofs.summed.SummedRegion.are_within.Given as goal
 
 -- what the multipliers so far leave of the costs of lines, within which they are
 abbrev pub invariant-loop-place : goal.invariant-loop-place

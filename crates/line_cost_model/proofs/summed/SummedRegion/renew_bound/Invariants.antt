@@ -1,5 +1,5 @@
 use Rattle.line_cost_model.specs.Passes.{IsPass}
-use Rattle.line_cost_model.proofs.region.Region.renew_bound.Given as goal
+use Rattle.line_cost_model.proofs.summed.SummedRegion.renew_bound.Given as goal
 
 -- what is known before the edge
 abbrev pub invariant-loop-edge : goal.invariant-loop-edge

@@ -7,7 +7,7 @@ use Rattle.line_cost_model.proofs.PassSteps.{costs_left}
 use Rattle.line_cost_model.proofs.Paying.{first_more, not_within, within_more}
 use Rattle.line_cost_model.proofs.Proving.{holds_at}
 use Rattle.line_cost_model.proofs.Within.{within_none}
-use Rattle.line_cost_model.proofs.region.Region.are_within.Goals as goal
+use Rattle.line_cost_model.proofs.summed.SummedRegion.are_within.Goals as goal
 
 pub loop-place-init : goal.loop-place-init
 loop-place-init c = (

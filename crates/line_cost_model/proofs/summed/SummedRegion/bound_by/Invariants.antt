@@ -1,6 +1,6 @@
 use Rattle.std.proofs.Common.{◌≡◌, ◌+◌, ◌*◌, ◌≤◌, length, take}
 use Rattle.line_cost_model.specs.DualBounds.{bound_by}
-use Rattle.line_cost_model.proofs.region.Region.bound_by.Given as goal
+use Rattle.line_cost_model.proofs.summed.SummedRegion.bound_by.Given as goal
 
 -- the value is what the multipliers so far prove, and each of them adds less than 10^18 times 2^32
 abbrev pub invariant-loop-place : goal.invariant-loop-place

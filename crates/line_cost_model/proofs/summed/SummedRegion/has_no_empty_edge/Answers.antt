@@ -2,7 +2,7 @@ use Rattle.std.proofs.Common.{◌≡◌, None, subst}
 use Rattle.std.proofs.lemmas.Bool.{eqb-true}
 use Rattle.line_cost_model.specs.Regions.{RegionParts, empty_edge}
 use Rattle.line_cost_model.proofs.MissedEdges.{none_empty}
-use Rattle.line_cost_model.proofs.region.Region.has_no_empty_edge.Goals as goal
+use Rattle.line_cost_model.proofs.summed.SummedRegion.has_no_empty_edge.Goals as goal
 
 pub returns : goal.returns
 returns c is =

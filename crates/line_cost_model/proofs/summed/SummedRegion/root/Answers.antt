@@ -1,10 +1,9 @@
-use Rattle.std.proofs.Common.{◌∙◌, List, replicate, ap, sym, subst}
+use Rattle.std.proofs.Common.{◌∙◌, List, replicate, ap, subst}
 use Rattle.line_cost_model.specs.declared.range.LineRange.{LineRange}
-use Rattle.line_cost_model.specs.Regions.{HasEachFeasible, greatest_in}
+use Rattle.line_cost_model.specs.Regions.{greatest_in}
 use Rattle.line_cost_model.specs.RunningSums.{AreDriven, missed_count}
-use Rattle.line_cost_model.proofs.Roots.{root_has_each}
 use Rattle.line_cost_model.proofs.RunningSums.{root_summed}
-use Rattle.line_cost_model.proofs.region.Region.root.Goals as goal
+use Rattle.line_cost_model.proofs.summed.SummedRegion.root.Goals as goal
 
 pub invariant_of-result : goal.invariant_of-result
 invariant_of-result c =
@@ -17,8 +16,3 @@ invariant_of-result c =
     c.missed_count-empty.result
     (c.missed_count-empty.ensures ∙ (λ i. missed_count c.args.problem.now.edges
     (c.deref-2.ensures.value i) (c.deref-3.ensures.value i)))
-
-pub returns-clause-each : goal.returns-clause-each
-returns-clause-each c =
-    subst (HasEachFeasible c.args.problem.now) (sym c.in_ok-ranges.ensures.root)
-    (root_has_each c.args.problem.now c.edge_count.ensures.sound)

@@ -7,7 +7,7 @@ use Rattle.line_cost_model.proofs.FewLines.{few_edges}
 use Rattle.line_cost_model.proofs.MissedEdges.{counts_move, few_missed}
 use Rattle.line_cost_model.proofs.RunningSums.{line_edges, greatest_counts, least_counts, least_cost_counts}
 use Rattle.line_cost_model.proofs.RunningSums.{least_cost_few, region_moved}
-use Rattle.line_cost_model.proofs.region.Region.set_range.Goals as goal
+use Rattle.line_cost_model.proofs.summed.SummedRegion.set_range.Goals as goal
 
 pub move_sums-requires : goal.move_sums-requires
 move_sums-requires c =

@@ -4,8 +4,8 @@ use Rattle.std.specs.Int.{w128}
 use Rattle.line_cost_model.specs.declared.multipliers.Multiplier.{Multiplier}
 use Rattle.line_cost_model.proofs.FewLines.{few_edges}
 use Rattle.line_cost_model.proofs.Proving.{adds_little, bound_first, bound_more, bound_whole, few_places, holds_at}
-use Rattle.line_cost_model.proofs.region.Region.bound_by.Goals as goal
-use Rattle.line_cost_model.proofs.region.Region.bound_by.Goals.{After-from-in-loop-place}
+use Rattle.line_cost_model.proofs.summed.SummedRegion.bound_by.Goals as goal
+use Rattle.line_cost_model.proofs.summed.SummedRegion.bound_by.Goals.{After-from-in-loop-place}
 
 pub loop-place-init : goal.loop-place-init
 loop-place-init c = (

@@ -7,8 +7,8 @@ use Rattle.line_cost_model.specs.Passes.{IsPass}
 use Rattle.line_cost_model.proofs.Duality.{bound_is_least}
 use Rattle.line_cost_model.proofs.FewLines.{few_edges}
 use Rattle.line_cost_model.proofs.PassSteps.{pass_first, pass_none, pass_some, pass_last, is_amount, adds}
-use Rattle.line_cost_model.proofs.region.Region.renew_bound.Goals as goal
-use Rattle.line_cost_model.proofs.region.Region.renew_bound.Goals.{After-from-in-loop-edge}
+use Rattle.line_cost_model.proofs.summed.SummedRegion.renew_bound.Goals as goal
+use Rattle.line_cost_model.proofs.summed.SummedRegion.renew_bound.Goals.{After-from-in-loop-edge}
 
 pub loop-edge-init : goal.loop-edge-init
 loop-edge-init c =

@@ -1,5 +1,5 @@
 use Rattle.line_cost_model.proofs.RunningSums.{least_cost_few}
-use Rattle.line_cost_model.proofs.region.Region.least_millionths.Goals as goal
+use Rattle.line_cost_model.proofs.summed.SummedRegion.least_millionths.Goals as goal
 
 pub returns-clause-few : goal.returns-clause-few
 returns-clause-few c =
