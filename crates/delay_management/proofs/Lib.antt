@@ -6,6 +6,7 @@ pub mod DispositionMakes
 pub mod DispositionReads
 mod EndsOfChanges
 mod EventTests
+mod FirstOpen
 mod FirstTold
 mod Firsts
 mod ForwardInputs
@@ -39,6 +40,7 @@ mod TightMore
 mod TrialDelay
 pub mod TrialFacts
 mod Tried
+mod Undoing
 mod Waits
 mod WrittenBy
 pub mod WrittenReasons

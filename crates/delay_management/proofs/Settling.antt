@@ -1,6 +1,6 @@
 -- Times on the way to the least ones: links that wait are looked at in their order, and heads that are made later
 -- let the links out of them wait.
-use Rattle.std.proofs.Common.{◌≡◌, ◌≢◌, ◌∙◌, ℕ, ◌+◌, ◌<◌, ◌≤◌, ◌⊎◌, inl, inr, Bool, true, false, cond, List, [], ◌∷◌, ◌++◌, length, get_or, slice_set, All, None, Some, ap, drop, sym, subst, arith}
+use Rattle.std.proofs.Common.{◌≡◌, ◌≢◌, ◌∙◌, ℕ, ◌+◌, ◌<◌, ◌≤◌, ◌⊎◌, inl, inr, Bool, true, false, cond, List, [], ◌∷◌, ◌++◌, length, get_or, slice_set, All, None, ap, sym, subst, arith}
 use Rattle.std.proofs.lemmas.Bool.{false≢true, lt-ltb}
 use Rattle.std.proofs.lemmas.List.{append_assoc, get_or_default}
 use Rattle.event_tables.specs.ForwardRanks.{forward_rank}
@@ -10,7 +10,7 @@ use Rattle.delay_management.specs.declared.step.Step.{Step}
 use Rattle.delay_management.specs.LeastTimes.{IsLeast, asked, later, least_times, time_at}
 use Rattle.delay_management.specs.Links.{IsLinked, counts, head_pushed}
 use Rattle.delay_management.specs.Markings.{IsNext}
-use Rattle.delay_management.specs.OnTrial.{Follows, IsHeld, IsLastMoved, IsSettling, IsUndoing, NoneWaits, Pushes, TrialTimes, WaitBy, rewound}
+use Rattle.delay_management.specs.OnTrial.{Follows, IsHeld, IsSettling, NoneWaits, Pushes, TrialTimes, WaitBy, rewound}
 use Rattle.delay_management.specs.Problems.{DelayProblem}
 use Rattle.delay_management.specs.Waiting.{chosen_changes}
 use Rattle.delay_management.proofs.Apart.{by_less, by_same, set_back, set_here, set_there}
@@ -273,35 +273,3 @@ module _ (all : TrialTimes) (linked : IsLinked all.problem all.links) (each : le
         least = λ others fits event inside.
             let most = settling.most event inside in let less = last.least others fits event inside in omega (arith, most, less);
       }) last
-
--- ---- events that were made later have their times before again
-
-pub undone_one : (left : ℕ) (first old popped new : TrialTimes) (last : Moved) → IsUndoing left first old
-    → IsLastMoved left old popped (Some last) → new ≡ record popped { times = slice_set popped.times last.event last.before }
-    → IsUndoing left first new
-undone_one left first old popped new last is moved timed top rest parts size =
-    by (so_far.0) so_far.1 so_far.2
-  where
-    so_far : (more : List Moved) × (old ≡ record first { times = old.times; noted = more ++ rest })
-        × (rewound more old.times ≡ rewound top first.times)
-    so_far = is top rest parts size
-
-    by : (more : List Moved) → old ≡ record first { times = old.times; noted = more ++ rest }
-        → rewound more old.times ≡ rewound top first.times
-        → (more : List Moved) × (new ≡ record first { times = new.times; noted = more ++ rest })
-        × (rewound more new.times ≡ rewound top first.times)
-    by [] same told =
-        let length_is = ap (λ (t : TrialTimes). length t.noted) same in
-        absurd (omega (arith, length_is, moved.0, size))
-    by (m ∷ more) same told =
-        let noted : last ∷ popped.noted ≡ m ∷ (more ++ rest) = ap (λ (t : TrialTimes). t.noted) (sym moved.3 ∙ same) in
-        let rests : popped.noted ≡ more ++ rest = ap (drop 1) noted in
-        let step : TrialTimes → TrialTimes =
-        λ t. record t { times = slice_set t.times last.event last.before; noted = popped.noted } in
-        let from : new ≡ step old = timed ∙ ap step (sym moved.3) in
-        let times : new.times ≡ slice_set old.times last.event last.before = ap (λ (t : TrialTimes). t.times) from in
-        let first_note : last ≡ m = ap (λ ms. get_or ms 0 m) noted in (
-          more,
-          from ∙ ap step same ∙ (λ i. record first { times = sym times i; noted = rests i }),
-          ap (rewound more) (times ∙ (λ i. slice_set old.times (first_note i).event (first_note i).before)) ∙ told,
-        )

@@ -1,5 +1,5 @@
 -- Changes that are kept one after the other, and taken back.
-use Rattle.std.proofs.Common.{◌≡◌, ◌∙◌, ℕ, zero, suc, ◌+◌, ◌<◌, ◌≤◌, ◌&&◌, ◌⊎◌, inl, inr, Bool, true, false, List, [], ◌∷◌, ◌++◌, length, get_or, not, slice_set, All, Option, None, Some, ap, refl, sym, subst, arith}
+use Rattle.std.proofs.Common.{◌≡◌, ◌∙◌, ℕ, zero, suc, ◌+◌, ◌<◌, ◌≤◌, ◌⊎◌, inl, inr, Bool, true, false, List, [], ◌∷◌, ◌++◌, length, get_or, not, slice_set, All, Option, None, Some, ap, refl, sym, subst, arith}
 use Rattle.std.specs.Prelude.{replicate}
 use Rattle.std.specs.List.{items_where_true}
 use Rattle.std.proofs.lemmas.Bool.{false≢true}
@@ -8,22 +8,20 @@ use Rattle.std.proofs.lemmas.List.{get_or_default}
 use Rattle.std.proofs.lemmas.List.FromFn.{get_or-map-range_with_len}
 use Rattle.std.proofs.lemmas.List.Sorted.{All-permutation}
 use Rattle.event_tables.specs.ForwardRanks.{forward_rank}
-use Rattle.delay_management.specs.declared.decided.Decided.{Decided}
 use Rattle.delay_management.specs.declared.links.Link.{Link}
 use Rattle.delay_management.specs.declared.moved.Moved.{Moved}
 use Rattle.delay_management.specs.declared.step.Activity.{Activity}
 use Rattle.delay_management.specs.declared.taken.Taken.{Taken}
-use Rattle.delay_management.specs.Lateness.{is_broken}
 use Rattle.delay_management.specs.LeastTimes.{IsFeasible, IsLeast, least_times, time_at}
 use Rattle.delay_management.specs.Links.{IsLinked, counts, links_of}
-use Rattle.delay_management.specs.OnTrial.{AreOnce, AreSaved, Follows, IsSettling, IsTaken, IsTrial, NoneWaits, StartsTrial, TellsBroken, TrialTimes, WaitBy, decided_in, kept_flags, rewound}
+use Rattle.delay_management.specs.OnTrial.{AreOnce, AreSaved, Follows, IsSettling, IsTaken, IsTrial, NoneWaits, StartsTrial, TrialTimes, WaitBy, decided_in, kept_flags, rewound}
 use Rattle.delay_management.specs.Problems.{DelayProblem, IsForward}
-use Rattle.delay_management.specs.Trials.{first_broken, is_decided, is_kept, times_of}
+use Rattle.delay_management.specs.Trials.{is_decided, is_kept, times_of}
 use Rattle.delay_management.specs.Waiting.{chosen_changes}
 use Rattle.delay_management.proofs.Apart.{by_less, by_same, set_back, set_here, set_there}
 use Rattle.delay_management.proofs.PassIsLeast.{links_all, links_hold, steps_hold}
 use Rattle.delay_management.proofs.Settling.{all_held, is_least, least_small}
-use Rattle.delay_management.proofs.TrialFacts.{dropped_on, kept_less, kept_on, least_each, none_open, not_kept, one_open, open_flag, open_more, starts, trial_least}
+use Rattle.delay_management.proofs.TrialFacts.{dropped_on, kept_less, kept_on, least_each, not_kept, open_flag, open_more, starts, trial_least}
 
 -- ---- one change more is kept
 
@@ -300,19 +298,3 @@ none_taken problem all kept forward is none =
       saved = tt;
       rest = is.none;
     }
-
--- ---- the first change that is open and broken
-
-pub tells_first : (all : TrialTimes) (decided : List Decided) (kept : List Bool)
-    → IsTrial all.problem decided kept all.open_yet all.times → (result : Option ℕ) → TellsBroken all result
-    → result ≡ first_broken (record { problem = all.problem; decided = decided })
-tells_first all decided kept is None tells =
-    none_open (record { problem = all.problem; decided = decided }) all.times is.told
-    (λ k d inside. ap (λ b. b && is_broken all.times (get_or all.problem.changes k d))
-    (sym (open_flag all.problem decided kept all.open_yet all.times is k inside)) ∙ tells k d inside)
-tells_first all decided kept is (Some at) tells =
-    one_open (record { problem = all.problem; decided = decided }) all.times is.told at tells.0
-    (λ k d less. ap (λ b. b && is_broken all.times (get_or all.problem.changes k d))
-    (sym (open_flag all.problem decided kept all.open_yet all.times is k (omega (arith, less, tells.0)))) ∙ tells.1 k d less)
-    (λ d. ap (λ b. b && is_broken all.times (get_or all.problem.changes at d))
-    (sym (open_flag all.problem decided kept all.open_yet all.times is at tells.0)) ∙ tells.2 d)

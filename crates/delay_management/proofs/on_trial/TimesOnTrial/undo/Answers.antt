@@ -1,6 +1,6 @@
 use Rattle.std.proofs.Common.{subst}
 use Rattle.delay_management.specs.OnTrial.{IsLastMoved}
-use Rattle.delay_management.proofs.Settling.{undone_one}
+use Rattle.delay_management.proofs.Undoing.{undone_one}
 use Rattle.delay_management.proofs.on_trial.TimesOnTrial.undo.Goals as goal
 
 pub loop-last-preserved : goal.loop-last-preserved

@@ -2,7 +2,7 @@ use Rattle.std.proofs.Common.{◌≡◌, subst}
 use Rattle.std.specs.Prelude.{reverse}
 use Rattle.delay_management.specs.OnTrial.{decided_in}
 use Rattle.delay_management.specs.Trials.{first_broken}
-use Rattle.delay_management.proofs.Taking.{tells_first}
+use Rattle.delay_management.proofs.FirstOpen.{tells_first}
 use Rattle.delay_management.proofs.trial.Trial.first_broken.Goals as goal
 
 pub returns : goal.returns
