@@ -8,7 +8,7 @@ use plan_num::NoMemory;
 use std::alloc::Global;
 
 /// A change, by its index, at its first or its second event.
-#[derive(Clone, Copy, Debug, PartialEq, Eq)]
+#[derive(Clone, Copy)]
 pub(crate) struct ChangeEnd {
     pub(crate) event: u32,
     pub(crate) change: u32,

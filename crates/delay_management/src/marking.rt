@@ -8,7 +8,7 @@ use std::marker::Model;
 
 /// Which of some places are marked. Blocks of 64 places tell where no mark stands, and so do blocks
 /// of 64 blocks. Contracts see it as one truth value for each place.
-#[derive(Debug, Drop)]
+#[derive(Drop)]
 pub(crate) struct Marking {
     flags: Vec<bool>,
     blocks: Vec<bool>,

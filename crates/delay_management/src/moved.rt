@@ -1,7 +1,7 @@
 // Events whose times are changed on trial.
 
 /// An event, and its time before it was made later.
-#[derive(Clone, Copy, Debug, PartialEq, Eq)]
+#[derive(Clone, Copy)]
 pub(crate) struct Moved {
     pub(crate) event: u32,
     pub(crate) before: u64,

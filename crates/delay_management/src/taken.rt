@@ -4,7 +4,7 @@ ghost use Rattle.std.specs.Prelude.{◌≡◌};
 use crate::decided::Decided;
 
 /// A decision, and how many events had been made later before it.
-#[derive(Clone, Copy, Debug, PartialEq, Eq)]
+#[derive(Clone, Copy)]
 pub(crate) struct Taken {
     pub(crate) decided: Decided,
     pub(crate) moved: usize,
