@@ -1,6 +1,6 @@
 // Writing a tree.
-ghost use Rattle.std.specs.Prelude.{◌≡◌, ◌<◌, ◌≤◌, ◌++◌, ◌∷◌, [], length, map, pos, All, IfOk, OnOk};
-ghost use Rattle.std.specs.Prelude.{drop};
+ghost use Rattle.std.specs.Prelude.{◌≡◌, ◌<◌, ◌≤◌, ◌++◌, ◌∷◌, [], drop, length, map};
+ghost use Rattle.std.specs.Prelude.{pos, All, IfOk, OnOk};
 ghost use Rattle.std.specs.List.{flat_map};
 ghost use Rattle.giv_files.specs.Columns.{tree_columns};
 ghost use Rattle.giv_files.specs.Writing.{line_text, table_text};

@@ -1,7 +1,5 @@
 // Running sums over edges.
-ghost use Rattle.std.specs.Prelude.{◌≡◌, ◌<◌, ◌≤◌, ◌+◌, ◌*◌, nat_eq, get_or, length, map, IfOk, All};
-ghost use Rattle.std.specs.Prelude.{if◌then◌else◌, vec_len};
-ghost use Rattle.std.specs.List.{IsDistinct, list_any};
+ghost use Rattle.std.specs.Prelude.{◌≡◌, ◌<◌, ◌≤◌, ◌+◌, ◌*◌, length, IfOk, All};
 ghost use Rattle.line_cost_model.specs.Regions.{HasEachFeasible, IsRange, greatest_in, root_of};
 ghost use Rattle.line_cost_model.specs.RunningSums.{AreCounted, AreDriven, AreMoved};
 

@@ -1,5 +1,5 @@
 // Regions of concepts with running sums.
-ghost use Rattle.std.specs.Prelude.{◌≡◌, ◌<◌, ◌≤◌, pos, length, IfOk, All, take, map, slice_get, Some};
+ghost use Rattle.std.specs.Prelude.{◌≡◌, ◌<◌, ◌≤◌, pos, length, slice_get, IfOk, All, Some};
 ghost use Rattle.std.specs.Prelude.{IsTrue, None, nat_lt, if◌then◌else◌, option_map};
 ghost use Rattle.line_cost_model.specs.declared.side.Side.TheVariants as side;
 ghost use Rattle.std.specs.List.{list_any};
@@ -24,9 +24,9 @@ use std::alloc::Global;
 use std::marker::Model;
 
 /// A range of frequencies for each line of a problem. Contracts see it as the problem and the list
-/// of these ranges. It keeps how often each edge is driven at least and at most, how many edges show
-/// that there is no feasible concept, and what the least frequencies cost, so that another range for
-/// a line takes some steps for each of its edges alone.
+/// of these ranges. It keeps how often each edge is driven at least and at most, how many edges
+/// show that there is no feasible concept, and what the least frequencies cost, so that another
+/// range for a line takes some steps for each of its edges alone.
 #[derive(Drop)]
 pub struct SummedRegion<'a> {
     problem: &'a LineProblem,

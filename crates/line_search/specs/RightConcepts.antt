@@ -41,8 +41,8 @@ AreOrdered region = AllByRecursion (λ range. range.lo ≤ range.hi) region
 -- What a search finds is right. What any first entries of a listing find is feasible. What all of
 -- them find is the chosen concept: no feasible one costs less, and none of equal cost comes before
 -- it; and their nodes certify what it costs. Where they find none, no concept is feasible. And the
--- entries of a region are what is said of it and, behind a split, the entries of both parts: however
--- deep it is split, none are left out.
+-- entries of a region are what is said of it and, behind a split, the entries of both parts:
+-- however deep it is split, none are left out.
 pub record SearchIsRight (problem : ProblemParts) : Type 0 where
   pub feasible : (count : ℕ) → IfSome (best_after None (take count (listing problem))) (IsFeasible problem)
   pub chosen : IfSome (found_by problem) (IsChosen problem)
