@@ -1,7 +1,7 @@
 // Rows of the files of a period, and texts of them that are refused.
 use crate::refusing::{EVENTS, Refused, refuses};
 use event_tables::{
-    ActivityKind, Direction, EventKind, PeriodicActivity, PeriodicEvent, PeriodicTime,
+    Direction, EventKind, PeriodicActivity, PeriodicEvent, PeriodicKind, PeriodicTime,
     periodic_activities, periodic_events, periodic_times,
 };
 use giv_files::{FileId, RowWhy};
@@ -18,7 +18,7 @@ const LAST_EVENT: PeriodicEvent = PeriodicEvent {
 
 const SYNC: PeriodicActivity = PeriodicActivity {
     id: 2,
-    kind: ActivityKind::Sync,
+    kind: PeriodicKind::Sync,
     from: 3,
     to: 1,
     lower: 0,
