@@ -1,25 +1,20 @@
--- Rows of demand: their rules, and the paths that bear their customers.
-use Rattle.std.proofs.Common.{◌≡◌, ℕ, ℤ, pos, ◌<◌, ◌≤ℤ◌, int_lt, Bool, true, false, T, not, ◌&&◌, cond, nat_eq, List, [], ◌∷◌, ◌++◌, length, get_or, slice_get, refl, ap, subst, sym, ◌∙◌, arith, unsigned_abs, Option, Some, None, option_map, unwrap_or, is_some, position, inl, inr}
-use Rattle.std.specs.List.{list_any, IsDistinct}
+-- Rows of demand: their rules, and the paths of their customers.
+use Rattle.std.proofs.Common.{◌≡◌, ℕ, ℤ, pos, ◌<◌, int_lt, Bool, true, false, not, ◌&&◌, cond, List, [], ◌∷◌, ◌++◌, length, get_or, slice_get, refl, ap, sym, ◌∙◌, arith, unsigned_abs, Option, Some, None, option_map, unwrap_or, is_some, position, inl, inr}
 use Rattle.std.specs.Ordering.{int_eq}
-use Rattle.std.specs.Int.Signed.{lt_z_no}
 use Rattle.std.proofs.lemmas.Bool.{cases_lt}
-use Rattle.std.proofs.lemmas.Int.{ints}
 use Rattle.std.proofs.lemmas.List.{get_or_push, get_or_past, length_push}
-use Rattle.std.proofs.lemmas.List.Elements.{All-nil}
 use Rattle.std.proofs.lemmas.List.FromFn.{get_or-map-range_with_len}
-use Rattle.std.proofs.lemmas.Option.{same_Some}
 use Rattle.std.proofs.Math.ListN.{get_or-append}
 use Rattle.giv_files.specs.declared.row_why.RowWhy.TheVariants as why
 use Rattle.giv_files.specs.Inputs.{broken_whys}
 use Rattle.giv_files.proofs.Found.{any_is}
 use Rattle.ptn_network.specs.Ids.{is_unknown}
-use Rattle.ptn_network.specs.Networks.{NetworkParts, IsNetwork, index_in}
+use Rattle.ptn_network.specs.Networks.{NetworkParts, index_in}
 use Rattle.ptn_network.specs.Walks.{edge_length, least_sum}
 use Rattle.demand_load.specs.declared.demand_row.DemandRow.{DemandRow}
-use Rattle.demand_load.specs.Demand.{demand_input, is_joined, BearsRow}
-use Rattle.ptn_network.specs.Paths.{PathParts, path, paths_from, way, IsSimple}
-use Rattle.ptn_network.proofs.PathEdges.{path_simple}
+use Rattle.demand_load.specs.Demand.{demand_input, is_joined, row_load}
+use Rattle.demand_load.specs.Wanted.{goes_over}
+use Rattle.ptn_network.specs.Paths.{PathParts, paths_from}
 
 -- ---- known paths
 
@@ -52,33 +47,6 @@ module _ (network : NetworkParts) (from : ℕ) where
       (omega arith))
       ∙ some_mapped (least_sum network edge_length from to)
 
-  pub no_way : (to : ℕ) → is_some (least_sum network edge_length from to) ≡ false
-      → None ≡ way network from to
-  no_way to none = sym (ap (λ b. cond b (Some (path network from to)) None) none)
-
-  pub way_is : (to : ℕ) (found : List ℕ) → is_some (least_sum network edge_length from to) ≡ true
-      → found ≡ path network from to → Some found ≡ way network from to
-  way_is to found there is =
-      ap Some is ∙ sym (ap (λ b. cond b (Some (path network from to)) None) there)
-
-  -- and back
-  no_path_there : (b : Bool) (found : List ℕ) → None ≡ cond b (Some found) None → b ≡ false
-  no_path_there true found e = cc
-  no_path_there false found e = refl
-
-  path_there : (b : Bool) (found other : List ℕ) → Some other ≡ cond b (Some found) None
-      → (b ≡ true) × (other ≡ found)
-  path_there true found other e = (refl, same_Some other found e)
-  path_there false found other e = cc
-
-  pub unjoined : (to : ℕ) → None ≡ way network from to
-      → is_some (least_sum network edge_length from to) ≡ false
-  unjoined to e = no_path_there _ _ e
-
-  pub joined : (to : ℕ) (found : List ℕ) → Some found ≡ way network from to
-      → (is_some (least_sum network edge_length from to) ≡ true) × (found ≡ path network from to)
-  joined to found e = path_there _ _ _ e
-
 -- ---- the stops of a row
 
 -- a stop without an index is unknown
@@ -92,6 +60,11 @@ pub known : (stops : List ℤ) (id : ℤ) (index : ℕ) → position (int_eq id)
 known stops id index at = ap not (any_is (int_eq id) stops ∙ ap is_some at)
 
 -- ---- the rules of a row
+
+-- none is broken where there is no first one
+pub none_broken : {X : Type 0} (whys : List X) → slice_get whys 0 ≡ None → whys ≡ []
+none_broken [] e = refl
+none_broken (why ∷ whys) e = cc
 
 module _ (network : NetworkParts) (row : DemandRow) where
   pub no_left : is_unknown network.stops row.left ≡ true
@@ -150,38 +123,11 @@ module _ (network : NetworkParts) (row : DemandRow) where
         either true = refl
         either false = refl
 
-    -- the path between the two stops bears the customers
-    pub bears : (found : List ℕ) → IsNetwork network → found ≡ path network left right
-        → BearsRow network row found
-    bears found sound is =
-        let same : path network (index_in network.stops row.left) (index_in network.stops row.right)
-        ≡ found =
-        ap (λ start. path network start (index_in network.stops row.right)) at_left
-        ∙ ap (path network left) at_right ∙ sym is in
-        record {
-          simple = subst (IsSimple network.edges) (sym is) (path_simple network left right sound);
-          loads = λ index. ap (λ some. cond (list_any (nat_eq index) some)
-              (unsigned_abs row.customers) 0) (sym same);
-        }
-
-  -- nobody goes over no edge
-  pub bears_nobody : int_lt (pos 0) row.customers ≡ false → pos 0 ≤ℤ row.customers
-      → BearsRow network row []
-  unfolding IsDistinct
-  bears_nobody none low =
-      let high : row.customers ≤ℤ pos 0 = lt_z_no (subst (λ b. T (not b)) (sym none) tt) in
-      let zero_customers : unsigned_abs row.customers ≡ 0 = omega (arith, ints) in
-      record {
-        simple = record {
-          apart = tt;
-          there = All-nil (λ (index : ℕ). index < length network.edges);
-        };
-        loads = λ index. sym (ap (λ n. cond (list_any (nat_eq index)
-            (path network (index_in network.stops row.left) (index_in network.stops row.right))) n
-            0) zero_customers ∙ either (list_any (nat_eq index)
-            (path network (index_in network.stops row.left) (index_in network.stops row.right))));
-      }
-    where
-      either : (b : Bool) → cond {A = ℕ} b 0 0 ≡ 0
-      either true = refl
-      either false = refl
+    -- the customers go over the edges of the path between the two stops
+    pub same_load : (index : ℕ) → cond (goes_over network index left right)
+        (unsigned_abs row.customers) 0 ≡ row_load network index row
+    same_load index =
+        sym (ap (λ start. cond (goes_over network index start (index_in network.stops row.right))
+        (unsigned_abs row.customers) 0) at_left
+        ∙ ap (λ end. cond (goes_over network index left end) (unsigned_abs row.customers) 0)
+        at_right)

@@ -24,7 +24,7 @@ use Rattle.ptn_network.proofs.LoadRows.{loads_sound as edge_loads_sound}
 use Rattle.demand_load.specs.LoadStage.{bounded, takes_demand, loads_by, text_faults}
 use Rattle.demand_load.specs.LoadTables.{HasId}
 use Rattle.ptn_network.proofs.Sound.{all_by_id}
-use Rattle.demand_load.proofs.Bearing.{few_customers, load_small}
+use Rattle.demand_load.proofs.SmallLoads.{few_customers, load_small}
 
 -- ---- the ids of edges
 

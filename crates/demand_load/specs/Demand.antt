@@ -1,5 +1,5 @@
 -- Demand between stops, and the loads of edges by it.
-use Rattle.std.specs.Prelude.{ℕ, ℤ, pos, ◌≡◌, nat_eq, Bool, ◌&&◌, not, is_some, int_lt, if◌then◌else◌, List, [], ◌∷◌, length, map, get_or, unsigned_abs}
+use Rattle.std.specs.Prelude.{ℕ, ℤ, pos, nat_eq, Bool, ◌&&◌, not, is_some, int_lt, if◌then◌else◌, List, [], ◌∷◌, length, map, get_or, unsigned_abs}
 use Rattle.std.specs.List.{list_any, range_with_len, sum_by}
 use Rattle.giv_files.specs.declared.counted.Counted.TheVariants as counted
 use Rattle.giv_files.specs.declared.file_id.FileId.TheVariants as file
@@ -10,7 +10,7 @@ use Rattle.ptn_network.specs.Ids.{known_stops}
 use Rattle.ptn_network.specs.Networks.{NetworkParts, index_in}
 use Rattle.ptn_network.specs.Walks.{edge_length, least_sum}
 use Rattle.demand_load.specs.declared.demand_row.DemandRow.{DemandRow}
-use Rattle.ptn_network.specs.Paths.{path, IsSimple}
+use Rattle.ptn_network.specs.Paths.{path}
 
 -- the demand of a row: two stops, and the customers in millionths
 abbrev pub demand_row : List ℤ → DemandRow
@@ -62,9 +62,3 @@ load_of network rows index = sum_by (row_load network index) rows
 -- the loads of all edges, in their order
 abbrev pub demand_loads : NetworkParts → List DemandRow → List ℕ
 demand_loads network rows = map (load_of network rows) (range_with_len 0 (length network.edges))
-
--- a path bears the customers of a row: they go over its edges, and over no other
-pub record BearsRow (network : NetworkParts) (row : DemandRow) (path : List ℕ) : Type 0 where
-  pub simple : IsSimple network.edges path
-  pub loads : (index : ℕ) → (if list_any (nat_eq index) path then unsigned_abs row.customers else 0)
-      ≡ row_load network index row

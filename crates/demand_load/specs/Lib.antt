@@ -3,3 +3,4 @@ pub mod Known
 pub mod LoadStage
 pub mod LoadTables
 pub mod RightLoads
+pub mod Wanted

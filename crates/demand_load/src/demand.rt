@@ -1,15 +1,17 @@
 // The loads of edges by demand.
-ghost use Rattle.std.specs.Prelude.{ℕ, pos, ◌≡◌, ◌+◌, ◌<◌, ◌≤◌, ◌≤ℤ◌, ◌^◌, if◌then◌else◌, nat_eq, [], length, slice_get, slice_index, vec_len, Some, IfOk, OnOk, MatchResult};
-ghost use Rattle.std.specs.List.{All, IsDistinct, list_any};
+ghost use Rattle.std.specs.Prelude.{ℕ, pos, ◌≡◌, ◌+◌, ◌<◌, ◌≤◌, ◌≤ℤ◌, ◌^◌, [], length, slice_get, unsigned_abs, IfNone, IfOk, OnOk};
+ghost use Rattle.std.specs.List.{All};
 ghost use Rattle.giv_files.specs.Columns.{od_columns};
 ghost use Rattle.giv_files.specs.Inputs.{input_faults, records, records_of, table_row_faults, table_faults, broken_whys, UnlessFault};
 ghost use Rattle.giv_files.specs.Writing.{InColumns};
-ghost use Rattle.ptn_network.specs.Networks.{IsNetwork};
-ghost use Rattle.demand_load.specs.Demand.{demand_input, demand_loads, BearsRow};
+ghost use Rattle.demand_load.specs.Demand.{demand_input, demand_loads, row_load};
 ghost use Rattle.demand_load.specs.Known.{AreKnown};
+ghost use Rattle.demand_load.specs.Wanted.{everyone, goes_over, sum_between, AreWanted};
 
 use crate::demand_row::DemandRow;
 use crate::known_paths::KnownPaths;
+use crate::on_edges::loads_of_wanted;
+use crate::wanted::Wanted;
 use giv_files::{Counted, FileId, Refusal, RowWhy, StageFault, Table, columns, read_input};
 use plan_num::NoMemory;
 use ptn_network::Network;
@@ -61,68 +63,59 @@ fn loads_of_rows(alloc: Global, network: &Network, table: &Table<3>) -> Result<V
         (λ loads. loads.items ≡ demand_loads network.now
         (records (demand_input network.now) table.now)) result }
 {
-    let mut loads = vec![in alloc; 0; network.edge_count()]?;
     let mut known = KnownPaths::new(alloc, network)?;
+    let mut wanted = Wanted::new(alloc, network)?;
     for i in 0..table.len() {
         let row = DemandRow::read(table, i);
-        match path_of_row(alloc, network, &mut known, &row)? {
-            Ok(path) => add_along(&path, row.customers.unsigned_abs(), &mut loads),
-            Err(why) => {
-                return Err(StageFault::Refused(Refusal::BadRow {
-                    file: FileId::Od,
-                    row: table.number(i),
-                    why,
-                }));
-            }
+        if let Some(why) = note_row(alloc, network, &mut known, &mut wanted, &row)? {
+            return Err(StageFault::Refused(Refusal::BadRow {
+                file: FileId::Od,
+                row: table.number(i),
+                why,
+            }));
         }
     }
+    let loads = loads_of_wanted(alloc, network, &mut known, &wanted)?;
     Ok(loads)
 }
 
-// The path of the customers of a row, or why the row is refused. A row without customers needs no
-// path.
-fn path_of_row(
+// The customers of a row want to go, or the row is refused for this reason. A row without customers
+// needs no path.
+fn note_row(
     alloc: Global,
     network: &Network,
     known: &mut KnownPaths,
+    wanted: &mut Wanted,
     row: &DemandRow,
-) -> Result<Result<Vec<usize>, RowWhy>, NoMemory>
-    requires network { IsNetwork network.now }
+) -> Result<Option<RowWhy>, NoMemory>
     requires known { AreKnown network.now known.old }
-    requires customers { pos 0 ≤ℤ row.now.customers }
+    requires wanted { AreWanted network.now wanted.old }
+    requires low { pos 0 ≤ℤ row.now.customers }
+    requires room { sum_between (λ _. everyone) 0 wanted.old + unsigned_abs row.now.customers
+        < 2 ^ 64 }
     ensures known { OnOk result (AreKnown network.now known.new) }
-    ensures path { IfOk result (λ found. MatchResult found
-        (λ path. (broken_whys (demand_input network.now).row_rules [] row.now ≡ [])
-        × BearsRow network.now row.now path.items)
-        (λ why. slice_get (broken_whys (demand_input network.now).row_rules [] row.now) 0
-        ≡ Some why)) }
+    ensures wanted { OnOk result (AreWanted network.now wanted.new) }
+    ensures why { IfOk result (λ why. why
+        ≡ slice_get (broken_whys (demand_input network.now).row_rules [] row.now) 0) }
+    ensures all { IfOk result (λ why. IfNone why (sum_between (λ _. everyone) 0 wanted.new
+        ≡ sum_between (λ _. everyone) 0 wanted.old + unsigned_abs row.now.customers)) }
+    ensures added { IfOk result (λ why. IfNone why ((index : ℕ)
+        → sum_between (goes_over network.now index) 0 wanted.new
+        ≡ sum_between (goes_over network.now index) 0 wanted.old
+        + row_load network.now index row.now)) }
 {
     let Some(left) = network.stop_index(row.left) else {
-        return Ok(Err(RowWhy::UnknownStop));
+        return Ok(Some(RowWhy::UnknownStop));
     };
     let Some(right) = network.stop_index(row.right) else {
-        return Ok(Err(RowWhy::UnknownStop));
+        return Ok(Some(RowWhy::UnknownStop));
     };
     if !row.has_customers() {
-        return Ok(Ok(Vec::new(alloc)));
+        return Ok(None);
     }
-    match known.way(alloc, network, left, right)? {
-        Some(path) => Ok(Ok(path)),
-        None => Ok(Err(RowWhy::NoPath)),
+    if !known.joins(alloc, network, left, right)? {
+        return Ok(Some(RowWhy::NoPath));
     }
-}
-
-// Customers go over the edges of a path.
-fn add_along(path: &[usize], customers: u64, loads: &mut Vec<u64>)
-    requires apart { IsDistinct nat_eq path.now }
-    requires there { All (λ index. index < vec_len loads.old) path.now }
-    requires room { All (λ load. load + customers < 2 ^ 64) loads.old.items }
-    ensures size { vec_len loads.new ≡ vec_len loads.old }
-    ensures added { (index : ℕ) → index < vec_len loads.old → slice_index loads.new.items index
-        ≡ slice_index loads.old.items index
-        + (if list_any (nat_eq index) path.now then customers else 0) }
-{
-    for index in path {
-        loads[*index] += customers;
-    }
+    wanted.add(alloc, network, left, right, row.customers.unsigned_abs())?;
+    Ok(None)
 }

@@ -1,7 +1,7 @@
 // Paths that are known.
-ghost use Rattle.std.specs.Prelude.{◌≡◌, ◌<◌, true, is_some, length, slice_index_or, option_map, None, IfSome, IfOk, OnOk};
-ghost use Rattle.ptn_network.specs.Networks.{IsNetwork};
-ghost use Rattle.ptn_network.specs.Paths.{way, ArePaths, IsShortest};
+ghost use Rattle.std.specs.Prelude.{◌≡◌, ◌<◌, true, is_some, length, slice_index_or, None, Some, IfOk, OnOk};
+ghost use Rattle.ptn_network.specs.Paths.{ArePaths};
+ghost use Rattle.ptn_network.specs.Walks.{edge_length, least_sum};
 ghost use Rattle.demand_load.specs.Known.{AreKnown};
 
 use plan_num::NoMemory;
@@ -37,34 +37,44 @@ impl KnownPaths {
         Ok(KnownPaths { paths })
     }
 
-    /// The path between two stops, where a walk joins them. The paths from its stop are known from
-    /// then on.
-    pub(crate) fn way(
+    /// Whether a walk joins two stops. The paths from the first one are known from then on.
+    pub(crate) fn joins(
         &mut self,
         alloc: Global,
         network: &Network,
         from: usize,
         to: usize,
-    ) -> Result<Option<Vec<usize>>, NoMemory>
-        requires network { IsNetwork network.now }
+    ) -> Result<bool, NoMemory>
         requires known { AreKnown network.now self.old }
         requires from { from < length network.now.stops }
         requires to { to < length network.now.stops }
         ensures known { OnOk result (AreKnown network.now self.new) }
-        ensures way { IfOk result (λ found.
-            option_map (λ path. path.items) found ≡ way network.now from to) }
-        ensures shortest { IfOk result (λ found. IfSome found
-            (λ path. IsShortest network.now from to path.items)) }
+        ensures joined { IfOk result (λ joined. joined
+            ≡ is_some (least_sum network.now edge_length from to)) }
     {
         self.learn(alloc, network, from)?;
+        Ok(self.from_stop(from).reaches(to))
+    }
+
+    /// The paths from a stop, where they are known.
+    pub(crate) fn from_stop(&self, from: usize) -> &Paths
+        requires from { from < length self.now }
+        requires there { is_some (slice_index_or self.now from None) ≡ true }
+        ensures { slice_index_or self.now from None ≡ Some result.now }
+    {
         match &self.paths[from] {
             None => unreachable!(),
-            Some(paths) => way_among(alloc, network, paths, from, to),
+            Some(paths) => paths,
         }
     }
 
-    // The paths from a stop are known.
-    fn learn(&mut self, alloc: Global, network: &Network, from: usize) -> Result<(), NoMemory>
+    /// The paths from a stop are known from then on.
+    pub(crate) fn learn(
+        &mut self,
+        alloc: Global,
+        network: &Network,
+        from: usize,
+    ) -> Result<(), NoMemory>
         requires known { AreKnown network.now self.old }
         requires from { from < length network.now.stops }
         ensures known { OnOk result (AreKnown network.now self.new) }
@@ -77,26 +87,4 @@ impl KnownPaths {
         self.paths[from] = Some(paths);
         Ok(())
     }
-}
-
-// The path to a stop among the paths from another, where a walk joins them.
-fn way_among(
-    alloc: Global,
-    network: &Network,
-    paths: &Paths,
-    from: usize,
-    to: usize,
-) -> Result<Option<Vec<usize>>, NoMemory>
-    requires network { IsNetwork network.now }
-    requires paths { ArePaths network.now from paths.now }
-    requires to { to < length network.now.stops }
-    ensures way { IfOk result (λ found.
-        option_map (λ path. path.items) found ≡ way network.now from to) }
-    ensures shortest { IfOk result (λ found. IfSome found
-        (λ path. IsShortest network.now from to path.items)) }
-{
-    if !paths.reaches(to) {
-        return Ok(None);
-    }
-    Ok(Some(paths.path_to(alloc, network, from, to)?))
 }

@@ -190,7 +190,7 @@ module _ (edges : List Edge) (lengths : ℕ → Option ℕ) (n from : ℕ)
       ]
 
   -- so the last edge of a path is not one of those before it
-  last_is_new : (more at last : ℕ) → last_edge edges lengths at ≡ Some last
+  pub last_is_new : (more at last : ℕ) → last_edge edges lengths at ≡ Some last
       → list_any (nat_eq last) (path_within edges lengths more from (stop_before edges last at))
       ≡ false
   last_is_new more at last is =

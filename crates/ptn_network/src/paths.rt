@@ -47,6 +47,21 @@ impl Paths {
         self.reach.at(stop).is_some()
     }
 
+    /// The least lengths to all stops.
+    pub fn lengths(&self) -> &Reach
+        ensures { result.now ≡ self.now.lengths }
+    {
+        &self.reach
+    }
+
+    /// The index of the last edge of the path to a stop, where an edge ends a least walk there.
+    pub fn last_edge_to(&self, stop: usize) -> Option<usize>
+        requires { stop < length self.now.last }
+        ensures { result ≡ slice_index_or self.now.last stop None }
+    {
+        self.last[stop]
+    }
+
     /// The indexes of the edges of the path to a stop, in their order.
     pub fn path_to(
         &self,
@@ -67,14 +82,6 @@ impl Paths {
         let mut path = self.path_back(alloc, network, from, to)?;
         path.reverse();
         Ok(path)
-    }
-
-    // The index of the last edge of the path to a stop.
-    fn last_edge_to(&self, stop: usize) -> Option<usize>
-        requires { stop < length self.now.last }
-        ensures { result ≡ slice_index_or self.now.last stop None }
-    {
-        self.last[stop]
     }
 
     // The indexes of the edges of the path to a stop, from the last one back.

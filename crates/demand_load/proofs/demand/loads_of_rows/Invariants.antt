@@ -1,9 +1,10 @@
--- The loads are those by the rows so far, and none of these rows breaks a rule.
-use Rattle.std.proofs.Common.{◌≡◌, ◌<◌, ℕ, get_or, length, take}
+-- The customers of the rows so far want to go, and none of these rows breaks a rule.
+use Rattle.std.proofs.Common.{◌≡◌, ◌≤◌, ◌*◌, ℕ, take}
 use Rattle.giv_files.specs.Inputs.{records}
 use Rattle.giv_files.proofs.Inputs.{SoundBefore}
 use Rattle.demand_load.specs.Demand.{demand_input, load_of}
 use Rattle.demand_load.specs.Known.{AreKnown}
+use Rattle.demand_load.specs.Wanted.{everyone, goes_over, sum_between, AreWanted}
 use Rattle.demand_load.proofs.demand.loads_of_rows.Given as goal
 
 abbrev pub invariant-loop-i : goal.invariant-loop-i
@@ -12,8 +13,8 @@ invariant-loop-i l =
     record {
       sound : SoundBefore input l.table l.i;
       known : AreKnown l.network l.known;
-      size : length l.loads.items ≡ length l.network.edges;
-      loads : (index : ℕ) → index < length l.network.edges
-          → get_or l.loads.items index 0 ≡ load_of l.network
-          (records input (take l.i l.table)) index;
+      wanted : AreWanted l.network l.wanted;
+      few : sum_between (λ _. everyone) 0 l.wanted ≤ l.i * 1000000000000;
+      loads : (index : ℕ) → sum_between (goes_over l.network index) 0 l.wanted
+          ≡ load_of l.network (records input (take l.i l.table)) index;
     }

@@ -1,0 +1,81 @@
+-- The lists of customers who want to go, by the stop where they start.
+use Rattle.std.proofs.Common.{◌≡◌, ℕ, ◌+◌, ◌<◌, ◌≤◌, Bool, true, false, cond, List, [], ◌∷◌, length, get_or, set, replicate, refl, ap, ◌∙◌, arith, inl, inr, get_or-set_other, get_or-set_same}
+use Rattle.std.proofs.lemmas.Bool.{cases_eq}
+use Rattle.std.proofs.lemmas.List.{length-set}
+use Rattle.ptn_network.specs.Networks.{NetworkParts}
+use Rattle.demand_load.specs.Wanted.{sum_where, sum_between, everyone, AreWanted}
+use Rattle.demand_load.proofs.WantedSums.{sum_where-set, sum_where-one, sum_where-zeros, sum_between-set, sum_between-one}
+
+-- a list without length has nothing
+pub none_in : (amounts : List ℕ) → length amounts ≡ 0 → amounts ≡ []
+none_in [] e = refl
+none_in (amount ∷ amounts) e = absurd (omega arith)
+
+module _ (network : NetworkParts) (wanted : List (List ℕ)) (from : ℕ)
+    (are : AreWanted network wanted) (within : from < length network.stops) where
+  -- another list at one stop
+  pub list_set : (amounts : List ℕ) → length amounts ≡ length network.stops
+      → AreWanted network (set wanted from amounts)
+  list_set amounts size =
+      let here : from < length wanted = omega (arith, are.size) in
+      record {
+        size = length-set wanted from amounts ∙ are.size;
+        each = λ at h. elim (cases_eq at from) [
+          | inl same ↦ inr (ap (λ stop. length (get_or (set wanted from amounts) stop [])) same
+              ∙ ap length (get_or-set_same wanted from amounts [] here) ∙ size)
+          | inr off ↦ elim (are.each at h) [
+            | inl none ↦ inl (get_or-set_other wanted from at amounts [] off ∙ none)
+            | inr long ↦ inr (ap length (get_or-set_other wanted from at amounts [] off) ∙ long)
+          ]
+        ];
+      }
+
+  pub list_there : (amounts : List ℕ) → get_or (set wanted from amounts) from [] ≡ amounts
+  list_there amounts =
+      let here : from < length wanted = omega (arith, are.size) in
+      get_or-set_same wanted from amounts [] here
+
+  -- a list of zeros in the place of none
+  pub zeros_same : get_or wanted from [] ≡ [] → (passes : ℕ → ℕ → Bool)
+      → sum_between passes 0 (set wanted from (replicate (length network.stops) 0))
+      ≡ sum_between passes 0 wanted
+  unfolding sum_where
+  zeros_same none passes =
+      let here : from < length wanted = omega (arith, are.size) in
+      let other = sum_between-set passes 0 from from wanted (replicate (length network.stops) 0)
+      (omega arith) here in
+      let old : sum_where (passes from) 0 (get_or wanted from []) ≡ 0 =
+      ap (sum_where (passes from) 0) none in
+      let new = sum_where-zeros (passes from) (length network.stops) in
+      omega arith
+
+  -- customers more
+  module _ (amounts : List ℕ) (is : amounts ≡ get_or wanted from []) (to customers : ℕ)
+      (size : length amounts ≡ length network.stops) (there : to < length network.stops) where
+    pub one_more : (passes : ℕ → ℕ → Bool)
+        → sum_between passes 0 (set wanted from (set amounts to (get_or amounts to 0 + customers)))
+        ≡ sum_between passes 0 wanted + cond (passes from to) customers 0
+    one_more passes =
+        let here : from < length wanted = omega (arith, are.size) in
+        let outer = sum_between-set passes 0 from from wanted
+        (set amounts to (get_or amounts to 0 + customers)) (omega arith) here in
+        let old = ap (sum_where (passes from) 0) is in
+        let inner = sum_where-set (passes from) 0 to to amounts (get_or amounts to 0 + customers)
+        (omega arith) (omega arith) in
+        let apart = added (passes from to) (get_or amounts to 0) customers in
+        omega arith
+      where
+        added : (b : Bool) (n m : ℕ) → cond b (n + m) 0 ≡ cond b n 0 + cond b m 0
+        added true n m = refl
+        added false n m = refl
+
+    pub more_fits : sum_between (λ _. everyone) 0 wanted + customers < 18446744073709551616
+        → get_or amounts to 0 + customers < 18446744073709551616
+    more_fits room =
+        let here : from < length wanted = omega (arith, are.size) in
+        let all : sum_where everyone 0 (get_or wanted from [])
+        ≤ sum_between (λ _. everyone) 0 wanted = sum_between-one (λ _. everyone) from wanted here in
+        let same = ap (sum_where everyone 0) is in
+        let one : get_or amounts to 0 ≤ sum_where everyone 0 amounts =
+        sum_where-one everyone to amounts (omega arith) in
+        omega arith
