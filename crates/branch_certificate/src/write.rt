@@ -18,7 +18,7 @@ use plan_num::{NoMemory, Text};
 use std::alloc::Global;
 
 /// The text of a tree over a line problem, which `read_tree` reads back. Each split of a node is at
-/// 1,000,000,000 at most. It is written node by node, with no table beside it.
+/// 1,000,000,000 at most. It is written node by node, with a table of one node's rows at a time.
 pub fn write_tree(alloc: Global, problem: &LineProblem, tree: &Tree) -> Result<Text, NoMemory>
     requires names { All (NamesWhatIs problem.now) tree.now }
     requires small { All IsSmallSplit tree.now }
