@@ -1,4 +1,5 @@
 pub mod Certifying
+pub mod FaultlessTrees
 mod FirstOfAll
 mod FirstPlaces
 mod Judging

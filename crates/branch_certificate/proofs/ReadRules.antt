@@ -53,7 +53,7 @@ missing ids id e = none_passes (int_eq id) ids (ltb-false _ _ (past_all _ _ e))
 
 -- ---- the first of six rules that is broken
 
-abbrev first_of : Bool → Bool → Bool → Bool → Bool → Bool → Option RowWhy
+abbrev pub first_of : Bool → Bool → Bool → Bool → Bool → Bool → Option RowWhy
 first_of a b c d e f =
     slice_get (cond a (why.UnknownLine ∷ []) [] ++ (cond b (why.UnknownEdge ∷ []) []
     ++ (cond c (why.OrderGap ∷ []) [] ++ (cond d (why.OrderGap ∷ []) []
@@ -68,7 +68,7 @@ out_of_order false false true f g h = ap (λ b. cond b (Some why.OrderGap) None)
 out_of_order false false false true g h = ap (λ b. cond b (Some why.OrderGap) None) h
 out_of_order false false false false g h = ap (λ b. cond b (Some why.OrderGap) None) h
 
-or_true : (b : Bool) → (b || true) ≡ true
+pub or_true : (b : Bool) → (b || true) ≡ true
 or_true true = refl
 or_true false = refl
 
@@ -86,7 +86,7 @@ first_is : (ids : NamedIds) (before : List TreeRow) (row : TreeRow) → first_wh
 first_is ids before row = refl
 
 -- a row with another kind
-abbrev with_kind : TreeRow → ℕ → TreeRow
+abbrev pub with_kind : TreeRow → ℕ → TreeRow
 with_kind row kind = record row { kind = pos kind }
 
 at_most : (value : ℤ) (n : ℕ) → unsigned_abs value ≡ n → pos 0 ≤ℤ value

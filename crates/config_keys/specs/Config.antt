@@ -7,7 +7,7 @@ use Rattle.giv_files.specs.declared.stage.Stage.{Stage}
 use Rattle.giv_files.specs.declared.stage.Stage.TheVariants.{Statistic}
 use Rattle.giv_files.specs.CrossRules.{keeps_rule}
 use Rattle.giv_files.specs.Keys.{all_keys, key_place, allows, stage_keys}
-use Rattle.giv_files.specs.Stages.{all_stages}
+use Rattle.giv_files.specs.Stages.{places}
 use Rattle.config_keys.specs.declared.config_end.ConfigEnd.{ConfigEnd}
 use Rattle.config_keys.specs.declared.config_end.ConfigEnd.TheVariants.{Refused, FileFault, NoMemory}
 use Rattle.config_keys.specs.Values.{settled}
@@ -33,7 +33,7 @@ part_of values stage = map (setting_at values) (stage_keys stage)
 
 -- the stage at a place
 abbrev pub stage_at : ℤ → Stage
-stage_at (pos place) = get_or all_stages place Statistic
+stage_at (pos place) = get_or places place Statistic
 stage_at (negsuc _) = Statistic
 
 -- the last stage that is to run

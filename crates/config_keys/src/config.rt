@@ -62,7 +62,7 @@ impl Config {
     pub fn last_stage(&self) -> Stage
         ensures { result ≡ last_stage_of self.now }
     {
-        Stage::all()[self.value(Key::LastStage) as usize]
+        Stage::places()[self.value(Key::LastStage) as usize]
     }
 
     /// The settings of a stage: its keys in their order, with their values.

@@ -1,6 +1,7 @@
 pub mod Certified
 pub mod Checked
 mod Deeper
+pub mod FaultlessTables
 mod Loops
 pub mod Rounds
 pub mod Settled

@@ -67,6 +67,7 @@ kind_small _ = (omega (arith, ints), omega (arith, ints))
 words_good : (table : KeyWords) → WordsGood (key_words table) (key_words table) 0
 words_good words.Stages = (plain_word _ refl, refl, (plain_word _ refl, refl, (plain_word _ refl, refl, (plain_word _ refl, refl, (plain_word _ refl, refl, (plain_word _ refl, refl, (plain_word _ refl, refl, (plain_word _ refl, refl, (plain_word _ refl, refl, tt)))))))))
 words_good words.LoadSources = (plain_word _ refl, refl, (plain_word _ refl, refl, tt))
+words_good words.NoOrYes = (plain_word _ refl, refl, (plain_word _ refl, refl, tt))
 
 -- text of the bytes of numbers is no word
 no_word : (text word : List ℕ) → list_all is_number_byte text ≡ true
@@ -108,6 +109,7 @@ word_back table place inside =
 some_words : (table : KeyWords) → 0 < length (key_words table)
 some_words words.Stages = omega arith
 some_words words.LoadSources = omega arith
+some_words words.NoOrYes = omega arith
 
 module _ (k : KeyKind) (value : ℤ) (low : least k ≤ℤ value) (high : value ≤ℤ greatest k)
     (small : IsSmall (least k) (greatest k)) where

@@ -8,12 +8,13 @@ use Rattle.giv_files.specs.declared.key_words.KeyWords.{KeyWords}
 use Rattle.giv_files.specs.declared.key_words.KeyWords.TheVariants as words
 use Rattle.giv_files.specs.StageNames.{stage_name}
 use Rattle.giv_files.specs.Reading.{place_of}
-use Rattle.giv_files.specs.Stages.{all_stages}
+use Rattle.giv_files.specs.Stages.{places}
 
 -- the words that a value may be, by their places from 0
 abbrev pub key_words : KeyWords → List (List ℕ)
-key_words words.Stages = map stage_name all_stages
+key_words words.Stages = map stage_name places
 key_words words.LoadSources = codes "od" ∷ codes "file" ∷ []
+key_words words.NoOrYes = codes "no" ∷ codes "yes" ∷ []
 
 -- the words for a waiting time without end, and for none
 abbrev pub all_word : List ℕ

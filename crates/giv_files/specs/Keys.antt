@@ -11,7 +11,7 @@ use Rattle.giv_files.specs.declared.key_words.KeyWords.TheVariants as words
 use Rattle.giv_files.specs.declared.stage.Stage.{Stage}
 use Rattle.giv_files.specs.declared.stage.Stage.TheVariants as stage
 use Rattle.giv_files.specs.KeyKinds.{least, greatest}
-use Rattle.giv_files.specs.Stages.{stage_place}
+use Rattle.giv_files.specs.Stages.{stage_tag}
 
 -- the row of a key: how config files write it, what its value may be, its value where no file gives
 -- one, and the stages that have it
@@ -54,7 +54,7 @@ key_row key.LpoolCostsEdges = row (codes "lpool_costs_edges") (fixed 1000000) 0 
 key_row key.ConceptBudget = row (codes "concept_budget") (whole 1 20000) 5000 (stage.Concept ∷ [])
 key_row key.PeriodLength =
     row (codes "period_length") (whole 1 720) 60
-    (stage.Ean ∷ stage.Timetable ∷ stage.Rollout ∷ stage.Statistic ∷ [])
+    (stage.Ean ∷ stage.Timetable ∷ stage.Rollout ∷ stage.Statistic ∷ stage.PinnedTimetable ∷ [])
 key_row key.EanDefaultMinimalWaitingTime =
     row (codes "ean_default_minimal_waiting_time") (whole 0 10000) 1 (stage.Ean ∷ [])
 key_row key.EanDefaultMaximalWaitingTime =
@@ -70,13 +70,18 @@ key_row key.DmEarliestTime =
     row (codes "DM_earliest_time") (whole 0 10080) 300 (stage.Rollout ∷ [])
 key_row key.DmLatestTime = row (codes "DM_latest_time") (whole 0 10080) 1380 (stage.Rollout ∷ [])
 key_row key.VsTurnOverTime =
-    row (codes "vs_turn_over_time") (whole 0 10000) 5 (stage.Vehicles ∷ stage.Disposition ∷ [])
+    row (codes "vs_turn_over_time") (whole 0 10000) 5
+    (stage.Vehicles ∷ stage.Disposition ∷ stage.PinnedVehicles ∷ [])
 key_row key.VsVehicleCosts =
     row (codes "vs_vehicle_costs") (fixed 1000000) 100000000
-    (stage.Vehicles ∷ stage.Statistic ∷ [])
+    (stage.Vehicles ∷ stage.Statistic ∷ stage.PinnedVehicles ∷ [])
 key_row key.VsEmptyCosts =
-    row (codes "vs_empty_costs") (fixed 1000000) 1000000 (stage.Vehicles ∷ stage.Statistic ∷ [])
+    row (codes "vs_empty_costs") (fixed 1000000) 1000000
+    (stage.Vehicles ∷ stage.Statistic ∷ stage.PinnedVehicles ∷ [])
 key_row key.DmWait = row (codes "dm_wait") (kind.Wait (pos 10000)) 3 (stage.Disposition ∷ [])
+key_row key.PinConcept = row (codes "pin_concept") (kind.Word words.NoOrYes) 0 []
+key_row key.PinTimetable = row (codes "pin_timetable") (kind.Word words.NoOrYes) 0 []
+key_row key.PinVehicles = row (codes "pin_vehicles") (kind.Word words.NoOrYes) 0 []
 
 -- the keys in their order
 abbrev pub all_keys : List Key
@@ -102,6 +107,9 @@ all_keys =
     ∷ key.VsVehicleCosts
     ∷ key.VsEmptyCosts
     ∷ key.DmWait
+    ∷ key.PinConcept
+    ∷ key.PinTimetable
+    ∷ key.PinVehicles
     ∷ []
 
 -- the place of a key in the order of keys, which is that of the enum
@@ -128,7 +136,7 @@ allows key value = int_le (least (key_kind key)) value && int_le value (greatest
 
 -- a stage has a key
 abbrev pub has_key : Stage → Key → Bool
-has_key stage key = list_any (λ other. stage_place other == stage_place stage) (key_row key).stages
+has_key stage key = list_any (λ other. stage_tag other == stage_tag stage) (key_row key).stages
 
 -- the keys of the settings of a stage, in the order of keys
 unfoldable pub stage_keys : Stage → List Key

@@ -11,6 +11,8 @@ use Rattle.giv_files.specs.Stages.{stage_makes}
 -- the lists of files that a stage may make, in order: a concept without a mark has no Tree
 abbrev pub made_lists : Stage → List (List FileId)
 made_lists stage.Concept = stage_makes stage.Concept ∷ (file.Concept ∷ []) ∷ []
+made_lists stage.PinnedConcept = stage_makes stage.PinnedConcept ∷ (file.Concept ∷ []) ∷ []
+made_lists stage.PinnedVehicles = stage_makes stage.PinnedVehicles ∷ (file.Schedule ∷ []) ∷ []
 made_lists stage = stage_makes stage ∷ []
 
 -- files are one of the lists that a stage may make

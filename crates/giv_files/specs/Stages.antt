@@ -7,13 +7,21 @@ use Rattle.giv_files.specs.declared.file_id.FileId.TheVariants as file
 use Rattle.giv_files.specs.declared.stage.Stage.{Stage}
 use Rattle.giv_files.specs.declared.stage.Stage.TheVariants as stage
 
--- the stages in the order in which they run
-abbrev pub all_stages : List Stage
-all_stages = stage.Load ∷ stage.Cost ∷ stage.Concept ∷ stage.Ean ∷ stage.Timetable ∷ stage.Rollout ∷ stage.Vehicles ∷ stage.Disposition ∷ stage.Statistic ∷ []
+-- the places of a chain, by the stages that run in them where nothing is pinned, in the order in which
+-- they run
+abbrev pub places : List Stage
+places = stage.Load ∷ stage.Cost ∷ stage.Concept ∷ stage.Ean ∷ stage.Timetable ∷ stage.Rollout ∷ stage.Vehicles ∷ stage.Disposition ∷ stage.Statistic ∷ []
 
--- the place of a stage in the order in which the stages run, which is that of the enum
-abbrev pub stage_place : Stage → ℕ
-stage_place stage = tag_of the_type stage
+-- all stages: those, and the ones that run in the place of some of them where a person pins it
+abbrev pub all_stages : List Stage
+all_stages =
+    stage.Load ∷ stage.Cost ∷ stage.Concept ∷ stage.Ean ∷ stage.Timetable ∷ stage.Rollout ∷ stage.Vehicles
+    ∷ stage.Disposition ∷ stage.Statistic ∷ stage.PinnedConcept ∷ stage.PinnedTimetable
+    ∷ stage.PinnedVehicles ∷ []
+
+-- the place of a stage among all stages, which is that of the enum
+abbrev pub stage_tag : Stage → ℕ
+stage_tag stage = tag_of the_type stage
 
 -- the inputs of a stage, in order; where loads are given, LoadGiven stands in the place of Od
 abbrev pub stage_inputs : Stage → List FileId
@@ -26,6 +34,9 @@ stage_inputs stage.Rollout = file.EventsP ∷ file.ActivitiesP ∷ file.TimesP �
 stage_inputs stage.Vehicles = file.Stop ∷ file.Edge ∷ file.Trips ∷ []
 stage_inputs stage.Disposition = file.EventsX ∷ file.ActivitiesX ∷ file.Schedule ∷ file.EventDelays ∷ file.ActivityDelays ∷ []
 stage_inputs stage.Statistic = file.PoolCost ∷ file.Concept ∷ file.EventsP ∷ file.ActivitiesP ∷ file.TimesP ∷ file.Trips ∷ file.EventsX ∷ file.ActivitiesX ∷ file.Schedule ∷ file.Disposed ∷ []
+stage_inputs stage.PinnedConcept = file.Stop ∷ file.Edge ∷ file.Pool ∷ file.Load ∷ file.PoolCost ∷ file.PinnedConcept ∷ file.PinnedTree ∷ []
+stage_inputs stage.PinnedTimetable = file.EventsP ∷ file.ActivitiesP ∷ file.PinnedTimes ∷ []
+stage_inputs stage.PinnedVehicles = file.Stop ∷ file.Edge ∷ file.Trips ∷ file.PinnedSchedule ∷ file.PinnedPotential ∷ []
 
 -- the files that a stage makes, in order; a concept without a mark has no Tree
 abbrev pub stage_makes : Stage → List FileId
@@ -38,3 +49,6 @@ stage_makes stage.Rollout = file.EventsX ∷ file.ActivitiesX ∷ file.Trips ∷
 stage_makes stage.Vehicles = file.Schedule ∷ file.Potential ∷ []
 stage_makes stage.Disposition = file.Disposed ∷ file.Reasons ∷ []
 stage_makes stage.Statistic = file.Statistic ∷ []
+stage_makes stage.PinnedConcept = file.Concept ∷ file.Tree ∷ []
+stage_makes stage.PinnedTimetable = file.TimesP ∷ []
+stage_makes stage.PinnedVehicles = file.Schedule ∷ file.Potential ∷ []

@@ -33,6 +33,9 @@ pub enum Key {
     VsVehicleCosts,
     VsEmptyCosts,
     DmWait,
+    PinConcept,
+    PinTimetable,
+    PinVehicles,
 }
 
 impl Key {
@@ -81,6 +84,7 @@ impl Key {
                     Stage::Timetable,
                     Stage::Rollout,
                     Stage::Statistic,
+                    Stage::PinnedTimetable,
                 ],
             ),
             Key::EanDefaultMinimalWaitingTime => row(
@@ -125,19 +129,19 @@ impl Key {
                 "vs_turn_over_time",
                 whole(0, 10_000),
                 5,
-                &[Stage::Vehicles, Stage::Disposition],
+                &[Stage::Vehicles, Stage::Disposition, Stage::PinnedVehicles],
             ),
             Key::VsVehicleCosts => row(
                 "vs_vehicle_costs",
                 fixed(1_000_000),
                 100_000_000,
-                &[Stage::Vehicles, Stage::Statistic],
+                &[Stage::Vehicles, Stage::Statistic, Stage::PinnedVehicles],
             ),
             Key::VsEmptyCosts => row(
                 "vs_empty_costs",
                 fixed(1_000_000),
                 1_000_000,
-                &[Stage::Vehicles, Stage::Statistic],
+                &[Stage::Vehicles, Stage::Statistic, Stage::PinnedVehicles],
             ),
             Key::DmWait => row(
                 "dm_wait",
@@ -145,6 +149,9 @@ impl Key {
                 3,
                 &[Stage::Disposition],
             ),
+            Key::PinConcept => row("pin_concept", word(KeyWords::NoOrYes), 0, &[]),
+            Key::PinTimetable => row("pin_timetable", word(KeyWords::NoOrYes), 0, &[]),
+            Key::PinVehicles => row("pin_vehicles", word(KeyWords::NoOrYes), 0, &[]),
         }
     }
 }
@@ -223,6 +230,9 @@ impl Key {
             Key::VsVehicleCosts,
             Key::VsEmptyCosts,
             Key::DmWait,
+            Key::PinConcept,
+            Key::PinTimetable,
+            Key::PinVehicles,
         ]
     }
 

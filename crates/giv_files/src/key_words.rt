@@ -4,12 +4,14 @@ ghost use Rattle.std.specs.Str.{bytes_eq};
 ghost use Rattle.giv_files.specs.KeyKinds.{key_words};
 ghost use Rattle.giv_files.specs.StageNames.{stage_name};
 ghost use Rattle.giv_files.specs.Reading.{place_of};
-ghost use Rattle.giv_files.specs.Stages.{all_stages};
+ghost use Rattle.giv_files.specs.Stages.{places};
 
 use crate::cells::{is_same, place_among};
 use crate::stage::Stage;
 
 const LOAD_SOURCES: &[&str] = &["od", "file"];
+
+const NO_OR_YES: &[&str] = &["no", "yes"];
 
 /// A table of words that the value of a key may be.
 #[derive(Clone, Copy, Debug, PartialEq, Eq)]
@@ -18,6 +20,8 @@ pub enum KeyWords {
     Stages,
     /// Where loads come from: `od` or `file`.
     LoadSources,
+    /// `no` or `yes`.
+    NoOrYes,
 }
 
 impl KeyWords {
@@ -26,8 +30,9 @@ impl KeyWords {
         ensures { result ≡ length (key_words self) }
     {
         match self {
-            KeyWords::Stages => Stage::all().len(),
+            KeyWords::Stages => Stage::places().len(),
             KeyWords::LoadSources => LOAD_SOURCES.len(),
+            KeyWords::NoOrYes => NO_OR_YES.len(),
         }
     }
 
@@ -37,8 +42,9 @@ impl KeyWords {
         ensures { result.now ≡ slice_index_or (key_words self) place [] }
     {
         match self {
-            KeyWords::Stages => Stage::all()[place].name(),
+            KeyWords::Stages => Stage::places()[place].name(),
             KeyWords::LoadSources => LOAD_SOURCES[place],
+            KeyWords::NoOrYes => NO_OR_YES[place],
         }
     }
 
@@ -49,15 +55,16 @@ impl KeyWords {
         match self {
             KeyWords::Stages => stage_place(field),
             KeyWords::LoadSources => place_among(LOAD_SOURCES, field),
+            KeyWords::NoOrYes => place_among(NO_OR_YES, field),
         }
     }
 }
 
 // The place of the stage that the field names.
 fn stage_place(field: &[u8]) -> Option<usize>
-    ensures { result ≡ position (λ stage. bytes_eq (stage_name stage) field.now) all_stages }
+    ensures { result ≡ position (λ stage. bytes_eq (stage_name stage) field.now) places }
 {
-    Stage::all()
+    Stage::places()
         .iter()
         .position(|stage| is_same(stage.name(), field))
 }

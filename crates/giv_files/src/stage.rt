@@ -2,7 +2,7 @@
 ghost use Rattle.std.specs.Prelude.{◌≡◌};
 ghost use Rattle.giv_files.specs.StageNames.{stage_name};
 ghost use Rattle.giv_files.specs.Keys.{has_key};
-ghost use Rattle.giv_files.specs.Stages.{all_stages, stage_place, stage_inputs, stage_makes};
+ghost use Rattle.giv_files.specs.Stages.{all_stages, places, stage_tag, stage_inputs, stage_makes};
 
 use crate::file_id::FileId;
 use crate::key::Key;
@@ -19,6 +19,12 @@ pub enum Stage {
     Vehicles,
     Disposition,
     Statistic,
+    /// In the place of `Concept`: a line concept that a person gives.
+    PinnedConcept,
+    /// In the place of `Timetable`: a timetable that a person gives.
+    PinnedTimetable,
+    /// In the place of `Vehicles`: a vehicle schedule that a person gives.
+    PinnedVehicles,
 }
 
 impl Stage {
@@ -36,14 +42,17 @@ impl Stage {
             Stage::Vehicles => "vehicles",
             Stage::Disposition => "disposition",
             Stage::Statistic => "statistic",
+            Stage::PinnedConcept => "pinned-concept",
+            Stage::PinnedTimetable => "pinned-timetable",
+            Stage::PinnedVehicles => "pinned-vehicles",
         }
     }
 }
 
 impl Stage {
-    /// All stages, in the order in which they run.
-    pub fn all() -> &'static [Stage]
-        ensures { result.now ≡ all_stages }
+    /// The places of a chain, by the stages that run in them where nothing is pinned, in their order.
+    pub fn places() -> &'static [Stage]
+        ensures { result.now ≡ places }
     {
         &[
             Stage::Load,
@@ -58,9 +67,29 @@ impl Stage {
         ]
     }
 
+    /// All stages.
+    pub fn all() -> &'static [Stage]
+        ensures { result.now ≡ all_stages }
+    {
+        &[
+            Stage::Load,
+            Stage::Cost,
+            Stage::Concept,
+            Stage::Ean,
+            Stage::Timetable,
+            Stage::Rollout,
+            Stage::Vehicles,
+            Stage::Disposition,
+            Stage::Statistic,
+            Stage::PinnedConcept,
+            Stage::PinnedTimetable,
+            Stage::PinnedVehicles,
+        ]
+    }
+
     /// Its place in the order of stages, from 0.
     pub fn place(self) -> usize
-        ensures { result ≡ stage_place self }
+        ensures { result ≡ stage_tag self }
     {
         self as usize
     }
@@ -112,6 +141,23 @@ impl Stage {
                 FileId::Schedule,
                 FileId::Disposed,
             ],
+            Stage::PinnedConcept => &[
+                FileId::Stop,
+                FileId::Edge,
+                FileId::Pool,
+                FileId::Load,
+                FileId::PoolCost,
+                FileId::PinnedConcept,
+                FileId::PinnedTree,
+            ],
+            Stage::PinnedTimetable => &[FileId::EventsP, FileId::ActivitiesP, FileId::PinnedTimes],
+            Stage::PinnedVehicles => &[
+                FileId::Stop,
+                FileId::Edge,
+                FileId::Trips,
+                FileId::PinnedSchedule,
+                FileId::PinnedPotential,
+            ],
         }
     }
 
@@ -129,6 +175,9 @@ impl Stage {
             Stage::Vehicles => &[FileId::Schedule, FileId::Potential],
             Stage::Disposition => &[FileId::Disposed, FileId::Reasons],
             Stage::Statistic => &[FileId::Statistic],
+            Stage::PinnedConcept => &[FileId::Concept, FileId::Tree],
+            Stage::PinnedTimetable => &[FileId::TimesP],
+            Stage::PinnedVehicles => &[FileId::Schedule, FileId::Potential],
         }
     }
 }

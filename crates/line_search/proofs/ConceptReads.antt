@@ -64,12 +64,12 @@ few_in (range ∷ region) (frequency ∷ frequencies) ranges within (suc k) d h 
     few_in region frequencies (λ k d h. ranges (suc k) d (omega (arith, h))) within.1 k d (omega (arith, h))
 
 -- the frequency of a line by the cells of the rows
-abbrev frequency_by : ℤ → List (List ℤ) → ℕ
+abbrev pub frequency_by : ℤ → List (List ℤ) → ℕ
 frequency_by line rows =
     unwrap_or (option_map (λ cells. unsigned_abs (get_or cells 3 (pos 0)))
     (find (λ cells. int_eq line (get_or cells 0 (pos 0))) rows)) 0
 
-by_cells : (line : ℤ) (rows : List TableRow)
+pub by_cells : (line : ℤ) (rows : List TableRow)
     → frequency_in rows line ≡ frequency_by line (map (λ row. row.cells) rows)
 by_cells line [] = refl
 by_cells line (row ∷ rows) = one (int_eq line (get_or row.cells 0 (pos 0))) (by_cells line rows)
@@ -88,7 +88,7 @@ module _ (problem : ProblemParts) (sound : IsProblem problem) (frequencies : Lis
   few = few_in (root_of problem) frequencies (root_sound problem sound)
       (root_has_each problem sound frequencies feasible)
 
-  reads : ReadsBack concept_columns (concept_rows problem frequencies) (concept_text problem frequencies)
+  pub reads : ReadsBack concept_columns (concept_rows problem frequencies) (concept_text problem frequencies)
   unfolding concept_text
   reads = written_back concept_header concept_columns (concept_rows problem frequencies) (omega arith)
       columns_written (concept_inside problem sound frequencies few)
@@ -111,7 +111,7 @@ module _ (problem : ProblemParts) (sound : IsProblem problem) (frequencies : Lis
   kept = sym ((test_means problem frequencies (is_feasible problem frequencies) refl).1 feasible)
 
   -- what is left is the rule of the tree
-  passes_by : (tree : Option (List ℕ)) → tree_rule problem (cost_of problem frequencies) tree ≡ None
+  pub passes_by : (tree : Option (List ℕ)) → tree_rule problem (cost_of problem frequencies) tree ≡ None
       → first_broken problem (concept_text problem frequencies) tree ≡ None
   passes_by tree none =
       sym (by_tree problem (concept_text problem frequencies) tree table
@@ -132,12 +132,12 @@ module _ (problem : ProblemParts) (sound : IsProblem problem) (frequencies : Lis
         tree_written (rows_inside problem sound nodes written.names written.written)
         (refl, plain_header tree_header refl))
 
-    tree_kept : tree_rule problem (cost_of problem frequencies) (Some text) ≡ None
+    pub tree_kept : tree_rule problem (cost_of problem frequencies) (Some text) ≡ None
     tree_kept =
         let none = (no_fault_certifies problem (pos (cost_of problem frequencies)) nodes).1 certified in
         rw (back.fine, back.same, none) refl
 
-    marks : Marks problem frequencies text
+    pub marks : Marks problem frequencies text
     marks = record {
       fine = back.fine;
       certified = subst (Certifies problem (pos (cost_of problem frequencies))) (sym back.same) certified;

@@ -32,3 +32,4 @@ pub mod SoundProblems
 pub mod Visited
 pub mod VisitedRegions
 pub mod WrittenNodes
+pub mod PinnedReads

@@ -7,3 +7,5 @@ pub mod Judged
 pub mod Listings
 pub mod RightConcepts
 pub mod Searches
+pub mod PinnedConcepts
+pub mod RightPinned

@@ -40,3 +40,4 @@ pub mod ListingRight
 pub mod TimetableEnds
 pub mod TimetableMakes
 pub mod TimetableReads
+pub mod PinnedReads

@@ -30,6 +30,58 @@ use Rattle.pesp_search.proofs.JudgedTimes.{none_broken_by}
 use Rattle.pesp_search.proofs.ListingRight.{listing_right}
 use Rattle.pesp_search.proofs.TimesAccepted.{times_accepted, times_fit, times_read}
 
+-- where the period is in its range, whatever the stage
+module _ (bundle : BundleParts) (short : (1 ≤ period_in bundle) × (period_in bundle ≤ 720)) (none : timetable_faults bundle ≡ []) where
+  abbrev events : List PeriodicEvent
+  events = events_of (input_text bundle 0)
+
+  events_none : input_faults periodic_event_input (input_text bundle 0) ≡ []
+  unfolding problem_faults
+  events_none = front_none _ _ none
+
+  activities_none : input_faults (periodic_activity_input (periodic_event_ids events)) (input_text bundle 1) ≡ []
+  unfolding problem_faults
+  activities_none = back_none (input_faults periodic_event_input (input_text bundle 0)) _ none
+
+  pub ids_are : event_ids bundle ≡ range_with_len 1 (length events)
+  unfolding events_of
+  ids_are = (periodic_events_sound (input_text bundle 0) events_none).numbered
+
+  pub problem_is : IsProblem (problem_in bundle)
+  unfolding problem_of activities_of events_of
+  problem_is =
+      let are = periodic_events_sound (input_text bundle 0) events_none in
+      let fine = subst (λ ids. input_faults (periodic_activity_input ids) (input_text bundle 1) ≡ []) ids_are activities_none in
+      let rows = periodic_activities_sound (length events) (input_text bundle 1) fine in
+      problem_sound (length events) (activities_of events (input_text bundle 1)) rows (period_in bundle)
+      short.0 short.1 (length events) refl are.few
+      (map activity_of (activities_of events (input_text bundle 1))) refl
+
+  -- times that are a timetable of the problem
+  module _ (times : List ℕ) (is : IsTimetable (problem_in bundle) times) where
+    few : length times ≤ 4000
+    few = omega (arith, problem_is.few_events, is.each)
+
+    below : All (λ time. time < 720) times
+    below k d h = omega (arith, is.within k d h, problem_is.few)
+
+    pub files_right : TimetableFilesAreRight bundle (record { file = file.TimesP; text = times_text times } ∷ [])
+    unfolding problem_of
+    files_right =
+        let fit = times_fit times few below in
+        record {
+          inputs = none;
+          times = times;
+          text = times_text times;
+          one = refl;
+          reads = times_read times fit;
+          timetable = is;
+          passes = none_broken_by (problem_in bundle) problem_is (times_text times) times (times_read times fit) is;
+          accepted = subst (λ ids. input_faults (periodic_time_input file.TimesP (period_in bundle) ids) (times_text times) ≡ [])
+              (sym ids_are)
+              (times_accepted file.TimesP (period_in bundle) (length events) times is.each is.within fit);
+        }
+
 module _ (bundle : BundleParts) (own : bundle.stage ≡ stage.Timetable) (fits : Fits bundle) where
   pub period_within : (1 ≤ period_in bundle) × (period_in bundle ≤ 720)
   period_within =
@@ -37,56 +89,12 @@ module _ (bundle : BundleParts) (own : bundle.stage ≡ stage.Timetable) (fits :
       (subst (λ of. SettingsFit of bundle.settings) own fits.settings) refl refl refl
 
   module _ (none : timetable_faults bundle ≡ []) where
-    abbrev events : List PeriodicEvent
-    events = events_of (input_text bundle 0)
-
-    events_none : input_faults periodic_event_input (input_text bundle 0) ≡ []
-    unfolding problem_faults
-    events_none = front_none _ _ none
-
-    activities_none : input_faults (periodic_activity_input (periodic_event_ids events)) (input_text bundle 1) ≡ []
-    unfolding problem_faults
-    activities_none = back_none (input_faults periodic_event_input (input_text bundle 0)) _ none
-
-    ids_are : event_ids bundle ≡ range_with_len 1 (length events)
-    unfolding events_of
-    ids_are = (periodic_events_sound (input_text bundle 0) events_none).numbered
-
     pub is_problem : IsProblem (problem_in bundle)
-    unfolding problem_of activities_of events_of
-    is_problem =
-        let are = periodic_events_sound (input_text bundle 0) events_none in
-        let fine = subst (λ ids. input_faults (periodic_activity_input ids) (input_text bundle 1) ≡ []) ids_are activities_none in
-        let rows = periodic_activities_sound (length events) (input_text bundle 1) fine in
-        problem_sound (length events) (activities_of events (input_text bundle 1)) rows (period_in bundle)
-        period_within.0 period_within.1 (length events) refl are.few
-        (map activity_of (activities_of events (input_text bundle 1))) refl
+    is_problem = problem_is bundle period_within none
 
-    -- times that are a timetable of the problem
-    module _ (times : List ℕ) (is : IsTimetable (problem_in bundle) times) where
-      few : length times ≤ 4000
-      few = omega (arith, is_problem.few_events, is.each)
-
-      below : All (λ time. time < 720) times
-      below k d h = omega (arith, is.within k d h, is_problem.few)
-
-      made_right : (entries : ℕ)
-          → TimetableFilesAreRight bundle (times_made (record { times = times; entries = entries })).files
-      unfolding problem_of
-      made_right entries =
-          let fit = times_fit times few below in
-          record {
-            inputs = none;
-            times = times;
-            text = times_text times;
-            one = refl;
-            reads = times_read times fit;
-            timetable = is;
-            passes = none_broken_by (problem_in bundle) is_problem (times_text times) times (times_read times fit) is;
-            accepted = subst (λ ids. input_faults (periodic_time_input file.TimesP (period_in bundle) ids) (times_text times) ≡ [])
-                (sym ids_are)
-                (times_accepted file.TimesP (period_in bundle) (length events) times is.each is.within fit);
-          }
+    made_right : (times : List ℕ) → IsTimetable (problem_in bundle) times → (entries : ℕ)
+        → TimetableFilesAreRight bundle (times_made (record { times = times; entries = entries })).files
+    made_right times is entries = files_right bundle period_within none times is
 
     by_found : (entries : ℕ) (found : Option (List ℕ)) → Tells (problem_in bundle) found → (made : Made)
         → search_made (whole_result entries found) ≡ Ok made → TimetableIsRight bundle made

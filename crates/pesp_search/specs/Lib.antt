@@ -7,3 +7,4 @@ pub mod RightTimetables
 pub mod Searches
 pub mod TimeSets
 pub mod TimetableStage
+pub mod PinnedTimetables

@@ -126,12 +126,16 @@ pub first_found : (at : Stage) (bytes : List ℕ) (entry : EntryParts)
     → entry_with at bytes (stage_makes at) ≡ Some entry → read_entry at bytes ≡ Some entry
 unfolding read_entry
 first_found stage.Concept bytes entry is = rw is refl
+first_found stage.PinnedConcept bytes entry is = rw is refl
+first_found stage.PinnedVehicles bytes entry is = rw is refl
 first_found _ bytes entry is = rw is refl
 
 pub later_found : (at : Stage) (bytes : List ℕ) → entry_with at bytes (stage_makes at) ≡ None
     → slice_get (filter_map (entry_with at bytes) (drop 1 (made_lists at))) 0 ≡ read_entry at bytes
 unfolding read_entry
 later_found stage.Concept bytes is = rw is refl
+later_found stage.PinnedConcept bytes is = rw is refl
+later_found stage.PinnedVehicles bytes is = rw is refl
 later_found _ bytes is = rw is refl
 
 -- a block that is found under another view

@@ -46,6 +46,8 @@ fn shorter_entry(alloc: Global, stage: Stage, bytes: &[u8]) -> Result<Option<Ent
 {
     match stage {
         Stage::Concept => entry_with(alloc, stage, &[FileId::Concept], bytes),
+        Stage::PinnedConcept => entry_with(alloc, stage, &[FileId::Concept], bytes),
+        Stage::PinnedVehicles => entry_with(alloc, stage, &[FileId::Schedule], bytes),
         _ => Ok(None),
     }
 }

@@ -44,7 +44,7 @@ module _ (trips : TripsParts) (schedule : List ℕ) (potentials : Option (List �
   broken_plan plan_faults.NoMemory rule gives is = absurd (none-some rule is)
 
   -- without one the rules of its potentials are left
-  certificate_left : faults_of_plan trips schedule ≡ []
+  pub certificate_left : faults_of_plan trips schedule ≡ []
       → schedule_fault trips schedule potentials
       ≡ slice_get (certificate_rules trips (plan_of trips schedule) potentials) 0
   unfolding schedule_fault

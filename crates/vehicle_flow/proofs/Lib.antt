@@ -38,3 +38,4 @@ pub mod Values
 pub mod VehicleLaws
 pub mod VehicleMakes
 pub mod VehicleReads
+pub mod PinnedReads

@@ -9,3 +9,5 @@ pub mod Searches
 pub mod SettledPlans
 pub mod Slacks
 pub mod VehicleStage
+pub mod PinnedSchedules
+pub mod RightSchedules

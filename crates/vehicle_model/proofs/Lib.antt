@@ -16,3 +16,4 @@ pub mod Tours
 mod Tried
 pub mod VehicleRows
 mod TripTexts
+pub mod FaultlessPlans

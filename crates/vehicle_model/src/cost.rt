@@ -1,5 +1,5 @@
 // What plans cost.
-ghost use Rattle.std.specs.Prelude.{◌≡◌, ◌≤◌, ◌*◌, ◌-ℤ◌, pos, true, length, is_some, Some};
+ghost use Rattle.std.specs.Prelude.{◌≡◌, ◌≤◌, ◌≤ℤ◌, ◌*◌, ◌-ℤ◌, pos, true, length, is_some, Some};
 ghost use Rattle.vehicle_model.specs.Plans.{plan_cost, plan_gain, IsPlan};
 ghost use Rattle.vehicle_model.specs.Trips.{link_minutes, links_of};
 
@@ -12,6 +12,7 @@ pub fn plan_cost(trips: &Trips, plan: &Plan) -> i128
     ensures cost { result ≡ pos (plan_cost trips.now plan.now) }
     ensures gain { result ≡ pos (trips.now.vehicle * length trips.now.trips)
         -ℤ plan_gain (links_of trips.now) plan.now }
+    ensures small { result ≤ℤ pos 100000000000000000000000000000 }
 {
     let mut links = 0;
     let mut minutes = 0;

@@ -1,6 +1,7 @@
-use Rattle.std.proofs.Common.{◌<◌, ◌≤◌, length, arith, sym, ap, ◌∙◌, pos}
+use Rattle.std.proofs.Common.{◌<◌, ◌≤◌, ◌-◌, length, arith, sym, ap, ◌∙◌, pos}
 use Rattle.std.specs.Int.{w128}
-use Rattle.std.proofs.lemmas.Int.{to_z-of_z}
+use Rattle.std.proofs.Math.Nat.{mul-le-mul}
+use Rattle.std.proofs.lemmas.Int.{ints, to_z-of_z}
 use Rattle.vehicle_model.proofs.Costs.{over_link, over_last, all_cost, cost_by_gain}
 use Rattle.vehicle_model.proofs.cost.plan_cost.Goals as goal
 use Rattle.vehicle_model.proofs.cost.plan_cost.Goals.{in-Some, in_default}
@@ -51,3 +52,19 @@ returns-clause-cost c =
 pub returns-clause-gain : goal.returns-clause-gain
 returns-clause-gain c =
     returns-clause-cost c ∙ cost_by_gain c.args.trips.now c.args.plan.now c.requires
+
+pub returns-clause-small : goal.returns-clause-small
+returns-clause-small c =
+    let are = c.len.ensures.trips in
+    let few : c.len.result - c.loop-i.links ≤ 2000 = omega (arith, c.len.ensures.count, are.rows.few) in
+    let short : c.loop-i.minutes ≤ 20000000000000000 = omega (
+      arith,
+      c.loop-i.invariant.small,
+      c.len-i-end.ensures.count,
+      c.len-i-end.ensures.trips.rows.few,
+      c.loop-i.auto.i-end,
+    ) in
+    let handed = to_z-of_z w128 c.cost_of.result (record { sfits = c.cost_of.type_inv }) ∙ c.cost_of.ensures in
+    let vehicles = mul-le-mul are.cheap_vehicle few in
+    let dead = mul-le-mul are.cheap_minutes short in
+    omega (arith, ints, handed, vehicles, dead)

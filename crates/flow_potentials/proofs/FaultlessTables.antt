@@ -1,0 +1,54 @@
+-- A text without a fault as potentials is some.
+use Rattle.std.proofs.Common.{◌≡◌, ℕ, zero, suc, ◌+◌, ◌<◌, ◌≤◌, nat_lt, ◌==◌, ◌&&◌, Bool, true, false, cond, List, [], ◌∷◌, ◌++◌, length, refl, ap, sym, ◌∙◌, arith}
+use Rattle.std.proofs.lemmas.Bool.{ltb-false, ltb-true}
+use Rattle.giv_files.specs.declared.read_fault.RowFault.{RowFault}
+use Rattle.giv_files.specs.declared.row_why.RowWhy.TheVariants as why
+use Rattle.giv_files.specs.Columns.{potential_columns}
+use Rattle.giv_files.specs.Reading.{faults, table_of}
+use Rattle.giv_files.specs.Tables.{TableRow}
+use Rattle.giv_files.proofs.Ranges.{table_in_columns}
+use Rattle.vehicle_model.specs.ReadSchedules.{or_others}
+use Rattle.flow_potentials.specs.Potentials.{AreOver, ArePotentials}
+use Rattle.flow_potentials.specs.PotentialTables.{column_of, gaps_from, is_trip_row, potentials_of, table_faults}
+use Rattle.flow_potentials.proofs.Tables.{table_over, table_potentials}
+
+or_none : {X : Type 0} (some others : List X) → or_others some others ≡ [] → (some ≡ []) × (others ≡ [])
+or_none [] others e = (refl, e)
+or_none (x ∷ some) others e = absurd (cc)
+
+no_gap_here : (b : Bool) (gap : RowFault) (others : List RowFault) → cond b [] (gap ∷ []) ++ others ≡ []
+    → (b ≡ true) × (others ≡ [])
+no_gap_here true gap others e = (refl, e)
+no_gap_here false gap others e = absurd (cc)
+
+both : (a b : Bool) → (a && b) ≡ true → b ≡ true
+both true b e = e
+both false b e = absurd (cc)
+
+-- rows without a gap are those of all trips
+all_rows : (count before : ℕ) (rows : List TableRow) → before ≤ count → gaps_from count before rows ≡ []
+    → before + length rows ≡ count
+unfolding gaps_from
+all_rows count before [] few none = last (nat_lt before count) refl none
+  where
+    last : (b : Bool) → nat_lt before count ≡ b → cond {A = List RowFault} b (record { row = 0; why = why.OrderGap } ∷ []) [] ≡ []
+        → before + 0 ≡ count
+    last true is e = absurd (cc)
+    last false is e = let past : count ≤ before = ltb-false before count is in omega (arith, few, past)
+all_rows count before (row ∷ rows) few none =
+    let here = no_gap_here (is_trip_row count before row) _ _ none in
+    let inside : before < count = ltb-true before count (both _ _ here.0) in
+    let rest = all_rows count (before + 1) rows (omega (arith, inside)) here.1 in
+    omega (arith, rest)
+
+-- a text without a fault is that of potentials of all trips
+pub faultless_potentials : (count : ℕ) (text : List ℕ) → table_faults count text ≡ []
+    → AreOver count (potentials_of text) × ArePotentials (potentials_of text)
+unfolding table_faults potentials_of
+faultless_potentials count text none =
+    let table = table_of potential_columns text in
+    let parts = or_none (faults potential_columns text) _ none in
+    let counted : length table ≡ count = let all = all_rows count 0 table (omega arith) parts.1 in omega (arith, all) in (
+      table_over table count _ _ refl refl counted,
+      table_potentials table (table_in_columns potential_columns text parts.0) _ _ refl refl,
+    )

@@ -1,0 +1,166 @@
+-- What is made of a planner's concept is right.
+use Rattle.std.proofs.Common.{◌≡◌, ℕ, ℤ, pos, Bool, true, false, cond, not, ◌++◌, List, [], ◌∷◌, length, map, slice_get, option_map, is_some, All, Option, Some, None, Ok, refl, ap, sym, ◌∙◌, subst, arith}
+use Rattle.std.proofs.lemmas.Bool.{eqb-true, not-false}
+use Rattle.std.proofs.lemmas.Simd.{map-map}
+use Rattle.giv_files.specs.declared.made.Made.{Made}
+use Rattle.giv_files.specs.declared.row_why.RowWhy.TheVariants as why
+use Rattle.giv_files.specs.Columns.{concept_columns}
+use Rattle.giv_files.specs.Inputs.{Input, input_faults, records, whole_rule}
+use Rattle.giv_files.specs.Reading.{table_of}
+use Rattle.giv_files.specs.Settings.{BundleParts}
+use Rattle.giv_files.specs.StageCalls.{input_text}
+use Rattle.giv_files.specs.Tables.{TableRow}
+use Rattle.giv_files.proofs.Inputs.{parts_sound, table_sound, whole_rule_sound}
+use Rattle.giv_files.proofs.Ranges.{back_none, front_none}
+use Rattle.giv_files.proofs.StageCalls.{made_unless, none_unless}
+use Rattle.line_cost_model.specs.Concepts.{IsFeasible, cost_of, is_feasible}
+use Rattle.line_cost_model.specs.Problems.{CostedLine, IsProblem, ProblemParts}
+use Rattle.line_cost_model.proofs.Feasible.{test_means}
+use Rattle.branch_certificate.specs.declared.fault.TreeFault.{TreeFault}
+use Rattle.branch_certificate.specs.declared.node.Node.{Node}
+use Rattle.branch_certificate.specs.Certified.{Certifies}
+use Rattle.branch_certificate.specs.TreeFaults.{tree_faults}
+use Rattle.branch_certificate.specs.TreeFiles.{read_faults, tree_of}
+use Rattle.branch_certificate.specs.TreeTexts.{tree_text}
+use Rattle.branch_certificate.proofs.Certifying.{no_fault_certifies}
+use Rattle.branch_certificate.proofs.FaultlessTrees.{faultless_tree}
+use Rattle.line_search.specs.declared.fault.ConceptFault.{ConceptFault}
+use Rattle.line_search.specs.declared.fault.ConceptFault.TheVariants as fault
+use Rattle.line_search.specs.Firsts.{first_of}
+use Rattle.line_search.specs.ConceptTables.{concept_text, frequencies_in}
+use Rattle.line_search.specs.GivenProblems.{problem_faults, problem_of}
+use Rattle.line_search.specs.Judged.{broken_where, certificate_rule, first_broken, frequencies_of, has_some, rule_of, tree_rule}
+use Rattle.line_search.specs.PinnedConcepts.{breaks_bounds, differs_from_pool, made_of_texts, marking_tree, pinned_concept_faults, pinned_concept_stage, pinned_input, pinned_made}
+use Rattle.line_search.specs.RightPinned.{ConceptIsRight}
+use Rattle.line_search.specs.Searches.{AreWritten}
+use Rattle.line_search.proofs.ConceptAccepted.{concept_accepted}
+use Rattle.line_search.proofs.ConceptReads.{by_cells, frequency_by, marks, passes_by, reads, tree_kept}
+use Rattle.line_search.proofs.SoundProblems.{problem_sound}
+
+-- ---- a tree that breaks no rule
+
+no_some : {X : Type 0} (all : List X) → has_some all ≡ false → all ≡ []
+no_some [] e = refl
+no_some (x ∷ all) e =
+    let zero : length (x ∷ all) ≡ 0 = eqb-true _ _ (not-false _ e) in
+    absurd (omega (arith, zero))
+
+none_ruled : (all : List TreeFault) → option_map rule_of (slice_get all 0) ≡ None → all ≡ []
+none_ruled [] e = refl
+none_ruled (x ∷ all) e = absurd (cc)
+
+no_rule : (problem : ProblemParts) (cost : ℕ) (text : List ℕ) → tree_rule problem cost (Some text) ≡ None
+    → (read_faults problem text ≡ []) × (tree_faults problem (pos cost) (tree_of problem text) ≡ [])
+no_rule problem cost text none = by (has_some (read_faults problem text)) (certificate_rule problem cost text) refl refl none
+  where
+    by : (broken : Bool) (rule : Option ConceptFault) → has_some (read_faults problem text) ≡ broken
+        → certificate_rule problem cost text ≡ rule
+        → first_of (broken_where broken fault.Tree ∷ rule ∷ []) ≡ None
+        → (read_faults problem text ≡ []) × (tree_faults problem (pos cost) (tree_of problem text) ≡ [])
+    by true rule is rules e = absurd (cc)
+    by false (Some first) is rules e = absurd (cc)
+    by false None is rules e = (no_some _ is, none_ruled _ rules)
+
+-- ---- a concept without a fault
+
+module _ (bundle : BundleParts) (none : pinned_concept_faults bundle ≡ []) where
+  abbrev problem : ProblemParts
+  problem = problem_of bundle
+
+  abbrev given : List ℕ
+  given = input_text bundle 5
+
+  abbrev frequencies : List ℕ
+  frequencies = frequencies_of problem given
+
+  inputs : problem_faults bundle ≡ []
+  inputs = front_none (problem_faults bundle) _ none
+
+  sound : IsProblem problem
+  sound = problem_sound bundle inputs
+
+  abbrev input : Input TableRow
+  input = pinned_input problem
+
+  abbrev table : List TableRow
+  table = table_of concept_columns given
+
+  -- the rows that the rules see give the lines the same frequencies
+  same : frequencies_in problem (records input table) ≡ frequencies
+  same = ap (λ (at : ℤ → ℕ). map (λ (line : CostedLine). at line.id) problem.lines)
+      (λ i line. (by_cells line (records input table)
+      ∙ ap (frequency_by line) (map-map (λ (row : TableRow). row.cells) (λ (row : TableRow). input.read row.cells) table)
+      ∙ sym (by_cells line table)) i)
+
+  keeps_bounds : breaks_bounds problem (records input table) ≡ false
+  keeps_bounds =
+      let parts = parts_sound input given (back_none (problem_faults bundle) _ none) in
+      let whole = (table_sound input table parts.1).2 in
+      let second = (whole_rule_sound input table (differs_from_pool problem) why.PoolDiffers
+      (whole_rule (breaks_bounds problem) why.NotFeasible ∷ []) whole).1 in
+      (whole_rule_sound input table (breaks_bounds problem) why.NotFeasible [] second).0
+
+  feasible : IsFeasible problem frequencies
+  feasible = (test_means problem frequencies true (yes (is_feasible problem frequencies)
+      (sym (ap (λ some. not (is_feasible problem some)) same) ∙ keeps_bounds))).0 refl
+    where
+      yes : (b : Bool) → not b ≡ false → true ≡ b
+      yes true e = refl
+      yes false e = absurd (cc)
+
+  abbrev Right : Option (List Node) → Type 0
+  Right tree = ConceptIsRight bundle (pinned_made problem frequencies tree).files
+
+  alone : Right None
+  alone = record {
+    inputs = inputs;
+    text = concept_text problem frequencies;
+    tree = None;
+    each = refl;
+    frequencies = frequencies;
+    reads = reads problem sound frequencies feasible;
+    feasible = feasible;
+    marked = tt;
+    passes = passes_by problem sound frequencies feasible None refl;
+    accepted = concept_accepted bundle inputs frequencies (concept_text problem frequencies)
+        (reads problem sound frequencies feasible);
+  }
+
+  beside : (text : List ℕ) → tree_rule problem (cost_of problem frequencies) (Some text) ≡ None → Right (Some (tree_of problem text))
+  beside text kept =
+      let nodes = tree_of problem text in
+      let rules = no_rule problem (cost_of problem frequencies) text kept in
+      let are = faultless_tree problem text sound rules.0 in
+      let written : AreWritten problem nodes = record { names = are.0; written = are.1 } in
+      let certified = (no_fault_certifies problem (pos (cost_of problem frequencies)) nodes).0 rules.1 in
+      record {
+        inputs = inputs;
+        text = concept_text problem frequencies;
+        tree = Some (tree_text problem nodes);
+        each = refl;
+        frequencies = frequencies;
+        reads = reads problem sound frequencies feasible;
+        feasible = feasible;
+        marked = marks problem sound frequencies feasible nodes written certified;
+        passes = passes_by problem sound frequencies feasible (Some (tree_text problem nodes))
+            (tree_kept problem sound frequencies feasible nodes written certified);
+        accepted = concept_accepted bundle inputs frequencies (concept_text problem frequencies)
+            (reads problem sound frequencies feasible);
+      }
+
+  made_right : (text : List ℕ) → Right (marking_tree problem (cost_of problem frequencies) text)
+  made_right text = by (tree_rule problem (cost_of problem frequencies) (Some text)) refl
+    where
+      by : (found : Option ConceptFault) → tree_rule problem (cost_of problem frequencies) (Some text) ≡ found
+          → Right (cond (is_some found) None (Some (tree_of problem text)))
+      by None is = beside text is
+      by (Some first) is = alone
+
+-- the law of the stage
+pub pinned_right : (bundle : BundleParts) (made : Made) → pinned_concept_stage bundle ≡ Ok made → ConceptIsRight bundle made.files
+unfolding pinned_concept_stage
+pinned_right bundle made is =
+    let faults = pinned_concept_faults bundle in
+    let kept = made_of_texts (problem_of bundle) (input_text bundle 5) (input_text bundle 6) in
+    subst (λ (made : Made). ConceptIsRight bundle made.files) (made_unless faults kept made is)
+    (made_right bundle (none_unless faults kept made is) (input_text bundle 6))
