@@ -17,7 +17,7 @@ use Rattle.stage_chain.specs.declared.cause.Cause.TheVariants as cause
 use Rattle.stage_chain.specs.declared.finding.Finding.{Finding}
 use Rattle.stage_chain.specs.declared.outcome.RunEnd.TheVariants as end
 use Rattle.stage_chain.specs.Built.{cause_of, files_of, made, trace_of, trace_under}
-use Rattle.stage_chain.specs.Chain.{Halt, Trace, Visit, bundle_by, chain_from, go_on, is_to_run, to_run, visit_of}
+use Rattle.stage_chain.specs.Chain.{Halt, Trace, Visit, bundle_by, chain_from, go_on, is_to_run, stage_place, to_run, visit_of}
 use Rattle.stage_chain.specs.Checks.{check_of, first_found, found_under, judge, lacks_file, standing}
 use Rattle.stage_chain.specs.Hand.{hand_of}
 use Rattle.stage_chain.specs.Passing.{RunsPass}
@@ -30,7 +30,8 @@ use Rattle.stage_chain.proofs.LeftRight.{left_by, run_files, settings_after}
 use Rattle.stage_chain.proofs.Placed.{ArePlaced}
 use Rattle.stage_chain.proofs.Traces.{are_placed, chain, stages_run, traced}
 use Rattle.stage_chain.specs.StageParts.{StageParts}
-use Rattle.stage_chain.specs.Laws.{AreStages}
+use Rattle.stage_chain.specs.Laws.{AreStages, bundle_over}
+use Rattle.stage_chain.proofs.Looked.{bundle_looked, front_given, looked}
 use Rattle.stage_chain.proofs.LeftRight.{looks_there}
 
 -- ---- a chain that does not end early makes all its stages
@@ -58,19 +59,24 @@ module _ (S : StageParts) (laws : AreStages S) where
 
     none_by : (at : Stage) (bundle : BundleParts)
         → bundle_by (text_in folder) values at ≡ Ok bundle → lacks_file folder at ≡ false
-        → S.verdict at bundle (standing folder at) ≡ None → NoneFound at
+        → S.verdict values bundle (standing folder at) ≡ None → NoneFound at
     unfolding judge
     none_by at bundle given lacks none = rw (given, lacks) none
 
-    one_passes : (visit : Visit)
-        → bundle_by (text_in folder) values visit.bundle.stage ≡ Ok visit.bundle
+    one_passes : (place : Stage) (visit : Visit) → visit.bundle.stage ≡ S.placed values place
+        → bundle_by (text_in folder) values (S.placed values place) ≡ Ok visit.bundle
         → files_by (text_in folder) (stage_makes visit.bundle.stage) ≡ visit.made.files
         → S.IsRight visit.bundle.stage visit.bundle visit.made.files
-        → S.run visit.bundle ≡ Ok visit.made → NoneFound visit.bundle.stage
-    one_passes visit given found right solved =
-        let stage = visit.bundle.stage in
-        let passes = laws.pass folder visit.bundle visit.made solved right (sym (looks_there folder stage) ∙ found) in
-        none_by stage visit.bundle given passes.0 passes.1
+        → S.run visit.bundle ≡ Ok visit.made → NoneFound place
+    one_passes place visit own given found right solved =
+        let at = S.placed values place in
+        let look = text_in folder in
+        let can = laws.placed values place in
+        let same = bundle_looked look values at visit.bundle given in
+        let there = sym (looks_there folder place) ∙ ap (files_by look) (sym can.makes ∙ ap stage_makes (sym own)) ∙ found in
+        let here : S.IsRight at visit.bundle visit.made.files = subst (λ own. S.IsRight own visit.bundle visit.made.files) own right in
+        let passes = laws.pass folder values (looked look) place visit.made (ap S.run same ∙ solved) (subst (λ bundle. S.IsRight at bundle visit.made.files) (sym same) here) there in
+        none_by place (bundle_over values (looked look) place) (front_given look values at place can.more visit.bundle can.inputs given) passes.0 passes.1
 
     -- the first that is found of stages, all of which are to run
     abbrev first_judged : List Stage → Option Finding
@@ -88,16 +94,34 @@ module _ (S : StageParts) (laws : AreStages S) where
         by true rest = ap (option_or (judge S folder values at)) rest
         by false rest = rest
 
-    all_pass : (hand : Folder) (all : List MadeFile) (stages : List Stage) (visits : List Visit)
-        → length visits ≡ length stages → ArePlaced S.run laws.makes values hand all stages visits
-        → AllStandRight S (text_in folder) values visits → first_judged stages ≡ None
+    -- the stages that run in those of some places that are to run
+    run_placed : (places : List Stage)
+        → to_run values (map (S.placed values) places) ≡ map (S.placed values) (to_run values places)
+    run_placed [] = refl
+    run_placed (place ∷ places) =
+        by (is_to_run values (S.placed values place)) (is_to_run values place) (ap (λ point. nat_le point (stage_place (last_stage_of values))) (laws.placed values place).point) (run_placed places)
+      where
+        by : (b c : Bool) → b ≡ c
+            → to_run values (map (S.placed values) places) ≡ map (S.placed values) (to_run values places)
+            → cond b (S.placed values place ∷ to_run values (map (S.placed values) places)) (to_run values (map (S.placed values) places))
+            ≡ map (S.placed values) (cond c (place ∷ to_run values places) (to_run values places))
+        by true true e rest = ap (λ more. S.placed values place ∷ more) rest
+        by false false e rest = rest
+        by true false e rest = absurd (cc)
+        by false true e rest = absurd (cc)
+
+    all_pass : (hand : Folder) (all : List MadeFile) (places : List Stage) (visits : List Visit)
+        → length visits ≡ length (map (S.placed values) places)
+        → ArePlaced S.run laws.makes values hand all (map (S.placed values) places) visits
+        → AllStandRight S (text_in folder) values visits → first_judged places ≡ None
     all_pass hand all [] visits full placed right = refl
-    all_pass hand all (at ∷ stages) [] full placed right = absurd (omega (arith, full))
-    all_pass hand all (at ∷ stages) (visit ∷ visits) full placed right =
+    all_pass hand all (place ∷ places) [] full placed right = absurd (omega (arith, full))
+    all_pass hand all (place ∷ places) (visit ∷ visits) full placed right =
         let own = placed.0.own in
-        let here = subst NoneFound own (one_passes visit right.0.given right.0.found right.0.right placed.0.solved) in
-        ap (λ found. option_or found (first_judged stages)) here
-        ∙ all_pass hand all stages visits (omega (arith, full)) placed.1 right.1
+        let given = subst (λ own. bundle_by (text_in folder) values own ≡ Ok visit.bundle) own right.0.given in
+        let here = one_passes place visit own given right.0.found right.0.right placed.0.solved in
+        ap (λ found. option_or found (first_judged places)) here
+        ∙ all_pass hand all places visits (omega (arith, full)) placed.1 right.1
 
 -- ---- the folder that a run leaves
 
@@ -127,10 +151,13 @@ module _ (S : StageParts) (laws : AreStages S) where
         → (chain S laws values hand).halt ≡ None → check_of S (after S folder) ≡ None
     unfolding check_of
     passes_under is same none =
-        let placed = subst (λ all. ArePlaced S.run laws.makes values hand all (stages_run S laws values) (chain S laws values hand).visits) (sym same) (are_placed S laws values hand) in
+        let run = run_placed S laws (after S folder) values S.places in
+        let visits = (chain S laws values hand).visits in
+        let placed = subst (λ all. ArePlaced S.run laws.makes values hand all (stages_run S laws values) visits) (sym same) (are_placed S laws values hand) in
         ap (λ settings. found_under S settings (after S folder)) (settings_after S laws folder ∙ is)
-        ∙ by_run S laws (after S folder) values S.stages
-        ∙ all_pass S laws (after S folder) values hand (run_over S folder).files (stages_run S laws values) (chain S laws values hand).visits (all_visited S.run values hand [] (stages_run S laws values) none) placed
+        ∙ by_run S laws (after S folder) values S.places
+        ∙ all_pass S laws (after S folder) values hand (run_over S folder).files (to_run values S.places) visits
+        (all_visited S.run values hand [] (stages_run S laws values) none ∙ ap length run) (subst (λ stages. ArePlaced S.run laws.makes values hand (run_over S folder).files stages visits) run placed)
         (left_by S laws folder values is same)
 
   end_by : (folder : Folder) (trace : Trace) → trace_of S folder ≡ trace

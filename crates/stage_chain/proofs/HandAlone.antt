@@ -96,7 +96,7 @@ module _ (S : StageParts) (laws : AreStages S) where
     under_same : (solve : BundleParts → Result Made Refusal) (settings : Result (List ℤ) ConfigFault)
         → chain_under S solve settings (hand_of folder) ≡ chain_under S solve settings folder
     under_same solve (Err reason) = refl
-    under_same solve (Ok values) = chain_same solve values [] (to_run values S.stages)
+    under_same solve (Ok values) = chain_same solve values [] (to_run values (staged S values))
 
     -- the chain over a folder is that over its hand files
     pub hand_alone : trace_of S (hand_of folder) ≡ trace_of S folder

@@ -102,8 +102,8 @@ module _ (S : StageParts) (laws : AreStages S) where
       → AreOutside is_hand (writes_for S files)
   unfolding writes_for
   made_outside files none =
-      outside_both is_hand (map put_of files) (map Removal (names_besides files (names_made_by S.stages))) (puts_outside files none)
-      (removals_outside (names_besides files (names_made_by S.stages)) (all_filter (λ name. not (is_hand name)) (λ name. not (is_among name (map name_of files))) (names_made_by S.stages) laws.list.no_hand))
+      outside_both is_hand (map put_of files) (map Removal (names_besides files (names_made_by S.places))) (puts_outside files none)
+      (removals_outside (names_besides files (names_made_by S.places)) (all_filter (λ name. not (is_hand name)) (λ name. not (is_among name (map name_of files))) (names_made_by S.places) laws.list.no_hand))
 
 -- no file that was made over a keep is one that people write
 files_no_hand : (made : List MadeFile)

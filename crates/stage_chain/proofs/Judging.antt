@@ -36,14 +36,14 @@ module _ (S : StageParts) (laws : AreStages S) where
     pub judged_given : (contents now : Option Folder) (bundle : BundleParts)
         (result : Result (Option Finding) ChainFault) → now ≡ contents
         → IfSome contents (λ folder. Gives {T = BundleParts} (bundle_by (text_in folder) values stage) (Ok bundle))
-        → IfSome now (λ folder. IfOk result (λ found. found ≡ found_over S folder stage (Ok bundle)))
+        → IfSome now (λ folder. IfOk result (λ found. found ≡ found_over S folder values stage (Ok bundle)))
         → IfSome contents (FoundIn result)
     unfolding judge
     judged_given None now bundle result same given found = tt
     judged_given (Some folder) now bundle (Err fault) same given found = tt
     judged_given (Some folder) now bundle (Ok some) same given found =
-        let here = subst (λ now. IfSome now (λ folder. some ≡ found_over S folder stage (Ok bundle))) same found in
-        here ∙ ap (found_over S folder stage) (sym given)
+        let here = subst (λ now. IfSome now (λ folder. some ≡ found_over S folder values stage (Ok bundle))) same found in
+        here ∙ ap (found_over S folder values stage) (sym given)
 
     -- it was not
     ended_in : (folder : Folder) (ended : ChainEnd) (result : Result (Option Finding) ChainFault)
@@ -51,7 +51,7 @@ module _ (S : StageParts) (laws : AreStages S) where
         → EndedAs stage ended result → FoundIn result folder
     unfolding judge
     ended_in folder (end.Stopped why) result given is =
-        subst (λ result. IfOk result (λ found. found ≡ found_over S folder stage (bundle_by (text_in folder) values stage))) (sym is) (ap (found_over S folder stage) (sym given))
+        subst (λ result. IfOk result (λ found. found ≡ found_over S folder values stage (bundle_by (text_in folder) values stage))) (sym is) (ap (found_over S folder values stage) (sym given))
     ended_in folder end.FileFault result given is = rw is tt
     ended_in folder end.NoMemory result given is = rw is tt
 
@@ -69,23 +69,22 @@ ended_failed stage end.FileFault result is = rw is refl
 ended_failed stage end.NoMemory result is = rw is refl
 
 module _ (S : StageParts) (laws : AreStages S) where
-  -- by the files that stand there
-  there : (lacks : Bool) (stage : Stage) (bundle : BundleParts) (some all : List MadeFile)
-      → Some some ≡ cond lacks None (Some all)
-      → S.verdict stage bundle some
-      ≡ cond lacks (Some (Broken stage rule.Missing)) (S.verdict stage bundle all)
-  there true stage bundle some all e = absurd (cc)
-  there false stage bundle some all e = let same : some ≡ all = cc in ap (S.verdict stage bundle) same
+  module _ (values : List ℤ) (stage : Stage) (bundle : BundleParts) where
+    -- by the files that stand there
+    there : (lacks : Bool) (some all : List MadeFile) → Some some ≡ cond lacks None (Some all)
+        → S.verdict values bundle some
+        ≡ cond lacks (Some (Broken stage rule.Missing)) (S.verdict values bundle all)
+    there true some all e = absurd (cc)
+    there false some all e = let same : some ≡ all = cc in ap (S.verdict values bundle) same
 
-  pub judged_there : (contents : Option Folder) (stage : Stage) (bundle : BundleParts)
-      (told : Option (List MadeFile)) (some : List MadeFile) (found : Option Finding)
-      (result : Result (Option Finding) ChainFault) → told ≡ Some some
-      → IfSome contents (λ folder. told ≡ cond (lacks_file folder stage) None (Some (standing folder stage)))
-      → found ≡ S.verdict stage bundle some → result ≡ Ok found
-      → IfSome contents (λ folder. IfOk result (λ found. found ≡ found_over S folder stage (Ok bundle)))
-  judged_there None stage bundle told some found result same h is e = tt
-  judged_there (Some folder) stage bundle told some found result same h is e =
-      subst (λ result. IfOk result (λ found. found ≡ found_over S folder stage (Ok bundle))) (sym e) (is ∙ there (lacks_file folder stage) stage bundle some (standing folder stage) (sym same ∙ h))
+    pub judged_there : (contents : Option Folder) (told : Option (List MadeFile)) (some : List MadeFile)
+        (found : Option Finding) (result : Result (Option Finding) ChainFault) → told ≡ Some some
+        → IfSome contents (λ folder. told ≡ cond (lacks_file folder stage) None (Some (standing folder stage)))
+        → found ≡ S.verdict values bundle some → result ≡ Ok found
+        → IfSome contents (λ folder. IfOk result (λ found. found ≡ found_over S folder values stage (Ok bundle)))
+    judged_there None told some found result same h is e = tt
+    judged_there (Some folder) told some found result same h is e =
+        subst (λ result. IfOk result (λ found. found ≡ found_over S folder values stage (Ok bundle))) (sym e) (is ∙ there (lacks_file folder stage) some (standing folder stage) (sym same ∙ h))
 
   -- ---- stages one after the other
 
@@ -139,12 +138,12 @@ module _ (S : StageParts) (laws : AreStages S) where
   pub told_settled : (contents now : Option Folder) (values : List ℤ)
       (result : Result (Option Finding) ChainFault) → now ≡ contents
       → IfSome contents (λ folder. ConfigGives (effective (look_in folder)) (Ok values))
-      → IfSome now (λ folder. IfOk result (λ found. found ≡ first_found S folder values S.stages))
+      → IfSome now (λ folder. IfOk result (λ found. found ≡ first_found S folder values S.places))
       → IfSome contents (λ folder. IfOk result (λ found. found ≡ check_of S folder))
   told_settled None now values result same told h = tt
   told_settled (Some folder) now values (Err fault) same told h = tt
   told_settled (Some folder) now values (Ok found) same told h =
-      found_is folder (Ok values) found told (subst (λ now. IfSome now (λ folder. found ≡ first_found S folder values S.stages)) same h)
+      found_is folder (Ok values) found told (subst (λ now. IfSome now (λ folder. found ≡ first_found S folder values S.places)) same h)
 
   unsettled_in : (folder : Folder) (end : ConfigEnd) (result : Result (Option Finding) ChainFault)
       → ConfigGives (effective (look_in folder)) (Err end) → UnsettledAs end result

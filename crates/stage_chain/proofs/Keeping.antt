@@ -85,7 +85,7 @@ module _ (S : StageParts) (laws : AreStages S) where
             → chain_under S (solve_over S keep) settings hand ≡ chain_under S S.run settings hand
         by (Err reason) is = refl
         by (Ok values) is =
-            honest_chain values (effective_settings (look_in hand) values is) [] (to_run values S.stages)
+            honest_chain values (effective_settings (look_in hand) values is) [] (to_run values (staged S values))
 
   -- a run over a folder whose keep is honest makes what is made from scratch
   pub from_scratch : (folder : Folder) → IsKeptHonest S folder

@@ -73,9 +73,9 @@ module _ (S : StageParts) (laws : AreStages S) where
   -- ---- what is kept is where it was, apart from new entries
 
   -- no stage keeps under the name of a made file
-  pub built_apart_of : (at : Stage) → differs_from (names_made_by S.stages) (keep_name at) ≡ true
+  pub built_apart_of : (at : Stage) → differs_from (names_made_by S.places) (keep_name at) ≡ true
   built_apart_of at =
-      let names = names_made_by S.stages in
+      let names = names_made_by S.places in
       let out = apart_by is_kept_name names (keep_name at ∷ []) laws.list.no_keep (and_from _ _ (own_keep at) refl) in
       (and_parts _ _ (differ_swap names (keep_name at ∷ []) out)).0
 
@@ -91,8 +91,8 @@ module _ (S : StageParts) (laws : AreStages S) where
         let apart = are_apart S laws folder (hand_of folder) in
         let out = not_among (map name_of (files_of run_visits)) (keep_name at) (apart.within (λ name. not (bytes_eq (keep_name at) name)) (built_apart_of at)) in
         other_with (files_of run_visits) (without_made S folder) (keep_name at) out
-        ∙ get_part (λ name. not (is_among name (names_made_by S.stages))) folder (keep_name at)
-        ∙ ap (λ b. cond (not b) (files.get folder (keep_name at)) None) (not_among (names_made_by S.stages) (keep_name at) (built_apart_of at))
+        ∙ get_part (λ name. not (is_among name (names_made_by S.places))) folder (keep_name at)
+        ∙ ap (λ b. cond (not b) (files.get folder (keep_name at)) None) (not_among (names_made_by S.places) (keep_name at) (built_apart_of at))
 
     alike_base : (stages : List Stage) → Alike made_base folder (map keep_name stages)
     alike_base [] = tt

@@ -114,11 +114,11 @@ module _ (S : StageParts) (laws : AreStages S) where
   writes_leave made folder = same_folder (folder_after (map put_of made ++ map Removal besides) folder) (with_files made (without_made S folder)) (λ name.
       ap (λ left. files.get left name) (folder_after_both (map put_of made) (map Removal besides) folder ∙ ap (folder_after (map Removal besides)) (puts_leave made folder))
       ∙ get_removed besides (with_files made folder) name
-      ∙ ap (λ gone. cond gone None (files.get (with_files made folder) name)) (among_besides made (names_made_by S.stages) name)
+      ∙ ap (λ gone. cond gone None (files.get (with_files made folder) name)) (among_besides made (names_made_by S.places) name)
       ∙ by name (is_among name (map name_of made)) refl)
     where
       besides : List (List ℕ)
-      besides = names_besides made (names_made_by S.stages)
+      besides = names_besides made (names_made_by S.places)
 
       none_or : (among : Bool) (found : Option (List ℕ))
           → cond among None found ≡ cond (not among) found None
@@ -126,13 +126,13 @@ module _ (S : StageParts) (laws : AreStages S) where
       none_or false found = refl
 
       by : (name : List ℕ) (among : Bool) → is_among name (map name_of made) ≡ among
-          → cond (cond among false (is_among name (names_made_by S.stages))) None (files.get (with_files made folder) name) ≡ files.get (with_files made (without_made S folder)) name
+          → cond (cond among false (is_among name (names_made_by S.places))) None (files.get (with_files made folder) name) ≡ files.get (with_files made (without_made S folder)) name
       by name true is =
           same_with made folder (without_made S folder) name (λ out. absurd (false≢true (sym out ∙ is)))
       by name false is =
-          ap (λ found. cond (is_among name (names_made_by S.stages)) None found) (other_with made folder name is)
-          ∙ none_or (is_among name (names_made_by S.stages)) (files.get folder name)
-          ∙ sym (get_part (λ name. not (is_among name (names_made_by S.stages))) folder name)
+          ap (λ found. cond (is_among name (names_made_by S.places)) None found) (other_with made folder name is)
+          ∙ none_or (is_among name (names_made_by S.places)) (files.get folder name)
+          ∙ sym (get_part (λ name. not (is_among name (names_made_by S.places))) folder name)
           ∙ sym (other_with made (without_made S folder) name is)
 
   -- The writes of a run over a folder leave what is there after it.

@@ -138,15 +138,15 @@ module _ (S : StageParts) (laws : AreStages S) where
         ∙ found_first (made_text all file) (made_in (without_made S folder) file) text e
 
     -- and of the files that the built stages make no other one
-    same_after : (file : FileId) → is_among (file_name file) (names_made_by S.stages) ≡ true
+    same_after : (file : FileId) → is_among (file_name file) (names_made_by S.places) ≡ true
         → made_in (after S folder) file ≡ made_text all file
     same_after file is =
         let gone : files.get (without_made S folder) (file_name file) ≡ None =
-        get_part (λ name. not (is_among name (names_made_by S.stages))) folder (file_name file) ∙ ap (λ b. cond (not b) (files.get folder (file_name file)) None) is in
+        get_part (λ name. not (is_among name (names_made_by S.places))) folder (file_name file) ∙ ap (λ b. cond (not b) (files.get folder (file_name file)) None) is in
         found_after file ∙ ap (λ found. or_text (made_text all file) (ok_or found (cause.Missing file))) gone ∙ found_missing S laws all file
 
     agree_after : (some : List FileId)
-        → list_all (λ file. is_among (file_name file) (names_made_by S.stages)) some ≡ true
+        → list_all (λ file. is_among (file_name file) (names_made_by S.places)) some ≡ true
         → Agree (made_in (after S folder)) (made_text all) some
     agree_after [] h = tt
     agree_after (file ∷ some) h =
@@ -178,6 +178,16 @@ module _ (S : StageParts) (laws : AreStages S) where
         ap (hand_text false file.Od) (look_after (file_name file.Od) refl) ∙ e
     input_after file.Pool text e =
         ap (hand_text false file.Pool) (look_after (file_name file.Pool) refl) ∙ e
+    input_after file.PinnedConcept text e =
+        ap (hand_text false file.PinnedConcept) (look_after (file_name file.PinnedConcept) refl) ∙ e
+    input_after file.PinnedTimes text e =
+        ap (hand_text false file.PinnedTimes) (look_after (file_name file.PinnedTimes) refl) ∙ e
+    input_after file.PinnedSchedule text e =
+        ap (hand_text false file.PinnedSchedule) (look_after (file_name file.PinnedSchedule) refl) ∙ e
+    input_after file.PinnedTree text e =
+        ap (hand_text true file.PinnedTree) (look_after (file_name file.PinnedTree) refl) ∙ e
+    input_after file.PinnedPotential text e =
+        ap (hand_text true file.PinnedPotential) (look_after (file_name file.PinnedPotential) refl) ∙ e
     input_after file.EventDelays text e =
         ap (hand_text true file.EventDelays) (look_after (file_name file.EventDelays) refl) ∙ e
     input_after file.ActivityDelays text e =
@@ -187,7 +197,7 @@ module _ (S : StageParts) (laws : AreStages S) where
     -- the built stages make no other files than the built stages make
     abbrev is_own : Stage → Bool
     is_own stage =
-        list_all (λ file. is_among (file_name file) (names_made_by S.stages)) (stage_makes stage)
+        list_all (λ file. is_among (file_name file) (names_made_by S.places)) (stage_makes stage)
 
     -- what is right over what was made is right in the folder that is left
     one_after : (values : List ℤ) (visit : Visit) → is_own visit.bundle.stage ≡ true
@@ -196,6 +206,7 @@ module _ (S : StageParts) (laws : AreStages S) where
     one_after values visit own h =
         let stage = visit.bundle.stage in
         record {
+          runs = h.runs;
           given = bundle_more (input_text (hand_of folder) all) (text_in (after S folder)) input_after values stage visit.bundle h.given;
           found = looks_there (after S folder) stage ∙ files_same (made_in (after S folder)) (made_text all) (stage_makes stage) (agree_after (stage_makes stage) own) ∙ sym (made_looks (hand_of folder) all stage) ∙ h.found;
           right = h.right;
@@ -222,8 +233,8 @@ own_among q (stage ∷ stages) h =
     and_from _ _ (sym (list_all-map q file_name (stage_makes stage)) ∙ parts.0) (own_among q stages parts.1)
 
 module _ (S : StageParts) (laws : AreStages S) where
-  built_own : (folder : Folder) → list_all (is_own S laws folder) S.stages ≡ true
-  built_own folder = own_among (λ name. is_among name (names_made_by S.stages)) S.stages (each_among [] (names_made_by S.stages))
+  built_own : (folder : Folder) (values : List ℤ) → list_all (is_own S laws folder) (staged S values) ≡ true
+  built_own folder values = own_among (λ name. is_among name (names_made_by S.places)) (staged S values) (staged_within S laws values (λ name. is_among name (names_made_by S.places)) (each_among [] (names_made_by S.places)))
 
   pub settings_after : (folder : Folder)
       → effective (look_in (after S folder)) ≡ effective (look_in (hand_of folder))
@@ -237,8 +248,8 @@ module _ (S : StageParts) (laws : AreStages S) where
       let hand = hand_of folder in
       let visits = (chain S laws values hand).visits in
       let placed = subst (λ all. ArePlaced S.run laws.makes values hand all (stages_run S laws values) visits) (sym same) (are_placed S laws values hand) in
-      all_after S laws folder values (stages_run S laws values) visits (all_filter (is_own S laws folder) (λ stage. leb (stage_place stage) (stage_place (last_stage_of values))) S.stages (built_own folder)) placed
-      (visits_right S laws values hand (effective_settings (look_in hand) values is) (run_over S folder).files (stages_run S laws values) visits placed)
+      all_after S laws folder values (stages_run S laws values) visits (all_filter (is_own S laws folder) (λ stage. leb (stage_place stage) (stage_place (last_stage_of values))) (staged S values) (built_own folder values)) placed
+      (visits_right S laws values hand (effective_settings (look_in hand) values is) (run_over S folder).files (stages_run S laws values) visits (run_staged S laws values) placed)
 
   under : (folder : Folder) (visits : List Visit) (values : List ℤ)
       → effective (look_in (after S folder)) ≡ Ok values

@@ -11,6 +11,7 @@ pub mod Keeping
 pub mod KeptAfter
 pub mod Left
 pub mod LeftRight
+mod Looked
 pub mod MadeLists
 pub mod MadeParts
 pub mod MadeRight

@@ -50,17 +50,19 @@ module _ (S : StageParts) (laws : AreStages S) where
   -- each stage of a chain makes what is right
   pub visits_right : (values : List ℤ) (hand : Folder) (are : AreSettings values)
       (all : List MadeFile) (stages : List Stage) (visits : List Visit)
+      → All (Contains (staged S values)) stages
       → ArePlaced S.run laws.makes values hand all stages visits
       → AllStandRight S (input_text hand all) values visits
-  visits_right values hand are all stages [] placed = tt
-  visits_right values hand are all [] (visit ∷ visits) placed = absurd placed
-  visits_right values hand are all (stage ∷ stages) (visit ∷ visits) placed =
+  visits_right values hand are all stages [] run placed = tt
+  visits_right values hand are all [] (visit ∷ visits) run placed = absurd placed
+  visits_right values hand are all (stage ∷ stages) (visit ∷ visits) run placed =
       let own = placed.0 in
       let bundle = visit.bundle in (
         record {
+          runs = subst (Contains (staged S values)) (sym placed.0.own) (All-head stage stages run);
           given = subst (λ own. bundle_by (input_text hand all) values own ≡ Ok bundle) (sym placed.0.own) own.given;
           found = subst (λ own. files_by (input_text hand all) (stage_makes own) ≡ visit.made.files) (sym placed.0.own) own.found;
           right = laws.right bundle visit.made (given_fits (input_text hand all) values stage bundle are own.given) own.solved;
         },
-        visits_right values hand are all stages visits placed.1,
+        visits_right values hand are all stages visits (All-tail stage stages run) placed.1,
       )

@@ -34,45 +34,48 @@ where_none P None there right = right (there refl)
 where_none P (Some finding) there right = tt
 
 module _ (S : StageParts) (laws : AreStages S) where
-  -- what a stage found of files that stand there says of them
-  stands_right : (folder : Folder) (bundle : BundleParts) (found : Option Finding) (stage : Stage)
-      → lacks_file folder stage ≡ false
-      → found ≡ S.verdict stage bundle (standing folder stage)
-      → (MakesAs stage (ids_of (standing folder stage)) → IfNone found (S.Satisfies stage bundle (standing folder stage)))
-      → IfNone found (S.Satisfies stage bundle (standing folder stage))
-  stands_right folder bundle found stage lacks is right =
-      where_none (S.Satisfies stage bundle (standing folder stage)) found (λ none. laws.stand folder bundle stage lacks (sym is ∙ none)) right
+  -- what a place is given, and the stage of it
+  module _ (values : List ℤ) (bundle : BundleParts) (stage : Stage) (own : bundle.stage ≡ stage) where
+    abbrev Makes : List MadeFile → Type 0
+    Makes files = MakesAs (S.placed values bundle.stage) (ids_of files)
 
-  there_right : (folder : Folder) (stage : Stage) (bundle : BundleParts) (some : List MadeFile)
-      (found : Option Finding) (lacks : Bool) → lacks_file folder stage ≡ lacks
-      → Some some ≡ cond lacks None (Some (standing folder stage))
-      → found ≡ S.verdict stage bundle some
-      → (MakesAs stage (ids_of some) → IfNone found (S.Satisfies stage bundle some))
-      → IfNone found (S.Satisfies stage bundle (standing folder stage))
-  there_right folder stage bundle some found true lacks there is right = absurd (cc)
-  there_right folder stage bundle some found false lacks there is right =
-      let same : some ≡ standing folder stage = cc in
-      stands_right folder bundle found stage lacks (is ∙ ap (S.verdict stage bundle) same) (subst (λ files. MakesAs stage (ids_of files) → IfNone found (S.Satisfies stage bundle files)) same right)
+    -- what is found of files that stand there says of them
+    stands_right : (folder : Folder) (found : Option Finding) → lacks_file folder stage ≡ false
+        → found ≡ S.verdict values bundle (standing folder stage)
+        → (Makes (standing folder stage) → IfNone found (S.Satisfies values bundle (standing folder stage)))
+        → IfNone found (S.Satisfies values bundle (standing folder stage))
+    stands_right folder found lacks is right =
+        where_none (S.Satisfies values bundle (standing folder stage)) found
+        (λ none. subst (λ at. Makes (standing folder at)) own
+        (laws.stand folder values bundle (ap (lacks_file folder) own ∙ lacks) (ap (λ at. S.verdict values bundle (standing folder at)) own ∙ (sym is ∙ none)))) right
 
-  -- the files that were found satisfy the model where nothing is found of them
-  pub told_there : (contents : Option Folder) (stage : Stage) (bundle : BundleParts)
-      (told : Option (List MadeFile)) (some : List MadeFile) (found : Option Finding)
-      (result : Result (Option Finding) ChainFault) → told ≡ Some some
-      → IfSome contents (λ folder. told ≡ cond (lacks_file folder stage) None (Some (standing folder stage)))
-      → found ≡ S.verdict stage bundle some
-      → (MakesAs stage (ids_of some) → IfNone found (S.Satisfies stage bundle some))
-      → result ≡ Ok found
-      → IfSome contents (λ folder. IfOk result (λ found. IfNone found (S.Satisfies stage bundle (standing folder stage))))
-  told_there None stage bundle told some found result same h is right e = tt
-  told_there (Some folder) stage bundle told some found result same h is right e =
-      subst (λ result. IfOk result (λ found. IfNone found (S.Satisfies stage bundle (standing folder stage)))) (sym e)
-      (there_right folder stage bundle some found (lacks_file folder stage) refl (sym same ∙ h) is right)
+    there_right : (folder : Folder) (some : List MadeFile) (found : Option Finding) (lacks : Bool)
+        → lacks_file folder stage ≡ lacks → Some some ≡ cond lacks None (Some (standing folder stage))
+        → found ≡ S.verdict values bundle some
+        → (Makes some → IfNone found (S.Satisfies values bundle some))
+        → IfNone found (S.Satisfies values bundle (standing folder stage))
+    there_right folder some found true lacks there is right = absurd (cc)
+    there_right folder some found false lacks there is right =
+        let same : some ≡ standing folder stage = cc in
+        stands_right folder found lacks (is ∙ ap (S.verdict values bundle) same) (subst (λ files. Makes files → IfNone found (S.Satisfies values bundle files)) same right)
+
+    -- the files that were found satisfy the model where nothing is found of them
+    pub told_there : (contents : Option Folder) (told : Option (List MadeFile)) (some : List MadeFile)
+        (found : Option Finding) (result : Result (Option Finding) ChainFault) → told ≡ Some some
+        → IfSome contents (λ folder. told ≡ cond (lacks_file folder stage) None (Some (standing folder stage)))
+        → found ≡ S.verdict values bundle some
+        → (Makes some → IfNone found (S.Satisfies values bundle some)) → result ≡ Ok found
+        → IfSome contents (λ folder. IfOk result (λ found. IfNone found (S.Satisfies values bundle (standing folder stage))))
+    told_there None told some found result same h is right e = tt
+    told_there (Some folder) told some found result same h is right e =
+        subst (λ result. IfOk result (λ found. IfNone found (S.Satisfies values bundle (standing folder stage)))) (sym e)
+        (there_right folder some found (lacks_file folder stage) refl (sym same ∙ h) is right)
 
   -- and so the stage stands
   pub told_stands : (contents now : Option Folder) (values : List ℤ) (stage : Stage)
       (bundle : BundleParts) (result : Result (Option Finding) ChainFault) → now ≡ contents
       → IfSome contents (λ folder. bundle_by (text_in folder) values stage ≡ Ok bundle)
-      → IfSome now (λ folder. IfOk result (λ found. IfNone found (S.Satisfies stage bundle (standing folder stage))))
+      → IfSome now (λ folder. IfOk result (λ found. IfNone found (S.Satisfies values bundle (standing folder stage))))
       → IfSome contents (λ folder. IfOk result (λ found. IfNone found (StageStands S folder values stage)))
   told_stands None now values stage bundle result same given right = tt
   told_stands (Some folder) now values stage bundle (Err fault) same given right = tt
@@ -81,7 +84,7 @@ module _ (S : StageParts) (laws : AreStages S) where
       record {
         bundle = bundle;
         given = given;
-        model = subst (λ now. IfSome now (λ folder. S.Satisfies stage bundle (standing folder stage))) same right;
+        model = subst (λ now. IfSome now (λ folder. S.Satisfies values bundle (standing folder stage))) same right;
       }
 
   module _ (values : List ℤ) where
@@ -115,7 +118,7 @@ module _ (S : StageParts) (laws : AreStages S) where
   pub told_passes : (contents now : Option Folder) (values : List ℤ)
       (result : Result (Option Finding) ChainFault) → now ≡ contents
       → IfSome contents (λ folder. ConfigGives (effective (look_in folder)) (Ok values))
-      → IfSome now (λ folder. IfOk result (λ found. IfNone found (AllStand S folder values S.stages)))
+      → IfSome now (λ folder. IfOk result (λ found. IfNone found (AllStand S folder values S.places)))
       → IfSome contents (λ folder. IfOk result (λ found. IfNone found (PassesIn S folder)))
   told_passes None now values result same told h = tt
   told_passes (Some folder) now values (Err fault) same told h = tt
@@ -123,7 +126,7 @@ module _ (S : StageParts) (laws : AreStages S) where
   told_passes (Some folder) now values (Ok None) same told h = record {
     values = values;
     settled = told;
-    stand = subst (λ now. IfSome now (λ folder. AllStand S folder values S.stages)) same h;
+    stand = subst (λ now. IfSome now (λ folder. AllStand S folder values S.places)) same h;
   }
 
   pub unsettled_passes : (contents : Option Folder) (end : ConfigEnd)

@@ -40,11 +40,12 @@ use Rattle.stage_chain.proofs.MadeLists.{made_list}
 use Rattle.stage_chain.proofs.MadeRight.{visits_right}
 use Rattle.stage_chain.proofs.MadeTexts.{names_of, text_nowhere}
 use Rattle.stage_chain.proofs.Placed.{ArePlaced, made_looks}
-use Rattle.stage_chain.proofs.Traces.{traced, chain, stages_run, are_visits, are_placed}
+use Rattle.stage_chain.proofs.Traces.{traced, chain, stages_run, are_visits, are_placed, run_staged}
 use Rattle.stage_chain.proofs.Visits.{IsHalt, AreVisits}
 use Rattle.stage_chain.specs.Laws.{AreRightOver, bundle_over, files_over}
 use Rattle.stage_chain.specs.StageLists.{always_made}
-use Rattle.stage_chain.specs.StageParts.{StageParts}
+use Rattle.stage_chain.specs.StageParts.{StageParts, staged}
+use Rattle.stage_chain.proofs.Looked.{bundle_looked, files_looked, looked}
 use Rattle.stage_chain.specs.Laws.{AreStages}
 use Rattle.stage_chain.specs.StageLists.{before_stage, is_earlier, needs, rising}
 
@@ -227,58 +228,6 @@ module _ (values : List ℤ) where
           let later : kept ≡ done ++ stage ∷ rest = cc in
           ap (λ b. cond b (first ∷ before) before) (not_late first stages done stage rest above later).0 ∙ ap (λ s. s ∷ before) same ∙ ap (λ some. other ∷ some) (more done later)
 
--- ---- one look of texts, in which each file has one
-
-text_or : Result (List ℕ) Cause → List ℕ
-text_or (Ok text) = text
-text_or (Err why) = []
-
-module _ (look : FileId → Result (List ℕ) Cause) where
-  abbrev looked : FileId → List ℕ
-  looked file = text_or (look file)
-
-  one_looked : (text : Result (List ℕ) Cause) (rest : Result (List (List ℕ)) Cause)
-      (some texts : List (List ℕ)) → ((found : List (List ℕ)) → rest ≡ Ok found → some ≡ found)
-      → with_text text rest ≡ Ok texts → text_or text ∷ some ≡ texts
-  unfolding text_or
-  one_looked (Err why) rest some texts h e = absurd (cc)
-  one_looked (Ok text) (Err why) some texts h e = absurd (cc)
-  one_looked (Ok text) (Ok found) some texts h e =
-      let same : text ∷ found ≡ texts = cc in ap (λ more. text ∷ more) (h found refl) ∙ same
-
-  texts_looked : (values : List ℤ) (inputs : List FileId) (texts : List (List ℕ))
-      → texts_by look values inputs ≡ Ok texts
-      → map (λ file. looked (chosen values file)) inputs ≡ texts
-  texts_looked values [] texts e = cc
-  texts_looked values (file ∷ inputs) texts e = one_looked (look (chosen values file)) (texts_by look values inputs) (map (λ file. looked (chosen values file)) inputs) texts (texts_looked values inputs) e
-
-  told_looked : (values : List ℤ) (stage : Stage) (texts : Result (List (List ℕ)) Cause)
-      (some : List (List ℕ)) (bundle : BundleParts)
-      → ((found : List (List ℕ)) → texts ≡ Ok found → some ≡ found)
-      → bundle_told values stage texts ≡ Ok bundle → bundle_for values stage some ≡ bundle
-  told_looked values stage (Err why) some bundle h e = absurd (cc)
-  told_looked values stage (Ok texts) some bundle h e =
-      let same : bundle_for values stage texts ≡ bundle = cc in ap (bundle_for values stage) (h texts refl)
-      ∙ same
-
-  bundle_looked : (values : List ℤ) (stage : Stage) (bundle : BundleParts)
-      → bundle_told values stage (texts_by look values (stage_inputs stage)) ≡ Ok bundle
-      → bundle_over values looked stage ≡ bundle
-  bundle_looked values stage bundle e = told_looked values stage (texts_by look values (stage_inputs stage)) (map (λ file. looked (chosen values file)) (stage_inputs stage)) bundle (texts_looked values (stage_inputs stage)) e
-
-  files_looked : (some : List FileId)
-      → files_over looked (ids_of (files_by look some)) ≡ files_by look some
-  unfolding text_or
-  files_looked [] = refl
-  files_looked (file ∷ some) = by (look file) refl (files_looked some)
-    where
-      by : (found : Result (List ℕ) Cause) → look file ≡ found
-          → files_over looked (ids_of (files_by look some)) ≡ files_by look some
-          → files_over looked (ids_of (found_file file found (files_by look some))) ≡ found_file file found (files_by look some)
-      by (Ok text) is rest =
-          ap (λ t. record { file = file; text = text_or t } ∷ files_over looked (ids_of (files_by look some))) is
-          ∙ ap (λ more. record { file = file; text = text } ∷ more) rest
-      by (Err why) is rest = rest
 
 module _ (S : StageParts) (laws : AreStages S) where
   -- ---- what the stages before one made
@@ -373,13 +322,13 @@ module _ (S : StageParts) (laws : AreStages S) where
   -- ---- why a chain ends early
 
   halt_names : (values : List ℤ) (hand : Folder) (all : List MadeFile) (stage : Stage) (halt : Halt)
-      → needs S.stages stage ≡ true
-      → list_all (λ file. is_among (file_name file) (names_of all)) (flat_map always_made (before_stage S.stages stage)) ≡ true
-      → AreRightOver S values (looked (input_text hand all)) (before_stage S.stages stage)
+      → needs (staged S values) stage ≡ true
+      → list_all (λ file. is_among (file_name file) (names_of all)) (flat_map always_made (before_stage (staged S values) stage)) ≡ true
+      → AreRightOver S values (looked (input_text hand all)) (before_stage (staged S values) stage)
       → IsHalt S.run values hand all stage halt → NamesHand (Some halt.cause)
   halt_names values hand all stage halt need there right halts =
       let look = input_text hand all in
-      ⊎_elim (λ none. told_names values stage (texts_by look values (stage_inputs stage)) halt.cause (texts_names values hand all (stage_inputs stage) (all_there all (flat_map always_made (before_stage S.stages stage)) (stage_inputs stage) need there)) none)
+      ⊎_elim (λ none. told_names values stage (texts_by look values (stage_inputs stage)) halt.cause (texts_names values hand all (stage_inputs stage) (all_there all (flat_map always_made (before_stage (staged S values) stage)) (stage_inputs stage) need there)) none)
       (λ refused.
       let same = bundle_looked look values stage refused.bundle refused.given in
       let names = laws.refuses values (looked look) stage refused.reason right (ap S.run same ∙ refused.solved) in
@@ -396,8 +345,8 @@ module _ (S : StageParts) (laws : AreStages S) where
       let all = files_of visits in
       let stages = stages_run S laws values in
       let ended = ended_by S laws values hand [] stages visits halt are in
-      let before : before_stage S.stages ended.stage ≡ done_of stages visits = ran_before values S.stages (done_of stages visits) ended.stage ended.rest laws.list.rise ended.split in
-      let need = of_middle (needs S.stages) (done_of stages visits) ended.stage ended.rest (ap (list_all (needs S.stages)) (sym ended.split) ∙ all_filter (needs S.stages) (in_time values) S.stages laws.list.given) in
+      let before : before_stage (staged S values) ended.stage ≡ done_of stages visits = ran_before values (staged S values) (done_of stages visits) ended.stage ended.rest (laws.lists values).rise ended.split in
+      let need = of_middle (needs (staged S values)) (done_of stages visits) ended.stage ended.rest (ap (list_all (needs (staged S values))) (sym ended.split) ∙ all_filter (needs (staged S values)) (in_time values) (staged S values) (laws.lists values).given) in
       halt_names values hand all ended.stage halt need
       (ap (λ some. list_all (λ file. is_among (file_name file) (names_of all)) (flat_map always_made some)) before ∙ done_there S laws values hand all stages visits placed)
       (subst (AreRightOver S values (looked (input_text hand all))) (sym before) (done_right S laws values hand all stages visits placed right)) ended.halts
@@ -408,5 +357,5 @@ module _ (S : StageParts) (laws : AreStages S) where
       (λ reason is. subst (λ settings. IfErr settings (ConfigNames is_hand)) is (config_names is_hand path_is_hand (look_in hand) config_is_hand))
       (λ values is.
       let visits = (chain S laws values hand).visits in
-      chain_names values hand visits (chain S laws values hand).halt (visits_right S laws values hand (effective_settings (look_in hand) values is) (files_of visits) (stages_run S laws values) visits (are_placed S laws values hand))
+      chain_names values hand visits (chain S laws values hand).halt (visits_right S laws values hand (effective_settings (look_in hand) values is) (files_of visits) (stages_run S laws values) visits (run_staged S laws values) (are_placed S laws values hand))
       (are_visits S laws values hand) (are_placed S laws values hand))

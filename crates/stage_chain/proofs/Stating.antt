@@ -48,13 +48,13 @@ module _ (S : StageParts) (laws : AreStages S) where
     -- the lines so far and those of the rest are the lines of all
     abbrev pub LinesLeft : List Stage → List Stage → KnownFiles → List ℕ → Folder → Type 0
     LinesLeft stages rest known lines folder =
-        lines ++ state_lines folder values known rest ≡ state_lines folder values nothing_known stages
+        lines ++ state_lines S folder values known rest ≡ state_lines S folder values nothing_known stages
 
     abbrev line_at : Folder → KnownFiles → Stage → List ℕ
-    line_at folder known stage = state_line stage (state_by folder stage (holding_at folder values known stage))
+    line_at folder known stage = state_line stage (state_by folder stage (holding_in S folder values known stage))
 
     abbrev known_at : Folder → KnownFiles → Stage → KnownFiles
-    known_at folder known stage = known_with known stage (holding_at folder values known stage)
+    known_at folder known stage = known_with known stage (holding_in S folder values known stage)
 
     -- one line more
     pub lines_more : (contents now : Option Folder) (stages : List Stage) (i : ℕ) (d : Stage)
@@ -68,22 +68,22 @@ module _ (S : StageParts) (laws : AreStages S) where
         let stage = get_or stages i d in
         let here : next ≡ known_at folder known stage = rw same at is in
         let line : longer ≡ lines ++ line_at folder known stage = rw same at more in
-        ap (λ known. longer ++ state_lines folder values known (drop (i + 1) stages)) here
-        ∙ ap (λ lines. lines ++ state_lines folder values (known_at folder known stage) (drop (i + 1) stages)) line
-        ∙ append_assoc lines (line_at folder known stage) (state_lines folder values (known_at folder known stage) (drop (i + 1) stages))
-        ∙ sym (at_drop_more (λ rest. lines ++ state_lines folder values known rest) stages i d inside)
+        ap (λ known. longer ++ state_lines S folder values known (drop (i + 1) stages)) here
+        ∙ ap (λ lines. lines ++ state_lines S folder values (known_at folder known stage) (drop (i + 1) stages)) line
+        ∙ append_assoc lines (line_at folder known stage) (state_lines S folder values (known_at folder known stage) (drop (i + 1) stages))
+        ∙ sym (at_drop_more (λ rest. lines ++ state_lines S folder values known rest) stages i d inside)
         ∙ so_far
 
     -- all lines
     pub lines_all : (contents : Option Folder) (stages : List Stage) (i : ℕ) (known : KnownFiles)
-        (lines text : List ℕ) → length stages ≤ i → stages ≡ S.stages → text ≡ lines
+        (lines text : List ℕ) → length stages ≤ i → stages ≡ S.places → text ≡ lines
         → IfSome contents (LinesLeft stages (drop i stages) known lines)
-        → IfSome contents (λ folder. text ≡ state_lines folder values nothing_known S.stages)
+        → IfSome contents (λ folder. text ≡ state_lines S folder values nothing_known S.places)
     lines_all None stages i known lines text past own is so_far = tt
     lines_all (Some folder) stages i known lines text past own is so_far =
         is ∙ sym (append-nil lines)
-        ∙ sym (at_drop_all (λ rest. lines ++ state_lines folder values known rest) stages i past)
-        ∙ so_far ∙ ap (state_lines folder values nothing_known) own
+        ∙ sym (at_drop_all (λ rest. lines ++ state_lines S folder values known rest) stages i past)
+        ∙ so_far ∙ ap (state_lines S folder values nothing_known) own
 
   -- ---- the settings
 
@@ -100,13 +100,13 @@ module _ (S : StageParts) (laws : AreStages S) where
       (result : Result StatesOutcome ChainFault) → now ≡ contents
       → IfSome contents (λ folder. ConfigGives (effective (look_in folder)) (Ok values))
       → IfOk result (λ outcome. outcome.end ≡ end.Told)
-      → IfSome now (λ folder. IfOk result (λ outcome. outcome.report ≡ state_lines folder values nothing_known S.stages))
+      → IfSome now (λ folder. IfOk result (λ outcome. outcome.report ≡ state_lines S folder values nothing_known S.places))
       → IfSome contents (λ folder. IfOk result (TellsStates S folder))
   settled_states None now values result same told ends h = tt
   settled_states (Some folder) now values (Err fault) same told ends h = tt
   settled_states (Some folder) now values (Ok outcome) same told ends h =
       told_by folder (Ok values) outcome told ends
-      (subst (λ now. IfSome now (λ folder. outcome.report ≡ state_lines folder values nothing_known S.stages)) same h)
+      (subst (λ now. IfSome now (λ folder. outcome.report ≡ state_lines S folder values nothing_known S.places)) same h)
 
   untold_ok : (folder : Folder) (reason : ConfigFault) (result : Result StatesOutcome ChainFault)
       → effective (look_in folder) ≡ Err reason → UntoldAs (config.Refused reason) result

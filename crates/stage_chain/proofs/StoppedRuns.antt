@@ -115,8 +115,8 @@ module _ (S : StageParts) (laws : AreStages S) where
       → AreHarmless S (unmet folder (writes_for S made))
   unfolding writes_for
   wishes_harmless folder made apart =
-      some_harmless (λ write. not (is_met folder write)) (map put_of made ++ map Removal (names_besides made (names_made_by S.stages)))
-      (harmless_both S laws (map put_of made) (map Removal (names_besides made (names_made_by S.stages))) (puts_harmless made apart) (removals_harmless (names_besides made (names_made_by S.stages))))
+      some_harmless (λ write. not (is_met folder write)) (map put_of made ++ map Removal (names_besides made (names_made_by S.places)))
+      (harmless_both S laws (map put_of made) (map Removal (names_besides made (names_made_by S.places))) (puts_harmless made apart) (removals_harmless (names_besides made (names_made_by S.places))))
 
   -- ---- the writes of a run
 

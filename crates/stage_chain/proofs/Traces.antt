@@ -98,10 +98,29 @@ module _ (S : StageParts) (laws : AreStages S) where
 
   -- the stages that run under settings
   abbrev pub stages_run : List ℤ → List Stage
-  stages_run values = to_run values S.stages
+  stages_run values = to_run values (staged S values)
+
+  -- each of them is one that runs in a place
+  pub run_staged : (values : List ℤ) → All (Contains (staged S values)) (stages_run values)
+  run_staged values = All-filter (λ stage. leb (stage_place stage) (stage_place (last_stage_of values))) (Contains (staged S values)) (staged S values) (All-contains_itself (staged S values))
+
+  -- the stages that run in some places make the files of the places
+  names_staged : (values : List ℤ) (places : List Stage)
+      → names_made_by (map (S.placed values) places) ≡ names_made_by places
+  names_staged values [] = refl
+  names_staged values (place ∷ places) =
+      names_more (S.placed values place) (map (S.placed values) places)
+      ∙ ap (λ files. map file_name files ++ names_made_by (map (S.placed values) places)) (laws.placed values place).makes
+      ∙ ap (λ rest. map file_name (stage_makes place) ++ rest) (names_staged values places)
+      ∙ sym (names_more place places)
+
+  -- what holds of all names that the places make holds of those that the stages there make
+  pub staged_within : (values : List ℤ) (p : List ℕ → Bool) → list_all p (names_made_by S.places) ≡ true
+      → list_all p (names_made_by (staged S values)) ≡ true
+  staged_within values p h = ap (list_all p) (names_staged values S.places) ∙ h
 
   run_differ : (values : List ℤ) → differing (names_made_by (stages_run values)) ≡ true
-  run_differ values = some_differ (λ stage. leb (stage_place stage) (stage_place (last_stage_of values))) S.stages laws.list.files_differ
+  run_differ values = some_differ (λ stage. leb (stage_place stage) (stage_place (last_stage_of values))) (staged S values) (laws.lists values).files_differ
 
   module _ (solve : BundleParts → Result Made Refusal) (makes : (bundle : BundleParts) (made : Made) → solve bundle ≡ Ok made → MakesAs bundle.stage (ids_of made.files)) (values : List ℤ) (hand : Folder) where
     abbrev pub chain_by : Trace
@@ -119,9 +138,9 @@ module _ (S : StageParts) (laws : AreStages S) where
     by_differ = visits_differ solve makes values hand [] (stages_run values) chain_by.visits chain_by.halt by_visits (run_differ values)
 
     -- what holds of all names that the built stages make holds of them
-    pub by_within : (p : List ℕ → Bool) → list_all p (names_made_by S.stages) ≡ true
+    pub by_within : (p : List ℕ → Bool) → list_all p (names_made_by S.places) ≡ true
         → list_all p (map name_of (files_of chain_by.visits)) ≡ true
-    by_within p h = visits_within solve makes values hand p [] (stages_run values) chain_by.visits chain_by.halt by_visits (some_within (λ stage. leb (stage_place stage) (stage_place (last_stage_of values))) p S.stages h)
+    by_within p h = visits_within solve makes values hand p [] (stages_run values) chain_by.visits chain_by.halt by_visits (some_within (λ stage. leb (stage_place stage) (stage_place (last_stage_of values))) p (staged S values) (staged_within values p h))
 
   -- the same of a chain from scratch
   module _ (values : List ℤ) (hand : Folder) where

@@ -19,9 +19,9 @@ joined removals_of made some puts removed writes same are gone all =
 
 module _ (S : StageParts) (laws : AreStages S) where
   pub joined_writes : (made some : List MadeFile) (puts removed writes : List Write) → some ≡ made
-      → puts ≡ map put_of made → removed ≡ map Removal (names_besides some (names_made_by S.stages))
+      → puts ≡ map put_of made → removed ≡ map Removal (names_besides some (names_made_by S.places))
       → writes ≡ puts ++ removed → writes ≡ writes_for S made
   unfolding writes_for
   joined_writes made some puts removed writes same are gone all =
-      joined (λ files. map Removal (names_besides files (names_made_by S.stages))) made some puts removed
+      joined (λ files. map Removal (names_besides files (names_made_by S.places))) made some puts removed
       writes same are gone all

@@ -119,7 +119,7 @@ some_apart p (stage ∷ stages) h =
 
 module _ (S : StageParts) (laws : AreStages S) where
   pub run_apart : (values : List ℤ) → differing (map keep_name (stages_run S laws values)) ≡ true
-  run_apart values = some_apart (λ stage. leb (stage_place stage) (stage_place (last_stage_of values))) S.stages laws.list.keeps_differ
+  run_apart values = some_apart (λ stage. leb (stage_place stage) (stage_place (last_stage_of values))) (staged S values) (laws.lists values).keeps_differ
 
 -- ---- the names of new entries
 
@@ -184,7 +184,7 @@ module _ (S : StageParts) (laws : AreStages S) where
   -- the names of made files are some of those that the built stages make, and differ; those of new
   -- entries are some under which stages keep, and differ
   pub record AreApart (keep : Folder) (visits : List Visit) : Type 0 where
-    pub within : (p : List ℕ → Bool) → list_all p (names_made_by S.stages) ≡ true
+    pub within : (p : List ℕ → Bool) → list_all p (names_made_by S.places) ≡ true
         → list_all p (map name_of (files_of visits)) ≡ true
     pub differ : differing (map name_of (files_of visits)) ≡ true
     pub kept : list_all is_kept_name (names_in (new_entries keep visits)) ≡ true
@@ -259,25 +259,25 @@ module _ (S : StageParts) (laws : AreStages S) where
       → differing (names_in (writes_for S made)) ≡ true
   unfolding writes_for
   files_differ made h =
-      let besides = names_besides made (names_made_by S.stages) in
+      let besides = names_besides made (names_made_by S.places) in
       ap differing (map-append write_name (map put_of made) (map Removal besides)
       ∙ ap (λ names. names ++ names_in (map Removal besides)) (names_map made) ∙ ap (λ names. map name_of made ++ names) (names_removed besides))
       ∙ parts_differing (map name_of made) besides (record {
         front = h;
-        back = differ_some (λ name. not (is_among name (map name_of made))) (names_made_by S.stages) laws.list.files_differ;
-        apart = differ_swap besides (map name_of made) (apart_by (λ name. is_among name (map name_of made)) besides (map name_of made) (besides_apart made (names_made_by S.stages)) (each_among [] (map name_of made)));
+        back = differ_some (λ name. not (is_among name (map name_of made))) (names_made_by S.places) laws.list.files_differ;
+        apart = differ_swap besides (map name_of made) (apart_by (λ name. is_among name (map name_of made)) besides (map name_of made) (besides_apart made (names_made_by S.places)) (each_among [] (map name_of made)));
       })
 
   -- what holds of all that the built stages make holds of them
   pub files_within : (p : List ℕ → Bool) (made : List MadeFile)
-      → list_all p (names_made_by S.stages) ≡ true → list_all p (map name_of made) ≡ true
+      → list_all p (names_made_by S.places) ≡ true → list_all p (map name_of made) ≡ true
       → list_all p (names_in (writes_for S made)) ≡ true
   unfolding writes_for
   files_within p made h k =
-      let besides = names_besides made (names_made_by S.stages) in
+      let besides = names_besides made (names_made_by S.places) in
       ap (list_all p) (map-append write_name (map put_of made) (map Removal besides)
       ∙ ap (λ names. names ++ names_in (map Removal besides)) (names_map made) ∙ ap (λ names. map name_of made ++ names) (names_removed besides))
-      ∙ all_both p (map name_of made) besides k (all_filter p (λ name. not (is_among name (map name_of made))) (names_made_by S.stages) h)
+      ∙ all_both p (map name_of made) besides k (all_filter p (λ name. not (is_among name (map name_of made))) (names_made_by S.places) h)
 
   -- the writes of made files differ from those of new entries
   pub files_apart : (keep : Folder) (visits : List Visit) → AreApart S laws keep visits

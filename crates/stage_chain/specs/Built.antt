@@ -15,7 +15,7 @@ use Rattle.stage_chain.specs.declared.cause.Cause.{Cause}
 use Rattle.stage_chain.specs.declared.cause.Cause.TheVariants as cause
 use Rattle.stage_chain.specs.Chain.{Visit, Halt, Trace, chain_from, handed, to_run}
 use Rattle.stage_chain.specs.Reports.{stage_lines, last_line, end_of}
-use Rattle.stage_chain.specs.StageParts.{StageParts}
+use Rattle.stage_chain.specs.StageParts.{StageParts, staged}
 
 module _ (S : StageParts) where
   -- what the chain over hand files does, under settings or a fault of them, where each stage gives what
@@ -24,7 +24,7 @@ module _ (S : StageParts) where
       → Trace
   chain_under solve (Err reason) hand =
       record { visits = []; halt = Some (record { cause = cause.BadConfig reason; given = None }) }
-  chain_under solve (Ok values) hand = chain_from solve values hand [] (to_run values S.stages)
+  chain_under solve (Ok values) hand = chain_from solve values hand [] (to_run values (staged S values))
 
   -- the same, where each stage is made
   abbrev pub trace_under : Result (List ℤ) ConfigFault → Folder → Trace

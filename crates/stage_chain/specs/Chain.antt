@@ -32,6 +32,11 @@ origin_of file.Edge = origin.Needed
 origin_of file.LoadGiven = origin.Needed
 origin_of file.Od = origin.Needed
 origin_of file.Pool = origin.Needed
+origin_of file.PinnedConcept = origin.Needed
+origin_of file.PinnedTimes = origin.Needed
+origin_of file.PinnedSchedule = origin.Needed
+origin_of file.PinnedTree = origin.Optional
+origin_of file.PinnedPotential = origin.Optional
 origin_of file.EventDelays = origin.Optional
 origin_of file.ActivityDelays = origin.Optional
 origin_of file.Load = origin.Earlier
@@ -176,7 +181,7 @@ handed_end (Some halt) = handed_last halt.given
 abbrev pub handed : Trace → List BundleParts
 handed trace = map (λ visit. visit.bundle) trace.visits ++ handed_end trace.halt
 
--- the place of a stage in the order of stages
+-- the place of a stage in the order of places; a pinned stage runs in that of the plain one
 abbrev pub stage_place : Stage → ℕ
 stage_place stage.Load = 0
 stage_place stage.Cost = 1
@@ -187,6 +192,9 @@ stage_place stage.Rollout = 5
 stage_place stage.Vehicles = 6
 stage_place stage.Disposition = 7
 stage_place stage.Statistic = 8
+stage_place stage.PinnedConcept = 2
+stage_place stage.PinnedTimetable = 4
+stage_place stage.PinnedVehicles = 6
 
 -- a stage is to run: it does not come after the last stage that the settings name
 abbrev pub is_to_run : List ℤ → Stage → Bool

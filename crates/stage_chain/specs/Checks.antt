@@ -64,11 +64,11 @@ found_one file (Some text) = record { file = file; text = text } ∷ []
 
 module _ (S : StageParts) where
   -- what is found of a stage: first of its inputs, then of the files that it makes
-  abbrev pub found_over : Folder → Stage → Result BundleParts Cause → Option Finding
-  found_over folder stage (Err why) = Some (finding_of stage why)
-  found_over folder stage (Ok bundle) =
+  abbrev pub found_over : Folder → List ℤ → Stage → Result BundleParts Cause → Option Finding
+  found_over folder values stage (Err why) = Some (finding_of stage why)
+  found_over folder values stage (Ok bundle) =
       if lacks_file folder stage then Some (Broken stage rule.Missing)
-      else S.verdict stage bundle (standing folder stage)
+      else S.verdict values bundle (standing folder stage)
 
 -- what is found of a stage that was not given its inputs; other ends are handed on
 abbrev pub EndedAs : Stage → ChainEnd → Result (Option Finding) ChainFault → Type 0
@@ -78,7 +78,8 @@ EndedAs stage ended.NoMemory result = result ≡ Err fault.NoMemory
 
 module _ (S : StageParts) where
   unfoldable pub judge : Folder → List ℤ → Stage → Option Finding
-  judge folder values stage = found_over S folder stage (bundle_by (text_in folder) values stage)
+  judge folder values stage =
+      found_over S folder values stage (bundle_by (text_in folder) values stage)
 
   -- the same of a stage that is to run; of one behind the last stage nothing is found
   abbrev pub found_at : Folder → List ℤ → Stage → Option Finding
@@ -93,7 +94,7 @@ module _ (S : StageParts) where
   -- the same under settings, or a fault of them
   abbrev pub found_under : Result (List ℤ) ConfigFault → Folder → Option Finding
   found_under (Err reason) folder = Some (BadInput (cause.BadConfig reason))
-  found_under (Ok values) folder = first_found folder values S.stages
+  found_under (Ok values) folder = first_found folder values S.places
 
 -- what is found where settings could not be read; other ends are handed on
 abbrev pub UnsettledAs : ConfigEnd → Result (Option Finding) ChainFault → Type 0

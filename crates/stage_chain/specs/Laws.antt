@@ -13,8 +13,8 @@ use Rattle.giv_files.specs.Stages.{stage_inputs}
 use Rattle.stage_chain.specs.Chain.{bundle_for, chosen}
 use Rattle.stage_chain.specs.Checks.{lacks_file, standing}
 use Rattle.stage_chain.specs.Hand.{is_hand_file}
-use Rattle.stage_chain.specs.StageLists.{IsStageList, before_stage}
-use Rattle.stage_chain.specs.StageParts.{StageParts}
+use Rattle.stage_chain.specs.StageLists.{CanRunIn, IsStageList, before_stage}
+use Rattle.stage_chain.specs.StageParts.{StageParts, staged}
 
 -- what a stage is given over one look of texts
 abbrev pub bundle_over : List ℤ → (FileId → List ℕ) → Stage → BundleParts
@@ -37,25 +37,30 @@ module _ (S : StageParts) where
   AreRightOver values look (stage ∷ stages) =
       IsRightOver values look stage × AreRightOver values look stages
 
-  -- The stages can run one after the other. Each one makes files that it may make, and they are
-  -- right. Where those before it are right over one look of texts, it refuses over it no row of a
-  -- file but those that people write. Where no file lacks that has to be there, and nothing is found
-  -- of those that are, they are some that the stage may make. Nothing is found of what it makes.
+  -- The stages of the places, and those that run there under any settings, can run one after the
+  -- other. Each one makes files that it may make, and they are right. Where those before it are right
+  -- over one look of texts, it refuses over it no row of a file but those that people write. Where no
+  -- file of a place lacks that has to be there, and nothing is found of those that are, they are some
+  -- that the stage there may make. Over what the place is given, nothing is found of what the stage
+  -- there makes.
   pub record AreStages : Type 0 where
-    pub list : IsStageList S.stages
+    pub list : IsStageList S.places
+    pub lists : (values : List ℤ) → IsStageList (staged S values)
+    pub placed : (values : List ℤ) (place : Stage) → CanRunIn place (S.placed values place)
     pub makes : (bundle : BundleParts) (made : Made) → S.run bundle ≡ Ok made
         → MakesAs bundle.stage (ids_of made.files)
     pub right : (bundle : BundleParts) (made : Made) → Fits bundle → S.run bundle ≡ Ok made
         → S.IsRight bundle.stage bundle made.files
     pub refuses : (values : List ℤ) (look : FileId → List ℕ) (stage : Stage) (reason : Refusal)
-        → AreRightOver values look (before_stage S.stages stage)
+        → AreRightOver values look (before_stage (staged S values) stage)
         → S.run (bundle_over values look stage) ≡ Err reason → NamesOnly is_hand_file reason
-    pub stand : (folder : Folder) (bundle : BundleParts) (stage : Stage)
-        → lacks_file folder stage ≡ false
-        → S.verdict stage bundle (standing folder stage) ≡ None
-        → MakesAs stage (ids_of (standing folder stage))
-    pub pass : (folder : Folder) (bundle : BundleParts) (made : Made)
-        → S.run bundle ≡ Ok made → S.IsRight bundle.stage bundle made.files
-        → standing folder bundle.stage ≡ made.files
-        → (lacks_file folder bundle.stage ≡ false)
-        × (S.verdict bundle.stage bundle (standing folder bundle.stage) ≡ None)
+    pub stand : (folder : Folder) (values : List ℤ) (bundle : BundleParts)
+        → lacks_file folder bundle.stage ≡ false
+        → S.verdict values bundle (standing folder bundle.stage) ≡ None
+        → MakesAs (S.placed values bundle.stage) (ids_of (standing folder bundle.stage))
+    pub pass : (folder : Folder) (values : List ℤ) (look : FileId → List ℕ) (place : Stage) (made : Made)
+        → S.run (bundle_over values look (S.placed values place)) ≡ Ok made
+        → S.IsRight (S.placed values place) (bundle_over values look (S.placed values place)) made.files
+        → standing folder place ≡ made.files
+        → (lacks_file folder place ≡ false)
+        × (S.verdict values (bundle_over values look place) (standing folder place) ≡ None)

@@ -18,7 +18,7 @@ module _ (S : StageParts) where
   pub record StageStands (folder : Folder) (values : List ℤ) (stage : Stage) : Type 0 where
     pub bundle : BundleParts
     pub given : bundle_by (text_in folder) values stage ≡ Ok bundle
-    pub model : S.Satisfies stage bundle (standing folder stage)
+    pub model : S.Satisfies values bundle (standing folder stage)
 
   -- each of some stages does that is to run
   abbrev pub RunsStand : Folder → List ℤ → Stage → Type 0
@@ -34,7 +34,7 @@ module _ (S : StageParts) where
   pub record PassesIn (folder : Folder) : Type 0 where
     pub values : List ℤ
     pub settled : effective (look_in folder) ≡ Ok values
-    pub stand : AllStand folder values S.stages
+    pub stand : AllStand folder values S.places
 
   -- The folder that a run leaves which started from an honest keep and made all of its stages passes.
   unfoldable pub RunsPass : Folder → Type 0

@@ -1,6 +1,6 @@
 -- What holds of what the stages of a chain make and refuse.
 use Rattle.std.specs.Prelude.{ℕ, ℤ, ◌≡◌, true, false, List, [], ◌∷◌, Option, Some, None, Result, Ok}
-use Rattle.std.specs.Prelude.{Err, IfSome, IfOk}
+use Rattle.std.specs.Prelude.{Err, IfSome, IfOk, Contains}
 use Rattle.std.specs.Option.{ok_or}
 use Rattle.std.specs.FinMap as files
 use Rattle.plan_files.specs.Folder.{Folder}
@@ -22,7 +22,7 @@ use Rattle.stage_chain.specs.Chain.{Visit, hand_text, origin_of, bundle_by}
 use Rattle.stage_chain.specs.Hand.{is_hand, is_hand_file, hand_of}
 use Rattle.stage_chain.specs.Kept.{IsKeptHonest}
 use Rattle.stage_chain.specs.Runs.{after}
-use Rattle.stage_chain.specs.StageParts.{StageParts}
+use Rattle.stage_chain.specs.StageParts.{StageParts, staged}
 
 -- the text of a file that a stage makes, where it stands in a folder
 abbrev pub made_in : Folder → FileId → Result (List ℕ) Cause
@@ -47,9 +47,10 @@ files_by look [] = []
 files_by look (file ∷ files) = found_file file (look file) (files_by look files)
 
 module _ (S : StageParts) where
-  -- What a stage is given by what is found of each file, and those of its files that are found, are
-  -- right.
+  -- A stage is one of those that run under the settings; what it is given by what is found of each
+  -- file, and those of its files that are found, are right.
   pub record StandsRight (look : FileId → Result (List ℕ) Cause) (values : List ℤ) (bundle : BundleParts) (made : List MadeFile) : Type 0 where
+    pub runs : Contains (staged S values) bundle.stage
     pub given : bundle_by look values bundle.stage ≡ Ok bundle
     pub found : files_by look (stage_makes bundle.stage) ≡ made
     pub right : S.IsRight bundle.stage bundle made

@@ -34,11 +34,11 @@ with_files (file ∷ more) folder = with_files more (files.insert folder (name_o
 module _ (S : StageParts) where
   -- a folder without the files that the built stages make
   abbrev pub without_made : Folder → Folder
-  without_made folder = files.retain_keys folder (λ name. not (is_among name (names_made_by S.stages)))
+  without_made folder = files.retain_keys folder (λ name. not (is_among name (names_made_by S.places)))
 
   -- those files alone
   abbrev pub made_part : Folder → Folder
-  made_part folder = files.retain_keys folder (λ name. is_among name (names_made_by S.stages))
+  made_part folder = files.retain_keys folder (λ name. is_among name (names_made_by S.places))
 
 -- the writes that bring a folder there: a put of each file that was made, and a removal of each
 -- other one that the stages make
@@ -51,7 +51,7 @@ names_besides made_files names = filter (λ name. not (is_among name (map name_o
 module _ (S : StageParts) where
   unfoldable pub writes_for : List MadeFile → List Write
   writes_for made_files =
-      map put_of made_files ++ map Removal (names_besides made_files (names_made_by S.stages))
+      map put_of made_files ++ map Removal (names_besides made_files (names_made_by S.places))
 
 -- ---- writes that change something
 

@@ -1,5 +1,5 @@
 -- What holds of a list of stages that can run one after the other.
-use Rattle.std.specs.Prelude.{ℕ, ◌≡◌, ltb, not, ◌&&◌, ◌||◌, Bool, true, false, List, [], ◌∷◌, map, filter}
+use Rattle.std.specs.Prelude.{ℕ, ◌≡◌, ltb, not, ◌&&◌, ◌||◌, Bool, true, false, List, [], ◌∷◌, ◌++◌, map, filter}
 use Rattle.std.specs.List.{list_all, flat_map}
 use Rattle.std.specs.Str.{bytes_eq}
 use Rattle.giv_files.specs.declared.file_id.FileId.{FileId}
@@ -36,6 +36,8 @@ before_stage stages stage = filter (λ other. ltb (stage_place other) (stage_pla
 -- the files that a stage makes wherever it is made
 abbrev pub always_made : Stage → List FileId
 always_made stage.Concept = file.Concept ∷ []
+always_made stage.PinnedConcept = file.Concept ∷ []
+always_made stage.PinnedVehicles = file.Schedule ∷ []
 always_made stage = stage_makes stage
 
 -- an input is what a stage before makes
@@ -62,3 +64,11 @@ pub record IsStageList (stages : List Stage) : Type 0 where
   pub keeps_differ : differing (map keep_name stages) ≡ true
   pub no_keep : list_all (λ name. not (is_kept_name name)) (names_made_by stages) ≡ true
   pub no_hand : list_all (λ name. not (is_hand name)) (names_made_by stages) ≡ true
+
+-- A stage can run in a place: it comes at the same point of the chain, it makes the files of the stage
+-- that names the place, and takes what that one takes, and perhaps more after it.
+pub record CanRunIn (place stage : Stage) : Type 0 where
+  pub point : stage_place stage ≡ stage_place place
+  pub makes : stage_makes stage ≡ stage_makes place
+  pub more : List FileId
+  pub inputs : stage_inputs stage ≡ stage_inputs place ++ more

@@ -118,18 +118,22 @@ state_name state.Kept = codes "kept"
 abbrev pub state_line : Stage → StageState → List ℕ
 state_line stage state = line_of (stage_name stage ++ codes ": " ++ state_name state)
 
--- a line for each of some stages, where so much is known of those before them
-abbrev pub state_lines : Folder → List ℤ → KnownFiles → List Stage → List ℕ
-state_lines folder values known [] = []
-state_lines folder values known (stage ∷ stages) =
-    state_line stage (state_by folder stage (holding_at folder values known stage))
-    ++ state_lines folder values (known_with known stage (holding_at folder values known stage)) stages
-
 module _ (S : StageParts) where
+  -- what is held of the stage that runs in a place, where so much is known of those before it
+  abbrev pub holding_in : Folder → List ℤ → KnownFiles → Stage → Holding
+  holding_in folder values known place = holding_at folder values known (S.placed values place)
+
+  -- a line for each of some places, where so much is known of those before them
+  abbrev pub state_lines : Folder → List ℤ → KnownFiles → List Stage → List ℕ
+  state_lines folder values known [] = []
+  state_lines folder values known (place ∷ places) =
+      state_line place (state_by folder place (holding_in folder values known place))
+      ++ state_lines folder values (known_with known place (holding_in folder values known place)) places
+
   -- the same under settings; where they are refused, the line that says why
   abbrev pub states_under : Result (List ℤ) ConfigFault → Folder → List ℕ
   states_under (Err reason) folder = line_of (cause_text (cause.BadConfig reason))
-  states_under (Ok values) folder = state_lines folder values nothing_known S.stages
+  states_under (Ok values) folder = state_lines folder values nothing_known S.places
 
 abbrev pub states_end_under : Result (List ℤ) ConfigFault → StatesEnd
 states_end_under (Err reason) = end.BadInput

@@ -15,7 +15,7 @@ use crate::chain_end::ChainEnd;
 use crate::gather::gather;
 use crate::keep::{kept, new_entry};
 use crate::progress::Progress;
-use crate::stages::{Stages, place_of};
+use crate::stages::{Stages, place_of, staged};
 use config_keys::{Config, read_config};
 use giv_files::{Bundle, Stage, StageFault};
 use plan_files::Files;
@@ -54,14 +54,14 @@ fn run_stages<S: Stages, F: Files, L: Ledger>(
     requires { progress.old ≡ nothing }
     ensures chain { IfSome (F.contents files.old) (λ folder.
         ChainGives S.parts folder
-        (chain_from (solve_over S.parts folder) config.now folder [] (to_run config.now S.parts.stages))
+        (chain_from (solve_over S.parts folder) config.now folder [] (to_run config.now (staged S.parts config.now)))
         progress.new steps.old steps.new result) }
     ensures only_reads { OnlyReads F.contents F.writes F.faults files.old files.new
         (is_broken result) }
     ensures no_hand_file { HasNoHandFile progress.new result }
     ensures no_less { steps.old ≤ steps.new }
 {
-    for stage in S::stages() {
+    for stage in &staged::<S>(alloc, config)? {
         if place_of(*stage) <= place_of(config.last_stage()) {
             visit::<S, F, L>(alloc, files, config, *stage, steps, progress)?;
         }

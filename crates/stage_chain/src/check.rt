@@ -74,14 +74,14 @@ fn find_under<S: Stages, F: Files>(
     config: &Config,
 ) -> Result<Option<Finding>, ChainFault>
     ensures found { IfSome (F.contents files.old) (λ folder. IfOk result (λ found.
-        found ≡ first_found S.parts folder config.now S.parts.stages)) }
+        found ≡ first_found S.parts folder config.now S.parts.places)) }
     ensures passes { IfSome (F.contents files.old) (λ folder.
-        IfOk result (λ found. IfNone found (AllStand S.parts folder config.now S.parts.stages))) }
+        IfOk result (λ found. IfNone found (AllStand S.parts folder config.now S.parts.places))) }
     ensures only_reads { OnlyReads F.contents F.writes F.faults files.old files.new
         (has_failed result) }
 {
-    for stage in S::stages() {
-        let found = find_at::<S, F>(alloc, files, config, *stage)?;
+    for place in S::places() {
+        let found = find_at::<S, F>(alloc, files, config, *place)?;
         if found.is_some() {
             return Ok(found);
         }

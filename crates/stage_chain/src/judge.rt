@@ -40,7 +40,7 @@ pub(crate) fn judge<S: Stages, F: Files>(
         (has_failed result) }
 {
     match gather(alloc, files, config, stage, None) {
-        Ok(bundle) => judge_files::<S, F>(alloc, files, &bundle, stage),
+        Ok(bundle) => judge_files::<S, F>(alloc, files, config, &bundle, stage),
         Err(end) => ended(stage, end),
     }
 }
@@ -60,21 +60,22 @@ fn ended(stage: Stage, end: ChainEnd) -> Result<Option<Finding>, ChainFault>
 fn judge_files<S: Stages, F: Files>(
     alloc: Global,
     files: &mut F,
+    config: &Config,
     bundle: &Bundle,
     stage: Stage,
 ) -> Result<Option<Finding>, ChainFault>
     requires fits { Fits bundle.now }
     requires stage { bundle.now.stage ≡ stage }
     ensures found { IfSome (F.contents files.old) (λ folder.
-        IfOk result (λ found. found ≡ found_over S.parts folder stage (Ok bundle.now))) }
+        IfOk result (λ found. found ≡ found_over S.parts folder config.now stage (Ok bundle.now))) }
     ensures passes { IfSome (F.contents files.old) (λ folder. IfOk result (λ found.
-        IfNone found (S.parts.Satisfies stage bundle.now (standing folder stage)))) }
+        IfNone found (S.parts.Satisfies config.now bundle.now (standing folder stage)))) }
     ensures only_reads { OnlyReads F.contents F.writes F.faults files.old files.new
         (has_failed result) }
 {
     let there = standing(alloc, files, stage)?;
     match there {
-        Some(there) => Ok(S::judge(alloc, bundle, stage, &there)?),
+        Some(there) => Ok(S::judge(alloc, config, bundle, &there)?),
         None => Ok(Some(Finding::Broken(stage, Rule::Missing))),
     }
 }

@@ -29,6 +29,9 @@ pub(crate) fn keep_name(stage: Stage) -> &'static str
         Stage::Vehicles => "keep/vehicles.keep",
         Stage::Disposition => "keep/disposition.keep",
         Stage::Statistic => "keep/statistic.keep",
+        Stage::PinnedConcept => "keep/pinned-concept.keep",
+        Stage::PinnedTimetable => "keep/pinned-timetable.keep",
+        Stage::PinnedVehicles => "keep/pinned-vehicles.keep",
     }
 }
 

@@ -21,9 +21,18 @@ pub(crate) fn origin_of(file: FileId) -> Origin
     ensures { result ≡ origin_of file }
 {
     match file {
-        FileId::Stop | FileId::Edge | FileId::LoadGiven | FileId::Od | FileId::Pool =>
-            Origin::Needed,
-        FileId::EventDelays | FileId::ActivityDelays => Origin::Optional,
+        FileId::Stop
+        | FileId::Edge
+        | FileId::LoadGiven
+        | FileId::Od
+        | FileId::Pool
+        | FileId::PinnedConcept
+        | FileId::PinnedTimes
+        | FileId::PinnedSchedule => Origin::Needed,
+        FileId::EventDelays
+        | FileId::ActivityDelays
+        | FileId::PinnedTree
+        | FileId::PinnedPotential => Origin::Optional,
         FileId::Load
         | FileId::PoolCost
         | FileId::Concept

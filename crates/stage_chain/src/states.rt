@@ -64,14 +64,14 @@ fn told<S: Stages, F: Files>(
 ) -> Result<StatesOutcome, ChainFault>
     ensures end { IfOk result (λ outcome. outcome.end ≡ ends.Told) }
     ensures report { IfSome (F.contents files.old) (λ folder. IfOk result (λ outcome.
-        outcome.report ≡ state_lines folder config.now nothing_known S.parts.stages)) }
+        outcome.report ≡ state_lines S.parts folder config.now nothing_known S.parts.places)) }
     ensures only_reads { OnlyReads F.contents F.writes F.faults files.old files.new
         (has_broken result) }
 {
     let mut known = Known::new(alloc);
     let mut report = Vec::new(alloc);
-    for stage in S::stages() {
-        add_state(alloc, files, config, *stage, &mut known, &mut report)?;
+    for place in S::places() {
+        add_state::<S, F>(alloc, files, config, *place, &mut known, &mut report)?;
     }
     Ok(StatesOutcome {
         end: StatesEnd::Told,
@@ -79,27 +79,27 @@ fn told<S: Stages, F: Files>(
     })
 }
 
-// The line of one stage.
-fn add_state<F: Files>(
+// The line of one place.
+fn add_state<S: Stages, F: Files>(
     alloc: Global,
     files: &mut F,
     config: &Config,
-    stage: Stage,
+    place: Stage,
     known: &mut Known,
     report: &mut Vec<u8>,
 ) -> Result<(), ChainFault>
     ensures known { IfSome (F.contents files.old) (λ folder. OnOk result (known.new
-        ≡ known_with known.old stage (holding_at folder config.now known.old stage))) }
+        ≡ known_with known.old place (holding_in S.parts folder config.now known.old place))) }
     ensures line { IfSome (F.contents files.old) (λ folder. OnOk result (report.new.items
-        ≡ report.old.items ++ state_line stage
-        (state_by folder stage (holding_at folder config.now known.old stage)))) }
+        ≡ report.old.items ++ state_line place
+        (state_by folder place (holding_in S.parts folder config.now known.old place)))) }
     ensures only_reads { OnlyReads F.contents F.writes F.faults files.old files.new
         (has_broken result) }
 {
-    let holding = holding(alloc, files, config, stage, known)?;
-    let state = state_by(alloc, files, stage, &holding)?;
-    push_state(alloc, report, stage, state)?;
-    known.add(stage, holding)?;
+    let holding = holding(alloc, files, config, S::placed(config, place), known)?;
+    let state = state_by(alloc, files, place, &holding)?;
+    push_state(alloc, report, place, state)?;
+    known.add(place, holding)?;
     Ok(())
 }
 

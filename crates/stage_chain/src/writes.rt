@@ -41,11 +41,11 @@ fn puts(alloc: Global, made: Vec<MadeFile>) -> Result<Vec<Write>, NoMemory>
 // A removal of each file that the built stages make and that is not among those that were made.
 fn removals<S: Stages>(alloc: Global, made: &[MadeFile]) -> Result<Vec<Write>, NoMemory>
     ensures { IfOk result (λ writes.
-        writes.items ≡ map Removal (names_besides made.now (names_made_by S.parts.stages))) }
+        writes.items ≡ map Removal (names_besides made.now (names_made_by S.parts.places))) }
 {
     let mut writes = Vec::new(alloc);
-    for stage in S::stages() {
-        add_removals(alloc, &mut writes, *stage, made)?;
+    for place in S::places() {
+        add_removals(alloc, &mut writes, *place, made)?;
     }
     Ok(writes)
 }
