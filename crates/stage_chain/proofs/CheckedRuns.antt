@@ -1,4 +1,6 @@
 -- The folder that a finished run leaves passes a check.
+use Rattle.config_keys.specs.Config.{last_stage_of}
+use Rattle.std.proofs.Common.{map, nat_le}
 use Rattle.std.proofs.Common.{◌≡◌, ℤ, suc, Bool, true, false, cond, List, [], ◌∷◌, ◌++◌, length, Option, Some, None, Result, Ok, Err, refl, ap, subst, sym, ◌∙◌, arith}
 use Rattle.std.specs.Option.{option_or}
 use Rattle.plan_files.specs.Folder.{Folder}

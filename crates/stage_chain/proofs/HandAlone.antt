@@ -1,4 +1,5 @@
 -- A chain depends on hand files alone.
+use Rattle.stage_chain.specs.StageParts.{staged}
 use Rattle.std.proofs.Common.{◌≡◌, ℕ, ℤ, Bool, true, false, cond, List, [], ◌∷◌, ◌++◌, codes, None}
 use Rattle.std.proofs.Common.{Result, Ok, Err, refl, ap, sym, ◌∙◌}
 use Rattle.std.specs.Str.{bytes_eq}
@@ -69,6 +70,11 @@ module _ (S : StageParts) (laws : AreStages S) where
     input_same made file.LoadGiven = found_same false file.LoadGiven refl
     input_same made file.Od = found_same false file.Od refl
     input_same made file.Pool = found_same false file.Pool refl
+    input_same made file.PinnedConcept = found_same false file.PinnedConcept refl
+    input_same made file.PinnedTimes = found_same false file.PinnedTimes refl
+    input_same made file.PinnedSchedule = found_same false file.PinnedSchedule refl
+    input_same made file.PinnedTree = found_same true file.PinnedTree refl
+    input_same made file.PinnedPotential = found_same true file.PinnedPotential refl
     input_same made file.EventDelays = found_same true file.EventDelays refl
     input_same made file.ActivityDelays = found_same true file.ActivityDelays refl
     input_same made _ = refl

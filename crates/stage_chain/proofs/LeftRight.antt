@@ -1,4 +1,6 @@
 -- What a run leaves in its folder is right there.
+use Rattle.stage_chain.proofs.Traces.{run_staged, staged_within}
+use Rattle.stage_chain.specs.StageParts.{staged}
 use Rattle.std.proofs.Common.{◌≡◌, ℕ, ℤ, Bool, true, false, cond, leb, not, List, [], ◌∷◌, Option}
 use Rattle.std.proofs.Common.{Some, None, IfOk, Result, Ok, Err, refl, ap, subst, sym}
 use Rattle.std.proofs.Common.{◌∙◌, map}

@@ -56,16 +56,31 @@ the_list stage files at always differ kept =
       kept = kept;
     })
 
+-- the two lists of a stage that may leave out the last of its files
+two_lists : (stage : Stage) (first : FileId) (files : List FileId)
+    → Contains (stage_makes stage ∷ (first ∷ []) ∷ []) files → IsMadeList stage (stage_makes stage)
+    → IsMadeList stage (first ∷ []) → IsMadeList stage files
+two_lists stage first files at whole alone =
+    ⊎_elim (λ is. subst (IsMadeList stage) is whole) (λ is. subst (IsMadeList stage) is alone)
+    (one_of_two (stage_makes stage) (first ∷ []) files at)
+
 pub made_list : (stage : Stage) (files : List FileId) → MakesAs stage files → IsMadeList stage files
+made_list stage.Concept files at = two_lists stage.Concept file.Concept files at
+    (record { within = λ p h. h; always = λ p h. and_from _ _ (and_parts _ _ h).0 refl; differ = refl; kept = refl })
+    (record { within = λ p h. and_from _ _ (and_parts _ _ h).0 refl; always = λ p h. h; differ = refl; kept = refl })
+made_list stage.PinnedConcept files at = two_lists stage.PinnedConcept file.Concept files at
+    (record { within = λ p h. h; always = λ p h. and_from _ _ (and_parts _ _ h).0 refl; differ = refl; kept = refl })
+    (record { within = λ p h. and_from _ _ (and_parts _ _ h).0 refl; always = λ p h. h; differ = refl; kept = refl })
+made_list stage.PinnedVehicles files at = two_lists stage.PinnedVehicles file.Schedule files at
+    (record { within = λ p h. h; always = λ p h. and_from _ _ (and_parts _ _ h).0 refl; differ = refl; kept = refl })
+    (record { within = λ p h. and_from _ _ (and_parts _ _ h).0 refl; always = λ p h. h; differ = refl; kept = refl })
 made_list stage.Load files at = the_list stage.Load files at (λ p h. h) refl refl
 made_list stage.Cost files at = the_list stage.Cost files at (λ p h. h) refl refl
-made_list stage.Concept files at = ⊎_elim
-    (λ both. subst (IsMadeList stage.Concept) both (record { within = λ p h. h; always = λ p h. and_from _ _ (and_parts _ _ h).0 refl; differ = refl; kept = refl }))
-    (λ alone. subst (IsMadeList stage.Concept) alone (record { within = λ p h. and_from _ _ (and_parts _ _ h).0 refl; always = λ p h. h; differ = refl; kept = refl }))
-    (one_of_two (stage_makes stage.Concept) (file.Concept ∷ []) files at)
 made_list stage.Ean files at = the_list stage.Ean files at (λ p h. h) refl refl
 made_list stage.Timetable files at = the_list stage.Timetable files at (λ p h. h) refl refl
 made_list stage.Rollout files at = the_list stage.Rollout files at (λ p h. h) refl refl
 made_list stage.Vehicles files at = the_list stage.Vehicles files at (λ p h. h) refl refl
 made_list stage.Disposition files at = the_list stage.Disposition files at (λ p h. h) refl refl
 made_list stage.Statistic files at = the_list stage.Statistic files at (λ p h. h) refl refl
+made_list stage.PinnedTimetable files at =
+    the_list stage.PinnedTimetable files at (λ p h. h) refl refl

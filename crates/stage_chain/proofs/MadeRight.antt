@@ -1,4 +1,7 @@
 -- What the stages of a chain make is right, over all files that the chain made.
+use Rattle.std.proofs.Common.{All, Contains}
+use Rattle.std.proofs.lemmas.List.Elements.{All-head, All-tail}
+use Rattle.stage_chain.specs.StageParts.{staged}
 use Rattle.std.proofs.Common.{◌≡◌, ℕ, ℤ, suc, List, [], ◌∷◌, length, Result, Ok, Err, refl, ap}
 use Rattle.std.proofs.Common.{subst, sym, ◌∙◌}
 use Rattle.plan_files.specs.Folder.{Folder}
@@ -59,10 +62,10 @@ module _ (S : StageParts) (laws : AreStages S) where
       let own = placed.0 in
       let bundle = visit.bundle in (
         record {
-          runs = subst (Contains (staged S values)) (sym placed.0.own) (All-head stage stages run);
+          runs = subst (Contains (staged S values)) (sym placed.0.own) (All-head (Contains (staged S values)) stage stages run);
           given = subst (λ own. bundle_by (input_text hand all) values own ≡ Ok bundle) (sym placed.0.own) own.given;
           found = subst (λ own. files_by (input_text hand all) (stage_makes own) ≡ visit.made.files) (sym placed.0.own) own.found;
           right = laws.right bundle visit.made (given_fits (input_text hand all) values stage bundle are own.given) own.solved;
         },
-        visits_right values hand are all stages visits (All-tail stage stages run) placed.1,
+        visits_right values hand are all stages visits (All-tail (Contains (staged S values)) stage stages run) placed.1,
       )

@@ -17,7 +17,6 @@ use Rattle.giv_files.specs.declared.file_id.FileId.TheVariants as file
 use Rattle.giv_files.specs.declared.stage.Stage.{Stage}
 use Rattle.giv_files.specs.FileNames.{file_name}
 use Rattle.giv_files.specs.MadeLists.{ids_of}
-use Rattle.giv_files.specs.Settings.{BundleParts}
 use Rattle.giv_files.specs.Stages.{stage_inputs, stage_makes}
 use Rattle.config_keys.specs.Config.{last_stage_of}
 use Rattle.config_keys.specs.Items.{look_in}
@@ -28,7 +27,7 @@ use Rattle.stage_chain.specs.declared.cause.Cause.{Cause}
 use Rattle.stage_chain.specs.declared.cause.Cause.TheVariants as cause
 use Rattle.stage_chain.specs.Hand.{is_among, is_hand, is_hand_file}
 use Rattle.stage_chain.specs.Chain.{Visit, Halt, origin_of, hand_text, made_text, input_text}
-use Rattle.stage_chain.specs.Chain.{chosen, with_text, texts_by, bundle_for, bundle_told}
+use Rattle.stage_chain.specs.Chain.{chosen, with_text, texts_by, bundle_told}
 use Rattle.stage_chain.specs.Chain.{stage_place}
 use Rattle.stage_chain.specs.Built.{cause_of, files_of}
 use Rattle.stage_chain.specs.Right.{NamesHand, RefusesHand, files_by, found_file}
@@ -91,6 +90,16 @@ there_names hand made file.LoadGiven h =
 there_names hand made file.Od h = hand_names false file.Od refl (look_in hand (file_name file.Od))
 there_names hand made file.Pool h =
     hand_names false file.Pool refl (look_in hand (file_name file.Pool))
+there_names hand made file.PinnedConcept h =
+    hand_names false file.PinnedConcept refl (look_in hand (file_name file.PinnedConcept))
+there_names hand made file.PinnedTimes h =
+    hand_names false file.PinnedTimes refl (look_in hand (file_name file.PinnedTimes))
+there_names hand made file.PinnedSchedule h =
+    hand_names false file.PinnedSchedule refl (look_in hand (file_name file.PinnedSchedule))
+there_names hand made file.PinnedTree h =
+    hand_names true file.PinnedTree refl (look_in hand (file_name file.PinnedTree))
+there_names hand made file.PinnedPotential h =
+    hand_names true file.PinnedPotential refl (look_in hand (file_name file.PinnedPotential))
 there_names hand made file.EventDelays h =
     hand_names true file.EventDelays refl (look_in hand (file_name file.EventDelays))
 there_names hand made file.ActivityDelays h =
@@ -227,7 +236,6 @@ module _ (values : List ℤ) where
           let same : first ≡ other = cc in
           let later : kept ≡ done ++ stage ∷ rest = cc in
           ap (λ b. cond b (first ∷ before) before) (not_late first stages done stage rest above later).0 ∙ ap (λ s. s ∷ before) same ∙ ap (λ some. other ∷ some) (more done later)
-
 
 module _ (S : StageParts) (laws : AreStages S) where
   -- ---- what the stages before one made

@@ -1,4 +1,5 @@
 -- A chain starts with the settings of its dataset.
+use Rattle.stage_chain.specs.StageParts.{staged}
 use Rattle.std.proofs.Common.{◌≡◌, ℕ, ℤ, List, [], Option, Some, None, IfSome, Result, Ok, Err}
 use Rattle.std.proofs.Common.{refl, sym, subst, arith}
 use Rattle.plan_files.specs.Folder.{Folder}

@@ -1,4 +1,5 @@
 -- The states of the stages, one after the other.
+use Rattle.stage_chain.specs.States.{holding_in}
 use Rattle.std.proofs.Common.{◌≡◌, ℕ, ℤ, ◌+◌, ◌<◌, ◌≤◌, cond, List, ◌∷◌, ◌++◌, length, slice_get, get_or, drop, Option, Some, None}
 use Rattle.std.proofs.Common.{IfSome, IfOk, Result, Ok, Err, refl, ap, sym, subst, ◌∙◌, append-nil, append_assoc}
 use Rattle.std.specs.List.{list_all}
@@ -20,7 +21,7 @@ use Rattle.stage_chain.specs.declared.state.StatesEnd.TheVariants as end
 use Rattle.stage_chain.specs.declared.state.StatesOutcome.{StatesOutcome}
 use Rattle.stage_chain.specs.Chain.{is_file}
 use Rattle.stage_chain.specs.Ends.{has_failed}
-use Rattle.stage_chain.specs.States.{KnownFiles, TellsStates, UntoldAs, holding_at, known_with, nothing_known, stands_as, state_by, state_line, state_lines, states_end, states_end_under, states_of, states_under, text_among}
+use Rattle.stage_chain.specs.States.{KnownFiles, TellsStates, UntoldAs, known_with, nothing_known, stands_as, state_by, state_line, state_lines, states_end, states_end_under, states_of, states_under, text_among}
 use Rattle.stage_chain.specs.StageParts.{StageParts}
 use Rattle.stage_chain.specs.Laws.{AreStages}
 

@@ -1,4 +1,7 @@
 -- The chain over hand files.
+use Rattle.std.proofs.Common.{All, Contains, ◌++◌, map}
+use Rattle.std.proofs.lemmas.List.Elements.{All-filter, All-contains_itself}
+use Rattle.stage_chain.specs.StageParts.{staged}
 use Rattle.std.proofs.Common.{◌≡◌, ℕ, ℤ, Bool, true, false, cond, leb, List, [], ◌∷◌, map, filter}
 use Rattle.std.proofs.Common.{Result, Ok, Err, refl, ap, sym, ◌∙◌}
 use Rattle.std.specs.List.{list_all}

@@ -1,4 +1,5 @@
 -- The names that a run writes: those of made files and of what is kept, each at most once.
+use Rattle.stage_chain.specs.StageParts.{staged}
 use Rattle.std.proofs.Common.{◌≡◌, ℕ, ℤ, Bool, true, false, cond, not, is_some, leb, ◌||◌, List, [], ◌∷◌, ◌++◌}
 use Rattle.std.proofs.Common.{map, filter, Option, refl, ap, sym, ◌∙◌}
 use Rattle.std.specs.List.{list_all}

@@ -7,6 +7,7 @@ ghost use Rattle.giv_files.specs.Settings.{Fits};
 ghost use Rattle.stage_chain.specs.Chain.{chain_from, to_run, visit_of};
 ghost use Rattle.stage_chain.specs.Ends.{is_broken};
 ghost use Rattle.stage_chain.specs.Kept.{solve_over, trace_over};
+ghost use Rattle.stage_chain.specs.StageParts.{staged};
 ghost use Rattle.stage_chain.specs.Progress.{ChainGives, HasNoHandFile, MakingGives, NamesNoHand};
 ghost use Rattle.stage_chain.specs.Progress.{VisitGives, nothing};
 

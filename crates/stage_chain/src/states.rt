@@ -8,7 +8,7 @@ ghost use Rattle.giv_files.specs.Stages.{stage_makes};
 ghost use Rattle.stage_chain.specs.declared.state.StatesEnd.TheVariants as ends;
 ghost use Rattle.stage_chain.specs.Chain.{bundle_by, input_text};
 ghost use Rattle.stage_chain.specs.Ends.{has_failed as has_broken};
-ghost use Rattle.stage_chain.specs.States.{TellsStates, UntoldAs, held, holding_at, kept_of};
+ghost use Rattle.stage_chain.specs.States.{TellsStates, UntoldAs, held, holding_at, holding_in, kept_of};
 ghost use Rattle.stage_chain.specs.States.{known_with, nothing_known, stands_as, state_by};
 ghost use Rattle.stage_chain.specs.States.{state_line, state_lines, text_among};
 
