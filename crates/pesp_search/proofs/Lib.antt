@@ -41,3 +41,4 @@ pub mod TimetableEnds
 pub mod TimetableMakes
 pub mod TimetableReads
 pub mod PinnedReads
+pub mod PinnedLaws

@@ -1,6 +1,5 @@
 -- What is made of a planner's timetable is right.
-use Rattle.std.proofs.Common.{◌≡◌, ℕ, ◌≤◌, ◌<◌, Bool, true, false, cond, ◌++◌, List, [], ◌∷◌, length, map, is_some, All, Option, Some, None, Ok, refl, ap, sym, ◌∙◌, subst}
-use Rattle.std.specs.List.{range_with_len}
+use Rattle.std.proofs.Common.{◌≡◌, ℕ, ◌≤◌, ◌<◌, cond, List, [], ◌∷◌, length, is_some, Option, Some, None, Ok, refl, sym, ◌∙◌, subst}
 use Rattle.std.proofs.lemmas.List.{length-map}
 use Rattle.std.proofs.lemmas.List.Elements.{All-map}
 use Rattle.giv_files.specs.declared.file_id.FileId.TheVariants as file
@@ -17,7 +16,7 @@ use Rattle.event_tables.specs.declared.periodic_time.PeriodicTime.{PeriodicTime}
 use Rattle.event_tables.specs.PeriodicFiles.{periodic_time_input, ArePeriodicTimes}
 use Rattle.event_tables.proofs.SoundTimes.{periodic_times_sound}
 use Rattle.pesp_model.specs.PespTexts.{events_of, problem_of}
-use Rattle.pesp_model.specs.Timetables.{first_broken, IsTimetable, IsFirstBroken}
+use Rattle.pesp_model.specs.Timetables.{first_broken, IsTimetable}
 use Rattle.pesp_model.proofs.FirstBroken.{first_is}
 use Rattle.pesp_search.specs.Judged.{rows_in, times_in}
 use Rattle.pesp_search.specs.PinnedTimetables.{pinned_input, pinned_timetable_faults, pinned_timetable_stage, tension_faults, times_kept}

@@ -10,6 +10,7 @@ mod flags;
 mod judge;
 mod links;
 mod marks;
+mod pinned;
 mod prune;
 mod reduce;
 mod revise;
@@ -22,4 +23,5 @@ mod words;
 
 pub use check::check_timetable;
 pub use fault::TimetableFault;
+pub use pinned::take_timetable;
 pub use stage::make_timetable;
