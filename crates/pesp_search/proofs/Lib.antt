@@ -17,6 +17,7 @@ mod MarkCounts
 mod NextSets
 mod NextTimes
 mod Partners
+mod PinnedResults
 mod Pruned
 mod ReducedSets
 mod Revised

@@ -1,5 +1,5 @@
 -- What is made of a planner's timetable is right.
-use Rattle.std.proofs.Common.{◌≡◌, ℕ, ◌≤◌, ◌<◌, cond, List, [], ◌∷◌, length, is_some, Option, Some, None, Ok, refl, sym, ◌∙◌, subst}
+use Rattle.std.proofs.Common.{All, arith, ◌≡◌, ℕ, ◌≤◌, ◌<◌, cond, List, [], ◌∷◌, length, is_some, Option, Some, None, Ok, refl, sym, ◌∙◌, subst}
 use Rattle.std.proofs.lemmas.List.{length-map}
 use Rattle.std.proofs.lemmas.List.Elements.{All-map}
 use Rattle.giv_files.specs.declared.file_id.FileId.TheVariants as file
@@ -7,21 +7,25 @@ use Rattle.giv_files.specs.declared.made.Made.{Made}
 use Rattle.giv_files.specs.declared.refusal.Refusal.{Refusal}
 use Rattle.giv_files.specs.declared.refusal.Refusal.TheVariants as refusal
 use Rattle.giv_files.specs.declared.row_why.RowWhy.TheVariants as why
+use Rattle.giv_files.specs.Columns.{times_p_columns}
+use Rattle.giv_files.specs.Writing.{InColumns}
 use Rattle.giv_files.specs.Inputs.{input_faults, or_else}
 use Rattle.giv_files.specs.Settings.{BundleParts}
 use Rattle.giv_files.specs.StageCalls.{input_text}
 use Rattle.giv_files.proofs.Ranges.{back_none, front_none}
 use Rattle.giv_files.proofs.StageCalls.{made_unless, none_unless}
 use Rattle.event_tables.specs.declared.periodic_time.PeriodicTime.{PeriodicTime}
+use Rattle.event_tables.specs.Cells.{periodic_time_cells}
 use Rattle.event_tables.specs.PeriodicFiles.{periodic_time_input, ArePeriodicTimes}
 use Rattle.event_tables.proofs.SoundTimes.{periodic_times_sound}
 use Rattle.pesp_model.specs.PespTexts.{events_of, problem_of}
 use Rattle.pesp_model.specs.Timetables.{first_broken, IsTimetable}
 use Rattle.pesp_model.proofs.FirstBroken.{first_is}
 use Rattle.pesp_search.specs.Judged.{rows_in, times_in}
-use Rattle.pesp_search.specs.PinnedTimetables.{pinned_input, pinned_timetable_faults, pinned_timetable_stage, tension_faults, times_kept}
+use Rattle.pesp_search.specs.PinnedTimetables.{pinned_input, pinned_timetable_faults, pinned_timetable_stage, times_kept}
 use Rattle.pesp_search.specs.RightTimetables.{TimetableFilesAreRight}
-use Rattle.pesp_search.specs.TimetableStage.{period_in, problem_in, timetable_faults}
+use Rattle.pesp_search.specs.TimetableStage.{period_in, problem_in, time_rows, timetable_faults}
+use Rattle.pesp_search.proofs.TimesAccepted.{times_fit}
 use Rattle.pesp_search.proofs.TimetableReads.{files_right, ids_are, problem_is}
 
 or_none : (some others : List Refusal) → or_else some others ≡ [] → (some ≡ []) × (others ≡ [])
@@ -32,30 +36,45 @@ no_tension : (broken : Option ℕ) → cond (is_some broken) (refusal.BadRow fil
 no_tension None e = refl
 no_tension (Some at) e = absurd (cc)
 
-module _ (bundle : BundleParts) (short : (1 ≤ period_in bundle) × (period_in bundle ≤ 720)) (none : pinned_timetable_faults bundle ≡ []) where
+-- where the inputs have no fault, and the file of times has none by the rules of its kind
+module _ (bundle : BundleParts) (short : (1 ≤ period_in bundle) × (period_in bundle ≤ 720)) (inputs : timetable_faults bundle ≡ []) (reads : input_faults (pinned_input bundle) (input_text bundle 2) ≡ []) where
   abbrev text : List ℕ
   text = input_text bundle 2
 
   abbrev times : List ℕ
   times = times_in text
 
-  inputs : timetable_faults bundle ≡ []
-  inputs = front_none (timetable_faults bundle) _ none
-
-  parts : (input_faults (pinned_input bundle) text ≡ []) × (tension_faults bundle times ≡ [])
-  parts = or_none _ _ (back_none (timetable_faults bundle) _ none)
-
   rows_are : ArePeriodicTimes (period_in bundle) (length (events_of (input_text bundle 0))) (rows_in text)
   rows_are = periodic_times_sound file.PinnedTimes (period_in bundle) (length (events_of (input_text bundle 0))) text
       (subst (λ ids. input_faults (periodic_time_input file.PinnedTimes (period_in bundle) ids) text ≡ [])
-      (ids_are bundle short inputs) parts.0)
+      (ids_are bundle short inputs) reads)
 
-  timetable : IsTimetable (problem_in bundle) times
+  pub times_each : length times ≡ (problem_in bundle).events
   unfolding problem_of
-  timetable = first_is (problem_in bundle) times (problem_is bundle short inputs)
-      (length-map (rows_in text) (λ (row : PeriodicTime). row.time) ∙ rows_are.each_event)
-      (All-map (λ time. time < period_in bundle) (λ (row : PeriodicTime). row.time) (rows_in text) rows_are.in_period)
-      None (sym (no_tension (first_broken (problem_in bundle) times) parts.1))
+  times_each = length-map (rows_in text) (λ (row : PeriodicTime). row.time) ∙ rows_are.each_event
+
+  pub times_within : All (λ time. time < period_in bundle) times
+  times_within =
+      All-map (λ time. time < period_in bundle) (λ (row : PeriodicTime). row.time) (rows_in text) rows_are.in_period
+
+  pub times_few : length times ≤ 4000
+  times_few = omega (arith, (problem_is bundle short inputs).few_events, times_each)
+
+  pub times_written : All (λ row. InColumns times_p_columns (periodic_time_cells row)) (time_rows times)
+  times_written = times_fit times times_few (λ k d h. omega (arith, times_within k d h, short.1))
+
+  pub timetable : first_broken (problem_in bundle) times ≡ None → IsTimetable (problem_in bundle) times
+  unfolding problem_of
+  timetable none =
+      first_is (problem_in bundle) times (problem_is bundle short inputs) times_each times_within None (sym none)
+
+-- what no fault at all says of each part
+no_faults : (bundle : BundleParts) → pinned_timetable_faults bundle ≡ []
+    → (timetable_faults bundle ≡ []) × (input_faults (pinned_input bundle) (input_text bundle 2) ≡ [])
+    × (first_broken (problem_in bundle) (times_in (input_text bundle 2)) ≡ None)
+no_faults bundle none =
+    let parts = or_none _ _ (back_none (timetable_faults bundle) _ none) in
+    (front_none (timetable_faults bundle) _ none, parts.0, no_tension _ parts.1)
 
 -- the law of the stage
 pub pinned_right : (bundle : BundleParts) (made : Made) → (1 ≤ period_in bundle) × (period_in bundle ≤ 720)
@@ -64,6 +83,6 @@ unfolding pinned_timetable_stage
 pinned_right bundle made short is =
     let faults = pinned_timetable_faults bundle in
     let kept = times_kept (times_in (input_text bundle 2)) in
-    let none = none_unless faults kept made is in
+    let none = no_faults bundle (none_unless faults kept made is) in
     subst (λ (made : Made). TimetableFilesAreRight bundle made.files) (made_unless faults kept made is)
-    (files_right bundle short (inputs bundle short none) _ (timetable bundle short none))
+    (files_right bundle short none.0 _ (timetable bundle short none.0 none.1 none.2))

@@ -1,7 +1,9 @@
 // The stage that searches a timetable.
-ghost use Rattle.std.specs.Prelude.{◌≡◌, ◌≤◌, [], IfOk};
+ghost use Rattle.std.specs.Prelude.{◌≡◌, ◌≤◌, [], length, IfOk, IsTrue};
+ghost use Rattle.giv_files.specs.declared.key.Key.TheVariants as keys;
 ghost use Rattle.giv_files.specs.declared.stage.Stage.TheVariants as stages;
 ghost use Rattle.giv_files.specs.Inputs.{UnlessFault};
+ghost use Rattle.giv_files.specs.Keys.{has_key};
 ghost use Rattle.giv_files.specs.Settings.{Fits};
 ghost use Rattle.giv_files.specs.StageCalls.{StageGives, TakesSteps};
 ghost use Rattle.pesp_search.specs.RightTimetables.{IsNeverSpent, SaysNone, TimetableIsRight};
@@ -52,10 +54,11 @@ fn searched_timetable<L: Ledger>(
     Ok(times_made(alloc, &found)?)
 }
 
-/// The problem of the inputs of the stage, or their first fault.
+/// The problem of the first two inputs of a stage that has a period, or their first fault.
 pub(crate) fn read_pesp(alloc: Global, bundle: &Bundle) -> Result<Pesp, StageFault>
-    requires stage { bundle.now.stage ≡ stages.Timetable }
+    requires period { IsTrue (has_key bundle.now.stage keys.PeriodLength) }
     requires fits { Fits bundle.now }
+    requires inputs { 2 ≤ length bundle.now.inputs }
     ensures read { UnlessFault (timetable_faults bundle.now)
         (λ pesp. pesp ≡ problem_in bundle.now) result }
     ensures period { IfOk result (λ pesp. pesp.period ≡ period_in bundle.now) }
@@ -63,9 +66,9 @@ pub(crate) fn read_pesp(alloc: Global, bundle: &Bundle) -> Result<Pesp, StageFau
     Pesp::from_texts(alloc, period_of(bundle), bundle.input(0), bundle.input(1))
 }
 
-/// The period of a bundle of the stage, in minutes.
+/// The period of a bundle of a stage that has one, in minutes.
 pub(crate) fn period_of(bundle: &Bundle) -> u32
-    requires stage { bundle.now.stage ≡ stages.Timetable }
+    requires period { IsTrue (has_key bundle.now.stage keys.PeriodLength) }
     requires fits { Fits bundle.now }
     ensures value { result ≡ period_in bundle.now }
     ensures some { 1 ≤ result }

@@ -1,0 +1,117 @@
+-- What the stage of a timetable that a person gives comes to, by what was read and tested.
+use Rattle.std.proofs.Common.{◌≡◌, ◌++◌, List, [], ◌∷◌, ℕ, Option, Some, None, is_some, cond, Result, Ok, Err}
+use Rattle.std.proofs.Common.{refl, ap, sym, subst, ◌∙◌}
+use Rattle.std.specs.Prelude.{IfOk}
+use Rattle.giv_files.specs.declared.file_id.FileId.TheVariants as file
+use Rattle.giv_files.specs.declared.made.Made.{Made}
+use Rattle.giv_files.specs.declared.refusal.Refusal.{Refusal}
+use Rattle.giv_files.specs.declared.refusal.Refusal.TheVariants as refusal
+use Rattle.giv_files.specs.declared.refusal.StageFault.{StageFault}
+use Rattle.giv_files.specs.declared.refusal.StageFault.TheVariants as fault
+use Rattle.giv_files.specs.declared.row_why.RowWhy.TheVariants as why
+use Rattle.giv_files.specs.declared.stage.Stage.TheVariants as stage
+use Rattle.giv_files.specs.Inputs.{Refuses, input_faults, or_else, records_of}
+use Rattle.giv_files.specs.Settings.{BundleParts, Fits}
+use Rattle.giv_files.specs.StageCalls.{StageGives, input_text, unless_fault}
+use Rattle.giv_files.proofs.Inputs.{refused_append}
+use Rattle.giv_files.proofs.StageCalls.{stage_made, stage_refused}
+use Rattle.giv_files.proofs.Ranges.{front_none}
+use Rattle.event_tables.specs.declared.periodic_event.PeriodicEvent.{PeriodicEvent}
+use Rattle.event_tables.specs.PeriodicFiles.{periodic_event_ids, periodic_event_input, periodic_time_input}
+use Rattle.pesp_model.specs.PespTexts.{events_of, problem_faults}
+use Rattle.pesp_model.specs.Timetables.{Problem, first_broken}
+use Rattle.pesp_search.specs.Judged.{times_in}
+use Rattle.pesp_search.specs.PinnedTimetables.{pinned_input, pinned_timetable_faults, pinned_timetable_stage}
+use Rattle.pesp_search.specs.PinnedTimetables.{tension_faults, times_kept}
+use Rattle.pesp_search.specs.RightTimetables.{TimetableIsRight}
+use Rattle.pesp_search.specs.TimetableStage.{period_in, problem_in, timetable_faults}
+use Rattle.pesp_search.proofs.PinnedLaws.{pinned_timetable_right}
+
+refused_before : (some others : List Refusal) (fault : StageFault) → Refuses some fault
+    → Refuses (or_else some others) fault
+refused_before [] others (fault.Refused reason) h = absurd (cc)
+refused_before (first ∷ some) others (fault.Refused reason) h = h
+refused_before some others fault.NoMemory h = tt
+
+module _ (bundle : BundleParts) where
+  abbrev text : List ℕ
+  text = input_text bundle 2
+
+  abbrev reads : List Refusal
+  reads = input_faults (pinned_input bundle) text
+
+  abbrev broken : Option ℕ
+  broken = first_broken (problem_in bundle) (times_in text)
+
+  refused : (fault : StageFault) → Refuses (pinned_timetable_faults bundle) fault
+      → StageGives (pinned_timetable_stage bundle) (Err fault)
+  unfolding pinned_timetable_stage
+  refused fault by = stage_refused (pinned_timetable_faults bundle) (times_kept (times_in text)) fault by
+
+  -- the inputs of the problem are refused
+  pub problem_refused : (fault : StageFault) → Refuses (timetable_faults bundle) fault
+      → StageGives (pinned_timetable_stage bundle) (Err fault)
+  problem_refused fault by = refused fault (refused_append (timetable_faults bundle) _ fault by)
+
+  -- the file of times, by the period and the events that were read
+  pub same_faults : (period : ℕ) (events : List PeriodicEvent) (first last : List ℕ) → period ≡ period_in bundle
+      → first ≡ input_text bundle 0 → events ≡ records_of periodic_event_input first → last ≡ text
+      → input_faults (periodic_time_input file.PinnedTimes period (periodic_event_ids events)) last ≡ reads
+  unfolding events_of
+  same_faults period events first last period_is first_is events_are last_is =
+      rw (period_is, events_are, first_is, last_is) refl
+
+  -- what a test of the times tells
+  pub broken_is : (problem : Problem) (times : List ℕ) (found told : Option ℕ) → problem ≡ problem_in bundle
+      → times ≡ times_in text → found ≡ first_broken problem times → found ≡ told → broken ≡ told
+  broken_is problem times found told same read is tells = rw (sym same, sym read) (sym is ∙ tells)
+
+  module _ (inputs : timetable_faults bundle ≡ []) where
+    left : pinned_timetable_faults bundle ≡ or_else reads (tension_faults bundle (times_in text))
+    left = ap (λ some. some ++ or_else reads (tension_faults bundle (times_in text))) inputs
+
+    -- the file of the times is refused
+    pub times_refused : (fault : StageFault) → Refuses reads fault
+        → StageGives (pinned_timetable_stage bundle) (Err fault)
+    times_refused fault by =
+        refused fault (subst (λ all. Refuses all fault) (sym left)
+        (refused_before reads (tension_faults bundle (times_in text)) fault by))
+
+    -- the events have no fault when they are read once more
+    pub events_fine : (first : List ℕ) → first ≡ input_text bundle 0 → (others : List Refusal) (fault : StageFault)
+        → Refuses (input_faults periodic_event_input first) fault → Refuses others fault
+    unfolding problem_faults
+    events_fine first is others (fault.Refused reason) by =
+        let none = front_none (input_faults periodic_event_input (input_text bundle 0)) _ inputs in
+        let refused = subst (λ all. Refuses all (fault.Refused reason))
+        (ap (input_faults periodic_event_input) is ∙ none) by in
+        absurd (cc)
+    events_fine first is others fault.NoMemory by = tt
+
+    module _ (none : reads ≡ []) where
+      tested : pinned_timetable_faults bundle ≡ tension_faults bundle (times_in text)
+      tested = left ∙ ap (λ some. or_else some (tension_faults bundle (times_in text))) none
+
+      -- some activity is not in its bounds
+      pub not_feasible : (at : ℕ) → broken ≡ Some at
+          → StageGives (pinned_timetable_stage bundle) (Err (fault.Refused (refusal.BadRow file.PinnedTimes 0 why.NotFeasible)))
+      unfolding pinned_timetable_stage
+      not_feasible at is =
+          ap (λ all. unless_fault all (times_kept (times_in text)))
+          (tested ∙ ap (λ found. cond (is_some found) (refusal.BadRow file.PinnedTimes 0 why.NotFeasible ∷ []) []) is)
+
+      -- they are a timetable
+      pub times_taken : (times : List ℕ) (made : Made) → broken ≡ None → times ≡ times_in text
+          → made ≡ times_kept times → StageGives (pinned_timetable_stage bundle) (Ok made)
+      unfolding pinned_timetable_stage
+      times_taken times made is read kept =
+          stage_made (pinned_timetable_faults bundle) (times_kept (times_in text)) made
+          (tested ∙ ap (λ found. cond (is_some found) (refusal.BadRow file.PinnedTimes 0 why.NotFeasible ∷ []) []) is)
+          (kept ∙ ap times_kept read)
+
+-- what a call gives that meets the stage is right
+pub right_given : (bundle : BundleParts) (result : Result Made StageFault)
+    → bundle.stage ≡ stage.PinnedTimetable → Fits bundle
+    → StageGives (pinned_timetable_stage bundle) result → IfOk result (TimetableIsRight bundle)
+right_given bundle (Ok made) own fits given = pinned_timetable_right bundle made own fits given
+right_given bundle (Err fault) own fits given = tt
