@@ -6,7 +6,7 @@ use event_activity::make_ean;
 use giv_files::{Bundle, Made, Stage, StageFault};
 use line_pool::make_cost;
 use line_search::make_concept;
-use pesp_search::make_timetable;
+use pesp_search::{make_timetable, take_timetable};
 use plan_num::{Steps, Tally};
 use roll_out::make_rollout;
 use std::alloc::Global;
@@ -26,6 +26,8 @@ pub(crate) fn called(alloc: Global, bundle: &Bundle, steps: &mut Steps<Tally>) -
         Stage::Vehicles => vehicles(alloc, bundle, steps),
         Stage::Disposition => disposition(alloc, bundle, steps),
         Stage::Statistic => statistic(alloc, bundle, steps),
+        Stage::PinnedTimetable => pinned_times(alloc, bundle, steps),
+        Stage::PinnedConcept | Stage::PinnedVehicles => None,
     }
 }
 
@@ -90,4 +92,11 @@ fn statistic(alloc: Global, bundle: &Bundle, steps: &mut Steps<Tally>) -> Outcom
         return None;
     }
     Some(make_statistic(alloc, bundle, steps))
+}
+
+fn pinned_times(alloc: Global, bundle: &Bundle, steps: &mut Steps<Tally>) -> Outcome {
+    if bundle.stage() != Stage::PinnedTimetable || !bundle.fits() {
+        return None;
+    }
+    Some(take_timetable(alloc, bundle, steps))
 }

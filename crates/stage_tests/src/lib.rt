@@ -27,6 +27,8 @@ mod named;
 #[cfg(test)]
 mod periods;
 #[cfg(test)]
+mod pinned_times;
+#[cfg(test)]
 mod play;
 #[cfg(test)]
 mod rollout;

@@ -10,7 +10,7 @@ use std::test::Fail;
 const MOST_INPUTS: usize = 10;
 
 // How many keys there are.
-const KEYS: usize = 21;
+const KEYS: usize = 24;
 
 /// A stage with its settings and texts. A text is told by the script that begins with it.
 #[derive(Drop)]
