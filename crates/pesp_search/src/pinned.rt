@@ -51,8 +51,8 @@ fn taken_timetable(alloc: Global, bundle: &Bundle) -> Result<Made, StageFault>
     }
 }
 
-// The times of the last input, one for each event, or its first fault. The events, which had no fault
-// as a part of the problem, are read once more for that.
+// The times of the last input, one for each event, or its first fault. The events, which had no
+// fault as a part of the problem, are read once more for that.
 fn given_times(alloc: Global, bundle: &Bundle) -> Result<Vec<u32>, StageFault>
     requires stage { bundle.now.stage ≡ stages.PinnedTimetable }
     requires fits { Fits bundle.now }
