@@ -38,4 +38,7 @@ pub mod Values
 pub mod VehicleLaws
 pub mod VehicleMakes
 pub mod VehicleReads
+pub mod PassingOver
+pub mod PinnedMakes
+pub mod PinnedOver
 pub mod PinnedReads

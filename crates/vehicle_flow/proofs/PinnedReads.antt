@@ -1,11 +1,9 @@
 -- What is made of a planner's schedule is right.
-use Rattle.std.proofs.Common.{◌≡◌, ℕ, ◌++◌, List, [], ◌∷◌, length, map, slice_get, Option, Some, None, IfSome, Ok, refl, ap, sym, ◌∙◌, subst, arith}
+use Rattle.std.proofs.Common.{◌≡◌, ℕ, List, [], ◌∷◌, length, map, slice_get, Option, Some, None, Ok, refl, ap, sym, subst, arith}
 use Rattle.giv_files.specs.declared.made.Made.{Made}
-use Rattle.giv_files.specs.declared.read_fault.RowFault.{RowFault}
-use Rattle.giv_files.specs.declared.refusal.Refusal.{Refusal}
 use Rattle.giv_files.specs.Settings.{BundleParts}
 use Rattle.giv_files.specs.StageCalls.{input_text}
-use Rattle.giv_files.proofs.Ranges.{back_none, front_none, unmapped}
+use Rattle.giv_files.proofs.Ranges.{back_none, front_none}
 use Rattle.giv_files.proofs.StageCalls.{made_unless, none_unless}
 use Rattle.vehicle_model.specs.Plans.{IsCheapest, IsPlan}
 use Rattle.vehicle_model.specs.ReadSchedules.{or_others, plan_faults, plan_of, IsReadBack}
@@ -21,8 +19,8 @@ use Rattle.flow_potentials.proofs.TablesBack.{text_back}
 use Rattle.vehicle_flow.specs.declared.schedule_fault.ScheduleFault.{ScheduleFault}
 use Rattle.vehicle_flow.specs.declared.schedule_fault.ScheduleFault.TheVariants as rule
 use Rattle.vehicle_flow.specs.PinnedSchedules.{marking_potentials, pinned_vehicles_faults, pinned_vehicles_stage, plan_kept, plan_refusal, unless_broken}
-use Rattle.vehicle_flow.specs.RightSchedules.{passed_over, PinnedScheduleIsRight, ScheduleIsRight}
-use Rattle.vehicle_flow.specs.ScheduleChecks.{certificate_rules, potential_rule, schedule_fault, IsMark}
+use Rattle.vehicle_flow.specs.RightSchedules.{passed_over, PinnedScheduleIsRight}
+use Rattle.vehicle_flow.specs.ScheduleChecks.{certificate_rules, potential_rule, IsMark}
 use Rattle.vehicle_flow.specs.VehicleStage.{trips_in, vehicles_faults}
 use Rattle.vehicle_flow.proofs.FirstRules.{certificate_left, passes_none}
 use Rattle.vehicle_flow.proofs.ScheduleAccepted.{plan_accepted}

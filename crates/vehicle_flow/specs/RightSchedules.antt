@@ -4,7 +4,7 @@ use Rattle.giv_files.specs.declared.made.MadeFile.{MadeFile}
 use Rattle.giv_files.specs.Settings.{BundleParts}
 use Rattle.vehicle_model.specs.Plans.{IsPlan}
 use Rattle.vehicle_model.specs.ReadSchedules.{plan_faults, plan_of}
-use Rattle.vehicle_model.specs.Trips.{links_of}
+use Rattle.vehicle_model.specs.Trips.{TripsParts, links_of}
 use Rattle.vehicle_flow.specs.declared.schedule_fault.ScheduleFault.{ScheduleFault}
 use Rattle.vehicle_flow.specs.declared.schedule_fault.ScheduleFault.TheVariants as rule
 use Rattle.vehicle_flow.specs.AcceptedSchedules.{IsAccepted}
@@ -27,6 +27,13 @@ pub record ScheduleIsRight (bundle : BundleParts) (files : List MadeFile) : Type
 abbrev pub passed_over : Option ScheduleFault → Option ScheduleFault
 passed_over (Some rule.Certificate) = None
 passed_over found = found
+
+-- a schedule breaks no rule but that of a certificate: its text is that of a plan, and where potentials stand
+-- beside it they mark it
+abbrev pub PassesOver : TripsParts → List ℕ → Option (List ℕ) → Type 0
+PassesOver trips schedule potentials =
+    (plan_faults trips schedule ≡ []) × IsPlan (links_of trips) (plan_of trips schedule)
+    × IfSome potentials (IsMark trips (plan_of trips schedule))
 
 -- The files that are made of a schedule from a planner's hand: besides, they break no other rule than that of a
 -- certificate, and the first one has no fault by the rules of its kind.

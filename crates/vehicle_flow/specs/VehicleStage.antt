@@ -1,10 +1,11 @@
 -- The stage of vehicles: the schedule of the chosen plan, and its canonical potentials.
-use Rattle.std.specs.Prelude.{ℕ, pos, List, [], ◌∷◌, ◌++◌, length, codes, Option, Result}
+use Rattle.std.specs.Prelude.{ℕ, pos, Bool, true, false, List, [], ◌∷◌, ◌++◌, length, codes, Option, Result}
 use Rattle.plan_num.specs.Print.{fixed_text}
 use Rattle.giv_files.specs.declared.file_id.FileId.TheVariants as file
 use Rattle.giv_files.specs.declared.key.Key.TheVariants as key
 use Rattle.giv_files.specs.declared.made.Made.{Made}
 use Rattle.giv_files.specs.declared.refusal.Refusal.{Refusal}
+use Rattle.giv_files.specs.declared.stage.Stage.{Stage}
 use Rattle.giv_files.specs.declared.stage.Stage.TheVariants as stage
 use Rattle.giv_files.specs.ReportLines.{count_text, report_line}
 use Rattle.giv_files.specs.Settings.{BundleParts, amount}
@@ -14,6 +15,12 @@ use Rattle.vehicle_model.specs.Plans.{starts, plan_cost, chosen_plan}
 use Rattle.vehicle_model.specs.Schedules.{plan_text}
 use Rattle.flow_potentials.specs.PotentialTables.{potentials_text}
 use Rattle.flow_potentials.specs.Rounds.{canonical}
+
+-- a stage takes the texts of stops, of edges and of trips before all others, and the settings of trips
+abbrev pub takes_trips : Stage → Bool
+takes_trips stage.Vehicles = true
+takes_trips stage.PinnedVehicles = true
+takes_trips _ = false
 
 -- the trips of a bundle, whose inputs are the texts of stops, of edges and of trips
 unfoldable pub trips_in : BundleParts → TripsParts

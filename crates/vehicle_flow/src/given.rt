@@ -1,17 +1,16 @@
-// The trips of the inputs of the stage.
-ghost use Rattle.std.specs.Prelude.{◌≡◌};
-ghost use Rattle.giv_files.specs.declared.stage.Stage.TheVariants as stages;
+// The trips of the inputs of a stage.
+ghost use Rattle.std.specs.Prelude.{◌≡◌, true};
 ghost use Rattle.giv_files.specs.Inputs.{UnlessFault};
 ghost use Rattle.giv_files.specs.Settings.{Fits};
-ghost use Rattle.vehicle_flow.specs.VehicleStage.{trips_in, vehicles_faults};
+ghost use Rattle.vehicle_flow.specs.VehicleStage.{takes_trips, trips_in, vehicles_faults};
 
 use giv_files::{Bundle, Key, StageFault};
 use std::alloc::Global;
 use vehicle_model::Trips;
 
-/// The trips of a bundle of the stage, or the first fault of its texts.
+/// The trips of a bundle of a stage that takes them, or the first fault of their texts.
 pub(crate) fn given_trips(alloc: Global, bundle: &Bundle) -> Result<Trips, StageFault>
-    requires stage { bundle.now.stage ≡ stages.Vehicles }
+    requires stage { takes_trips bundle.now.stage ≡ true }
     requires fits { Fits bundle.now }
     ensures { UnlessFault (vehicles_faults bundle.now) (λ trips. trips ≡ trips_in bundle.now) result }
 {

@@ -1,5 +1,6 @@
 // What a schedule breaks over some trips.
 ghost use Rattle.std.specs.Prelude.{◌≡◌, Some, slice_get, IfOk, IfNone, option_copied};
+ghost use Rattle.vehicle_flow.specs.RightSchedules.{passed_over, PassesOver};
 ghost use Rattle.vehicle_flow.specs.ScheduleChecks.{certificate_rules, schedule_fault, IsMark, IsMarked, Passes};
 ghost use Rattle.vehicle_model.specs.Plans.{IsPlan};
 ghost use Rattle.vehicle_model.specs.Trips.{links_of};
@@ -22,6 +23,8 @@ pub(crate) fn first_fault(
         found ≡ schedule_fault trips.now schedule.now (option_copied potentials.entry)) }
     ensures passes { IfOk result (λ found.
         IfNone found (Passes trips.now schedule.now (option_copied potentials.entry))) }
+    ensures over { IfOk result (λ found. IfNone (passed_over found)
+        (PassesOver trips.now schedule.now (option_copied potentials.entry))) }
 {
     match read_plan(alloc, schedule, trips) {
         Ok(plan) => certificate_fault(alloc, trips, &plan, potentials),

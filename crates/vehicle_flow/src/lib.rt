@@ -1,5 +1,5 @@
-//! Vehicle schedules of least cost: the search for one, the stage that makes the chosen one, and the
-//! test of a schedule from any hand.
+//! Vehicle schedules of least cost: the search for one, the stage that makes the chosen one, the stage
+//! that takes one from a planner, and the test of a schedule from any hand.
 #![tactic(auto)]
 
 mod assignment;
@@ -13,6 +13,7 @@ mod handing;
 mod judge;
 mod made;
 mod near;
+mod pinned;
 mod report;
 mod schedule_fault;
 mod shift;
@@ -24,6 +25,7 @@ mod ties;
 
 pub use cheapest::cheapest_plan;
 pub use check::check_schedule;
+pub use pinned::take_vehicles;
 pub use schedule_fault::ScheduleFault;
 pub use solved::Solved;
 pub use stage::make_vehicles;
