@@ -59,26 +59,35 @@ pool_names test pool network text = input_names test _ text pool
 nothing_named : (test : FileId → Bool) (faults : List Refusal) → faults ≡ [] → AllName test faults
 nothing_named test faults none = subst (AllName test) (sym none) tt
 
--- a refusal by a row names the file of stops, of edges or of the pool, where loads and costs have no
--- fault
-pub concept_stage_names : (test : FileId → Bool) → test file.Stop ≡ true → test file.Edge ≡ true
+-- where loads and costs have no fault, those of a bundle name the file of stops, of edges or of the
+-- pool
+pub problem_names : (test : FileId → Bool) → test file.Stop ≡ true → test file.Edge ≡ true
     → test file.Pool ≡ true → (bundle : BundleParts)
     → input_faults (load_input file.Load (network_in bundle).edges) (input_text bundle 3) ≡ []
     → input_faults (pool_cost_input (lines_in bundle)) (input_text bundle 4) ≡ []
-    → (reason : Refusal) → concept_stage bundle ≡ Err reason → NamesOnly test reason
-unfolding concept_stage problem_faults
-concept_stage_names test stop edge pool bundle no_load no_cost reason is =
+    → AllName test (problem_faults bundle)
+unfolding problem_faults
+problem_names test stop edge pool bundle no_load no_cost =
     let network = network_faults (input_text bundle 0) (input_text bundle 1) in
     let lines = pool_faults (network_in bundle) (input_text bundle 2) in
     let loads = input_faults (load_input file.Load (network_in bundle).edges) (input_text bundle 3) in
     let costs = input_faults (pool_cost_input (lines_in bundle)) (input_text bundle 4) in
-    let named : AllName test (problem_faults bundle) =
     names_both test (network ++ lines ++ loads) costs
     (names_both test (network ++ lines) loads
     (names_both test network lines
     (network_names test stop edge (input_text bundle 0) (input_text bundle 1))
     (pool_names test pool (network_in bundle) (input_text bundle 2)))
     (nothing_named test loads no_load))
-    (nothing_named test costs no_cost) in
-    names_after test (problem_faults bundle) _ reason named
+    (nothing_named test costs no_cost)
+
+-- so a refusal by a row names one of these
+pub concept_stage_names : (test : FileId → Bool) → test file.Stop ≡ true → test file.Edge ≡ true
+    → test file.Pool ≡ true → (bundle : BundleParts)
+    → input_faults (load_input file.Load (network_in bundle).edges) (input_text bundle 3) ≡ []
+    → input_faults (pool_cost_input (lines_in bundle)) (input_text bundle 4) ≡ []
+    → (reason : Refusal) → concept_stage bundle ≡ Err reason → NamesOnly test reason
+unfolding concept_stage
+concept_stage_names test stop edge pool bundle no_load no_cost reason is =
+    names_after test (problem_faults bundle) _ reason
+    (problem_names test stop edge pool bundle no_load no_cost)
     (search_names test (problem_of bundle) (budget_of bundle) (listing (problem_of bundle)) reason) is

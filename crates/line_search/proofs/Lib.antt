@@ -33,3 +33,5 @@ pub mod Visited
 pub mod VisitedRegions
 pub mod WrittenNodes
 pub mod PinnedReads
+pub mod PinnedLaws
+pub mod PinnedOver

@@ -1,11 +1,11 @@
 -- What is made of a planner's concept is right.
-use Rattle.std.proofs.Common.{◌≡◌, ℕ, ℤ, pos, Bool, true, false, cond, not, ◌++◌, List, [], ◌∷◌, length, map, slice_get, option_map, is_some, All, Option, Some, None, Ok, refl, ap, sym, ◌∙◌, subst, arith}
+use Rattle.std.proofs.Common.{◌≡◌, ℕ, ℤ, pos, Bool, true, false, cond, not, List, [], ◌∷◌, length, map, slice_get, option_map, is_some, Option, Some, None, Ok, refl, ap, sym, ◌∙◌, subst, arith}
 use Rattle.std.proofs.lemmas.Bool.{eqb-true, not-false}
 use Rattle.std.proofs.lemmas.Simd.{map-map}
 use Rattle.giv_files.specs.declared.made.Made.{Made}
 use Rattle.giv_files.specs.declared.row_why.RowWhy.TheVariants as why
 use Rattle.giv_files.specs.Columns.{concept_columns}
-use Rattle.giv_files.specs.Inputs.{Input, input_faults, records, whole_rule}
+use Rattle.giv_files.specs.Inputs.{Input, records, whole_rule}
 use Rattle.giv_files.specs.Reading.{table_of}
 use Rattle.giv_files.specs.Settings.{BundleParts}
 use Rattle.giv_files.specs.StageCalls.{input_text}
@@ -18,7 +18,6 @@ use Rattle.line_cost_model.specs.Problems.{CostedLine, IsProblem, ProblemParts}
 use Rattle.line_cost_model.proofs.Feasible.{test_means}
 use Rattle.branch_certificate.specs.declared.fault.TreeFault.{TreeFault}
 use Rattle.branch_certificate.specs.declared.node.Node.{Node}
-use Rattle.branch_certificate.specs.Certified.{Certifies}
 use Rattle.branch_certificate.specs.TreeFaults.{tree_faults}
 use Rattle.branch_certificate.specs.TreeFiles.{read_faults, tree_of}
 use Rattle.branch_certificate.specs.TreeTexts.{tree_text}
@@ -29,7 +28,7 @@ use Rattle.line_search.specs.declared.fault.ConceptFault.TheVariants as fault
 use Rattle.line_search.specs.Firsts.{first_of}
 use Rattle.line_search.specs.ConceptTables.{concept_text, frequencies_in}
 use Rattle.line_search.specs.GivenProblems.{problem_faults, problem_of}
-use Rattle.line_search.specs.Judged.{broken_where, certificate_rule, first_broken, frequencies_of, has_some, rule_of, tree_rule}
+use Rattle.line_search.specs.Judged.{broken_where, certificate_rule, frequencies_of, has_some, rule_of, tree_rule}
 use Rattle.line_search.specs.PinnedConcepts.{breaks_bounds, differs_from_pool, made_of_texts, marking_tree, pinned_concept_faults, pinned_concept_stage, pinned_input, pinned_made}
 use Rattle.line_search.specs.RightPinned.{ConceptIsRight}
 use Rattle.line_search.specs.Searches.{AreWritten}

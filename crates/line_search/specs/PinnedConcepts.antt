@@ -1,5 +1,5 @@
--- The stage of a concept that a planner gives: its file, its rules, and what is made of it. The inputs are those
--- of the search, the text of the concept and that of a tree.
+-- The stage of a concept that a planner gives: its file, its rules, and what is made of it. The
+-- inputs are those of the search, the text of the concept and that of a tree.
 use Rattle.std.specs.Prelude.{ℕ, ℤ, pos, not, if◌then◌else◌, Bool, List, [], ◌∷◌, ◌++◌, map, filter, take, get_or, is_some, codes, Option, Some, None, Result}
 use Rattle.std.specs.List.{flat_map}
 use Rattle.std.specs.Ordering.{int_eq}

@@ -13,9 +13,10 @@ use Rattle.line_search.specs.GivenProblems.{problem_faults, problem_of}
 use Rattle.line_search.specs.Judged.{Marks, first_broken}
 use Rattle.line_search.specs.RightConcepts.{mark_files}
 
--- The files of a concept are right: the inputs have no fault; read again, the first one has a feasible frequency for
--- each line; where a second one stands beside it, it marks them, so no feasible concept costs less. The files break no
--- rule of a concept from any hand, and the first one has no fault by the rules of its kind.
+-- The files of a concept are right: the inputs have no fault; read again, the first one has a
+-- feasible frequency for each line; where a second one stands beside it, it marks them, so no
+-- feasible concept costs less. The files break no rule of a concept from any hand, and the first
+-- one has no fault by the rules of its kind.
 pub record ConceptIsRight (bundle : BundleParts) (files : List MadeFile) : Type 0 where
   pub inputs : problem_faults bundle ≡ []
   pub text : List ℕ

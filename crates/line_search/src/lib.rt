@@ -11,10 +11,12 @@ mod found;
 mod frequencies;
 mod given;
 mod judge;
+mod pinned;
 mod region_node;
 mod search;
 mod stage;
 
 pub use check::check_concept;
 pub use fault::ConceptFault;
+pub use pinned::take_concept;
 pub use stage::make_concept;

@@ -1,0 +1,77 @@
+-- The laws of the stage of a planner's concept: which files it makes, that they are right, and
+-- which file a refusal names.
+use Rattle.std.proofs.Common.{◌≡◌, ℕ, Bool, true, List, [], Option, Some, None, Result, Ok, Err, ap, lit<}
+use Rattle.std.specs.Prelude.{IfOk}
+use Rattle.giv_files.specs.declared.file_id.FileId.{FileId}
+use Rattle.giv_files.specs.declared.file_id.FileId.TheVariants as file
+use Rattle.giv_files.specs.declared.made.Made.{Made}
+use Rattle.giv_files.specs.declared.refusal.Refusal.{Refusal}
+use Rattle.giv_files.specs.declared.refusal.StageFault.{StageFault}
+use Rattle.giv_files.specs.declared.stage.Stage.TheVariants as stage
+use Rattle.giv_files.specs.Inputs.{input_faults}
+use Rattle.giv_files.specs.MadeLists.{MakesAs, ids_of}
+use Rattle.giv_files.specs.NamedFiles.{NamesOnly}
+use Rattle.giv_files.specs.Settings.{BundleParts, Fits}
+use Rattle.giv_files.specs.StageCalls.{StageGives, input_text}
+use Rattle.giv_files.proofs.Named.{input_names, names_both, refused_names}
+use Rattle.giv_files.proofs.StageCalls.{made_unless}
+use Rattle.ptn_network.specs.Loads.{load_input}
+use Rattle.ptn_network.specs.Networks.{network_in}
+use Rattle.line_pool.specs.PoolCosts.{pool_cost_input}
+use Rattle.line_cost_model.specs.Concepts.{cost_of}
+use Rattle.line_cost_model.specs.Problems.{ProblemParts}
+use Rattle.branch_certificate.specs.declared.node.Node.{Node}
+use Rattle.line_search.specs.GivenProblems.{lines_in, problem_faults, problem_of}
+use Rattle.line_search.specs.Judged.{frequencies_of}
+use Rattle.line_search.specs.PinnedConcepts.{made_of_texts, marking_tree, pinned_concept_faults}
+use Rattle.line_search.specs.PinnedConcepts.{pinned_concept_stage, pinned_input, pinned_made}
+use Rattle.line_search.specs.RightPinned.{ConceptIsRight}
+use Rattle.line_search.proofs.ConceptNames.{problem_names}
+use Rattle.line_search.proofs.PinnedReads.{pinned_right}
+
+pinned_makes : (problem : ProblemParts) (frequencies : List ℕ) (tree : Option (List Node))
+    (made : Made) → pinned_made problem frequencies tree ≡ made → MakesAs stage.PinnedConcept (ids_of made.files)
+pinned_makes problem frequencies (Some nodes) made is =
+    (0, lit< tt, ap (λ (made : Made). ids_of made.files) is)
+pinned_makes problem frequencies None made is =
+    (1, lit< tt, ap (λ (made : Made). ids_of made.files) is)
+
+-- it makes the files that it may make: without a mark there is no Tree
+pub pinned_concept_makes : (bundle : BundleParts) (made : Made)
+    → pinned_concept_stage bundle ≡ Ok made → MakesAs stage.PinnedConcept (ids_of made.files)
+unfolding pinned_concept_stage
+pinned_concept_makes bundle made is =
+    let problem = problem_of bundle in
+    let frequencies = frequencies_of problem (input_text bundle 5) in
+    pinned_makes problem frequencies
+    (marking_tree problem (cost_of problem frequencies) (input_text bundle 6)) made
+    (made_unless (pinned_concept_faults bundle)
+    (made_of_texts problem (input_text bundle 5) (input_text bundle 6)) made is)
+
+-- what it makes is right
+pub pinned_concept_right : (bundle : BundleParts) (made : Made) → bundle.stage ≡ stage.PinnedConcept
+    → Fits bundle → pinned_concept_stage bundle ≡ Ok made → ConceptIsRight bundle made.files
+pinned_concept_right bundle made same fits is = pinned_right bundle made is
+
+-- what a call gives that meets the stage
+pub pinned_files_given : (bundle : BundleParts) (result : Result Made StageFault)
+    → StageGives (pinned_concept_stage bundle) result
+    → IfOk result (λ made. ConceptIsRight bundle made.files)
+pinned_files_given bundle (Ok made) given = pinned_right bundle made given
+pinned_files_given bundle (Err fault) given = tt
+
+-- a refusal by a row names the file of stops, of edges, of the pool or of the planner's concept,
+-- where loads and costs have no fault
+pub pinned_concept_names : (test : FileId → Bool) → test file.Stop ≡ true → test file.Edge ≡ true
+    → test file.Pool ≡ true → test file.PinnedConcept ≡ true → (bundle : BundleParts)
+    → input_faults (load_input file.Load (network_in bundle).edges) (input_text bundle 3) ≡ []
+    → input_faults (pool_cost_input (lines_in bundle)) (input_text bundle 4) ≡ []
+    → (reason : Refusal) → pinned_concept_stage bundle ≡ Err reason → NamesOnly test reason
+unfolding pinned_concept_stage
+pinned_concept_names test stop edge pool concept bundle no_load no_cost reason is =
+    let given = pinned_input (problem_of bundle) in
+    refused_names test (pinned_concept_faults bundle)
+    (made_of_texts (problem_of bundle) (input_text bundle 5) (input_text bundle 6)) reason
+    (names_both test (problem_faults bundle) (input_faults given (input_text bundle 5))
+    (problem_names test stop edge pool bundle no_load no_cost)
+    (input_names test given (input_text bundle 5) concept)) is

@@ -1,0 +1,92 @@
+-- What is right about a line concept, whoever gave it: over the inputs of the search alone, and
+-- what a judge finds.
+use Rattle.std.proofs.Common.{◌≡◌, ℕ, List, [], Option, Some, None, IfSome, refl, subst, sym, ◌∙◌}
+use Rattle.giv_files.specs.declared.made.MadeFile.{MadeFile}
+use Rattle.giv_files.specs.Columns.{concept_columns}
+use Rattle.giv_files.specs.Settings.{BundleParts}
+use Rattle.giv_files.specs.StageCalls.{input_text}
+use Rattle.giv_files.specs.Writing.{ReadsBack}
+use Rattle.ptn_network.specs.Networks.{NetworkParts, network_in}
+use Rattle.line_pool.specs.Pools.{concept_faults}
+use Rattle.line_cost_model.specs.Concepts.{IsFeasible}
+use Rattle.line_cost_model.specs.Problems.{ProblemParts}
+use Rattle.line_search.specs.ConceptTables.{concept_rows}
+use Rattle.line_search.specs.GivenProblems.{problem_faults, problem_of}
+use Rattle.line_search.specs.Judged.{Marks, Passes, first_broken}
+use Rattle.line_search.specs.RightConcepts.{ConceptFilesAreRight, IsMarked}
+use Rattle.line_search.specs.RightPinned.{ConceptIsRight}
+
+-- two bundles have the same texts of stops, of edges, of the pool, of loads and of costs
+pub record HaveSameTexts (bundle other : BundleParts) : Type 0 where
+  pub stops : input_text bundle 0 ≡ input_text other 0
+  pub edges : input_text bundle 1 ≡ input_text other 1
+  pub pool : input_text bundle 2 ≡ input_text other 2
+  pub loads : input_text bundle 3 ≡ input_text other 3
+  pub costs : input_text bundle 4 ≡ input_text other 4
+
+module _ (bundle other : BundleParts) (same : HaveSameTexts bundle other) where
+  pub same_problem : problem_of bundle ≡ problem_of other
+  unfolding problem_of
+  same_problem = rw (same.stops, same.edges, same.pool, same.loads, same.costs) refl
+
+  pub same_faults : problem_faults bundle ≡ problem_faults other
+  unfolding problem_faults
+  same_faults = rw (same.stops, same.edges, same.pool, same.loads, same.costs) refl
+
+  same_network : network_in bundle ≡ network_in other
+  same_network = rw (same.stops, same.edges) refl
+
+  -- a concept that is right over the one is right over the other
+  pub right_over : (files : List MadeFile) → ConceptIsRight bundle files
+      → ConceptIsRight other files
+  right_over files right = record {
+    inputs = sym same_faults ∙ right.inputs;
+    text = right.text;
+    tree = right.tree;
+    each = right.each;
+    frequencies = right.frequencies;
+    reads = subst (λ (problem : ProblemParts).
+        ReadsBack concept_columns (concept_rows problem right.frequencies) right.text)
+        same_problem right.reads;
+    feasible = subst (λ (problem : ProblemParts). IsFeasible problem right.frequencies)
+        same_problem right.feasible;
+    marked = subst (λ (problem : ProblemParts).
+        IfSome right.tree (λ tree. Marks problem right.frequencies tree))
+        same_problem right.marked;
+    passes = subst (λ (problem : ProblemParts). first_broken problem right.text right.tree ≡ None)
+        same_problem right.passes;
+    accepted = subst (λ (network : NetworkParts). concept_faults network right.text ≡ [])
+        same_network right.accepted;
+  }
+
+only_marks : (problem : ProblemParts) (frequencies : List ℕ) (tree : Option (List ℕ))
+    → IfSome tree (IsMarked problem frequencies)
+    → IfSome tree (λ text. Marks problem frequencies text)
+only_marks problem frequencies None marked = tt
+only_marks problem frequencies (Some text) marked = marked.marks
+
+-- a concept that a search found is right as one from any hand is
+pub found_right : (bundle : BundleParts) (files : List MadeFile) → ConceptFilesAreRight bundle files
+    → ConceptIsRight bundle files
+found_right bundle files right = record {
+  inputs = right.inputs;
+  text = right.text;
+  tree = right.tree;
+  each = right.each;
+  frequencies = right.frequencies;
+  reads = right.reads;
+  feasible = right.feasible;
+  marked = only_marks (problem_of bundle) right.frequencies right.tree right.marked;
+  passes = right.passes;
+  accepted = right.accepted;
+}
+
+-- a concept that is right passes: it is feasible, and a tree beside it marks it
+pub right_passes : (bundle : BundleParts) (files : List MadeFile)
+    (right : ConceptIsRight bundle files) → Passes (problem_of bundle) right.text right.tree
+right_passes bundle files right = record {
+  frequencies = right.frequencies;
+  reads = right.reads;
+  feasible = right.feasible;
+  marked = right.marked;
+}
