@@ -19,20 +19,21 @@ use Rattle.line_pool.specs.RightCosts.{CostFilesAreRight}
 use Rattle.line_pool.proofs.WholeLines.{whole_lines}
 use Rattle.line_search.specs.ConceptTables.{concept_rows}
 use Rattle.line_search.specs.GivenProblems.{problem_of}
-use Rattle.line_search.specs.RightConcepts.{ConceptFilesAreRight, mark_files}
+use Rattle.line_search.specs.RightConcepts.{mark_files}
 use Rattle.event_tables.specs.DisposedTimes.{disposed_time_input}
 use Rattle.event_tables.specs.ExpandedFiles.{expanded_event_ids, expanded_event_input}
 use Rattle.event_tables.specs.PeriodicFiles.{periodic_activity_input, periodic_event_ids}
 use Rattle.event_tables.specs.PeriodicFiles.{periodic_event_input, periodic_time_input}
 use Rattle.pesp_model.specs.PespTexts.{events_of, problem_faults}
-use Rattle.pesp_search.specs.RightTimetables.{TimetableFilesAreRight}
 use Rattle.pesp_search.specs.TimetableStage.{timetable_faults}
 use Rattle.delay_management.specs.DispositionStage.{events_in as day_events_in}
 use Rattle.delay_management.specs.RightDispositions.{DispositionFilesAreRight}
 use Rattle.evaluators.specs.StatisticStage.{day_part, line_part, periodic_part, statistic_faults, trip_part}
 use Rattle.planning_stages.proofs.OneLook.{both_own, concept_accepted}
 use Rattle.planning_stages.proofs.OneLook.{costs_accepted, day_made, first_own}
-use Rattle.planning_stages.proofs.OneLook.{periodic_accepted, schedule_accepted}
+use Rattle.planning_stages.proofs.OneLook.{concept_stands, periodic_accepted, schedule_accepted}
+use Rattle.planning_stages.proofs.OneLook.{times_stands}
+use Rattle.planning_stages.specs.Places.{in_place}
 use Rattle.planning_stages.proofs.StatisticLines.{concept_read, costs_read}
 use Rattle.stage_chain.specs.Laws.{IsRightOver, bundle_over, files_over}
 use Rattle.planning_stages.specs.Planning.{planning, stage_model}
@@ -42,12 +43,13 @@ module _ (values : List ℤ) (look : FileId → List ℕ) where
   network = network_of (look file.Stop) (look file.Edge)
 
   -- the costs and the line concept
-  lines_accepted : IsRightOver planning values look stage.Cost → IsRightOver planning values look stage.Concept
-      → line_part (bundle_over values look stage.Statistic) ≡ []
+  lines_accepted : IsRightOver planning values look stage.Cost
+      → IsRightOver planning values look (in_place values stage.Concept) → line_part (bundle_over values look stage.Statistic) ≡ []
   unfolding problem_of line_faults planning stage_model
   lines_accepted costs concept =
       let right : CostFilesAreRight (bundle_over values look stage.Cost) (files_over look costs.ids) = costs.right in
-      let found : ConceptFilesAreRight (bundle_over values look stage.Concept) (files_over look concept.ids) = concept.right in
+      let stands = concept_stands values look concept in
+      let found = stands.right in
       let networks = network_faults (look file.Stop) (look file.Edge) in
       let pool = pool_of network (look file.Pool) in
       let fine : networks ≡ [] = front_none networks (pool_faults network (look file.Pool)) right.inputs in
@@ -57,7 +59,7 @@ module _ (values : List ℤ) (look : FileId → List ℕ) where
       let problem = problem_of (bundle_over values look stage.Concept) in
       let reads : ReadsBack concept_columns (concept_rows problem found.frequencies) (look file.Concept) =
       subst (ReadsBack concept_columns (concept_rows problem found.frequencies))
-      (first_own look file.Concept concept.ids found.text (mark_files found.tree) found.each) found.reads in
+      (first_own look file.Concept stands.ids found.text (mark_files found.tree) found.each) found.reads in
       rw (
         costs_read pool (look file.PoolCost) accepted,
         concept_read pool (look file.PoolCost) accepted network.edges lines.few problem
@@ -71,18 +73,19 @@ module _ (values : List ℤ) (look : FileId → List ℕ) where
   unfolding stage_keys
   own_period = refl
 
-  times_read : IsRightOver planning values look stage.Timetable
+  times_read : IsRightOver planning values look (in_place values stage.Timetable)
       → input_faults (periodic_time_input file.TimesP (amount (part_of values stage.Statistic) key.PeriodLength) (periodic_event_ids (events_of (look file.EventsP)))) (look file.TimesP) ≡ []
-  unfolding planning stage_model
   times_read times =
-      let right : TimetableFilesAreRight (bundle_over values look stage.Timetable) (files_over look times.ids) = times.right in
+      let stands = times_stands values look times in
+      let right = stands.right in
       subst (λ text. input_faults (periodic_time_input file.TimesP (amount (part_of values stage.Statistic) key.PeriodLength) (periodic_event_ids (events_of (look file.EventsP)))) text ≡ [])
-      (first_own look file.TimesP times.ids right.text [] right.one)
+      (first_own look file.TimesP stands.ids right.text [] right.one)
       (subst (λ period. input_faults (periodic_time_input file.TimesP period (periodic_event_ids (events_of (look file.EventsP)))) right.text ≡ [])
       own_period right.accepted)
 
   -- the periodic timetable
-  periodic_read : IsRightOver planning values look stage.Ean → IsRightOver planning values look stage.Timetable
+  periodic_read : IsRightOver planning values look stage.Ean
+      → IsRightOver planning values look (in_place values stage.Timetable)
       → periodic_part (bundle_over values look stage.Statistic) ≡ []
   unfolding problem_faults events_of
   periodic_read ean times =
@@ -106,7 +109,8 @@ module _ (values : List ℤ) (look : FileId → List ℕ) where
   trips_read day = (day_made values look day).trips_fine None tt
 
   -- the day
-  day_read : IsRightOver planning values look stage.Rollout → IsRightOver planning values look stage.Vehicles
+  day_read : IsRightOver planning values look stage.Rollout
+      → IsRightOver planning values look (in_place values stage.Vehicles)
       → IsRightOver planning values look stage.Disposition → day_part (bundle_over values look stage.Statistic) ≡ []
   day_read day vehicles disposition =
       let made = day_made values look day in
@@ -117,9 +121,12 @@ module _ (values : List ℤ) (look : FileId → List ℕ) where
         disposition_accepted disposition,
       ) refl
 
-  pub all_accepted : IsRightOver planning values look stage.Cost → IsRightOver planning values look stage.Concept
-      → IsRightOver planning values look stage.Ean → IsRightOver planning values look stage.Timetable
-      → IsRightOver planning values look stage.Rollout → IsRightOver planning values look stage.Vehicles
+  pub all_accepted : IsRightOver planning values look stage.Cost
+      → IsRightOver planning values look (in_place values stage.Concept)
+      → IsRightOver planning values look stage.Ean
+      → IsRightOver planning values look (in_place values stage.Timetable)
+      → IsRightOver planning values look stage.Rollout
+      → IsRightOver planning values look (in_place values stage.Vehicles)
       → IsRightOver planning values look stage.Disposition
       → statistic_faults (bundle_over values look stage.Statistic) ≡ []
   unfolding statistic_faults

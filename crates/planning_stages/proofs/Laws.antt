@@ -1,4 +1,22 @@
 -- What each planning stage owes to the chain.
+use Rattle.stage_chain.specs.StageParts.{staged}
+use Rattle.stage_chain.specs.Chain.{stage_place}
+use Rattle.planning_stages.proofs.Unbroken.{bare_none, bare_there}
+use Rattle.planning_stages.proofs.Standing.{bare_stands}
+use Rattle.planning_stages.proofs.PinnedPlaces.{can_run, lists_are}
+use Rattle.planning_stages.proofs.OneLook.{pinned_period, same_given}
+use Rattle.planning_stages.specs.Verdicts.{bare_verdict}
+use Rattle.planning_stages.specs.Planning.{PlaceModel, place_model, schedule_judged}
+use Rattle.planning_stages.specs.Places.{in_place, is_pinned}
+use Rattle.vehicle_flow.specs.RightSchedules.{ScheduleIsRight}
+use Rattle.vehicle_flow.proofs.PinnedOver.{pinned_over}
+use Rattle.vehicle_flow.proofs.PinnedMakes.{pinned_vehicles_makes, pinned_vehicles_names, pinned_vehicles_right}
+use Rattle.pesp_search.proofs.PinnedLaws.{right_where_same}
+use Rattle.pesp_search.proofs.PinnedLaws.{pinned_timetable_makes, pinned_timetable_names, pinned_timetable_right}
+use Rattle.line_search.proofs.PinnedOver.{found_right, right_over as concept_right_over}
+use Rattle.line_search.proofs.PinnedLaws.{pinned_concept_makes, pinned_concept_names, pinned_concept_right}
+use Rattle.giv_files.specs.declared.key.Key.TheVariants as key
+use Rattle.std.proofs.Common.{cond}
 use Rattle.std.proofs.Common.{◌≡◌, ℕ, ℤ, List, Ok, Err, refl}
 use Rattle.giv_files.specs.declared.file_id.FileId.{FileId}
 use Rattle.giv_files.specs.declared.made.Made.{Made}
@@ -40,7 +58,7 @@ use Rattle.giv_files.specs.declared.file_id.FileId.TheVariants as file
 use Rattle.giv_files.specs.declared.made.MadeFile.{MadeFile}
 use Rattle.giv_files.specs.FileNames.{file_name}
 use Rattle.giv_files.specs.MadeLists.{made_lists}
-use Rattle.giv_files.specs.Stages.{all_stages, stage_makes}
+use Rattle.giv_files.specs.Stages.{stage_makes}
 use Rattle.stage_chain.specs.declared.finding.Finding.{Finding}
 use Rattle.demand_load.specs.LoadStage.{load_stage}
 use Rattle.demand_load.specs.RightLoads.{LoadFilesAreRight}
@@ -57,7 +75,7 @@ use Rattle.planning_stages.specs.Verdicts.{schedule_verdict, timetable_verdict}
 use Rattle.stage_chain.specs.Checks.{is_certificate, lacks_file, standing}
 use Rattle.stage_chain.specs.Laws.{AreRightOver, AreStages, bundle_over}
 use Rattle.stage_chain.specs.StageLists.{before_stage, is_earlier, rising}
-use Rattle.stage_chain.proofs.RightOver.{one_right}
+use Rattle.stage_chain.proofs.RightOver.{right_before}
 use Rattle.planning_stages.specs.Planning.{StageModel, by_content, planning, stage_model}
 use Rattle.planning_stages.proofs.AllPlans.{all_accepted}
 use Rattle.planning_stages.proofs.ContentFiles.{content_passes, content_right, content_stands}
@@ -77,13 +95,19 @@ pub record StageLaws (at : Stage) (model : StageModel) : Type 0 where
   pub right : (bundle : BundleParts) (made : Made) → bundle.stage ≡ at → Fits bundle
       → model.run bundle ≡ Ok made → model.IsRight bundle made.files
   pub refuses : (values : List ℤ) (look : FileId → List ℕ) (reason : Refusal)
-      → AreRightOver planning values look (before_stage all_stages at)
+      → AreRightOver planning values look (before_stage (staged planning values) at)
       → model.run (bundle_over values look at) ≡ Err reason → NamesOnly is_hand_file reason
   pub stand : (folder : Folder) (bundle : BundleParts) → lacks_file folder at ≡ false
-      → model.verdict bundle (standing folder at) ≡ None → MakesAs at (ids_of (standing folder at))
+      → model.judged.verdict bundle (standing folder at) ≡ None → MakesAs at (ids_of (standing folder at))
   pub pass : (folder : Folder) (bundle : BundleParts) (made : Made) → model.run bundle ≡ Ok made
       → model.IsRight bundle made.files → standing folder at ≡ made.files
-      → (lacks_file folder at ≡ false) × (model.verdict bundle (standing folder at) ≡ None)
+      → (lacks_file folder at ≡ false) × (model.judged.verdict bundle (standing folder at) ≡ None)
+
+-- a stage in a place comes at the point of the place
+at_point : (values : List ℤ) (place : Stage)
+    → stage_place (planning.placed values place) ≡ stage_place place
+unfolding planning
+at_point values place = (can_run values place).point
 
 -- what a stage owes to the chain by what it makes alone
 record MakingLaws (at : Stage) (model : StageModel) : Type 0 where
@@ -92,7 +116,7 @@ record MakingLaws (at : Stage) (model : StageModel) : Type 0 where
   right : (bundle : BundleParts) (made : Made) → bundle.stage ≡ at → Fits bundle
       → model.run bundle ≡ Ok made → model.IsRight bundle made.files
   refuses : (values : List ℤ) (look : FileId → List ℕ) (reason : Refusal)
-      → AreRightOver planning values look (before_stage all_stages at)
+      → AreRightOver planning values look (before_stage (staged planning values) at)
       → model.run (bundle_over values look at) ≡ Err reason → NamesOnly is_hand_file reason
 
 -- the laws of a stage whose files are judged by what it makes: it makes one list of files, none of
@@ -124,46 +148,149 @@ stage_laws stage.Cost = content_laws stage.Cost _ _ refl refl (record {
 stage_laws stage.Concept = record {
   makes = concept_stage_makes;
   right = concept_is_right;
-  refuses = λ values look reason right. let was = one_right planning values look (before_stage all_stages stage.Concept) right in concept_stage_names is_hand_file refl refl refl (bundle_over values look stage.Concept) (loads_accepted values look (was stage.Load refl)) (costs_accepted values look (was stage.Cost refl)) reason;
+  refuses = λ values look reason right. let was = right_before planning values look (at_point values) stage.Concept right in concept_stage_names is_hand_file refl refl refl (bundle_over values look stage.Concept) (loads_accepted values look (was stage.Load refl)) (costs_accepted values look (was stage.Cost refl)) reason;
   stand = λ folder bundle lacks none. concept_stands (map.get folder (file_name file.Concept)) (map.get folder (file_name file.Tree)) lacks;
-  pass = λ folder bundle made solved right found. (concept_there (map.get folder (file_name file.Concept)) (map.get folder (file_name file.Tree)) right.text right.tree (found ∙ right.each), ap (concept_verdict bundle) found ∙ concept_none bundle made.files right);
+  pass = λ folder bundle made solved right found. (concept_there (map.get folder (file_name file.Concept)) (map.get folder (file_name file.Tree)) right.text right.tree (found ∙ right.each), ap (concept_verdict bundle) found ∙ concept_none bundle made.files (found_right bundle made.files right));
 }
 stage_laws stage.Ean = content_laws stage.Ean _ _ refl refl (record {
   makes = ean_stage_makes;
   right = ean_is_right;
-  refuses = λ values look reason right. let was = one_right planning values look (before_stage all_stages stage.Ean) right in ean_names_network is_hand_file refl refl (bundle_over values look stage.Ean) reason (concept_accepted values look (was stage.Concept refl));
+  refuses = λ values look reason right. let was = right_before planning values look (at_point values) stage.Ean right in ean_names_network is_hand_file refl refl (bundle_over values look stage.Ean) reason (concept_accepted values look (was stage.Concept refl));
 })
 stage_laws stage.Timetable = record {
   makes = timetable_stage_makes;
   right = timetable_is_right;
-  refuses = λ values look reason right. let was = one_right planning values look (before_stage all_stages stage.Timetable) right in timetable_names_none is_hand_file (bundle_over values look stage.Timetable) reason (periodic_accepted values look (was stage.Ean refl));
+  refuses = λ values look reason right. let was = right_before planning values look (at_point values) stage.Timetable right in timetable_names_none is_hand_file (bundle_over values look stage.Timetable) reason (periodic_accepted values look (was stage.Ean refl));
   stand = λ folder bundle lacks none. times_stand (map.get folder (file_name file.TimesP)) lacks;
   pass = λ folder bundle made solved right found. (times_there (map.get folder (file_name file.TimesP)) right.text (found ∙ right.one), ap (timetable_verdict bundle) found ∙ timetable_none bundle made.files right);
 }
 stage_laws stage.Rollout = content_laws stage.Rollout _ _ refl refl (record {
   makes = rollout_stage_makes;
   right = rollout_is_right;
-  refuses = λ values look reason right. let was = one_right planning values look (before_stage all_stages stage.Rollout) right in rollout_names_none is_hand_file (bundle_over values look stage.Rollout) reason (day_accepted values look (was stage.Ean refl) (was stage.Timetable refl));
+  refuses = λ values look reason right. let was = right_before planning values look (at_point values) stage.Rollout right in rollout_names_none is_hand_file (bundle_over values look stage.Rollout) reason (day_accepted values look (was stage.Ean refl) (was stage.Timetable refl));
 })
 stage_laws stage.Vehicles = record {
   makes = vehicles_stage_makes;
   right = λ bundle made own fits is. vehicles_are_right bundle own fits made is;
-  refuses = λ values look reason right. let was = one_right planning values look (before_stage all_stages stage.Vehicles) right in vehicles_stage_names is_hand_file refl refl (bundle_over values look stage.Vehicles) reason (trips_accepted values look (was stage.Ean refl) (was stage.Rollout refl));
+  refuses = λ values look reason right. let was = right_before planning values look (at_point values) stage.Vehicles right in vehicles_stage_names is_hand_file refl refl (bundle_over values look stage.Vehicles) reason (trips_accepted values look (was stage.Ean refl) (was stage.Rollout refl));
   stand = λ folder bundle lacks none. schedule_stands bundle _ (map.get folder (file_name file.Schedule)) (map.get folder (file_name file.Potential)) lacks refl none;
   pass = λ folder bundle made solved right found. (schedule_there (map.get folder (file_name file.Schedule)) (map.get folder (file_name file.Potential)) right.right.schedule right.right.potentials (found ∙ right.right.both), ap (schedule_verdict bundle) found ∙ schedule_none bundle made.files right);
 }
 stage_laws stage.Disposition = record {
   makes = disposition_stage_makes;
   right = disposition_is_right;
-  refuses = λ values look reason right. let was = one_right planning values look (before_stage all_stages stage.Disposition) right in disposition_names_delays is_hand_file refl refl (bundle_over values look stage.Disposition) reason (plans_accepted values look (was stage.Rollout refl) (was stage.Vehicles refl));
+  refuses = λ values look reason right. let was = right_before planning values look (at_point values) stage.Disposition right in disposition_names_delays is_hand_file refl refl (bundle_over values look stage.Disposition) reason (plans_accepted values look (was stage.Rollout refl) (was stage.Vehicles refl));
   stand = λ folder bundle lacks none. disposition_stands bundle _ (map.get folder (file_name file.Disposed)) (map.get folder (file_name file.Reasons)) lacks refl none;
   pass = λ folder bundle made solved right found. (disposition_there (map.get folder (file_name file.Disposed)) (map.get folder (file_name file.Reasons)) right.times_text right.reasons_text (found ∙ right.both), ap (disposition_verdict bundle) found ∙ disposition_none bundle made.files right);
 }
 stage_laws stage.Statistic = content_laws stage.Statistic _ _ refl refl (record {
   makes = statistic_stage_makes;
   right = statistic_is_right;
-  refuses = λ values look reason right. let was = one_right planning values look (before_stage all_stages stage.Statistic) right in statistic_names_none is_hand_file (bundle_over values look stage.Statistic) reason (all_accepted values look (was stage.Cost refl) (was stage.Concept refl) (was stage.Ean refl) (was stage.Timetable refl) (was stage.Rollout refl) (was stage.Vehicles refl) (was stage.Disposition refl));
+  refuses = λ values look reason right. let was = right_before planning values look (at_point values) stage.Statistic right in statistic_names_none is_hand_file (bundle_over values look stage.Statistic) reason (all_accepted values look (was stage.Cost refl) (was stage.Concept refl) (was stage.Ean refl) (was stage.Timetable refl) (was stage.Rollout refl) (was stage.Vehicles refl) (was stage.Disposition refl));
 })
+
+stage_laws stage.PinnedConcept = record {
+  makes = pinned_concept_makes;
+  right = pinned_concept_right;
+  refuses = λ values look reason right. let was = right_before planning values look (at_point values) stage.PinnedConcept right in pinned_concept_names is_hand_file refl refl refl refl (bundle_over values look stage.PinnedConcept) (loads_accepted values look (was stage.Load refl)) (costs_accepted values look (was stage.Cost refl)) reason;
+  stand = λ folder bundle lacks none. concept_stands (map.get folder (file_name file.Concept)) (map.get folder (file_name file.Tree)) lacks;
+  pass = λ folder bundle made solved right found. (concept_there (map.get folder (file_name file.Concept)) (map.get folder (file_name file.Tree)) right.text right.tree (found ∙ right.each), refl);
+}
+stage_laws stage.PinnedTimetable = record {
+  makes = pinned_timetable_makes;
+  right = pinned_timetable_right;
+  refuses = λ values look reason right. let was = right_before planning values look (at_point values) stage.PinnedTimetable right in pinned_timetable_names is_hand_file refl (bundle_over values look stage.PinnedTimetable) reason (periodic_accepted values look (was stage.Ean refl));
+  stand = λ folder bundle lacks none. times_stand (map.get folder (file_name file.TimesP)) lacks;
+  pass = λ folder bundle made solved right found. (times_there (map.get folder (file_name file.TimesP)) right.text (found ∙ right.one), refl);
+}
+stage_laws stage.PinnedVehicles = record {
+  makes = pinned_vehicles_makes;
+  right = λ bundle made own fits is. pinned_vehicles_right bundle own fits made is;
+  refuses = λ values look reason right. let was = right_before planning values look (at_point values) stage.PinnedVehicles right in pinned_vehicles_names is_hand_file refl refl refl (bundle_over values look stage.PinnedVehicles) reason (trips_accepted values look (was stage.Ean refl) (was stage.Rollout refl));
+  stand = λ folder bundle lacks none. bare_stands (map.get folder (file_name file.Schedule)) (map.get folder (file_name file.Potential)) lacks;
+  pass = λ folder bundle made solved right found. (bare_there (map.get folder (file_name file.Schedule)) (map.get folder (file_name file.Potential)) right.right.schedule right.right.potentials (found ∙ right.right.each), refl);
+}
+
+module _ (values : List ℤ) (folder : Folder) where
+  -- files of a place of which nothing is found are some that the stage there may make
+  place_stands : (at : Stage) (bundle : BundleParts) → lacks_file folder at ≡ false
+      → (place_model values at).verdict bundle (standing folder at) ≡ None
+      → MakesAs (in_place values at) (ids_of (standing folder at))
+  unfolding place_model
+  place_stands stage.Concept bundle lacks none = by (is_pinned values key.PinConcept)
+    where
+      by : (b : Bool) → MakesAs (cond b stage.PinnedConcept stage.Concept) (ids_of (standing folder stage.Concept))
+      by true = (stage_laws stage.Concept).stand folder bundle lacks none
+      by false = (stage_laws stage.Concept).stand folder bundle lacks none
+  place_stands stage.Timetable bundle lacks none = by (is_pinned values key.PinTimetable)
+    where
+      by : (b : Bool) → MakesAs (cond b stage.PinnedTimetable stage.Timetable) (ids_of (standing folder stage.Timetable))
+      by true = (stage_laws stage.Timetable).stand folder bundle lacks none
+      by false = (stage_laws stage.Timetable).stand folder bundle lacks none
+  place_stands stage.Vehicles bundle lacks none = by (is_pinned values key.PinVehicles) none
+    where
+      by : (b : Bool)
+          → (schedule_judged b).verdict bundle (standing folder stage.Vehicles) ≡ None
+          → MakesAs (cond b stage.PinnedVehicles stage.Vehicles) (ids_of (standing folder stage.Vehicles))
+      by true none = bare_stands (map.get folder (file_name file.Schedule)) (map.get folder (file_name file.Potential)) lacks
+      by false none = (stage_laws stage.Vehicles).stand folder bundle lacks none
+  place_stands stage.Load bundle lacks none = (stage_laws stage.Load).stand folder bundle lacks none
+  place_stands stage.Cost bundle lacks none = (stage_laws stage.Cost).stand folder bundle lacks none
+  place_stands stage.Ean bundle lacks none = (stage_laws stage.Ean).stand folder bundle lacks none
+  place_stands stage.Rollout bundle lacks none = (stage_laws stage.Rollout).stand folder bundle lacks none
+  place_stands stage.Disposition bundle lacks none = (stage_laws stage.Disposition).stand folder bundle lacks none
+  place_stands stage.Statistic bundle lacks none = (stage_laws stage.Statistic).stand folder bundle lacks none
+  place_stands stage.PinnedConcept bundle lacks none = (stage_laws stage.PinnedConcept).stand folder bundle lacks none
+  place_stands stage.PinnedTimetable bundle lacks none = (stage_laws stage.PinnedTimetable).stand folder bundle lacks none
+  place_stands stage.PinnedVehicles bundle lacks none = (stage_laws stage.PinnedVehicles).stand folder bundle lacks none
+
+  module _ (look : FileId → List ℕ) (made : Made) where
+    -- what a stage made of what it was given is found without fault over what its place is given
+    abbrev FoundFine : Stage → Stage → PlaceModel → Type 0
+    FoundFine at own place = (stage_model own).run (bundle_over values look own) ≡ Ok made
+        → (stage_model own).IsRight (bundle_over values look own) made.files
+        → standing folder at ≡ made.files
+        → (lacks_file folder at ≡ false) × (place.verdict (bundle_over values look at) (standing folder at) ≡ None)
+
+    own_fine : (at : Stage) → FoundFine at at (stage_model at).judged
+    own_fine at = (stage_laws at).pass folder (bundle_over values look at) made
+
+    place_passes : (at : Stage) → FoundFine at (in_place values at) (place_model values at)
+    unfolding place_model stage_model
+    place_passes stage.Concept = by (is_pinned values key.PinConcept)
+      where
+        by : (b : Bool) → FoundFine stage.Concept (cond b stage.PinnedConcept stage.Concept) (stage_model stage.Concept).judged
+        by false = own_fine stage.Concept
+        by true = λ solved right found.
+            let plain = bundle_over values look stage.Concept in
+            let here = concept_right_over (bundle_over values look stage.PinnedConcept) plain
+            (record { stops = refl; edges = refl; pool = refl; loads = refl; costs = refl }) made.files right in
+            (concept_there (map.get folder (file_name file.Concept)) (map.get folder (file_name file.Tree)) here.text here.tree (found ∙ here.each), ap (concept_verdict plain) found ∙ concept_none plain made.files here)
+    place_passes stage.Timetable = by (is_pinned values key.PinTimetable)
+      where
+        by : (b : Bool) → FoundFine stage.Timetable (cond b stage.PinnedTimetable stage.Timetable) (stage_model stage.Timetable).judged
+        by false = own_fine stage.Timetable
+        by true = λ solved right found.
+            let plain = bundle_over values look stage.Timetable in
+            let here = right_where_same (bundle_over values look stage.PinnedTimetable) plain made.files (pinned_period values look) refl refl right in
+            (times_there (map.get folder (file_name file.TimesP)) here.text (found ∙ here.one), ap (timetable_verdict plain) found ∙ timetable_none plain made.files here)
+    place_passes stage.Vehicles = by (is_pinned values key.PinVehicles)
+      where
+        by : (b : Bool) → FoundFine stage.Vehicles (cond b stage.PinnedVehicles stage.Vehicles) (schedule_judged b)
+        by false = own_fine stage.Vehicles
+        by true = λ solved right found.
+            let plain = bundle_over values look stage.Vehicles in
+            let here = pinned_over (bundle_over values look stage.PinnedVehicles) plain (same_given values look) made.files right in
+            (bare_there (map.get folder (file_name file.Schedule)) (map.get folder (file_name file.Potential)) here.right.schedule here.right.potentials (found ∙ here.right.each), ap (bare_verdict plain) found ∙ bare_none plain made.files here)
+    place_passes stage.Load = own_fine stage.Load
+    place_passes stage.Cost = own_fine stage.Cost
+    place_passes stage.Ean = own_fine stage.Ean
+    place_passes stage.Rollout = own_fine stage.Rollout
+    place_passes stage.Disposition = own_fine stage.Disposition
+    place_passes stage.Statistic = own_fine stage.Statistic
+    place_passes stage.PinnedConcept = own_fine stage.PinnedConcept
+    place_passes stage.PinnedTimetable = own_fine stage.PinnedTimetable
+    place_passes stage.PinnedVehicles = own_fine stage.PinnedVehicles
 
 -- the stages are a chain's
 pub planning_laws : AreStages planning
@@ -177,11 +304,13 @@ planning_laws = record {
     no_keep = refl;
     no_hand = refl;
   };
+  lists = lists_are;
+  placed = can_run;
   makes = λ bundle made is. (stage_laws bundle.stage).makes bundle made is;
   right = λ bundle made fits is. (stage_laws bundle.stage).right bundle made refl fits is;
   refuses = λ values look stage reason right is. (stage_laws stage).refuses values look reason right is;
-  stand = λ folder bundle stage lacks none. (stage_laws stage).stand folder bundle lacks none;
-  pass = λ folder bundle made solved right found. (stage_laws bundle.stage).pass folder bundle made solved right found;
+  stand = λ folder values bundle lacks none. place_stands values folder bundle.stage bundle lacks none;
+  pass = λ folder values look place made solved right found. place_passes values folder look made place solved right found;
 }
 
 -- the stages whose files are judged by what they make
@@ -203,7 +332,7 @@ module _ (bundle : BundleParts) (others : List MadeFile) (fits : Fits bundle) wh
 
   none_satisfies : (at : Stage) → is_content at ≡ true → bundle.stage ≡ at → MakesAs at (ids_of others)
       → content_found at ((stage_model at).run bundle) others ≡ None
-      → (stage_model at).Satisfies bundle others
+      → (stage_model at).judged.Satisfies bundle others
   unfolding stage_model
   none_satisfies stage.Load which own makes none = content_right stage.Load load_stage refl (LoadFilesAreRight bundle) others _ (made_right stage.Load own) makes none
   none_satisfies stage.Cost which own makes none = content_right stage.Cost cost_stage refl (CostFilesAreRight bundle) others _ (made_right stage.Cost own) makes none
@@ -216,7 +345,7 @@ module _ (bundle : BundleParts) (others : List MadeFile) (fits : Fits bundle) wh
   pub content_clause : {E : Type 0} (at : Stage) (result : Result (Option Finding) E)
       → is_content at ≡ true → bundle.stage ≡ at
       → IfOk result (λ found. found ≡ content_found at (planning.run bundle) others)
-      → MakesAs at (ids_of others) → IfOk result (λ found. IfNone found (planning.Satisfies at bundle others))
+      → MakesAs at (ids_of others) → IfOk result (λ found. IfNone found ((stage_model at).judged.Satisfies bundle others))
   unfolding planning
   content_clause at (Err fault) which own found makes = tt
   content_clause at (Ok (Some finding)) which own found makes = tt

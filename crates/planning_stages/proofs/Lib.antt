@@ -2,6 +2,7 @@ pub mod AllPlans
 pub mod ContentFiles
 pub mod Laws
 pub mod OneLook
+pub mod PinnedPlaces
 pub mod SameTexts
 pub mod Standing
 pub mod StatisticLines

@@ -1,5 +1,6 @@
 -- Stages over one look of texts, in which each file has one.
-use Rattle.std.proofs.Common.{◌≡◌, ℕ, ℤ, List, [], ◌∷◌, Some, None, refl, ap, subst, sym, ◌∙◌}
+use Rattle.std.proofs.Common.{◌≡◌, ℕ, ℤ, Bool, true, false, cond, List, [], ◌∷◌, map, Option, Some, None, refl}
+use Rattle.std.proofs.Common.{ap, subst, sym, ◌∙◌, option_to_list}
 use Rattle.std.proofs.lemmas.List.Elements.{All-weaker}
 use Rattle.giv_files.specs.declared.file_id.FileId.{FileId}
 use Rattle.giv_files.specs.declared.file_id.FileId.TheVariants as file
@@ -19,7 +20,9 @@ use Rattle.ptn_network.specs.Networks.{NetworkParts, network_faults, network_of,
 use Rattle.line_pool.specs.PoolCosts.{pool_cost_input}
 use Rattle.line_pool.specs.Pools.{concept_faults, pool_of}
 use Rattle.line_pool.specs.RightCosts.{CostFilesAreRight}
-use Rattle.line_search.specs.RightConcepts.{ConceptFilesAreRight, mark_files}
+use Rattle.line_search.specs.RightConcepts.{mark_files}
+use Rattle.line_search.specs.RightPinned.{ConceptIsRight}
+use Rattle.line_search.proofs.PinnedOver.{found_right, right_over as concept_right_over}
 use Rattle.event_tables.specs.PeriodicFiles.{periodic_event_ids, periodic_time_input}
 use Rattle.event_tables.specs.declared.expanded_event.ExpandedEvent.{ExpandedEvent}
 use Rattle.event_tables.specs.declared.trip.Trip.{Trip}
@@ -31,16 +34,19 @@ use Rattle.event_activity.specs.RightEan.{EanFilesAreRight, EanIsAccepted}
 use Rattle.pesp_model.specs.PespTexts.{activities_of, events_of, problem_faults}
 use Rattle.pesp_search.specs.RightTimetables.{TimetableFilesAreRight}
 use Rattle.pesp_search.specs.TimetableStage.{timetable_faults}
+use Rattle.pesp_search.proofs.PinnedLaws.{right_where_same}
 use Rattle.roll_out.specs.RightRollout.{AtStops, IsTripOver, RolloutFilesAreRight, RolloutIsAccepted}
 use Rattle.roll_out.specs.RolloutStage.{rollout_faults, times_in}
 use Rattle.vehicle_flow.specs.AcceptedSchedules.{IsRolledOut}
-use Rattle.vehicle_flow.specs.RightVehicles.{VehicleFilesAreRight}
+use Rattle.vehicle_flow.specs.RightSchedules.{PinnedScheduleIsRight}
+use Rattle.vehicle_flow.proofs.PinnedOver.{HaveSameTrips, pinned_over, plain_pinned}
 use Rattle.vehicle_flow.specs.VehicleStage.{trips_in}
 use Rattle.vehicle_model.specs.Trips.{trips_of}
 use Rattle.delay_management.specs.DispositionStage.{events_in as day_events_in, made_faults}
 use Rattle.planning_stages.specs.Verdicts.{first_text}
 use Rattle.planning_stages.proofs.StopsThere.{rows_at_stops}
 use Rattle.stage_chain.specs.Laws.{IsRightOver, bundle_over, files_over}
+use Rattle.planning_stages.specs.Places.{in_place, is_pinned}
 use Rattle.planning_stages.specs.Planning.{planning, stage_model}
 
 -- the first of files with their texts there has its own
@@ -87,6 +93,10 @@ three_own look first second third (id ∷ ids) text other last is =
       rest.1,
     )
 
+-- the files of potentials that may stand there
+abbrev potential_files : Option (List ℕ) → List MadeFile
+potential_files potentials = map (λ text. record { file = file.Potential; text = text }) (option_to_list potentials)
+
 -- a trip over the events of a day is one that was rolled out
 rolled_out : (events : List ExpandedEvent) (trip : Trip) → IsTripOver events trip
     → IsRolledOut events trip
@@ -117,13 +127,34 @@ module _ (values : List ℤ) (look : FileId → List ℕ) where
       subst (λ text. input_faults (pool_cost_input (pool_of network (look file.Pool))) text ≡ [])
       (first_own look file.PoolCost costs.ids right.text [] right.one) right.accepted
 
-  pub concept_accepted : IsRightOver planning values look stage.Concept
-      → concept_faults network (look file.Concept) ≡ []
+  -- what stands in the place of the concept is right over what the plain stage is given
+  pub record ConceptStands : Type 0 where
+    pub ids : List FileId
+    pub right : ConceptIsRight (bundle_over values look stage.Concept) (files_over look ids)
+
+  concept_by : (pinned : Bool)
+      → IsRightOver planning values look (cond pinned stage.PinnedConcept stage.Concept) → ConceptStands
   unfolding planning stage_model
+  concept_by true concept = record {
+    ids = concept.ids;
+    right = concept_right_over (bundle_over values look stage.PinnedConcept) (bundle_over values look stage.Concept)
+        (record { stops = refl; edges = refl; pool = refl; loads = refl; costs = refl })
+        (files_over look concept.ids) concept.right;
+  }
+  concept_by false concept = record {
+    ids = concept.ids;
+    right = found_right (bundle_over values look stage.Concept) (files_over look concept.ids) concept.right;
+  }
+
+  pub concept_stands : IsRightOver planning values look (in_place values stage.Concept) → ConceptStands
+  concept_stands concept = concept_by (is_pinned values key.PinConcept) concept
+
+  pub concept_accepted : IsRightOver planning values look (in_place values stage.Concept)
+      → concept_faults network (look file.Concept) ≡ []
   concept_accepted concept =
-      let right : ConceptFilesAreRight (bundle_over values look stage.Concept) (files_over look concept.ids) = concept.right in
+      let stands = concept_stands concept in
       subst (λ text. concept_faults network text ≡ [])
-      (first_own look file.Concept concept.ids right.text (mark_files right.tree) right.each) right.accepted
+      (first_own look file.Concept stands.ids stands.right.text (mark_files stands.right.tree) stands.right.each) stands.right.accepted
 
   pub periodic_accepted : IsRightOver planning values look stage.Ean
       → timetable_faults (bundle_over values look stage.Timetable) ≡ []
@@ -141,17 +172,39 @@ module _ (values : List ℤ) (look : FileId → List ℕ) where
   unfolding stage_keys
   same_period = refl
 
-  times_accepted : IsRightOver planning values look stage.Timetable
-      → input_faults (times_in (bundle_over values look stage.Rollout)) (look file.TimesP) ≡ []
-  unfolding planning stage_model
-  times_accepted times =
-      let right : TimetableFilesAreRight (bundle_over values look stage.Timetable) (files_over look times.ids) = times.right in
-      subst (λ text. input_faults (times_in (bundle_over values look stage.Rollout)) text ≡ [])
-      (first_own look file.TimesP times.ids right.text [] right.one)
-      (subst (λ period. input_faults (periodic_time_input file.TimesP period (periodic_event_ids (events_of (look file.EventsP)))) right.text ≡ [])
-      same_period right.accepted)
+  -- what stands in the place of the timetable is right over what the plain stage is given
+  pub record TimesStand : Type 0 where
+    pub ids : List FileId
+    pub right : TimetableFilesAreRight (bundle_over values look stage.Timetable) (files_over look ids)
 
-  pub day_accepted : IsRightOver planning values look stage.Ean → IsRightOver planning values look stage.Timetable
+  pub pinned_period : amount (part_of values stage.PinnedTimetable) key.PeriodLength
+      ≡ amount (part_of values stage.Timetable) key.PeriodLength
+  unfolding stage_keys
+  pinned_period = refl
+
+  times_by : (pinned : Bool)
+      → IsRightOver planning values look (cond pinned stage.PinnedTimetable stage.Timetable) → TimesStand
+  unfolding planning stage_model
+  times_by true times = record {
+    ids = times.ids;
+    right = right_where_same (bundle_over values look stage.PinnedTimetable) (bundle_over values look stage.Timetable)
+        (files_over look times.ids) pinned_period refl refl times.right;
+  }
+  times_by false times = record { ids = times.ids; right = times.right }
+
+  pub times_stands : IsRightOver planning values look (in_place values stage.Timetable) → TimesStand
+  times_stands times = times_by (is_pinned values key.PinTimetable) times
+
+  times_accepted : IsRightOver planning values look (in_place values stage.Timetable)
+      → input_faults (times_in (bundle_over values look stage.Rollout)) (look file.TimesP) ≡ []
+  times_accepted times =
+      let stands = times_stands times in
+      subst (λ text. input_faults (times_in (bundle_over values look stage.Rollout)) text ≡ [])
+      (first_own look file.TimesP stands.ids stands.right.text [] stands.right.one)
+      (subst (λ period. input_faults (periodic_time_input file.TimesP period (periodic_event_ids (events_of (look file.EventsP)))) stands.right.text ≡ [])
+      same_period stands.right.accepted)
+
+  pub day_accepted : IsRightOver planning values look stage.Ean → IsRightOver planning values look (in_place values stage.Timetable)
       → rollout_faults (bundle_over values look stage.Rollout) ≡ []
   unfolding events_of activities_of planning stage_model
   day_accepted ean times =
@@ -193,19 +246,44 @@ module _ (values : List ℤ) (look : FileId → List ℕ) where
       → input_faults (trip_input (Some (stops_of (look file.Stop)))) (look file.Trips) ≡ []
   trips_accepted ean day = (day_made day).trips_fine (Some (stops_of (look file.Stop))) (at_stops ean)
 
-  -- the vehicle schedule that was made is accepted over the events of the day
-  pub schedule_accepted : IsRightOver planning values look stage.Rollout → IsRightOver planning values look stage.Vehicles
+  -- what stands in the place of the schedule is right over what the plain stage is given
+  pub record ScheduleStands : Type 0 where
+    pub ids : List FileId
+    pub right : PinnedScheduleIsRight (bundle_over values look stage.Vehicles) (files_over look ids)
+
+  pub same_given : HaveSameTrips (bundle_over values look stage.PinnedVehicles) (bundle_over values look stage.Vehicles)
+  unfolding stage_keys
+  same_given = record { stops = refl; edges = refl; rows = refl; turnover = refl; vehicle = refl; empty = refl }
+
+  schedule_by : (pinned : Bool)
+      → IsRightOver planning values look (cond pinned stage.PinnedVehicles stage.Vehicles) → ScheduleStands
+  unfolding planning stage_model
+  schedule_by true vehicles = record {
+    ids = vehicles.ids;
+    right = pinned_over (bundle_over values look stage.PinnedVehicles) (bundle_over values look stage.Vehicles) same_given
+        (files_over look vehicles.ids) vehicles.right;
+  }
+  schedule_by false vehicles = record {
+    ids = vehicles.ids;
+    right = plain_pinned (bundle_over values look stage.Vehicles) (files_over look vehicles.ids) vehicles.right;
+  }
+
+  -- the vehicle schedule there is accepted over the events of the day
+  pub schedule_accepted : IsRightOver planning values look stage.Rollout
+      → IsRightOver planning values look (in_place values stage.Vehicles)
       → input_faults (schedule_input (records_of expanded_event_input (look file.EventsX))) (look file.Schedule) ≡ []
-  unfolding trips_in trips_of planning stage_model
+  unfolding trips_in trips_of
   schedule_accepted day vehicles =
-      let right : VehicleFilesAreRight (bundle_over values look stage.Vehicles) (files_over look vehicles.ids) = vehicles.right in
+      let stands = schedule_by (is_pinned values key.PinVehicles) vehicles in
+      let files = stands.right.right in
       let events = records_of expanded_event_input (look file.EventsX) in
-      let own = both_own look file.Schedule file.Potential vehicles.ids right.right.schedule right.right.potentials right.right.both in
-      subst (λ text. input_faults (schedule_input events) text ≡ []) own.0
-      (right.accepted events (All-weaker (IsTripOver events) (IsRolledOut events) (rolled_out events)
+      let own = first_own look file.Schedule stands.ids files.schedule (potential_files files.potentials) files.each in
+      subst (λ text. input_faults (schedule_input events) text ≡ []) own
+      (stands.right.accepted events (All-weaker (IsTripOver events) (IsRolledOut events) (rolled_out events)
       (records_of (trip_input None) (look file.Trips)) (day_made day).ends_fine))
 
-  pub plans_accepted : IsRightOver planning values look stage.Rollout → IsRightOver planning values look stage.Vehicles
+  pub plans_accepted : IsRightOver planning values look stage.Rollout
+      → IsRightOver planning values look (in_place values stage.Vehicles)
       → made_faults (bundle_over values look stage.Disposition) ≡ []
   unfolding day_events_in
   plans_accepted day vehicles =

@@ -57,6 +57,14 @@ schedule_stands bundle found (Some text) None lacks is none =
     absurd (bare_schedule bundle text (vehicles_faults bundle) _ refl (sym is ∙ none))
 schedule_stands bundle found (Some text) (Some other) lacks is none = (0, omega arith, refl)
 
+-- one that needs none may stand without them
+pub bare_stands : (schedule potentials : Option (List ℕ))
+    → (is_lacking file.Schedule schedule || (is_lacking file.Potential potentials || false)) ≡ false
+    → MakesAs stage.PinnedVehicles (ids_of (found_file file.Schedule (ok_or schedule (cause.Missing file.Schedule)) (found_file file.Potential (ok_or potentials (cause.Missing file.Potential)) [])))
+bare_stands None potentials lacks = absurd (cc)
+bare_stands (Some text) None lacks = (1, omega arith, refl)
+bare_stands (Some text) (Some other) lacks = (0, omega arith, refl)
+
 -- times without reasons beside them are found at fault
 bare_times : (faults : List Refusal) (rule : Rule)
     → judged_found stage.Disposition (λ (rule : Rule). rule) faults (Some rule) ≡ None → ⊥

@@ -1,4 +1,8 @@
 -- The folder that a finished run leaves passes a check.
+use Rattle.planning_stages.specs.Verdicts.{bare_verdict}
+use Rattle.vehicle_flow.specs.RightSchedules.{PinnedScheduleIsRight}
+use Rattle.line_search.specs.RightPinned.{ConceptIsRight}
+use Rattle.std.proofs.Common.{map, option_to_list}
 use Rattle.std.proofs.Common.{◌≡◌, ℕ, false, ◌||◌, List, [], ◌∷◌, Option, Some, None, refl, ap}
 use Rattle.std.specs.Option.{ok_or}
 use Rattle.giv_files.specs.declared.file_id.FileId.TheVariants as file
@@ -30,7 +34,7 @@ first_mark : (mark : Option (List ℕ)) → first_text (mark_files mark) ≡ mar
 first_mark None = refl
 first_mark (Some text) = refl
 
-pub concept_none : (bundle : BundleParts) (there : List MadeFile) → ConceptFilesAreRight bundle there
+pub concept_none : (bundle : BundleParts) (there : List MadeFile) → ConceptIsRight bundle there
     → concept_verdict bundle there ≡ None
 concept_none bundle there right = rw (right.each, right.inputs, first_mark right.tree, right.passes) refl
 
@@ -55,6 +59,28 @@ schedule_there None None text other is =
     let none : [] ≡ file.Schedule ∷ file.Potential ∷ [] = ap ids_of is in absurd (cc)
 schedule_there None (Some potentials) text other is =
     let first : file.Potential ∷ [] ≡ file.Schedule ∷ file.Potential ∷ [] = ap ids_of is in absurd (cc)
+
+-- the first of the files of potentials has their text
+first_potentials : (potentials : Option (List ℕ))
+    → first_text (map (λ text. record { file = file.Potential; text = text }) (option_to_list potentials)) ≡ potentials
+first_potentials None = refl
+first_potentials (Some text) = refl
+
+pub bare_none : (bundle : BundleParts) (there : List MadeFile) → PinnedScheduleIsRight bundle there
+    → bare_verdict bundle there ≡ None
+bare_none bundle there right =
+    rw (right.right.each, right.right.inputs, first_potentials right.right.potentials, right.passes) refl
+
+pub bare_there : (schedule potentials : Option (List ℕ)) (text : List ℕ) (mark : Option (List ℕ))
+    → found_file file.Schedule (ok_or schedule (cause.Missing file.Schedule)) (found_file file.Potential (ok_or potentials (cause.Missing file.Potential)) [])
+    ≡ record { file = file.Schedule; text = text } ∷ map (λ text. record { file = file.Potential; text = text }) (option_to_list mark)
+    → (is_lacking file.Schedule schedule || (is_lacking file.Potential potentials || false)) ≡ false
+bare_there (Some schedule) (Some potentials) text mark is = refl
+bare_there (Some schedule) None text mark is = refl
+bare_there None None text mark is =
+    let none : [] ≡ file.Schedule ∷ ids_of (map (λ text. record { file = file.Potential; text = text }) (option_to_list mark)) = ap ids_of is in absurd (cc)
+bare_there None (Some potentials) text mark is =
+    let first : file.Potential ∷ [] ≡ file.Schedule ∷ ids_of (map (λ text. record { file = file.Potential; text = text }) (option_to_list mark)) = ap ids_of is in absurd (cc)
 
 pub schedule_none : (bundle : BundleParts) (there : List MadeFile) → VehicleFilesAreRight bundle there
     → schedule_verdict bundle there ≡ None

@@ -1,4 +1,5 @@
 pub mod Models
+pub mod Places
 pub mod Planning
 pub mod Rules
 pub mod Verdicts

@@ -1,24 +1,30 @@
--- The nine planning stages: what each one is, and the chain of them.
-use Rattle.std.specs.Prelude.{ℕ, List, Option, Result}
+-- The planning stages: what each one is, and the chain of the nine places in which they run.
+use Rattle.std.specs.Prelude.{ℕ, ℤ, Bool, true, false, List, Option, None, Result, ⊤}
 use Rattle.giv_files.specs.declared.made.Made.{Made}
 use Rattle.giv_files.specs.declared.made.MadeFile.{MadeFile}
 use Rattle.giv_files.specs.declared.refusal.Refusal.{Refusal}
 use Rattle.giv_files.specs.declared.stage.Stage.{Stage}
 use Rattle.giv_files.specs.declared.stage.Stage.TheVariants as stage
 use Rattle.giv_files.specs.Settings.{BundleParts}
-use Rattle.giv_files.specs.Stages.{all_stages}
+use Rattle.giv_files.specs.declared.key.Key.TheVariants as key
+use Rattle.giv_files.specs.Stages.{places}
 use Rattle.demand_load.specs.LoadStage.{load_stage}
 use Rattle.demand_load.specs.RightLoads.{LoadFilesAreRight}
 use Rattle.line_pool.specs.CostStage.{cost_stage}
 use Rattle.line_pool.specs.RightCosts.{CostFilesAreRight}
 use Rattle.line_search.specs.ConceptStage.{concept_stage, concept_work}
+use Rattle.line_search.specs.PinnedConcepts.{pinned_concept_stage}
 use Rattle.line_search.specs.RightConcepts.{ConceptFilesAreRight}
+use Rattle.line_search.specs.RightPinned.{ConceptIsRight}
 use Rattle.event_activity.specs.EanStage.{ean_stage}
 use Rattle.event_activity.specs.RightEan.{EanFilesAreRight}
+use Rattle.pesp_search.specs.PinnedTimetables.{pinned_timetable_stage}
 use Rattle.pesp_search.specs.RightTimetables.{TimetableFilesAreRight}
 use Rattle.pesp_search.specs.TimetableStage.{timetable_stage, timetable_work}
 use Rattle.roll_out.specs.RightRollout.{RolloutFilesAreRight}
 use Rattle.roll_out.specs.RolloutStage.{rollout_stage}
+use Rattle.vehicle_flow.specs.PinnedSchedules.{pinned_vehicles_stage}
+use Rattle.vehicle_flow.specs.RightSchedules.{PinnedScheduleIsRight, ScheduleIsRight}
 use Rattle.vehicle_flow.specs.RightVehicles.{VehicleFilesAreRight, VehiclesAreRight}
 use Rattle.vehicle_flow.specs.VehicleStage.{vehicles_stage}
 use Rattle.delay_management.specs.DispositionStage.{disposition_stage}
@@ -28,18 +34,22 @@ use Rattle.evaluators.specs.StatisticStage.{statistic_stage}
 use Rattle.stage_chain.specs.declared.finding.Finding.{Finding}
 use Rattle.stage_chain.specs.StageParts.{StageParts}
 use Rattle.planning_stages.specs.Models.{ConceptPasses, DispositionPasses, TimetablePasses}
-use Rattle.planning_stages.specs.Verdicts.{concept_verdict, content_found, disposition_verdict}
+use Rattle.planning_stages.specs.Places.{in_place, is_pinned}
+use Rattle.planning_stages.specs.Verdicts.{bare_verdict, concept_verdict, content_found, disposition_verdict}
 use Rattle.planning_stages.specs.Verdicts.{schedule_verdict, timetable_verdict}
 
--- What a stage makes of what it is given, or why it refuses that; how many steps that takes; what is
--- found of files from any hand in the place of those that it makes; when its own files are right, and
--- when such files satisfy its model.
+-- What is found of files from any hand in a place, and when such files satisfy its model.
+pub record PlaceModel : Type 1 where
+  pub verdict : BundleParts → List MadeFile → Option Finding
+  pub Satisfies : BundleParts → List MadeFile → Type 0
+
+-- What a stage makes of what it is given, or why it refuses that; how many steps that takes; when its
+-- own files are right; and how files are judged in the place that has its name.
 pub record StageModel : Type 1 where
   pub run : BundleParts → Result Made Refusal
   pub work : BundleParts → ℕ
-  pub verdict : BundleParts → List MadeFile → Option Finding
   pub IsRight : BundleParts → List MadeFile → Type 0
-  pub Satisfies : BundleParts → List MadeFile → Type 0
+  pub judged : PlaceModel
 
 -- a stage of one step whose files are judged by what it makes
 abbrev pub by_content : Stage → (BundleParts → Result Made Refusal)
@@ -47,10 +57,28 @@ abbrev pub by_content : Stage → (BundleParts → Result Made Refusal)
 by_content stage run IsRight = record {
   run = run;
   work = λ bundle. 1;
-  verdict = λ bundle others. content_found stage (run bundle) others;
   IsRight = IsRight;
-  Satisfies = IsRight;
+  judged = record {
+    verdict = λ bundle others. content_found stage (run bundle) others;
+    Satisfies = IsRight;
+  };
 }
+
+-- a stage of one step that takes what people give, and runs in the place of another one: no place has
+-- its name, so nothing is judged under that
+abbrev pub by_hand : (BundleParts → Result Made Refusal) → (BundleParts → List MadeFile → Type 0)
+    → StageModel
+by_hand run IsRight = record {
+  run = run;
+  work = λ bundle. 1;
+  IsRight = IsRight;
+  judged = record { verdict = λ bundle others. None; Satisfies = λ bundle others. ⊤ };
+}
+
+-- how a vehicle schedule is judged: one that people give needs no certificate
+abbrev pub schedule_judged : Bool → PlaceModel
+schedule_judged true = record { verdict = bare_verdict; Satisfies = ScheduleIsRight }
+schedule_judged false = record { verdict = schedule_verdict; Satisfies = VehiclesAreRight }
 
 -- each stage
 unfoldable pub stage_model : Stage → StageModel
@@ -59,42 +87,47 @@ stage_model stage.Cost = by_content stage.Cost cost_stage CostFilesAreRight
 stage_model stage.Concept = record {
   run = concept_stage;
   work = concept_work;
-  verdict = concept_verdict;
   IsRight = ConceptFilesAreRight;
-  Satisfies = ConceptPasses;
+  judged = record { verdict = concept_verdict; Satisfies = ConceptPasses };
 }
 stage_model stage.Ean = by_content stage.Ean ean_stage EanFilesAreRight
 stage_model stage.Timetable = record {
   run = timetable_stage;
   work = timetable_work;
-  verdict = timetable_verdict;
   IsRight = TimetableFilesAreRight;
-  Satisfies = TimetablePasses;
+  judged = record { verdict = timetable_verdict; Satisfies = TimetablePasses };
 }
 stage_model stage.Rollout = by_content stage.Rollout rollout_stage RolloutFilesAreRight
 stage_model stage.Vehicles = record {
   run = vehicles_stage;
   work = λ bundle. 1;
-  verdict = schedule_verdict;
   IsRight = VehicleFilesAreRight;
-  Satisfies = VehiclesAreRight;
+  judged = schedule_judged false;
 }
 stage_model stage.Disposition = record {
   run = disposition_stage;
   work = λ bundle. 1;
-  verdict = disposition_verdict;
   IsRight = DispositionFilesAreRight;
-  Satisfies = DispositionPasses;
+  judged = record { verdict = disposition_verdict; Satisfies = DispositionPasses };
 }
 stage_model stage.Statistic = by_content stage.Statistic statistic_stage StatisticFilesAreRight
+stage_model stage.PinnedConcept = by_hand pinned_concept_stage ConceptIsRight
+stage_model stage.PinnedTimetable = by_hand pinned_timetable_stage TimetableFilesAreRight
+stage_model stage.PinnedVehicles = by_hand pinned_vehicles_stage PinnedScheduleIsRight
 
--- the chain of them, in their order
+-- how the files of a place are judged under settings
+unfoldable pub place_model : List ℤ → Stage → PlaceModel
+place_model values stage.Vehicles = schedule_judged (is_pinned values key.PinVehicles)
+place_model values place = (stage_model place).judged
+
+-- the chain of them, in the order of their places
 unfoldable pub planning : StageParts
 planning = record {
-  stages = all_stages;
+  places = places;
+  placed = in_place;
   run = λ bundle. (stage_model bundle.stage).run bundle;
   work = λ bundle. (stage_model bundle.stage).work bundle;
-  verdict = λ stage. (stage_model stage).verdict;
+  verdict = λ values bundle. (place_model values bundle.stage).verdict bundle;
   IsRight = λ stage. (stage_model stage).IsRight;
-  Satisfies = λ stage. (stage_model stage).Satisfies;
+  Satisfies = λ values bundle. (place_model values bundle.stage).Satisfies bundle;
 }

@@ -14,6 +14,7 @@ use Rattle.line_search.specs.GivenProblems.{problem_faults, problem_of}
 use Rattle.line_search.specs.Judged.{first_broken}
 use Rattle.pesp_search.specs.Judged.{first_broken_rule}
 use Rattle.pesp_search.specs.TimetableStage.{problem_in, timetable_faults}
+use Rattle.vehicle_flow.specs.RightSchedules.{passed_over}
 use Rattle.vehicle_flow.specs.ScheduleChecks.{schedule_fault}
 use Rattle.vehicle_flow.specs.VehicleStage.{trips_in, vehicles_faults}
 use Rattle.delay_management.specs.DispositionStage.{disposition_faults, kept_in, problem_in as delays_in}
@@ -75,6 +76,13 @@ schedule_verdict bundle [] = None
 schedule_verdict bundle (schedule ∷ potentials) =
     judged_found stage.Vehicles schedule_rule (vehicles_faults bundle)
     (schedule_fault (trips_in bundle) schedule.text (first_text potentials))
+
+-- the same of one that needs no potentials
+abbrev pub bare_verdict : BundleParts → List MadeFile → Option Finding
+bare_verdict bundle [] = None
+bare_verdict bundle (schedule ∷ potentials) =
+    judged_found stage.Vehicles schedule_rule (vehicles_faults bundle)
+    (passed_over (schedule_fault (trips_in bundle) schedule.text (first_text potentials)))
 
 -- what is found of a disposition, with reasons beside it or without
 abbrev pub reasons_found : BundleParts → List ℕ → List ℕ → Option Finding

@@ -1,9 +1,12 @@
-//! The nine planning stages as a chain takes them: what each makes, and the judge of its files.
+//! The planning stages as a chain takes them: what each makes, the places in which they run, and the
+//! judge of the files there.
 #![tactic(auto)]
 
+mod places;
 mod rules;
 mod stages;
 mod verdicts;
 
-pub use stages::{make_stage, planning_stages};
+pub use places::in_place;
+pub use stages::{make_stage, planning_places};
 pub use verdicts::verdict;

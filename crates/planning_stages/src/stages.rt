@@ -10,19 +10,19 @@ use evaluators::make_statistic;
 use event_activity::make_ean;
 use giv_files::{Bundle, Made, Stage, StageFault};
 use line_pool::make_cost;
-use line_search::make_concept;
-use pesp_search::make_timetable;
+use line_search::{make_concept, take_concept};
+use pesp_search::{make_timetable, take_timetable};
 use plan_num::{Ledger, Steps};
 use roll_out::make_rollout;
 use std::alloc::Global;
-use vehicle_flow::make_vehicles;
+use vehicle_flow::{make_vehicles, take_vehicles};
 
-/// The nine planning stages, in the order in which they run.
+/// The nine places of the planning chain, in the order in which they run.
 #[tactic(auto, unfolding(crate::specs::Planning::planning))]
-pub fn planning_stages() -> &'static [Stage]
-    ensures { result.now ≡ planning.stages }
+pub fn planning_places() -> &'static [Stage]
+    ensures { result.now ≡ planning.places }
 {
-    Stage::all()
+    Stage::places()
 }
 
 /// Makes what the stage of a bundle makes of it.
@@ -46,5 +46,8 @@ pub fn make_stage<L: Ledger>(
         Stage::Vehicles => make_vehicles(alloc, bundle, steps),
         Stage::Disposition => make_disposition(alloc, bundle, steps),
         Stage::Statistic => make_statistic(alloc, bundle, steps),
+        Stage::PinnedConcept => take_concept(alloc, bundle, steps),
+        Stage::PinnedTimetable => take_timetable(alloc, bundle, steps),
+        Stage::PinnedVehicles => take_vehicles(alloc, bundle, steps),
     }
 }

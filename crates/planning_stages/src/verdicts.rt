@@ -7,49 +7,75 @@ ghost use Rattle.giv_files.specs.MadeLists.{MakesAs, ids_of};
 ghost use Rattle.giv_files.specs.Settings.{Fits};
 ghost use Rattle.delay_management.specs.DispositionStage.{disposition_faults};
 ghost use Rattle.delay_management.specs.Judged.{Passes};
+ghost use Rattle.vehicle_flow.specs.RightSchedules.{ScheduleIsRight};
 ghost use Rattle.vehicle_flow.specs.RightVehicles.{VehiclesAreRight};
 ghost use Rattle.planning_stages.specs.Models.{ConceptPasses, DispositionPasses, TimetablePasses};
-ghost use Rattle.planning_stages.specs.Planning.{planning};
-ghost use Rattle.planning_stages.specs.Verdicts.{bare_found, concept_verdict, content_found};
+ghost use Rattle.planning_stages.specs.Places.{in_place};
+ghost use Rattle.planning_stages.specs.Planning.{place_model, planning};
+ghost use Rattle.planning_stages.specs.Verdicts.{bare_found, bare_verdict, concept_verdict};
+ghost use Rattle.planning_stages.specs.Verdicts.{content_found};
 ghost use Rattle.planning_stages.specs.Verdicts.{disposition_verdict, files_found, first_text};
 ghost use Rattle.planning_stages.specs.Verdicts.{reasons_found, same_texts, schedule_verdict};
 ghost use Rattle.planning_stages.specs.Verdicts.{timetable_verdict};
 
 use crate::rules::{bare_rule, concept_rule, reason_rule, schedule_rule, timetable_rule};
+use crate::places::is_pinned;
 use crate::stages::make_stage;
 use delay_management::check_reasons;
-use giv_files::{Bundle, MadeFile, Stage, StageFault};
+use config_keys::Config;
+use giv_files::{Bundle, Key, MadeFile, Stage, StageFault};
 use line_search::check_concept;
 use pesp_search::check_timetable;
 use plan_num::{NoMemory, Silent, Steps};
 use stage_chain::{Cause, Finding, Rule};
 use std::alloc::Global;
-use vehicle_flow::check_schedule;
+use vehicle_flow::{ScheduleFault, check_schedule};
 
-/// What is found of files over what their stage is given.
-#[tactic(auto, unfolding(crate::specs::Planning::planning, crate::specs::Planning::stage_model))]
+/// What is found under the settings of a dataset of files from any hand in a place, over what the
+/// place is given.
+#[tactic(auto, unfolding(crate::specs::Planning::planning))]
 pub fn verdict(
     alloc: Global,
+    config: &Config,
     bundle: &Bundle,
-    stage: Stage,
     there: &[MadeFile],
 ) -> Result<Option<Finding>, NoMemory>
     requires fits { Fits bundle.now }
-    requires stage { bundle.now.stage ≡ stage }
-    ensures found { IfOk result (λ found. found ≡ planning.verdict stage bundle.now there.now) }
-    ensures passes { MakesAs stage (ids_of there.now) → IfOk result (λ found.
-        IfNone found (planning.Satisfies stage bundle.now there.now)) }
+    ensures found { IfOk result (λ found. found ≡ planning.verdict config.now bundle.now there.now) }
+    ensures passes { MakesAs (planning.placed config.now bundle.now.stage) (ids_of there.now)
+        → IfOk result (λ found.
+        IfNone found (planning.Satisfies config.now bundle.now there.now)) }
 {
-    match stage {
-        Stage::Load => content_found(alloc, bundle, stage, there),
-        Stage::Cost => content_found(alloc, bundle, stage, there),
+    place_verdict(alloc, config, bundle, bundle.stage(), there)
+}
+
+// The same in the place of a stage.
+#[tactic(auto, unfolding(crate::specs::Planning::place_model, crate::specs::Planning::stage_model))]
+fn place_verdict(
+    alloc: Global,
+    config: &Config,
+    bundle: &Bundle,
+    place: Stage,
+    there: &[MadeFile],
+) -> Result<Option<Finding>, NoMemory>
+    requires fits { Fits bundle.now }
+    requires stage { bundle.now.stage ≡ place }
+    ensures found { IfOk result (λ found.
+        found ≡ (place_model config.now place).verdict bundle.now there.now) }
+    ensures passes { MakesAs (in_place config.now place) (ids_of there.now) → IfOk result (λ found.
+        IfNone found ((place_model config.now place).Satisfies bundle.now there.now)) }
+{
+    match place {
+        Stage::Load => content_found(alloc, bundle, place, there),
+        Stage::Cost => content_found(alloc, bundle, place, there),
         Stage::Concept => concept_verdict(alloc, bundle, there),
-        Stage::Ean => content_found(alloc, bundle, stage, there),
+        Stage::Ean => content_found(alloc, bundle, place, there),
         Stage::Timetable => timetable_verdict(alloc, bundle, there),
-        Stage::Rollout => content_found(alloc, bundle, stage, there),
-        Stage::Vehicles => schedule_verdict(alloc, bundle, there),
+        Stage::Rollout => content_found(alloc, bundle, place, there),
+        Stage::Vehicles => vehicles_verdict(alloc, config, bundle, there),
         Stage::Disposition => disposition_verdict(alloc, bundle, there),
-        Stage::Statistic => content_found(alloc, bundle, stage, there),
+        Stage::Statistic => content_found(alloc, bundle, place, there),
+        Stage::PinnedConcept | Stage::PinnedTimetable | Stage::PinnedVehicles => Ok(None),
     }
 }
 
@@ -161,6 +187,29 @@ fn timetable_verdict(
     }
 }
 
+// What is found of a vehicle schedule: one that people give needs no potentials.
+#[tactic(auto, unfolding(crate::specs::Planning::place_model, crate::specs::Planning::stage_model))]
+fn vehicles_verdict(
+    alloc: Global,
+    config: &Config,
+    bundle: &Bundle,
+    there: &[MadeFile],
+) -> Result<Option<Finding>, NoMemory>
+    requires fits { Fits bundle.now }
+    requires stage { bundle.now.stage ≡ stages.Vehicles }
+    ensures found { IfOk result (λ found.
+        found ≡ (place_model config.now stages.Vehicles).verdict bundle.now there.now) }
+    ensures passes { MakesAs (in_place config.now stages.Vehicles) (ids_of there.now)
+        → IfOk result (λ found.
+        IfNone found ((place_model config.now stages.Vehicles).Satisfies bundle.now there.now)) }
+{
+    if is_pinned(config, Key::PinVehicles) {
+        bare_verdict(alloc, bundle, there)
+    } else {
+        schedule_verdict(alloc, bundle, there)
+    }
+}
+
 // What is found of a vehicle schedule, with the potentials that may stand behind it.
 fn schedule_verdict(
     alloc: Global,
@@ -178,6 +227,32 @@ fn schedule_verdict(
     };
     match check_schedule(alloc, bundle, schedule.text.as_bytes(), first_text(more)) {
         Ok(None) => Ok(None),
+        Ok(Some(fault)) => Ok(Some(Finding::Broken(Stage::Vehicles, schedule_rule(fault)))),
+        Err(StageFault::Refused(refusal)) => Ok(Some(Finding::of(
+            Stage::Vehicles,
+            Cause::Refused(Stage::Vehicles, refusal),
+        ))),
+        Err(StageFault::NoMemory) => Err(NoMemory),
+    }
+}
+
+// What is found of a vehicle schedule that needs no potentials beside it.
+fn bare_verdict(
+    alloc: Global,
+    bundle: &Bundle,
+    there: &[MadeFile],
+) -> Result<Option<Finding>, NoMemory>
+    requires fits { Fits bundle.now }
+    requires stage { bundle.now.stage ≡ stages.Vehicles }
+    ensures found { IfOk result (λ found. found ≡ bare_verdict bundle.now there.now) }
+    ensures passes { MakesAs stages.PinnedVehicles (ids_of there.now) → IfOk result (λ found.
+        IfNone found (ScheduleIsRight bundle.now there.now)) }
+{
+    let [schedule, more @ ..] = there else {
+        return Ok(None);
+    };
+    match check_schedule(alloc, bundle, schedule.text.as_bytes(), first_text(more)) {
+        Ok(None) | Ok(Some(ScheduleFault::Certificate)) => Ok(None),
         Ok(Some(fault)) => Ok(Some(Finding::Broken(Stage::Vehicles, schedule_rule(fault)))),
         Err(StageFault::Refused(refusal)) => Ok(Some(Finding::of(
             Stage::Vehicles,

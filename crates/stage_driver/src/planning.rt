@@ -2,20 +2,25 @@
 ghost use Rattle.planning_stages.specs.Planning.{planning};
 ghost use Rattle.planning_stages.proofs.Laws.{planning_laws};
 
+use config_keys::Config;
 use giv_files::{Bundle, Made, MadeFile, Stage, StageFault};
 use plan_num::{Ledger, NoMemory, Steps};
-use planning_stages::{make_stage, planning_stages, verdict};
+use planning_stages::{in_place, make_stage, planning_places, verdict};
 use stage_chain::{Finding, Stages};
 use std::alloc::Global;
 
-/// The nine planning stages, from loads to the statistic.
+/// The planning stages in their nine places, from loads to the statistic.
 pub(crate) struct Planning;
 
 impl Stages for Planning {
     ghost parts = { planning };
 
-    fn stages() -> &'static [Stage] {
-        planning_stages()
+    fn places() -> &'static [Stage] {
+        planning_places()
+    }
+
+    fn placed(config: &Config, place: Stage) -> Stage {
+        in_place(config, place)
     }
 
     fn make<L: Ledger>(
@@ -28,11 +33,11 @@ impl Stages for Planning {
 
     fn judge(
         alloc: Global,
+        config: &Config,
         bundle: &Bundle,
-        stage: Stage,
         there: &[MadeFile],
     ) -> Result<Option<Finding>, NoMemory> {
-        verdict(alloc, bundle, stage, there)
+        verdict(alloc, config, bundle, there)
     }
 
     ghost laws = { planning_laws };
