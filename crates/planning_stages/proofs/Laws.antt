@@ -188,7 +188,6 @@ stage_laws stage.Statistic = content_laws stage.Statistic _ _ refl refl (record 
   right = statistic_is_right;
   refuses = λ values look reason right. let was = right_before planning values look (at_point values) stage.Statistic right in statistic_names_none is_hand_file (bundle_over values look stage.Statistic) reason (all_accepted values look (was stage.Cost refl) (was stage.Concept refl) (was stage.Ean refl) (was stage.Timetable refl) (was stage.Rollout refl) (was stage.Vehicles refl) (was stage.Disposition refl));
 })
-
 stage_laws stage.PinnedConcept = record {
   makes = pinned_concept_makes;
   right = pinned_concept_right;
@@ -216,7 +215,7 @@ module _ (values : List ℤ) (folder : Folder) where
   place_stands : (at : Stage) (bundle : BundleParts) → lacks_file folder at ≡ false
       → (place_model values at).verdict bundle (standing folder at) ≡ None
       → MakesAs (in_place values at) (ids_of (standing folder at))
-  unfolding place_model
+  unfolding place_model stage_model
   place_stands stage.Concept bundle lacks none = by (is_pinned values key.PinConcept)
     where
       by : (b : Bool) → MakesAs (cond b stage.PinnedConcept stage.Concept) (ids_of (standing folder stage.Concept))
@@ -322,32 +321,57 @@ is_content stage.Rollout = true
 is_content stage.Statistic = true
 is_content _ = false
 
-module _ (bundle : BundleParts) (others : List MadeFile) (fits : Fits bundle) where
-  -- what one of them makes of a bundle are files that it may make, and they are right
-  made_right : (at : Stage) → bundle.stage ≡ at → (made : Made)
-      → (stage_model at).run bundle ≡ Ok made
-      → MakesAs at (ids_of made.files) × (stage_model at).IsRight bundle made.files
-  made_right at own made is =
-      ((stage_laws at).makes bundle made is, (stage_laws at).right bundle made own fits is)
+module _ (values : List ℤ) (bundle : BundleParts) (others : List MadeFile) where
+  -- what is found of their files is that
+  content_judged : (at : Stage) → is_content at ≡ true → (place_model values at).verdict bundle others
+      ≡ content_found at ((stage_model at).run bundle) others
+  unfolding place_model stage_model
+  content_judged stage.Load which = refl
+  content_judged stage.Cost which = refl
+  content_judged stage.Ean which = refl
+  content_judged stage.Rollout which = refl
+  content_judged stage.Statistic which = refl
+  content_judged _ which = absurd (cc)
 
-  none_satisfies : (at : Stage) → is_content at ≡ true → bundle.stage ≡ at → MakesAs at (ids_of others)
-      → content_found at ((stage_model at).run bundle) others ≡ None
-      → (stage_model at).judged.Satisfies bundle others
-  unfolding stage_model
-  none_satisfies stage.Load which own makes none = content_right stage.Load load_stage refl (LoadFilesAreRight bundle) others _ (made_right stage.Load own) makes none
-  none_satisfies stage.Cost which own makes none = content_right stage.Cost cost_stage refl (CostFilesAreRight bundle) others _ (made_right stage.Cost own) makes none
-  none_satisfies stage.Ean which own makes none = content_right stage.Ean ean_stage refl (EanFilesAreRight bundle) others _ (made_right stage.Ean own) makes none
-  none_satisfies stage.Rollout which own makes none = content_right stage.Rollout rollout_stage refl (RolloutFilesAreRight bundle) others _ (made_right stage.Rollout own) makes none
-  none_satisfies stage.Statistic which own makes none = content_right stage.Statistic statistic_stage refl (StatisticFilesAreRight bundle) others _ (made_right stage.Statistic own) makes none
-  none_satisfies _ which own makes none = absurd (cc)
+  ran : (at : Stage) → bundle.stage ≡ at → content_found at (planning.run bundle) others
+      ≡ content_found at ((stage_model at).run bundle) others
+  unfolding planning
+  ran at own = ap (λ stage. content_found at ((stage_model stage).run bundle) others) own
 
-  -- where nothing is found of files that are judged so, they satisfy the model
-  pub content_clause : {E : Type 0} (at : Stage) (result : Result (Option Finding) E)
+  pub content_told : {E : Type 0} (at : Stage) (result : Result (Option Finding) E)
       → is_content at ≡ true → bundle.stage ≡ at
       → IfOk result (λ found. found ≡ content_found at (planning.run bundle) others)
-      → MakesAs at (ids_of others) → IfOk result (λ found. IfNone found ((stage_model at).judged.Satisfies bundle others))
-  unfolding planning
-  content_clause at (Err fault) which own found makes = tt
-  content_clause at (Ok (Some finding)) which own found makes = tt
-  content_clause at (Ok None) which own found makes =
-      none_satisfies at which own makes (ap (λ stage. content_found at ((stage_model stage).run bundle) others) (sym own) ∙ sym found)
+      → IfOk result (λ found. found ≡ (place_model values at).verdict bundle others)
+  content_told at (Err fault) which own found = tt
+  content_told at (Ok some) which own found = found ∙ ran at own ∙ sym (content_judged at which)
+
+  module _ (fits : Fits bundle) where
+    -- what one of them makes of a bundle are files that it may make, and they are right
+    made_right : (at : Stage) → bundle.stage ≡ at → (made : Made)
+        → (stage_model at).run bundle ≡ Ok made
+        → MakesAs at (ids_of made.files) × (stage_model at).IsRight bundle made.files
+    made_right at own made is =
+        ((stage_laws at).makes bundle made is, (stage_laws at).right bundle made own fits is)
+
+    none_satisfies : (at : Stage) → is_content at ≡ true → bundle.stage ≡ at
+        → MakesAs (in_place values at) (ids_of others)
+        → content_found at ((stage_model at).run bundle) others ≡ None
+        → (place_model values at).Satisfies bundle others
+    unfolding place_model stage_model
+    none_satisfies stage.Load which own makes none = content_right stage.Load load_stage refl (LoadFilesAreRight bundle) others _ (made_right stage.Load own) makes none
+    none_satisfies stage.Cost which own makes none = content_right stage.Cost cost_stage refl (CostFilesAreRight bundle) others _ (made_right stage.Cost own) makes none
+    none_satisfies stage.Ean which own makes none = content_right stage.Ean ean_stage refl (EanFilesAreRight bundle) others _ (made_right stage.Ean own) makes none
+    none_satisfies stage.Rollout which own makes none = content_right stage.Rollout rollout_stage refl (RolloutFilesAreRight bundle) others _ (made_right stage.Rollout own) makes none
+    none_satisfies stage.Statistic which own makes none = content_right stage.Statistic statistic_stage refl (StatisticFilesAreRight bundle) others _ (made_right stage.Statistic own) makes none
+    none_satisfies _ which own makes none = absurd (cc)
+
+    -- where nothing is found of files that are judged so, they satisfy the model
+    pub content_clause : {E : Type 0} (at : Stage) (result : Result (Option Finding) E)
+        → is_content at ≡ true → bundle.stage ≡ at
+        → IfOk result (λ found. found ≡ content_found at (planning.run bundle) others)
+        → MakesAs (in_place values at) (ids_of others)
+        → IfOk result (λ found. IfNone found ((place_model values at).Satisfies bundle others))
+    content_clause at (Err fault) which own found makes = tt
+    content_clause at (Ok (Some finding)) which own found makes = tt
+    content_clause at (Ok None) which own found makes =
+        none_satisfies at which own makes (sym (ran at own) ∙ sym found)

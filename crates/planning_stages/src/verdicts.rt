@@ -18,11 +18,11 @@ ghost use Rattle.planning_stages.specs.Verdicts.{disposition_verdict, files_foun
 ghost use Rattle.planning_stages.specs.Verdicts.{reasons_found, same_texts, schedule_verdict};
 ghost use Rattle.planning_stages.specs.Verdicts.{timetable_verdict};
 
-use crate::rules::{bare_rule, concept_rule, reason_rule, schedule_rule, timetable_rule};
 use crate::places::is_pinned;
+use crate::rules::{bare_rule, concept_rule, reason_rule, schedule_rule, timetable_rule};
 use crate::stages::make_stage;
-use delay_management::check_reasons;
 use config_keys::Config;
+use delay_management::check_reasons;
 use giv_files::{Bundle, Key, MadeFile, Stage, StageFault};
 use line_search::check_concept;
 use pesp_search::check_timetable;
@@ -50,7 +50,6 @@ pub fn verdict(
 }
 
 // The same in the place of a stage.
-#[tactic(auto, unfolding(crate::specs::Planning::place_model, crate::specs::Planning::stage_model))]
 fn place_verdict(
     alloc: Global,
     config: &Config,
@@ -75,7 +74,9 @@ fn place_verdict(
         Stage::Vehicles => vehicles_verdict(alloc, config, bundle, there),
         Stage::Disposition => disposition_verdict(alloc, bundle, there),
         Stage::Statistic => content_found(alloc, bundle, place, there),
-        Stage::PinnedConcept | Stage::PinnedTimetable | Stage::PinnedVehicles => Ok(None),
+        Stage::PinnedConcept => Ok(None),
+        Stage::PinnedTimetable => Ok(None),
+        Stage::PinnedVehicles => Ok(None),
     }
 }
 
