@@ -39,6 +39,7 @@ pub mod VehicleLaws
 pub mod VehicleMakes
 pub mod VehicleReads
 pub mod PassingOver
+pub mod PinnedGives
 pub mod PinnedMakes
 pub mod PinnedOver
 pub mod PinnedReads

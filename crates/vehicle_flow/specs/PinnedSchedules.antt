@@ -6,6 +6,9 @@ use Rattle.giv_files.specs.declared.made.Made.{Made}
 use Rattle.giv_files.specs.declared.made.MadeFile.{MadeFile}
 use Rattle.giv_files.specs.declared.refusal.Refusal.{Refusal}
 use Rattle.giv_files.specs.declared.refusal.Refusal.TheVariants as refusal
+use Rattle.giv_files.specs.declared.refusal.StageFault.{StageFault}
+use Rattle.giv_files.specs.declared.refusal.StageFault.TheVariants as stage_fault
+use Rattle.giv_files.specs.declared.row_why.RowWhy.{RowWhy}
 use Rattle.giv_files.specs.declared.row_why.RowWhy.TheVariants as why
 use Rattle.giv_files.specs.declared.stage.Stage.TheVariants as stage
 use Rattle.giv_files.specs.ReportLines.{count_text, report_line}
@@ -29,6 +32,15 @@ abbrev pub plan_refusal : PlanFault → Refusal
 plan_refusal (plan.Row first) = refusal.BadRow file.PinnedSchedule first.row first.why
 plan_refusal (plan.Trips row) = refusal.BadRow file.PinnedSchedule row why.TripsDiffer
 plan_refusal _ = refusal.BadRow file.PinnedSchedule 0 why.CannotFollow
+
+-- a row of the schedule is refused
+abbrev pub refused_row : ℕ → RowWhy → StageFault
+refused_row row why = stage_fault.Refused (refusal.BadRow file.PinnedSchedule row why)
+
+-- what a fault of the plan is as one of the stage; want of memory refuses nothing
+abbrev pub refused_as : PlanFault → StageFault
+refused_as plan.NoMemory = stage_fault.NoMemory
+refused_as fault = stage_fault.Refused (plan_refusal fault)
 
 -- every fault of a bundle, in the order of its inputs; the text of the potentials has none
 abbrev pub pinned_vehicles_faults : BundleParts → List Refusal

@@ -34,7 +34,7 @@ pub(crate) fn vehicles_made(alloc: Global, trips: &Trips) -> Result<Made, NoMemo
     })?;
     Ok(Made {
         files,
-        report: vehicles_line(alloc, trips, &chosen)?,
+        report: vehicles_line(alloc, trips, &chosen.plan)?,
     })
 }
 

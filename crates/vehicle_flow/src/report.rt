@@ -1,32 +1,64 @@
 // The line of the stage in a report.
 ghost use Rattle.std.specs.Prelude.{◌≡◌, ◌++◌, pos, length, codes, IfOk};
 ghost use Rattle.plan_num.specs.Print.{fixed_text};
-ghost use Rattle.flow_potentials.specs.Potentials.{AreValid};
+ghost use Rattle.vehicle_flow.specs.PinnedSchedules.{mark_text, plan_kept};
 ghost use Rattle.vehicle_flow.specs.VehicleStage.{vehicles_line};
 ghost use Rattle.vehicle_model.specs.Plans.{plan_cost, starts, IsPlan};
 ghost use Rattle.vehicle_model.specs.Trips.{links_of};
 
-use crate::solved::Solved;
+use flow_potentials::Potentials;
 use giv_files::{Stage, count_text, report_line};
 use plan_num::{NoMemory, Text, print_fixed};
 use std::alloc::Global;
 use vehicle_model::{Plan, Trips, plan_cost};
 
-/// The line of the report on a plan with its potentials: its vehicles, and what it costs.
-pub(crate) fn vehicles_line(alloc: Global, trips: &Trips, solved: &Solved) -> Result<Text, NoMemory>
-    requires plan { IsPlan (links_of trips.now) solved.now.plan }
-    requires valid { AreValid (links_of trips.now) solved.now.plan solved.now.potentials }
-    ensures { IfOk result (λ text. text ≡ vehicles_line trips.now solved.now.plan) }
+/// The line of the report on a plan of least cost: its vehicles, and what it costs.
+pub(crate) fn vehicles_line(alloc: Global, trips: &Trips, plan: &Plan) -> Result<Text, NoMemory>
+    requires { IsPlan (links_of trips.now) plan.now }
+    ensures { IfOk result (λ text. text ≡ vehicles_line trips.now plan.now) }
 {
     report_line(
         alloc,
         Stage::Vehicles,
         &[
-            count_text(alloc, vehicle_count(&solved.plan), "vehicles")?,
-            cost_text(alloc, trips, solved)?,
+            count_text(alloc, vehicle_count(plan), "vehicles")?,
+            cost_text(alloc, trips, plan)?,
             Text::copy(alloc, b"optimal")?,
         ],
     )
+}
+
+/// The line of the report on the plan of a planner, with potentials that mark it or without.
+pub(crate) fn pinned_line(
+    alloc: Global,
+    trips: &Trips,
+    plan: &Plan,
+    potentials: &Option<Potentials>,
+) -> Result<Text, NoMemory>
+    requires { IsPlan (links_of trips.now) plan.now }
+    ensures { IfOk result
+        (λ text. text ≡ (plan_kept trips.now plan.now potentials.now).report) }
+{
+    report_line(
+        alloc,
+        Stage::Vehicles,
+        &[
+            count_text(alloc, vehicle_count(plan), "vehicles")?,
+            cost_text(alloc, trips, plan)?,
+            Text::copy(alloc, mark_text(potentials))?,
+            Text::copy(alloc, b"pinned")?,
+        ],
+    )
+}
+
+// How the report tells of a mark.
+fn mark_text(potentials: &Option<Potentials>) -> &'static [u8]
+    ensures { result.now ≡ mark_text potentials.now }
+{
+    match potentials {
+        Some(_) => b"optimal",
+        None => b"not proved optimal",
+    }
 }
 
 // How many vehicles a plan has.
@@ -36,18 +68,14 @@ fn vehicle_count(plan: &Plan) -> usize
     (0..plan.len()).filter(|j| !plan.is_next(*j)).count()
 }
 
-// What a plan costs. Its links gain as much as its potentials, so not less than nothing, and it costs
-// no more than a vehicle for each trip.
-fn cost_text(alloc: Global, trips: &Trips, solved: &Solved) -> Result<Text, NoMemory>
-    requires plan { IsPlan (links_of trips.now) solved.now.plan }
-    requires valid { AreValid (links_of trips.now) solved.now.plan solved.now.potentials }
+// What a plan costs.
+fn cost_text(alloc: Global, trips: &Trips, plan: &Plan) -> Result<Text, NoMemory>
+    requires { IsPlan (links_of trips.now) plan.now }
     ensures { IfOk result
-        (λ text. text ≡ codes "cost " ++ fixed_text (pos (plan_cost trips.now solved.now.plan))) }
+        (λ text. text ≡ codes "cost " ++ fixed_text (pos (plan_cost trips.now plan.now))) }
 {
-    // A count tells what always holds of trips.
-    let _ = trips.len();
     let mut text = Vec::from_slice(alloc, b"cost ")?;
-    let cost = plan_cost(trips, &solved.plan);
+    let cost = plan_cost(trips, plan);
     text.extend_from_slice(print_fixed(alloc, cost)?.as_bytes())?;
     Ok(Text::from_vec(text))
 }
