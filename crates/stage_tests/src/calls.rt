@@ -10,7 +10,7 @@ use pesp_search::{make_timetable, take_timetable};
 use plan_num::{Steps, Tally};
 use roll_out::make_rollout;
 use std::alloc::Global;
-use vehicle_flow::make_vehicles;
+use vehicle_flow::{make_vehicles, take_vehicles};
 
 type Outcome = Option<Result<Made, StageFault>>;
 
@@ -27,7 +27,8 @@ pub(crate) fn called(alloc: Global, bundle: &Bundle, steps: &mut Steps<Tally>) -
         Stage::Disposition => disposition(alloc, bundle, steps),
         Stage::Statistic => statistic(alloc, bundle, steps),
         Stage::PinnedTimetable => pinned_times(alloc, bundle, steps),
-        Stage::PinnedConcept | Stage::PinnedVehicles => None,
+        Stage::PinnedConcept => None,
+        Stage::PinnedVehicles => pinned_schedule(alloc, bundle, steps),
     }
 }
 
@@ -99,4 +100,11 @@ fn pinned_times(alloc: Global, bundle: &Bundle, steps: &mut Steps<Tally>) -> Out
         return None;
     }
     Some(take_timetable(alloc, bundle, steps))
+}
+
+fn pinned_schedule(alloc: Global, bundle: &Bundle, steps: &mut Steps<Tally>) -> Outcome {
+    if bundle.stage() != Stage::PinnedVehicles || !bundle.fits() {
+        return None;
+    }
+    Some(take_vehicles(alloc, bundle, steps))
 }

@@ -28,6 +28,7 @@ mod named;
 mod periods;
 #[cfg(test)]
 mod pinned_times;
+mod pinned_schedule;
 #[cfg(test)]
 mod play;
 #[cfg(test)]
