@@ -1,12 +1,12 @@
 -- The nearest place among those that were looked at.
-use Rattle.std.proofs.Common.{◌≡◌, inl, inr, ℕ, ◌<◌, ◌≤◌, ◌+◌, List, length, get_or, replicate, Option, Some, None, MatchOption, IfSome, refl, ap, sym, ◌∙◌, subst, arith}
+use Rattle.std.proofs.Common.{◌≡◌, inl, inr, ℕ, ◌<◌, ◌≤◌, ◌+◌, ◌-◌, List, length, get_or, replicate, Option, Some, None, MatchOption, IfSome, refl, ap, sym, ◌∙◌, subst, arith}
 use Rattle.std.proofs.lemmas.Bool.{false≢true}
 use Rattle.std.proofs.lemmas.Option.{none-some}
 use Rattle.vehicle_model.proofs.Linking.{by_number}
 use Rattle.vehicle_flow.specs.declared.claim.Claim.{Claim}
 use Rattle.vehicle_flow.specs.declared.near.Near.{Near}
 use Rattle.vehicle_flow.specs.Claims.{ClaimsParts, claim_at}
-use Rattle.vehicle_flow.specs.Growing.{open_near, IsNearestPlace, IsNearerOf, IsBetter}
+use Rattle.vehicle_flow.specs.Growing.{open_near, shifted, IsNearestPlace, IsNearerOf, IsBetter}
 use Rattle.vehicle_flow.proofs.ClaimLists.{all_none}
 use Rattle.vehicle_flow.proofs.Told.{IsTold}
 
@@ -16,6 +16,15 @@ pub forgotten_all : (old now : List (Option Near)) (done : ℕ) → IsTold None 
 forgotten_all old now done are past = all_none now
     (λ i h. are.is i (omega (arith, h, past, are.each)))
     ∙ ap (λ n. replicate n None) are.each
+
+-- without a slack nothing is nearer than it was
+pub unmoved : (claim : Option Claim) (slack : ℕ) (near : Option Near) → slack ≡ 0
+    → near ≡ shifted claim slack near
+unmoved (Some found) slack near none = refl
+unmoved None slack None none = refl
+unmoved None slack (Some near) none =
+    let same : near.slack ≡ near.slack - slack = omega (arith, none) in
+    ap (λ n. Some (record { slack = n; by = near.by; from = near.from })) same
 
 -- the nearest place among the first ones
 pub record IsBestBefore (claims : ClaimsParts) (nears : List (Option Near)) (place : ℕ) (at : ℕ) (near : Near) : Type 0 where

@@ -1,8 +1,8 @@
 -- Potentials that are lowered and raised one by one.
-use Rattle.std.proofs.Common.{◌≡◌, ℕ, ◌<◌, ◌+◌, ◌-◌, cond, List, length, slice_set, Option, refl, ap, sym, ◌∙◌, subst, arith}
+use Rattle.std.proofs.Common.{◌≡◌, Bool, true, false, ℕ, ◌<◌, ◌+◌, ◌-◌, cond, List, length, slice_set, Option, refl, ap, sym, ◌∙◌, subst, arith}
 use Rattle.flow_potentials.specs.Potentials.{PotentialParts, at, AreOver}
 use Rattle.vehicle_flow.specs.Claims.{ClaimsParts}
-use Rattle.vehicle_flow.specs.Growing.{in_tree, is_claimed}
+use Rattle.vehicle_flow.specs.Growing.{in_tree, is_claimed, AreShifted}
 use Rattle.vehicle_flow.proofs.Told.{IsTold, told_start, told_on}
 
 abbrev lower_one : ℕ → List (Option ℕ) → ClaimsParts → ℕ → ℕ → ℕ → ℕ
@@ -70,4 +70,22 @@ pub raised_over : (claims : ClaimsParts) (slack count : ℕ) (old now : Potentia
 raised_over claims slack count old now done are over = record {
   each_u = ap length are.u ∙ over.each_u;
   each_v = are.told.each ∙ over.each_v;
+}
+
+-- without a slack all is as it was
+lowered_none : (b : Bool) (own slack : ℕ) → slack ≡ 0 → own ≡ cond b (own - slack) own
+lowered_none true own slack none = omega (arith, none)
+lowered_none false own slack none = refl
+
+raised_none : (b : Bool) (own slack : ℕ) → slack ≡ 0 → own ≡ cond b (own + slack) own
+raised_none true own slack none = omega (arith, none)
+raised_none false own slack none = refl
+
+pub unshifted : (trip : ℕ) (plan : List (Option ℕ)) (claims : ClaimsParts) (slack count : ℕ)
+    (potentials : PotentialParts) → slack ≡ 0 → AreOver count potentials
+    → AreShifted trip plan claims slack count potentials potentials
+unshifted trip plan claims slack count potentials none over = record {
+  over = over;
+  u = λ i h. lowered_none (in_tree trip plan claims i) (at potentials.u i) slack none;
+  v = λ j h. raised_none (is_claimed claims j) (at potentials.v j) slack none;
 }

@@ -117,13 +117,16 @@ fn nearer(slack: u64, by: usize, from: Option<usize>, old: Option<Near>) -> Near
 }
 
 /// Every place without a claim is nearer by a slack.
-#[tactic(auto, using(crate::proofs::Told::told_start, crate::proofs::Told::told_more))]
+#[tactic(auto, using(crate::proofs::Told::told_start, crate::proofs::Told::told_more, crate::proofs::NearPlaces::unmoved))]
 pub(crate) fn shift_nears(claims: &Claims, nears: &mut Vec<Option<Near>>, slack: u64)
     requires { length claims.now.at ≡ length nears.old.items }
     ensures each { length nears.new.items ≡ length nears.old.items }
     ensures shifted { (place : ℕ) → place < length nears.old.items → get_or nears.new.items place None
         ≡ shifted (claim_at claims.now place) slack (get_or nears.old.items place None) }
 {
+    if slack == 0 {
+        return;
+    }
     for place in 0..nears.len() {
         nears[place] = shifted(claims, place, slack, near_at(nears, place));
     }

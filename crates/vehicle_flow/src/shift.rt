@@ -9,6 +9,7 @@ use crate::slack::as_i64;
 use flow_potentials::Potentials;
 
 /// Takes a slack from the potentials of the trips of a tree, and adds it to those of its places.
+#[tactic(auto, using(crate::proofs::Shifts::unshifted))]
 pub(crate) fn shift(
     trip: usize,
     assignment: &Assignment,
@@ -22,6 +23,9 @@ pub(crate) fn shift(
         → at potentials.old.v j + slack ≤ 1000000000000000000 }
     ensures { AreShifted trip assignment.now claims.now slack (length assignment.now) potentials.old potentials.new }
 {
+    if slack == 0 {
+        return;
+    }
     lower(trip, assignment, claims, potentials, slack);
     raise(assignment.len(), claims, potentials, slack);
 }
