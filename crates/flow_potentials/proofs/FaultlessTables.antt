@@ -1,5 +1,5 @@
 -- A text without a fault as potentials is some.
-use Rattle.std.proofs.Common.{◌≡◌, ℕ, zero, suc, ◌+◌, ◌<◌, ◌≤◌, nat_lt, ◌==◌, ◌&&◌, Bool, true, false, cond, List, [], ◌∷◌, ◌++◌, length, refl, ap, sym, ◌∙◌, arith}
+use Rattle.std.proofs.Common.{◌≡◌, ℕ, ◌+◌, ◌<◌, ◌≤◌, nat_lt, ◌&&◌, Bool, true, false, cond, List, [], ◌∷◌, ◌++◌, length, refl, arith}
 use Rattle.std.proofs.lemmas.Bool.{ltb-false, ltb-true}
 use Rattle.giv_files.specs.declared.read_fault.RowFault.{RowFault}
 use Rattle.giv_files.specs.declared.row_why.RowWhy.TheVariants as why
@@ -9,7 +9,7 @@ use Rattle.giv_files.specs.Tables.{TableRow}
 use Rattle.giv_files.proofs.Ranges.{table_in_columns}
 use Rattle.vehicle_model.specs.ReadSchedules.{or_others}
 use Rattle.flow_potentials.specs.Potentials.{AreOver, ArePotentials}
-use Rattle.flow_potentials.specs.PotentialTables.{column_of, gaps_from, is_trip_row, potentials_of, table_faults}
+use Rattle.flow_potentials.specs.PotentialTables.{gaps_from, is_trip_row, potentials_of, table_faults}
 use Rattle.flow_potentials.proofs.Tables.{table_over, table_potentials}
 
 or_none : {X : Type 0} (some others : List X) → or_others some others ≡ [] → (some ≡ []) × (others ≡ [])

@@ -14,7 +14,8 @@ use vehicle_model::{Plan, Trips};
 
 /// The canonical potentials of a plan for which some potentials are valid: how far the least costs of
 /// walks in its residual graph that end in the two nodes of a trip lie above and below that of the
-/// root. They are valid for the plan, and by trips and plan there are no others.
+/// root. They are valid for the plan, and by trips and plan there are no others. One walk along the
+/// valid ones finds them, and one round over all arcs finds no better walk.
 pub fn potentials(
     alloc: Global,
     trips: &Trips,
@@ -29,6 +30,7 @@ pub fn potentials(
 {
     let _ = valid.len();
     let mut drops = Drops::new(alloc, trips.len())?;
+    drops.walk(alloc, trips, plan, valid)?;
     drops.settle(trips, plan);
     drops.into_potentials(alloc, trips, plan)
 }

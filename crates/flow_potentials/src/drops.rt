@@ -134,8 +134,8 @@ impl Drops {
         }
     }
 
-    // The arcs between the left node of a trip and its link or the root.
-    fn relax_next(&mut self, trips: &Trips, plan: &Plan, i: usize) -> bool
+    /// The arcs between the left node of a trip and its link or the root.
+    pub(crate) fn relax_next(&mut self, trips: &Trips, plan: &Plan, i: usize) -> bool
         requires known { IsSearched (links_of trips.now) plan.now self.old }
         requires within { i < length trips.now.trips }
         ensures step { IsStep (links_of trips.now) plan.now self.old self.new result }
@@ -148,8 +148,8 @@ impl Drops {
         }
     }
 
-    // The arc between the right node of a trip and the root.
-    fn relax_root(&mut self, trips: &Trips, plan: &Plan, j: usize) -> bool
+    /// The arc between the right node of a trip and the root.
+    pub(crate) fn relax_root(&mut self, trips: &Trips, plan: &Plan, j: usize) -> bool
         requires known { IsSearched (links_of trips.now) plan.now self.old }
         requires within { j < length trips.now.trips }
         ensures step { IsStep (links_of trips.now) plan.now self.old self.new result }
@@ -198,8 +198,8 @@ impl Drops {
         }
     }
 
-    // The links from a trip to all others may make better walks.
-    fn relax_pairs(&mut self, trips: &Trips, plan: &Plan, i: usize) -> bool
+    /// The links from a trip to all others may make better walks.
+    pub(crate) fn relax_pairs(&mut self, trips: &Trips, plan: &Plan, i: usize) -> bool
         requires known { IsSearched (links_of trips.now) plan.now self.old }
         requires within { i < length trips.now.trips }
         ensures step { IsStep (links_of trips.now) plan.now self.old self.new result }
@@ -275,11 +275,21 @@ impl Drops {
         })
     }
 
-    // The number of the root.
-    fn root(&self) -> u64
+    /// The number of the root.
+    pub(crate) fn root(&self) -> u64
         ensures { result ≡ self.now.root }
     {
         self.root
+    }
+
+    /// The number of the left node of a trip; 0 where there is no such trip.
+    pub(crate) fn left_or(&self, i: usize) -> u64 {
+        self.left.get(i).copied().unwrap_or(0)
+    }
+
+    /// The number of the right node of a trip; 0 where there is no such trip.
+    pub(crate) fn right_or(&self, j: usize) -> u64 {
+        self.right.get(j).copied().unwrap_or(0)
     }
 
     fn set_root(&mut self, number: u64)

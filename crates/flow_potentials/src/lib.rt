@@ -8,6 +8,7 @@ mod numbers;
 mod potential_fault;
 mod table_reading;
 mod table_writing;
+mod walk;
 
 pub use canonical::potentials;
 pub use checking::check_potentials;
