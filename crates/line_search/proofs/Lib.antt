@@ -35,3 +35,7 @@ pub mod WrittenNodes
 pub mod PinnedReads
 pub mod PinnedLaws
 pub mod PinnedOver
+mod FirstKnown
+mod Grouped
+mod SamePlaces
+mod PinnedCalls

@@ -9,3 +9,4 @@ pub mod RightConcepts
 pub mod Searches
 pub mod PinnedConcepts
 pub mod RightPinned
+pub mod PoolPlaces

@@ -15,6 +15,17 @@ pub(crate) struct BestConcept {
 }
 
 impl BestConcept {
+    /// The concept of some frequencies.
+    pub(crate) fn priced(problem: &LineProblem, frequencies: Vec<u32>) -> BestConcept
+        requires each { length frequencies.items ≡ length problem.now.lines }
+        requires few { All (λ frequency. frequency ≤ 1000) frequencies.items }
+        ensures same { result.frequencies.items ≡ frequencies.items }
+        ensures priced { IsPriced problem.now result }
+    {
+        let cost = problem.cost(&frequencies);
+        BestConcept { frequencies, cost }
+    }
+
     /// The concept of least frequencies in a region.
     pub(crate) fn least_in(alloc: Global, region: &SummedRegion) -> Result<BestConcept, NoMemory>
         ensures least { IfOk result (λ best. best.frequencies.items ≡ least_in region.now.ranges) }

@@ -1,6 +1,7 @@
 // What is made of the concept that a search found.
-ghost use Rattle.std.specs.Prelude.{◌≡◌, ◌++◌, pos, codes, IfOk, IfSome, OnOk};
+ghost use Rattle.std.specs.Prelude.{◌≡◌, ◌++◌, ◌∷◌, pos, codes, IfOk, IfSome, OnOk};
 ghost use Rattle.plan_num.specs.Print.{fixed_text};
+ghost use Rattle.giv_files.specs.declared.file_id.FileId.TheVariants as file;
 ghost use Rattle.giv_files.specs.StageCalls.{StageGives};
 ghost use Rattle.line_cost_model.specs.Concepts.{cost_of};
 ghost use Rattle.line_search.specs.ConceptStage.{concept_made, mark_text, search_made, tree_files};
@@ -64,14 +65,33 @@ fn concept_made(
     ensures { IfOk result
         (λ made. made ≡ concept_made problem.now (concept_of best.now tree.now entries)) }
 {
+    let files = concept_files(alloc, problem, best, tree)?;
+    let report = concept_report(alloc, problem, best, tree, entries)?;
+    Ok(Made { files, report })
+}
+
+/// The files of a concept: its table, and the tree that marks it, where there is one.
+pub(crate) fn concept_files(
+    alloc: Global,
+    problem: &LineProblem,
+    concept: &BestConcept,
+    tree: &Option<Tree>,
+) -> Result<MadeList, NoMemory>
+    requires priced { IsPriced problem.now concept.now }
+    requires written { IfSome tree.now (AreWritten problem.now) }
+    ensures { IfOk result (λ files. files
+        ≡ record {
+          file = file.Concept;
+          text = concept_text problem.now concept.now.frequencies.items;
+        } ∷ tree_files problem.now tree.now) }
+{
     let mut files = MadeList::new(alloc);
     files.push(MadeFile {
         file: FileId::Concept,
-        text: concept_text(alloc, problem, best)?,
+        text: concept_text(alloc, problem, concept)?,
     })?;
     push_tree(alloc, problem, tree, &mut files)?;
-    let report = concept_report(alloc, problem, best, tree, entries)?;
-    Ok(Made { files, report })
+    Ok(files)
 }
 
 // The text of a concept.
@@ -133,8 +153,12 @@ fn concept_report(
     )
 }
 
-// What a concept costs.
-fn cost_text(alloc: Global, problem: &LineProblem, best: &BestConcept) -> Result<Text, NoMemory>
+/// What a concept costs.
+pub(crate) fn cost_text(
+    alloc: Global,
+    problem: &LineProblem,
+    best: &BestConcept,
+) -> Result<Text, NoMemory>
     requires { IsPriced problem.now best.now }
     ensures { IfOk result (λ text. text ≡ codes "cost "
         ++ fixed_text (pos (cost_of problem.now best.now.frequencies.items))) }
@@ -146,8 +170,8 @@ fn cost_text(alloc: Global, problem: &LineProblem, best: &BestConcept) -> Result
     Ok(Text::from_vec(text))
 }
 
-// How the report tells of a mark.
-fn mark_text(tree: &Option<Tree>) -> &'static [u8]
+/// How the report tells of a mark.
+pub(crate) fn mark_text(tree: &Option<Tree>) -> &'static [u8]
     ensures { result.now ≡ mark_text tree.now }
 {
     match tree {

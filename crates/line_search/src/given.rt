@@ -1,9 +1,7 @@
 // The line problem of the inputs of the search.
 ghost use Rattle.std.specs.Prelude.{◌≡◌, ◌≤◌, ◌≤ℤ◌, pos, [], length, map, zip, unsigned_abs};
 ghost use Rattle.std.specs.Prelude.{All, IfOk};
-ghost use Rattle.giv_files.specs.declared.stage.Stage.TheVariants as stages;
 ghost use Rattle.giv_files.specs.Inputs.{UnlessFault};
-ghost use Rattle.giv_files.specs.Settings.{Fits};
 ghost use Rattle.line_cost_model.specs.Problems.{IsId};
 ghost use Rattle.line_pool.specs.Pools.{AreLines};
 ghost use Rattle.line_search.specs.GivenProblems.{bounded_by, problem_over};
@@ -18,8 +16,7 @@ use std::alloc::Global;
 
 /// The line problem of the inputs of the search, or their first fault.
 pub(crate) fn read_problem(alloc: Global, bundle: &Bundle) -> Result<LineProblem, StageFault>
-    requires stage { bundle.now.stage ≡ stages.Concept }
-    requires fits { Fits bundle.now }
+    requires { 5 ≤ length bundle.now.inputs }
     ensures { UnlessFault (problem_faults bundle.now)
         (λ problem. problem ≡ problem_of bundle.now) result }
 {

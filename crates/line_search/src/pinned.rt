@@ -1,13 +1,35 @@
 // The stage that takes a planner's line concept.
-ghost use Rattle.std.specs.Prelude.{◌≡◌, IfOk};
+ghost use Rattle.std.specs.Prelude.{◌≡◌, ◌≤◌, [], length, All, IfOk};
+ghost use Rattle.giv_files.specs.declared.file_id.FileId.TheVariants as file;
+ghost use Rattle.giv_files.specs.declared.refusal.Refusal.TheVariants as refusal;
 ghost use Rattle.giv_files.specs.declared.stage.Stage.TheVariants as stages;
+ghost use Rattle.giv_files.specs.Columns.{concept_columns};
+ghost use Rattle.giv_files.specs.Inputs.{input_faults, table_faults, UnlessFault};
 ghost use Rattle.giv_files.specs.Settings.{Fits};
 ghost use Rattle.giv_files.specs.StageCalls.{StageGives, TakesSteps};
-ghost use Rattle.line_search.specs.PinnedConcepts.{pinned_concept_stage};
+ghost use Rattle.giv_files.specs.Writing.{InColumns};
+ghost use Rattle.line_cost_model.specs.Concepts.{cost_of};
+ghost use Rattle.line_search.specs.ConceptTables.{frequencies_in};
+ghost use Rattle.line_search.specs.Judged.{frequencies_of};
+ghost use Rattle.line_search.specs.PinnedConcepts.{marking_tree, pinned_concept_stage};
+ghost use Rattle.line_search.specs.PinnedConcepts.{pinned_input, pinned_made};
 ghost use Rattle.line_search.specs.RightPinned.{ConceptIsRight};
+ghost use Rattle.line_search.specs.Searches.{IsPriced};
 
-use giv_files::{Bundle, Made, StageFault};
-use plan_num::{Ledger, Steps};
+use crate::best::BestConcept;
+use crate::first_frequencies::test_frequencies;
+use crate::found::{concept_files, cost_text, mark_text};
+use crate::frequencies::line_frequencies;
+use crate::given::read_problem;
+use crate::judge::marking_tree;
+use crate::pool_rows::are_of_pool;
+use branch_certificate::Tree;
+use giv_files::{
+    Bundle, FileId, Made, Refusal, RowWhy, Stage, StageFault, Table, columns, read_input,
+    report_line,
+};
+use line_cost_model::LineProblem;
+use plan_num::{Ledger, NoMemory, Steps, Text};
 use std::alloc::Global;
 
 /// Takes a planner's line concept over the inputs of the search: its rows are those of the pool,
@@ -24,8 +46,104 @@ pub fn take_concept<L: Ledger>(
     ensures right { IfOk result (λ made. ConceptIsRight bundle.now made.files) }
     ensures steps { TakesSteps 1 steps.old steps.new result }
 {
-    let _ = alloc;
-    let _ = bundle;
     steps.tick();
-    Err(StageFault::NoMemory)
+    taken_concept(alloc, bundle)
+}
+
+// What the stage gives.
+fn taken_concept(alloc: Global, bundle: &Bundle) -> Result<Made, StageFault>
+    requires inputs { 7 ≤ length bundle.now.inputs }
+    ensures { StageGives (pinned_concept_stage bundle.now) result }
+{
+    let problem = read_problem(alloc, bundle)?;
+    let frequencies = given_frequencies(alloc, &problem, bundle.input(5))?;
+    Ok(concept_made(alloc, &problem, frequencies, bundle.input(6))?)
+}
+
+// The frequencies that the text of a planner's concept gives the lines, or its first fault.
+fn given_frequencies(
+    alloc: Global,
+    problem: &LineProblem,
+    concept: &[u8],
+) -> Result<Vec<u32>, StageFault>
+    ensures read { UnlessFault (input_faults (pinned_input problem.now) concept.now)
+        (λ all. all.items ≡ frequencies_of problem.now concept.now) result }
+    ensures few { IfOk result (λ all. All (λ frequency. frequency ≤ 1000) all.items) }
+{
+    let table = read_input(alloc, FileId::PinnedConcept, concept, &columns!(Concept))?;
+    table_frequencies(alloc, problem, &table)
+}
+
+// Those of a table, or its first fault.
+fn table_frequencies(
+    alloc: Global,
+    problem: &LineProblem,
+    table: &Table<4>,
+) -> Result<Vec<u32>, StageFault>
+    requires { All (λ row. InColumns concept_columns row.cells) table.now }
+    ensures read { UnlessFault (table_faults (pinned_input problem.now) table.now)
+        (λ all. all.items ≡ frequencies_in problem.now table.now) result }
+    ensures few { IfOk result (λ all. All (λ frequency. frequency ≤ 1000) all.items) }
+{
+    test_frequencies(alloc, table)?;
+    let frequencies = line_frequencies(alloc, problem, table)?;
+    if !are_of_pool(alloc, problem, &frequencies, table)? {
+        return Err(StageFault::Refused(whole_file(RowWhy::PoolDiffers)));
+    }
+    if !problem.is_feasible(&frequencies) {
+        return Err(StageFault::Refused(whole_file(RowWhy::NotFeasible)));
+    }
+    Ok(frequencies)
+}
+
+// A refusal of the whole file.
+fn whole_file(why: RowWhy) -> Refusal
+    ensures { result ≡ refusal.BadRow file.PinnedConcept 0 why }
+{
+    Refusal::BadRow {
+        file: FileId::PinnedConcept,
+        row: 0,
+        why,
+    }
+}
+
+// What is made of frequencies and of the text of a tree.
+fn concept_made(
+    alloc: Global,
+    problem: &LineProblem,
+    frequencies: Vec<u32>,
+    tree: &[u8],
+) -> Result<Made, NoMemory>
+    requires each { length frequencies.items ≡ length problem.now.lines }
+    requires few { All (λ frequency. frequency ≤ 1000) frequencies.items }
+    ensures { IfOk result (λ made. made ≡ pinned_made problem.now frequencies.items
+        (marking_tree problem.now (cost_of problem.now frequencies.items) tree.now)) }
+{
+    let tree = marking_tree(alloc, problem, &frequencies, tree)?;
+    let concept = BestConcept::priced(problem, frequencies);
+    let files = concept_files(alloc, problem, &concept, &tree)?;
+    let report = concept_report(alloc, problem, &concept, &tree)?;
+    Ok(Made { files, report })
+}
+
+// The line of the report.
+fn concept_report(
+    alloc: Global,
+    problem: &LineProblem,
+    concept: &BestConcept,
+    tree: &Option<Tree>,
+) -> Result<Text, NoMemory>
+    requires { IsPriced problem.now concept.now }
+    ensures { IfOk result (λ text. text
+        ≡ (pinned_made problem.now concept.now.frequencies.items tree.now).report) }
+{
+    report_line(
+        alloc,
+        Stage::Concept,
+        &[
+            cost_text(alloc, problem, concept)?,
+            Text::copy(alloc, mark_text(tree))?,
+            Text::copy(alloc, b"pinned")?,
+        ],
+    )
 }

@@ -1,0 +1,119 @@
+-- What the call of the stage of a planner's concept gives, step by step.
+use Rattle.std.proofs.Common.{◌≡◌, ℕ, ℤ, true, false, not, List, [], ◌∷◌, ◌++◌, map, slice_get, Some, Ok, Err, refl, ap, subst, sym, ◌∙◌}
+use Rattle.std.proofs.lemmas.Simd.{map-map}
+use Rattle.std.specs.Ordering.{int_eq}
+use lib.Pointwise.{pointwise}
+use Rattle.giv_files.specs.declared.file_id.FileId.TheVariants as file
+use Rattle.giv_files.specs.declared.made.Made.{Made}
+use Rattle.giv_files.specs.declared.refusal.Refusal.{Refusal}
+use Rattle.giv_files.specs.declared.refusal.Refusal.TheVariants as refusal
+use Rattle.giv_files.specs.declared.refusal.StageFault.{StageFault}
+use Rattle.giv_files.specs.declared.refusal.StageFault.TheVariants as stage
+use Rattle.giv_files.specs.declared.row_why.RowWhy.TheVariants as why
+use Rattle.giv_files.specs.Inputs.{Input, Refuses, input_faults, table_faults, table_row_faults, whole_rule}
+use Rattle.giv_files.specs.Settings.{BundleParts}
+use Rattle.giv_files.specs.StageCalls.{StageGives, input_text}
+use Rattle.giv_files.specs.Tables.{TableRow}
+use Rattle.giv_files.proofs.Inputs.{no_faults, refused_append, refused_whole, whole_rule_broken, whole_rule_kept}
+use Rattle.giv_files.proofs.StageCalls.{stage_made, stage_refused}
+use Rattle.line_cost_model.specs.Concepts.{cost_of, is_feasible}
+use Rattle.line_cost_model.specs.Problems.{CostedLine, ProblemParts}
+use Rattle.line_search.specs.ConceptTables.{concept_rows, frequencies_in}
+use Rattle.line_search.specs.GivenProblems.{problem_faults, problem_of}
+use Rattle.line_search.specs.Judged.{frequencies_of}
+use Rattle.line_search.specs.PinnedConcepts.{breaks_bounds, by_lines, differs_from_pool, made_of_texts, marking_tree, pinned_concept_faults, pinned_concept_stage, pinned_input, pinned_made, places_of}
+use Rattle.line_search.specs.PoolPlaces.{plain_rows}
+use Rattle.line_search.proofs.ConceptReads.{by_cells, frequency_by}
+
+-- ---- a table
+
+module _ (problem : ProblemParts) (table : List TableRow) where
+  abbrev input : Input TableRow
+  input = pinned_input problem
+
+  -- the rows that the rules see give the lines the same frequencies
+  same_frequencies : frequencies_in problem (plain_rows table) ≡ frequencies_in problem table
+  same_frequencies = ap (λ (at : ℤ → ℕ). map (λ (line : CostedLine). at line.id) problem.lines)
+      (λ i line. (by_cells line (plain_rows table)
+      ∙ ap (frequency_by line) (map-map (λ (row : TableRow). row.cells) (λ (row : TableRow). input.read row.cells) table)
+      ∙ sym (by_cells line table)) i)
+
+  module _ (kept : table_row_faults input table ≡ []) (frequencies : List ℕ)
+      (are : frequencies ≡ frequencies_in problem table) where
+    given : frequencies_in problem (plain_rows table) ≡ frequencies
+    given = same_frequencies ∙ sym are
+
+    pub other_rows : false ≡ pointwise (pointwise int_eq) (places_of (by_lines (plain_rows table))) (places_of (concept_rows problem frequencies))
+        → slice_get (table_faults input table) 0 ≡ Some (refusal.BadRow file.PinnedConcept 0 why.PoolDiffers)
+    other_rows differ =
+        refused_whole input table (stage.Refused (refusal.BadRow file.PinnedConcept 0 why.PoolDiffers)) refl kept
+        (whole_rule_broken input table (differs_from_pool problem) why.PoolDiffers
+        (whole_rule (breaks_bounds problem) why.NotFeasible ∷ [])
+        (ap (λ fs. not (pointwise (pointwise int_eq) (places_of (by_lines (plain_rows table))) (places_of (concept_rows problem fs)))) given
+        ∙ ap not (sym differ)))
+
+    module _ (same : true ≡ pointwise (pointwise int_eq) (places_of (by_lines (plain_rows table))) (places_of (concept_rows problem frequencies))) where
+      of_pool : differs_from_pool problem (plain_rows table) ≡ false
+      of_pool =
+          ap (λ fs. not (pointwise (pointwise int_eq) (places_of (by_lines (plain_rows table))) (places_of (concept_rows problem fs)))) given
+          ∙ ap not (sym same)
+
+      pub other_bounds : false ≡ is_feasible problem frequencies
+          → slice_get (table_faults input table) 0 ≡ Some (refusal.BadRow file.PinnedConcept 0 why.NotFeasible)
+      other_bounds broken =
+          let fault = stage.Refused (refusal.BadRow file.PinnedConcept 0 why.NotFeasible) in
+          refused_whole input table fault refl kept
+          (subst (λ faults. Refuses faults fault)
+          (sym (whole_rule_kept input table (differs_from_pool problem) why.PoolDiffers
+          (whole_rule (breaks_bounds problem) why.NotFeasible ∷ []) of_pool))
+          (whole_rule_broken input table (breaks_bounds problem) why.NotFeasible []
+          (ap (λ fs. not (is_feasible problem fs)) given ∙ ap not (sym broken))))
+
+      pub none_at_fault : true ≡ is_feasible problem frequencies → table_faults input table ≡ []
+      none_at_fault feasible =
+          no_faults input table refl kept
+          (whole_rule_kept input table (differs_from_pool problem) why.PoolDiffers
+          (whole_rule (breaks_bounds problem) why.NotFeasible ∷ []) of_pool
+          ∙ whole_rule_kept input table (breaks_bounds problem) why.NotFeasible []
+          (ap (λ fs. not (is_feasible problem fs)) given ∙ ap not (sym feasible)))
+
+-- ---- the stage
+
+module _ (bundle : BundleParts) where
+  pub problem_refused : (fault : StageFault) → Refuses (problem_faults bundle) fault
+      → StageGives (pinned_concept_stage bundle) (Err fault)
+  unfolding pinned_concept_stage
+  problem_refused fault by =
+      stage_refused (pinned_concept_faults bundle)
+      (made_of_texts (problem_of bundle) (input_text bundle 5) (input_text bundle 6)) fault
+      (refused_append (problem_faults bundle)
+      (input_faults (pinned_input (problem_of bundle)) (input_text bundle 5)) fault by)
+
+  module _ (problem : ProblemParts) (none : problem_faults bundle ≡ []) (is : problem ≡ problem_of bundle)
+      (concept : List ℕ) (told : concept ≡ input_text bundle 5) where
+    own_faults : input_faults (pinned_input problem) concept ≡ pinned_concept_faults bundle
+    own_faults =
+        (λ i. input_faults (pinned_input (is i)) (told i))
+        ∙ ap (λ (faults : List Refusal). faults ++ input_faults (pinned_input (problem_of bundle)) (input_text bundle 5)) (sym none)
+
+    pub concept_refused : (fault : StageFault) → Refuses (input_faults (pinned_input problem) concept) fault
+        → StageGives (pinned_concept_stage bundle) (Err fault)
+    unfolding pinned_concept_stage
+    concept_refused fault by =
+        stage_refused (pinned_concept_faults bundle)
+        (made_of_texts (problem_of bundle) (input_text bundle 5) (input_text bundle 6)) fault
+        (subst (λ faults. Refuses faults fault) own_faults by)
+
+    pub concept_taken : (frequencies : List ℕ) → input_faults (pinned_input problem) concept ≡ []
+        → frequencies ≡ frequencies_of problem concept → (tree : List ℕ) → tree ≡ input_text bundle 6
+        → (made : Made)
+        → made ≡ pinned_made problem frequencies (marking_tree problem (cost_of problem frequencies) tree)
+        → pinned_concept_stage bundle ≡ Ok made
+    unfolding pinned_concept_stage
+    concept_taken frequencies kept are tree told_tree made made_is =
+        stage_made (pinned_concept_faults bundle)
+        (made_of_texts (problem_of bundle) (input_text bundle 5) (input_text bundle 6)) made
+        (sym own_faults ∙ kept)
+        (made_is
+        ∙ (λ i. pinned_made problem (are i) (marking_tree problem (cost_of problem (are i)) (told_tree i)))
+        ∙ (λ i. made_of_texts (is i) (told i) (input_text bundle 6)))
