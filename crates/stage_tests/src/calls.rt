@@ -7,6 +7,8 @@ use giv_files::{Bundle, Made, Stage, StageFault};
 use line_pool::make_cost;
 use line_search::make_concept;
 use pesp_search::{make_timetable, take_timetable};
+use line_search::{make_concept, take_concept};
+use pesp_search::make_timetable;
 use plan_num::{Steps, Tally};
 use roll_out::make_rollout;
 use std::alloc::Global;
@@ -27,8 +29,8 @@ pub(crate) fn called(alloc: Global, bundle: &Bundle, steps: &mut Steps<Tally>) -
         Stage::Disposition => disposition(alloc, bundle, steps),
         Stage::Statistic => statistic(alloc, bundle, steps),
         Stage::PinnedTimetable => pinned_times(alloc, bundle, steps),
-        Stage::PinnedConcept => None,
         Stage::PinnedVehicles => pinned_schedule(alloc, bundle, steps),
+        Stage::PinnedConcept => pinned_concept(alloc, bundle, steps),
     }
 }
 
@@ -107,4 +109,11 @@ fn pinned_schedule(alloc: Global, bundle: &Bundle, steps: &mut Steps<Tally>) -> 
         return None;
     }
     Some(take_vehicles(alloc, bundle, steps))
+}
+
+fn pinned_concept(alloc: Global, bundle: &Bundle, steps: &mut Steps<Tally>) -> Outcome {
+    if bundle.stage() != Stage::PinnedConcept || !bundle.fits() {
+        return None;
+    }
+    Some(take_concept(alloc, bundle, steps))
 }

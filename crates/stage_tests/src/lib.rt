@@ -29,6 +29,7 @@ mod periods;
 #[cfg(test)]
 mod pinned_times;
 mod pinned_schedule;
+mod pinned_concept;
 #[cfg(test)]
 mod play;
 #[cfg(test)]
