@@ -38,6 +38,9 @@ kept_apart number stage.Rollout = refl
 kept_apart number stage.Vehicles = refl
 kept_apart number stage.Disposition = refl
 kept_apart number stage.Statistic = refl
+kept_apart number stage.PinnedConcept = refl
+kept_apart number stage.PinnedTimetable = refl
+kept_apart number stage.PinnedVehicles = refl
 
 no_keep : (number : ℕ) (at : Stage) → files.get (demo_folder number) (keep_name at) ≡ None
 no_keep number at =

@@ -1,14 +1,16 @@
 // The places of the planning chain.
 ghost use Rattle.std.specs.Prelude.{◌≡◌, if◌then◌else◌};
-ghost use Rattle.planning_stages.specs.Places.{in_place, is_pinned};
+ghost use Rattle.planning_stages.specs.Places.{is_pinned};
+ghost use Rattle.planning_stages.specs.Planning.{planning};
 
 use config_keys::Config;
 use giv_files::{Key, Stage};
 
 /// The stage that runs in a place under the settings of a dataset: where people give what is made
 /// there, the one that takes it.
+#[tactic(auto, unfolding(crate::specs::Planning::planning))]
 pub fn in_place(config: &Config, place: Stage) -> Stage
-    ensures { result ≡ in_place config.now place }
+    ensures { result ≡ planning.placed config.now place }
 {
     match place {
         Stage::Concept => pinned_or(config, Key::PinConcept, Stage::PinnedConcept, place),
