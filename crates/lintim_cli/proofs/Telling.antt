@@ -9,6 +9,7 @@ use Rattle.stage_chain.specs.declared.outcome.Outcome.{Outcome}
 use Rattle.stage_chain.specs.declared.outcome.RunEnd.{RunEnd}
 use Rattle.stage_chain.specs.declared.outcome.RunEnd.TheVariants as end
 use Rattle.stage_chain.specs.Runs.{IsOutcome, started}
+use Rattle.stage_driver.proofs.AlwaysMarked.{always_marked}
 use Rattle.stage_driver.proofs.Planned.{both_scratch, part_left}
 use Rattle.stage_driver.specs.PlanningChain.{IsKeptHonest, IsLeftRight, IsLeft, Trusts, run_over}
 use Rattle.stage_driver.specs.PlanningChain.{writes_of}
@@ -26,11 +27,13 @@ module _ (by : Mode) (folder : Folder) (new : Option Folder) (before now : Optio
       → AsFromScratch folder new old out result
   good result (is, whole) =
       let scratch = both_scratch by folder trusts in
+      let files = part_left by folder new trusts left.folder in
       record {
-        files = part_left by folder new trusts left.folder;
+        files = files;
         report = whole.out ∙ ap (λ report. option_map (λ bytes. bytes ++ report) old) (told.report ∙ scratch.report);
         answer = is ∙ ends ∙ ap status_of (told.end ∙ scratch.end);
         right = right trusts;
+        marked = always_marked folder new files (right trusts);
       }
 
   by_answer : (result : Status)

@@ -18,6 +18,7 @@ use Rattle.stage_chain.specs.Checks.{check_end, check_report}
 use Rattle.stage_chain.specs.Hand.{hand_of}
 use Rattle.stage_chain.specs.Runs.{started, with_files}
 use Rattle.stage_chain.specs.States.{states_end}
+use Rattle.stage_driver.specs.Marked.{IsAlwaysMarked}
 use Rattle.stage_driver.specs.PlanningChain.{made, check_of, IsLeftRight, IsKeptHonest, IsLeft}
 use Rattle.stage_driver.specs.PlanningChain.{IsUnfinished, Trusts, made_part, run_over, writes_of}
 use Rattle.stage_driver.specs.PlanningChain.{states_of}
@@ -114,12 +115,14 @@ Leaves by read left written noted faults_before faults_now old new before now re
 -- A run leaves the made files, the report and the answer which the hand files alone determine: those of
 -- a run from scratch. In the folder that is left each stage that was made has its files, which,
 -- read again, satisfy its model over the files there from which they were made; a concept with a
--- tree beside it costs no more than any feasible one.
+-- tree beside it, and a vehicle schedule with potentials beside it, cost no more than any feasible one.
+-- Where none is pinned, a vehicle schedule there has them.
 pub record AsFromScratch (read : Folder) (left : Option Folder) (old new : Option (List ℕ)) (result : Status) : Type 0 where
   pub files : IfSome left (λ folder. made_part folder ≡ with_files (made (hand_of read)).files files.empty)
   pub report : new ≡ option_map (λ bytes. bytes ++ (made (hand_of read)).report) old
   pub answer : result ≡ status_of (made (hand_of read)).end
   pub right : IsLeftRight read left
+  pub marked : IfSome left IsAlwaysMarked
 
 -- that is so after each answer that is no fault
 abbrev pub Headline : Folder → Option Folder → Option (List ℕ) → Option (List ℕ) → Status → Type 0

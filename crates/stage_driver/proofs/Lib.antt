@@ -1,1 +1,2 @@
+pub mod AlwaysMarked
 pub mod Planned
