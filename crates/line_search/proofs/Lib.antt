@@ -39,3 +39,4 @@ mod FirstKnown
 mod Grouped
 mod SamePlaces
 mod PinnedCalls
+mod ConceptsListed

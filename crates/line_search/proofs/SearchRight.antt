@@ -9,6 +9,7 @@ use Rattle.line_search.specs.GivenProblems.{problem_faults, problem_of}
 use Rattle.line_search.specs.Listings.{listing}
 use Rattle.line_search.specs.RightConcepts.{SearchIsRight, found_by}
 use Rattle.line_search.proofs.ChosenFound.{best_feasible, found_is_chosen, listing_finds, nodes_certify, none_is_feasible, some_find}
+use Rattle.line_search.proofs.ConceptsListed.{concepts_listed}
 use Rattle.line_search.proofs.Levels.{visit_unrolls}
 use Rattle.line_search.proofs.SoundProblems.{problem_sound}
 
@@ -28,4 +29,5 @@ search_right bundle none =
       certified = where_found (λ concept. Certifies problem (pos (cost_of problem concept)) (nodes_in (listing problem))) (found_by problem) (nodes_certify problem sound);
       none = none_is_feasible problem sound;
       unrolls = visit_unrolls problem;
+      counted = concepts_listed;
     }

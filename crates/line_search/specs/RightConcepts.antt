@@ -12,12 +12,12 @@ use Rattle.giv_files.specs.Settings.{BundleParts}
 use Rattle.giv_files.specs.Writing.{ReadsBack}
 use Rattle.ptn_network.specs.Networks.{network_in}
 use Rattle.line_pool.specs.Pools.{concept_faults}
-use Rattle.std.specs.List.{AllByRecursion}
+use Rattle.std.specs.List.{AllByRecursion, Contains}
 use Rattle.line_cost_model.specs.declared.range.LineRange.{LineRange}
 use Rattle.line_cost_model.specs.Chosen.{IsChosen}
 use Rattle.line_cost_model.specs.Concepts.{IsFeasible, cost_of}
 use Rattle.line_cost_model.specs.Problems.{ProblemParts}
-use Rattle.line_cost_model.specs.Regions.{concept_count, root_of}
+use Rattle.line_cost_model.specs.Regions.{LiesIn, concept_count, concepts_in, root_of}
 use Rattle.branch_certificate.specs.Certified.{Certifies}
 use Rattle.line_search.specs.Budgets.{nodes_in}
 use Rattle.line_search.specs.ConceptStage.{budget_of}
@@ -38,11 +38,19 @@ found_by problem = best_after None (listing problem)
 abbrev pub AreOrdered : List LineRange → Type 0
 AreOrdered region = AllByRecursion (λ range. range.lo ≤ range.hi) region
 
+-- The concepts of a region are listed: each that lies in it and no other, and there are as many as
+-- are counted.
+pub record AreListed (region : List LineRange) : Type 0 where
+  pub each : (concept : List ℕ) → LiesIn region concept → Contains (concepts_in region) concept
+  pub only : (concept : List ℕ) → Contains (concepts_in region) concept → LiesIn region concept
+  pub many : length (concepts_in region) ≡ concept_count region
+
 -- What a search finds is right. What any first entries of a listing find is feasible. What all of
 -- them find is the chosen concept: no feasible one costs less, and none of equal cost comes before
 -- it; and their nodes certify what it costs. Where they find none, no concept is feasible. And the
 -- entries of a region are what is said of it and, behind a split, the entries of both parts:
--- however deep it is split, none are left out.
+-- however deep it is split, none are left out. The count of concepts, by which a budget is enough,
+-- is that of those that lie in a region.
 pub record SearchIsRight (problem : ProblemParts) : Type 0 where
   pub feasible : (count : ℕ) → IfSome (best_after None (take count (listing problem))) (IsFeasible problem)
   pub chosen : IfSome (found_by problem) (IsChosen problem)
@@ -52,6 +60,7 @@ pub record SearchIsRight (problem : ProblemParts) : Type 0 where
   pub unrolls : (region : List LineRange) (best : Option (List ℕ)) → AreOrdered region
       → visit problem region best
       ≡ entries_by (visit problem) region best (node_at problem region best)
+  pub counted : (region : List LineRange) → AreListed region
 
 -- no concept is feasible, and the listing is within the budget
 pub record HasNone (bundle : BundleParts) : Type 0 where

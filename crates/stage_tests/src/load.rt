@@ -120,6 +120,13 @@ input basis/Stop.giv
 input basis/Edge.giv
 | 1; 1; 2; 1; 1; 1 | 2; 2; 4; 1; 1; 1 | 3; 1; 3; 1; 1; 1 | 4; 3; 4; 1; 1; 1
 
+row without an edge one has no way
+input basis/Edge.giv
+input basis/OD.giv
+| 1; 2; 1
+make
+refused basis/OD.giv row 1: no path
+
 row no way to a stop
 input basis/OD.giv
 | 1; 2; 1 | 1; 5; 1

@@ -1,0 +1,94 @@
+-- The concepts of a region are those that lie in it, and as many as are counted.
+use Rattle.std.proofs.Common.{◌≡◌, ℕ, zero, suc, ◌+◌, ◌-◌, ◌*◌, ◌<◌, ◌≤◌, List, [], ◌∷◌, length, map, All, refl, ap, subst, ◌∙◌, arith}
+use Rattle.std.specs.List.{Contains, flat_map, range_with_len}
+use Rattle.std.proofs.lemmas.List.{length-append, length-map}
+use Rattle.std.proofs.lemmas.List.Elements.{All-append, All-cons, All-contains, All-map, All-nil}
+use Rattle.std.proofs.lemmas.List.Elements.{All-weaker, Contains-append_left, Contains-append_right}
+use Rattle.line_cost_model.specs.declared.range.LineRange.{LineRange}
+use Rattle.line_cost_model.specs.Regions.{LiesIn, concept_count, concepts_in}
+use Rattle.line_search.specs.RightConcepts.{AreListed}
+
+-- a frequency in front of each of some concepts
+abbrev led_by : List (List ℕ) → ℕ → List (List ℕ)
+led_by concepts frequency = map (λ rest. frequency ∷ rest) concepts
+
+there : (frequency : ℕ) (concepts : List (List ℕ)) (rest : List ℕ) → Contains concepts rest
+    → Contains (led_by concepts frequency) (frequency ∷ rest)
+there frequency [] rest (k, less, is) = absurd (omega (arith, less))
+there frequency (concept ∷ concepts) rest (zero, less, is) =
+    (0, omega arith, ap (λ some. frequency ∷ some) is)
+there frequency (concept ∷ concepts) rest (suc k, less, is) =
+    let behind = there frequency concepts rest (k, omega (arith, less), is) in
+    (suc behind.0, omega (arith, behind.1), behind.2)
+
+-- one of the frequencies from some number on
+among : (concepts : List (List ℕ)) (rest : List ℕ) → Contains concepts rest → (lo n frequency k : ℕ)
+    → frequency ≡ lo + k → k < n
+    → Contains (flat_map (led_by concepts) (range_with_len lo n)) (frequency ∷ rest)
+among concepts rest has lo zero frequency k is less = absurd (omega (arith, less))
+among concepts rest has lo (suc n) frequency zero is less =
+    let own : lo ≡ frequency = omega (arith, is) in
+    Contains-append_left (led_by concepts lo)
+    (flat_map (led_by concepts) (range_with_len (lo + 1) n)) (frequency ∷ rest)
+    (subst (λ f. Contains (led_by concepts lo) (f ∷ rest)) own (there lo concepts rest has))
+among concepts rest has lo (suc n) frequency (suc k) is less =
+    Contains-append_right (led_by concepts lo)
+    (flat_map (led_by concepts) (range_with_len (lo + 1) n)) (frequency ∷ rest)
+    (among concepts rest has (lo + 1) n frequency k (omega (arith, is)) (omega (arith, less)))
+
+each_there : (region : List LineRange) (concept : List ℕ) → LiesIn region concept
+    → Contains (concepts_in region) concept
+unfolding concepts_in
+each_there [] [] lies = (0, omega arith, refl)
+each_there [] (frequency ∷ rest) lies = absurd lies
+each_there (range ∷ region) [] lies = absurd lies
+each_there (range ∷ region) (frequency ∷ rest) lies =
+    among (concepts_in region) rest (each_there region rest lies.1) range.lo
+    (range.hi + 1 - range.lo) frequency (frequency - range.lo) (omega (arith, lies.0.low))
+    (omega (arith, lies.0.low, lies.0.high))
+
+all_inside : (range : LineRange) (region : List LineRange) (concepts : List (List ℕ)) (lo n : ℕ)
+    → range.lo ≤ lo → ((i : ℕ) → i < n → lo + i ≤ range.hi) → All (LiesIn region) concepts
+    → All (LiesIn (range ∷ region)) (flat_map (led_by concepts) (range_with_len lo n))
+all_inside range region concepts lo zero low high all = All-nil (LiesIn (range ∷ region))
+all_inside range region concepts lo (suc n) low high all =
+    let Inside : List ℕ → Type 0 = LiesIn (range ∷ region) in
+    let own = high 0 (omega arith) in
+    All-append Inside (led_by concepts lo) (flat_map (led_by concepts) (range_with_len (lo + 1) n))
+    (All-map Inside (λ rest. lo ∷ rest) concepts
+    (All-weaker (LiesIn region) (λ rest. Inside (lo ∷ rest))
+    (λ rest lies. (record { low = low; high = omega (arith, own) }, lies)) concepts all))
+    (all_inside range region concepts (lo + 1) n (omega (arith, low))
+    (λ i less. let more = high (suc i) (omega (arith, less)) in omega (arith, more)) all)
+
+all_lie : (region : List LineRange) → All (LiesIn region) (concepts_in region)
+unfolding concepts_in
+all_lie [] = All-cons (LiesIn []) [] [] tt (All-nil (LiesIn []))
+all_lie (range ∷ region) =
+    all_inside range region (concepts_in region) range.lo (range.hi + 1 - range.lo) (omega arith)
+    (λ i less. omega (arith, less)) (all_lie region)
+
+led_count : (concepts : List (List ℕ)) (lo n : ℕ)
+    → length (flat_map (led_by concepts) (range_with_len lo n)) ≡ n * length concepts
+led_count concepts lo zero = omega arith
+led_count concepts lo (suc n) =
+    let one_more : length concepts + n * length concepts ≡ suc n * length concepts = omega arith in
+    length-append (led_by concepts lo) (flat_map (led_by concepts) (range_with_len (lo + 1) n))
+    ∙ ap (λ own. own + length (flat_map (led_by concepts) (range_with_len (lo + 1) n)))
+    (length-map concepts (λ rest. lo ∷ rest))
+    ∙ ap (λ rest. length concepts + rest) (led_count concepts (lo + 1) n)
+    ∙ one_more
+
+as_many : (region : List LineRange) → length (concepts_in region) ≡ concept_count region
+unfolding concepts_in concept_count
+as_many [] = refl
+as_many (range ∷ region) =
+    led_count (concepts_in region) range.lo (range.hi + 1 - range.lo)
+    ∙ ap (λ rest. (range.hi + 1 - range.lo) * rest) (as_many region)
+
+pub concepts_listed : (region : List LineRange) → AreListed region
+concepts_listed region = record {
+  each = each_there region;
+  only = λ concept there. All-contains (LiesIn region) (concepts_in region) concept (all_lie region) there;
+  many = as_many region;
+}
