@@ -37,7 +37,8 @@ search_names : (test : FileId → Bool) (problem : ProblemParts) (budget : ℕ) 
 unfolding result_within
 search_names test problem budget entries reason is =
     elim (nat_le (length entries) budget) as
-    (λ b. search_made problem (cond b (whole_result entries) (spent_result budget entries)) ≡ Err reason
+    (λ b. search_made problem (cond b (whole_result entries) (spent_result budget entries))
+    ≡ Err reason
     → NamesOnly test reason) [
       | true ↦ ended test problem _ refusal.NoSolution reason tt
       | false ↦ ended test problem _ (refusal.Spent budget) reason tt
@@ -70,7 +71,8 @@ unfolding problem_faults
 problem_names test stop edge pool bundle no_load no_cost =
     let network = network_faults (input_text bundle 0) (input_text bundle 1) in
     let lines = pool_faults (network_in bundle) (input_text bundle 2) in
-    let loads = input_faults (load_input file.Load (network_in bundle).edges) (input_text bundle 3) in
+    let loads = input_faults (load_input file.Load (network_in bundle).edges) (input_text bundle 3)
+    in
     let costs = input_faults (pool_cost_input (lines_in bundle)) (input_text bundle 4) in
     names_both test (network ++ lines ++ loads) costs
     (names_both test (network ++ lines) loads
@@ -90,4 +92,5 @@ unfolding concept_stage
 concept_stage_names test stop edge pool bundle no_load no_cost reason is =
     names_after test (problem_faults bundle) _ reason
     (problem_names test stop edge pool bundle no_load no_cost)
-    (search_names test (problem_of bundle) (budget_of bundle) (listing (problem_of bundle)) reason) is
+    (search_names test (problem_of bundle) (budget_of bundle) (listing (problem_of bundle)) reason)
+    is

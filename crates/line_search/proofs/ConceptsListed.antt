@@ -1,5 +1,6 @@
 -- The concepts of a region are those that lie in it, and as many as are counted.
-use Rattle.std.proofs.Common.{◌≡◌, ℕ, zero, suc, ◌+◌, ◌-◌, ◌*◌, ◌<◌, ◌≤◌, List, [], ◌∷◌, length, map, All, refl, ap, subst, ◌∙◌, arith}
+use Rattle.std.proofs.Common.{◌≡◌, ℕ, zero, suc, ◌+◌, ◌-◌, ◌*◌, ◌<◌, ◌≤◌, List, [], ◌∷◌, length}
+use Rattle.std.proofs.Common.{map, All, refl, ap, subst, ◌∙◌, arith}
 use Rattle.std.specs.List.{Contains, flat_map, range_with_len}
 use Rattle.std.proofs.lemmas.List.{length-append, length-map}
 use Rattle.std.proofs.lemmas.List.Elements.{All-append, All-cons, All-contains, All-map, All-nil}
@@ -89,6 +90,7 @@ as_many (range ∷ region) =
 pub concepts_listed : (region : List LineRange) → AreListed region
 concepts_listed region = record {
   each = each_there region;
-  only = λ concept there. All-contains (LiesIn region) (concepts_in region) concept (all_lie region) there;
+  only = λ concept there. All-contains (LiesIn region) (concepts_in region) concept
+      (all_lie region) there;
   many = as_many region;
 }

@@ -1,5 +1,6 @@
 -- The frequency of the first row of a line, among some rows and one more.
-use Rattle.std.proofs.Common.{◌≡◌, ℕ, ℤ, ◌+◌, ◌<◌, Bool, true, false, cond, List, [], ◌∷◌, ◌++◌, length, take, get_or, Option, Some, None, refl, ap, sym, ◌∙◌}
+use Rattle.std.proofs.Common.{◌≡◌, ℕ, ℤ, ◌+◌, ◌<◌, Bool, true, false, cond, List, [], ◌∷◌, ◌++◌}
+use Rattle.std.proofs.Common.{length, take, get_or, Option, Some, None, refl, ap, sym, ◌∙◌}
 use Rattle.std.specs.Option.{option_or}
 use Rattle.std.specs.Ordering.{int_eq}
 use Rattle.giv_files.specs.Tables.{TableRow, no_row}
@@ -46,14 +47,16 @@ pub known_more : (rows : List TableRow) (i : ℕ) → i < length rows → (known
     → ((line : ℤ) → known line ≡ first_of_line (rows_with (plain_rows (take i rows)) line))
     → (line frequency : ℤ) → line ≡ line_in (get_or rows i no_row)
     → frequency ≡ frequency_at (get_or rows i no_row)
-    → ((other : ℤ) → new other ≡ option_or (known other) (cond (int_eq other line) (Some frequency) None))
+    → ((other : ℤ)
+    → new other ≡ option_or (known other) (cond (int_eq other line) (Some frequency) None))
     → (other : ℤ) → new other ≡ first_of_line (rows_with (plain_rows (take (i + 1) rows)) other)
 known_more rows i h known new knows line frequency own at more other =
     let before = plain_rows (take i rows) in
     let row : TableRow = record { number = 0; cells = (get_or rows i no_row).cells } in
     more other
     ∙ ap (λ some. option_or some (cond (int_eq other line) (Some frequency) None)) (knows other)
-    ∙ (λ j. option_or (first_of_line (rows_with before other)) (cond (int_eq other (own j)) (Some (at j)) None))
+    ∙ (λ j. option_or (first_of_line (rows_with before other))
+    (cond (int_eq other (own j)) (Some (at j)) None))
     ∙ sym (first_more before row other)
     ∙ ap (λ rows. first_of_line (rows_with rows other))
     (sym (records_more (pinned_input (record { edges = []; lines = [] })) rows i h))

@@ -37,6 +37,9 @@ pub mod PinnedLaws
 pub mod PinnedOver
 mod FirstKnown
 mod Grouped
+mod GroupedRows
+mod RisingIds
 mod SamePlaces
 mod PinnedCalls
 mod ConceptsListed
+mod RowCounts

@@ -1,5 +1,7 @@
 -- What the call of the stage of a planner's concept gives, step by step.
-use Rattle.std.proofs.Common.{◌≡◌, ℕ, ℤ, true, false, not, List, [], ◌∷◌, ◌++◌, map, slice_get, Some, Ok, Err, refl, ap, subst, sym, ◌∙◌}
+use Rattle.std.proofs.Common.{◌≡◌, ℕ, ℤ, true, false, not, List, [], ◌∷◌, ◌++◌, map, slice_get}
+use Rattle.std.proofs.Common.{Some, Ok, Err, refl, ap, subst, sym, ◌∙◌, nat_eq, length, take}
+use Rattle.std.proofs.lemmas.List.{length-map}
 use Rattle.std.proofs.lemmas.Simd.{map-map}
 use Rattle.std.specs.Ordering.{int_eq}
 use lib.Pointwise.{pointwise}
@@ -10,20 +12,27 @@ use Rattle.giv_files.specs.declared.refusal.Refusal.TheVariants as refusal
 use Rattle.giv_files.specs.declared.refusal.StageFault.{StageFault}
 use Rattle.giv_files.specs.declared.refusal.StageFault.TheVariants as stage
 use Rattle.giv_files.specs.declared.row_why.RowWhy.TheVariants as why
-use Rattle.giv_files.specs.Inputs.{Input, Refuses, input_faults, table_faults, table_row_faults, whole_rule}
+use Rattle.giv_files.specs.Inputs.{Input, Refuses, input_faults, table_faults, table_row_faults}
+use Rattle.giv_files.specs.Inputs.{whole_rule}
 use Rattle.giv_files.specs.Settings.{BundleParts}
 use Rattle.giv_files.specs.StageCalls.{StageGives, input_text}
 use Rattle.giv_files.specs.Tables.{TableRow}
-use Rattle.giv_files.proofs.Inputs.{no_faults, refused_append, refused_whole, whole_rule_broken, whole_rule_kept}
+use Rattle.giv_files.proofs.Inputs.{no_faults, refused_append, refused_whole, whole_rule_broken}
+use Rattle.giv_files.proofs.Inputs.{whole_rule_kept}
 use Rattle.giv_files.proofs.StageCalls.{stage_made, stage_refused}
 use Rattle.line_cost_model.specs.Concepts.{cost_of, is_feasible}
 use Rattle.line_cost_model.specs.Problems.{CostedLine, ProblemParts}
-use Rattle.line_search.specs.ConceptTables.{concept_rows, frequencies_in}
+use Rattle.line_search.specs.ConceptTables.{concept_rows, frequencies_in, frequency_in, row_count}
 use Rattle.line_search.specs.GivenProblems.{problem_faults, problem_of}
 use Rattle.line_search.specs.Judged.{frequencies_of}
-use Rattle.line_search.specs.PinnedConcepts.{breaks_bounds, by_lines, differs_from_pool, made_of_texts, marking_tree, pinned_concept_faults, pinned_concept_stage, pinned_input, pinned_made, places_of}
+use Rattle.line_search.specs.PinnedConcepts.{breaks_bounds, by_lines, differs_from_pool}
+use Rattle.line_search.specs.PinnedConcepts.{made_of_texts, marking_tree, pinned_concept_faults}
+use Rattle.line_search.specs.PinnedConcepts.{pinned_concept_stage, pinned_input, pinned_made}
+use Rattle.line_search.specs.PinnedConcepts.{places_of}
 use Rattle.line_search.specs.PoolPlaces.{plain_rows}
 use Rattle.line_search.proofs.ConceptReads.{by_cells, frequency_by}
+use Rattle.line_search.proofs.GroupedRows.{places_count}
+use Rattle.line_search.proofs.RowCounts.{concept_long, other_lists}
 
 -- ---- a table
 
@@ -35,7 +44,8 @@ module _ (problem : ProblemParts) (table : List TableRow) where
   same_frequencies : frequencies_in problem (plain_rows table) ≡ frequencies_in problem table
   same_frequencies = ap (λ (at : ℤ → ℕ). map (λ (line : CostedLine). at line.id) problem.lines)
       (λ i line. (by_cells line (plain_rows table)
-      ∙ ap (frequency_by line) (map-map (λ (row : TableRow). row.cells) (λ (row : TableRow). input.read row.cells) table)
+      ∙ ap (frequency_by line) (map-map (λ (row : TableRow). row.cells)
+      (λ (row : TableRow). input.read row.cells) table)
       ∙ sym (by_cells line table)) i)
 
   module _ (kept : table_row_faults input table ≡ []) (frequencies : List ℕ)
@@ -43,23 +53,45 @@ module _ (problem : ProblemParts) (table : List TableRow) where
     given : frequencies_in problem (plain_rows table) ≡ frequencies
     given = same_frequencies ∙ sym are
 
-    pub other_rows : false ≡ pointwise (pointwise int_eq) (places_of (by_lines (plain_rows table))) (places_of (concept_rows problem frequencies))
-        → slice_get (table_faults input table) 0 ≡ Some (refusal.BadRow file.PinnedConcept 0 why.PoolDiffers)
+    pub other_rows : false
+        ≡ pointwise (pointwise int_eq) (places_of (by_lines (plain_rows table)))
+        (places_of (concept_rows problem frequencies))
+        → slice_get (table_faults input table) 0
+        ≡ Some (refusal.BadRow file.PinnedConcept 0 why.PoolDiffers)
     other_rows differ =
-        refused_whole input table (stage.Refused (refusal.BadRow file.PinnedConcept 0 why.PoolDiffers)) refl kept
+        refused_whole input table (stage.Refused (refusal.BadRow file.PinnedConcept 0
+        why.PoolDiffers)) refl kept
         (whole_rule_broken input table (differs_from_pool problem) why.PoolDiffers
         (whole_rule (breaks_bounds problem) why.NotFeasible ∷ [])
-        (ap (λ fs. not (pointwise (pointwise int_eq) (places_of (by_lines (plain_rows table))) (places_of (concept_rows problem fs)))) given
+        (ap (λ fs. not (pointwise (pointwise int_eq) (places_of (by_lines (plain_rows table)))
+        (places_of (concept_rows problem fs)))) given
         ∙ ap not (sym differ)))
 
-    module _ (same : true ≡ pointwise (pointwise int_eq) (places_of (by_lines (plain_rows table))) (places_of (concept_rows problem frequencies))) where
+    pub other_count : nat_eq (length table) (row_count problem.lines) ≡ false
+        → slice_get (table_faults input table) 0
+        ≡ Some (refusal.BadRow file.PinnedConcept 0 why.PoolDiffers)
+    other_count differ =
+        let each : length frequencies ≡ length problem.lines =
+        ap length are ∙ length-map problem.lines (λ line. frequency_in table line.id) in
+        let own : length (places_of (concept_rows problem frequencies)) ≡ row_count problem.lines =
+        length-map (concept_rows problem frequencies) (λ row. take 3 row.cells)
+        ∙ concept_long problem frequencies each in
+        other_rows (other_lists (places_of (by_lines (plain_rows table)))
+        (places_of (concept_rows problem frequencies))
+        ((λ i. nat_eq (places_count table i) (own i)) ∙ differ))
+
+    module _ (same : true
+        ≡ pointwise (pointwise int_eq) (places_of (by_lines (plain_rows table)))
+        (places_of (concept_rows problem frequencies))) where
       of_pool : differs_from_pool problem (plain_rows table) ≡ false
       of_pool =
-          ap (λ fs. not (pointwise (pointwise int_eq) (places_of (by_lines (plain_rows table))) (places_of (concept_rows problem fs)))) given
+          ap (λ fs. not (pointwise (pointwise int_eq) (places_of (by_lines (plain_rows table)))
+          (places_of (concept_rows problem fs)))) given
           ∙ ap not (sym same)
 
       pub other_bounds : false ≡ is_feasible problem frequencies
-          → slice_get (table_faults input table) 0 ≡ Some (refusal.BadRow file.PinnedConcept 0 why.NotFeasible)
+          → slice_get (table_faults input table) 0
+          ≡ Some (refusal.BadRow file.PinnedConcept 0 why.NotFeasible)
       other_bounds broken =
           let fault = stage.Refused (refusal.BadRow file.PinnedConcept 0 why.NotFeasible) in
           refused_whole input table fault refl kept
@@ -89,14 +121,17 @@ module _ (bundle : BundleParts) where
       (refused_append (problem_faults bundle)
       (input_faults (pinned_input (problem_of bundle)) (input_text bundle 5)) fault by)
 
-  module _ (problem : ProblemParts) (none : problem_faults bundle ≡ []) (is : problem ≡ problem_of bundle)
+  module _ (problem : ProblemParts) (none : problem_faults bundle ≡ [])
+      (is : problem ≡ problem_of bundle)
       (concept : List ℕ) (told : concept ≡ input_text bundle 5) where
     own_faults : input_faults (pinned_input problem) concept ≡ pinned_concept_faults bundle
     own_faults =
         (λ i. input_faults (pinned_input (is i)) (told i))
-        ∙ ap (λ (faults : List Refusal). faults ++ input_faults (pinned_input (problem_of bundle)) (input_text bundle 5)) (sym none)
+        ∙ ap (λ (faults : List Refusal). faults
+        ++ input_faults (pinned_input (problem_of bundle)) (input_text bundle 5)) (sym none)
 
-    pub concept_refused : (fault : StageFault) → Refuses (input_faults (pinned_input problem) concept) fault
+    pub concept_refused : (fault : StageFault)
+        → Refuses (input_faults (pinned_input problem) concept) fault
         → StageGives (pinned_concept_stage bundle) (Err fault)
     unfolding pinned_concept_stage
     concept_refused fault by =
@@ -105,9 +140,11 @@ module _ (bundle : BundleParts) where
         (subst (λ faults. Refuses faults fault) own_faults by)
 
     pub concept_taken : (frequencies : List ℕ) → input_faults (pinned_input problem) concept ≡ []
-        → frequencies ≡ frequencies_of problem concept → (tree : List ℕ) → tree ≡ input_text bundle 6
+        → frequencies ≡ frequencies_of problem concept → (tree : List ℕ)
+        → tree ≡ input_text bundle 6
         → (made : Made)
-        → made ≡ pinned_made problem frequencies (marking_tree problem (cost_of problem frequencies) tree)
+        → made ≡ pinned_made problem frequencies (marking_tree problem
+        (cost_of problem frequencies) tree)
         → pinned_concept_stage bundle ≡ Ok made
     unfolding pinned_concept_stage
     concept_taken frequencies kept are tree told_tree made made_is =
@@ -115,5 +152,6 @@ module _ (bundle : BundleParts) where
         (made_of_texts (problem_of bundle) (input_text bundle 5) (input_text bundle 6)) made
         (sym own_faults ∙ kept)
         (made_is
-        ∙ (λ i. pinned_made problem (are i) (marking_tree problem (cost_of problem (are i)) (told_tree i)))
+        ∙ (λ i. pinned_made problem (are i) (marking_tree problem (cost_of problem (are i))
+        (told_tree i)))
         ∙ (λ i. made_of_texts (is i) (told i) (input_text bundle 6)))

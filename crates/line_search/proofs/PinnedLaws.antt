@@ -1,6 +1,7 @@
 -- The laws of the stage of a planner's concept: which files it makes, that they are right, and
 -- which file a refusal names.
-use Rattle.std.proofs.Common.{◌≡◌, ℕ, Bool, true, List, [], Option, Some, None, Result, Ok, Err, ap, lit<}
+use Rattle.std.proofs.Common.{◌≡◌, ℕ, Bool, true, List, [], Option, Some, None, Result, Ok, Err, ap}
+use Rattle.std.proofs.Common.{lit<}
 use Rattle.std.specs.Prelude.{IfOk}
 use Rattle.giv_files.specs.declared.file_id.FileId.{FileId}
 use Rattle.giv_files.specs.declared.file_id.FileId.TheVariants as file
@@ -30,7 +31,8 @@ use Rattle.line_search.proofs.ConceptNames.{problem_names}
 use Rattle.line_search.proofs.PinnedReads.{pinned_right}
 
 pinned_makes : (problem : ProblemParts) (frequencies : List ℕ) (tree : Option (List Node))
-    (made : Made) → pinned_made problem frequencies tree ≡ made → MakesAs stage.PinnedConcept (ids_of made.files)
+    (made : Made) → pinned_made problem frequencies tree ≡ made
+    → MakesAs stage.PinnedConcept (ids_of made.files)
 pinned_makes problem frequencies (Some nodes) made is =
     (0, lit< tt, ap (λ (made : Made). ids_of made.files) is)
 pinned_makes problem frequencies None made is =

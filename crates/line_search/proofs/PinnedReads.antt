@@ -1,5 +1,7 @@
 -- What is made of a planner's concept is right.
-use Rattle.std.proofs.Common.{◌≡◌, ℕ, ℤ, pos, Bool, true, false, cond, not, List, [], ◌∷◌, length, map, slice_get, option_map, is_some, Option, Some, None, Ok, refl, ap, sym, ◌∙◌, subst, arith}
+use Rattle.std.proofs.Common.{◌≡◌, ℕ, ℤ, pos, Bool, true, false, cond, not, List, [], ◌∷◌, length}
+use Rattle.std.proofs.Common.{map, slice_get, option_map, is_some, Option, Some, None, Ok, refl, ap}
+use Rattle.std.proofs.Common.{sym, ◌∙◌, subst, arith}
 use Rattle.std.proofs.lemmas.Bool.{eqb-true, not-false}
 use Rattle.std.proofs.lemmas.Simd.{map-map}
 use Rattle.giv_files.specs.declared.made.Made.{Made}
@@ -28,12 +30,16 @@ use Rattle.line_search.specs.declared.fault.ConceptFault.TheVariants as fault
 use Rattle.line_search.specs.Firsts.{first_of}
 use Rattle.line_search.specs.ConceptTables.{concept_text, frequencies_in}
 use Rattle.line_search.specs.GivenProblems.{problem_faults, problem_of}
-use Rattle.line_search.specs.Judged.{broken_where, certificate_rule, frequencies_of, has_some, rule_of, tree_rule}
-use Rattle.line_search.specs.PinnedConcepts.{breaks_bounds, differs_from_pool, made_of_texts, marking_tree, pinned_concept_faults, pinned_concept_stage, pinned_input, pinned_made}
+use Rattle.line_search.specs.Judged.{broken_where, certificate_rule, frequencies_of, has_some}
+use Rattle.line_search.specs.Judged.{rule_of, tree_rule}
+use Rattle.line_search.specs.PinnedConcepts.{breaks_bounds, differs_from_pool, made_of_texts}
+use Rattle.line_search.specs.PinnedConcepts.{marking_tree, pinned_concept_faults}
+use Rattle.line_search.specs.PinnedConcepts.{pinned_concept_stage, pinned_input, pinned_made}
 use Rattle.line_search.specs.RightPinned.{ConceptIsRight}
 use Rattle.line_search.specs.Searches.{AreWritten}
 use Rattle.line_search.proofs.ConceptAccepted.{concept_accepted}
-use Rattle.line_search.proofs.ConceptReads.{by_cells, frequency_by, marks, passes_by, reads, tree_kept}
+use Rattle.line_search.proofs.ConceptReads.{by_cells, frequency_by, marks, passes_by, reads}
+use Rattle.line_search.proofs.ConceptReads.{tree_kept}
 use Rattle.line_search.proofs.SoundProblems.{problem_sound}
 
 -- ---- a tree that breaks no rule
@@ -48,14 +54,17 @@ none_ruled : (all : List TreeFault) → option_map rule_of (slice_get all 0) ≡
 none_ruled [] e = refl
 none_ruled (x ∷ all) e = absurd (cc)
 
-no_rule : (problem : ProblemParts) (cost : ℕ) (text : List ℕ) → tree_rule problem cost (Some text) ≡ None
+no_rule : (problem : ProblemParts) (cost : ℕ) (text : List ℕ)
+    → tree_rule problem cost (Some text) ≡ None
     → (read_faults problem text ≡ []) × (tree_faults problem (pos cost) (tree_of problem text) ≡ [])
-no_rule problem cost text none = by (has_some (read_faults problem text)) (certificate_rule problem cost text) refl refl none
+no_rule problem cost text none = by (has_some (read_faults problem text))
+    (certificate_rule problem cost text) refl refl none
   where
     by : (broken : Bool) (rule : Option ConceptFault) → has_some (read_faults problem text) ≡ broken
         → certificate_rule problem cost text ≡ rule
         → first_of (broken_where broken fault.Tree ∷ rule ∷ []) ≡ None
-        → (read_faults problem text ≡ []) × (tree_faults problem (pos cost) (tree_of problem text) ≡ [])
+        → (read_faults problem text ≡ []) × (tree_faults problem (pos cost) (tree_of problem text)
+        ≡ [])
     by true rule is rules e = absurd (cc)
     by false (Some first) is rules e = absurd (cc)
     by false None is rules e = (no_some _ is, none_ruled _ rules)
@@ -88,7 +97,8 @@ module _ (bundle : BundleParts) (none : pinned_concept_faults bundle ≡ []) whe
   same : frequencies_in problem (records input table) ≡ frequencies
   same = ap (λ (at : ℤ → ℕ). map (λ (line : CostedLine). at line.id) problem.lines)
       (λ i line. (by_cells line (records input table)
-      ∙ ap (frequency_by line) (map-map (λ (row : TableRow). row.cells) (λ (row : TableRow). input.read row.cells) table)
+      ∙ ap (frequency_by line) (map-map (λ (row : TableRow). row.cells)
+      (λ (row : TableRow). input.read row.cells) table)
       ∙ sym (by_cells line table)) i)
 
   keeps_bounds : breaks_bounds problem (records input table) ≡ false
@@ -125,13 +135,15 @@ module _ (bundle : BundleParts) (none : pinned_concept_faults bundle ≡ []) whe
         (reads problem sound frequencies feasible);
   }
 
-  beside : (text : List ℕ) → tree_rule problem (cost_of problem frequencies) (Some text) ≡ None → Right (Some (tree_of problem text))
+  beside : (text : List ℕ) → tree_rule problem (cost_of problem frequencies) (Some text) ≡ None
+      → Right (Some (tree_of problem text))
   beside text kept =
       let nodes = tree_of problem text in
       let rules = no_rule problem (cost_of problem frequencies) text kept in
       let are = faultless_tree problem text sound rules.0 in
       let written : AreWritten problem nodes = record { names = are.0; written = are.1 } in
-      let certified = (no_fault_certifies problem (pos (cost_of problem frequencies)) nodes).0 rules.1 in
+      let certified = (no_fault_certifies problem (pos (cost_of problem frequencies)) nodes).0
+      rules.1 in
       record {
         inputs = inputs;
         text = concept_text problem frequencies;
@@ -150,13 +162,15 @@ module _ (bundle : BundleParts) (none : pinned_concept_faults bundle ≡ []) whe
   made_right : (text : List ℕ) → Right (marking_tree problem (cost_of problem frequencies) text)
   made_right text = by (tree_rule problem (cost_of problem frequencies) (Some text)) refl
     where
-      by : (found : Option ConceptFault) → tree_rule problem (cost_of problem frequencies) (Some text) ≡ found
+      by : (found : Option ConceptFault)
+          → tree_rule problem (cost_of problem frequencies) (Some text) ≡ found
           → Right (cond (is_some found) None (Some (tree_of problem text)))
       by None is = beside text is
       by (Some first) is = alone
 
 -- the law of the stage
-pub pinned_right : (bundle : BundleParts) (made : Made) → pinned_concept_stage bundle ≡ Ok made → ConceptIsRight bundle made.files
+pub pinned_right : (bundle : BundleParts) (made : Made) → pinned_concept_stage bundle ≡ Ok made
+    → ConceptIsRight bundle made.files
 unfolding pinned_concept_stage
 pinned_right bundle made is =
     let faults = pinned_concept_faults bundle in

@@ -8,7 +8,8 @@ use Rattle.line_search.specs.Budgets.{nodes_in}
 use Rattle.line_search.specs.GivenProblems.{problem_faults, problem_of}
 use Rattle.line_search.specs.Listings.{listing}
 use Rattle.line_search.specs.RightConcepts.{SearchIsRight, found_by}
-use Rattle.line_search.proofs.ChosenFound.{best_feasible, found_is_chosen, listing_finds, nodes_certify, none_is_feasible, some_find}
+use Rattle.line_search.proofs.ChosenFound.{best_feasible, found_is_chosen, listing_finds}
+use Rattle.line_search.proofs.ChosenFound.{nodes_certify, none_is_feasible, some_find}
 use Rattle.line_search.proofs.ConceptsListed.{concepts_listed}
 use Rattle.line_search.proofs.Levels.{visit_unrolls}
 use Rattle.line_search.proofs.SoundProblems.{problem_sound}
@@ -24,9 +25,11 @@ search_right bundle none =
     let problem = problem_of bundle in
     let sound = problem_sound bundle none in
     record {
-      feasible = λ count. best_feasible problem None (take count (listing problem)) tt (some_find problem count (listing problem) (listing_finds problem));
+      feasible = λ count. best_feasible problem None (take count (listing problem)) tt
+          (some_find problem count (listing problem) (listing_finds problem));
       chosen = where_found (IsChosen problem) (found_by problem) (found_is_chosen problem sound);
-      certified = where_found (λ concept. Certifies problem (pos (cost_of problem concept)) (nodes_in (listing problem))) (found_by problem) (nodes_certify problem sound);
+      certified = where_found (λ concept. Certifies problem (pos (cost_of problem concept))
+          (nodes_in (listing problem))) (found_by problem) (nodes_certify problem sound);
       none = none_is_feasible problem sound;
       unrolls = visit_unrolls problem;
       counted = concepts_listed;

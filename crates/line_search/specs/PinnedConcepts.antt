@@ -1,6 +1,7 @@
 -- The stage of a concept that a planner gives: its file, its rules, and what is made of it. The
 -- inputs are those of the search, the text of the concept and that of a tree.
-use Rattle.std.specs.Prelude.{ℕ, ℤ, pos, not, if◌then◌else◌, Bool, List, [], ◌∷◌, ◌++◌, map, filter, take, get_or, is_some, codes, Option, Some, None, Result}
+use Rattle.std.specs.Prelude.{ℕ, ℤ, pos, not, if◌then◌else◌, Bool, List, [], ◌∷◌, ◌++◌, map, filter}
+use Rattle.std.specs.Prelude.{take, get_or, is_some, codes, Option, Some, None, Result}
 use Rattle.std.specs.List.{flat_map}
 use Rattle.std.specs.Ordering.{int_eq}
 use lib.Pointwise.{pointwise}
@@ -48,7 +49,8 @@ by_lines rows = flat_map (rows_with rows) (rising (map line_in rows))
 -- the rule that a row has the frequency of its line's first row
 abbrev pub same_frequency : RowRule TableRow
 same_frequency = record {
-  is_broken = λ before row. differs (frequency_at row) (first_of_line (rows_with before (line_in row)));
+  is_broken = λ before row. differs (frequency_at row)
+      (first_of_line (rows_with before (line_in row)));
   why = why.FrequencyDiffers;
 }
 
@@ -90,8 +92,10 @@ marking_tree problem cost text =
 -- what is made of frequencies and a tree: both are written anew
 abbrev pub pinned_made : ProblemParts → List ℕ → Option (List Node) → Made
 pinned_made problem frequencies tree = record {
-  files = record { file = file.Concept; text = concept_text problem frequencies } ∷ tree_files problem tree;
-  report = report_line stage.Concept ((codes "cost " ++ fixed_text (pos (cost_of problem frequencies)))
+  files = record { file = file.Concept; text = concept_text problem frequencies } ∷ tree_files
+      problem tree;
+  report = report_line stage.Concept ((codes "cost "
+      ++ fixed_text (pos (cost_of problem frequencies)))
       ∷ mark_text tree ∷ codes "pinned" ∷ []);
 }
 

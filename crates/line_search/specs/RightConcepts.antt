@@ -1,5 +1,6 @@
 -- What is right about the concept that a search finds, and about the files that are made of it.
-use Rattle.std.specs.Prelude.{◌≡◌, ℕ, pos, ◌+◌, ◌*◌, ◌≤◌, List, [], ◌∷◌, length, take, Option, Some, None}
+use Rattle.std.specs.Prelude.{◌≡◌, ℕ, pos, ◌+◌, ◌*◌, ◌≤◌, List, [], ◌∷◌, length, take, Option, Some}
+use Rattle.std.specs.Prelude.{None}
 use Rattle.std.specs.Prelude.{◌⊎◌, IfSome, Result, Ok, Err, ⊤}
 use Rattle.giv_files.specs.declared.file_id.FileId.TheVariants as file
 use Rattle.giv_files.specs.declared.made.Made.{Made}
@@ -52,7 +53,8 @@ pub record AreListed (region : List LineRange) : Type 0 where
 -- however deep it is split, none are left out. The count of concepts, by which a budget is enough,
 -- is that of those that lie in a region.
 pub record SearchIsRight (problem : ProblemParts) : Type 0 where
-  pub feasible : (count : ℕ) → IfSome (best_after None (take count (listing problem))) (IsFeasible problem)
+  pub feasible : (count : ℕ)
+      → IfSome (best_after None (take count (listing problem))) (IsFeasible problem)
   pub chosen : IfSome (found_by problem) (IsChosen problem)
   pub certified : IfSome (found_by problem)
       (λ concept. Certifies problem (pos (cost_of problem concept)) (nodes_in (listing problem)))

@@ -1,10 +1,11 @@
 // The table of a line concept.
-ghost use Rattle.std.specs.Prelude.{◌≡◌, ◌<◌, ◌+◌, ◌∷◌, ◌++◌, [], length, slice_get, slice_index_or};
-ghost use Rattle.std.specs.Prelude.{option_map, Some, IfOk, OnOk};
+ghost use Rattle.std.specs.Prelude.{◌≡◌, ◌<◌, ◌+◌, ◌∷◌, ◌++◌, [], length, slice_get};
+ghost use Rattle.std.specs.Prelude.{slice_index_or};
+ghost use Rattle.std.specs.Prelude.{nat_eq, option_map, Some, IfOk, OnOk};
 ghost use Rattle.std.specs.Ordering.{int_eq};
 ghost use lib.Pointwise.{pointwise};
 ghost use Rattle.giv_files.specs.Tables.{cell_at, no_row};
-ghost use Rattle.line_search.specs.ConceptTables.{concept_rows, line_rows, row_at};
+ghost use Rattle.line_search.specs.ConceptTables.{concept_rows, line_rows, row_at, row_count};
 ghost use Rattle.line_search.specs.Judged.{same_cells};
 
 use giv_files::Table;
@@ -64,6 +65,21 @@ fn push_row(
 {
     let (edge_id, _, _) = problem.edge_row(edge);
     table.push(0, &[id, place as i64 + 1, edge_id, i64::from(frequency)])
+}
+
+/// Whether a concept has so many rows.
+pub(crate) fn has_row_count(problem: &LineProblem, count: usize) -> bool
+    ensures { result ≡ nat_eq count (row_count problem.now.lines) }
+{
+    let mut left = count;
+    for line in 0..problem.line_count() {
+        let own = problem.line_edges(line).len();
+        if left < own {
+            return false;
+        }
+        left -= own;
+    }
+    left == 0
 }
 
 /// Whether two tables have the same cells.

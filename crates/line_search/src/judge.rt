@@ -10,7 +10,7 @@ ghost use Rattle.line_search.specs.Judged.{Marks, Passes, first_broken, has_some
 ghost use Rattle.line_search.specs.PinnedConcepts.{marking_tree};
 ghost use Rattle.line_search.specs.Searches.{AreWritten};
 
-use crate::concept_table::{have_same_cells, rows_of_concept};
+use crate::concept_table::{has_row_count, have_same_cells, rows_of_concept};
 use crate::fault::ConceptFault;
 use crate::frequencies::line_frequencies;
 use branch_certificate::{Tree, TreeReadFault, check_tree, read_tree};
@@ -35,6 +35,9 @@ pub(crate) fn first_fault(
     let Some(table) = concept_rows(alloc, concept)? else {
         return Ok(Some(ConceptFault::Row));
     };
+    if !has_row_count(problem, table.len()) {
+        return Ok(Some(ConceptFault::Lines));
+    }
     let frequencies = line_frequencies(alloc, problem, &table)?;
     if !have_same_cells(&table, &rows_of_concept(alloc, problem, &frequencies)?) {
         return Ok(Some(ConceptFault::Lines));

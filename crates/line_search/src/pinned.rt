@@ -17,6 +17,7 @@ ghost use Rattle.line_search.specs.RightPinned.{ConceptIsRight};
 ghost use Rattle.line_search.specs.Searches.{IsPriced};
 
 use crate::best::BestConcept;
+use crate::concept_table::has_row_count;
 use crate::first_frequencies::test_frequencies;
 use crate::found::{concept_files, cost_text, mark_text};
 use crate::frequencies::line_frequencies;
@@ -86,6 +87,9 @@ fn table_frequencies(
     ensures few { IfOk result (λ all. All (λ frequency. frequency ≤ 1000) all.items) }
 {
     test_frequencies(alloc, table)?;
+    if !has_row_count(problem, table.len()) {
+        return Err(StageFault::Refused(whole_file(RowWhy::PoolDiffers)));
+    }
     let frequencies = line_frequencies(alloc, problem, table)?;
     if !are_of_pool(alloc, problem, &frequencies, table)? {
         return Err(StageFault::Refused(whole_file(RowWhy::PoolDiffers)));

@@ -1,14 +1,33 @@
-use Rattle.std.proofs.Common.{refl, ◌≡◌, Some, IfNone, IfSome, ap, sym, ◌∙◌, subst, option_copied}
+use Rattle.std.proofs.Common.{length, nat_eq, refl, ◌≡◌, Some, IfNone, IfSome, ap, sym, ◌∙◌, subst}
+use Rattle.std.proofs.Common.{option_copied}
+use Rattle.std.proofs.lemmas.List.{length-map}
 use Rattle.line_cost_model.specs.Concepts.{IsFeasible, is_feasible, cost_of}
-use Rattle.line_search.specs.ConceptTables.{concept_rows}
+use Rattle.line_search.specs.ConceptTables.{concept_rows, frequencies_in, frequency_in, row_count}
 use Rattle.line_search.specs.Judged.{Marks, Passes, first_broken, tree_rule}
-use Rattle.line_search.proofs.Judging.{not_read, other_lines, out_of_bounds, by_tree, passes, none_then, ok_then}
+use Rattle.line_search.proofs.Judging.{not_read, other_lines, out_of_bounds, by_tree, passes}
+use Rattle.line_search.proofs.Judging.{none_then, ok_then}
+use Rattle.line_search.proofs.RowCounts.{concept_long, other_cells}
 use Rattle.line_search.proofs.judge.first_fault.Goals as goal
 
 pub returns-in_default-clause-first : goal.returns-in_default-clause-first
 returns-in_default-clause-first c =
     not_read c.args.problem.now c.args.concept.now (option_copied c.args.tree)
     (sym c.in_default.is ∙ c.in_ok-table.ensures.read)
+
+pub returns-then-not-has_row_count-clause-first : goal.returns-then-not-has_row_count-clause-first
+returns-then-not-has_row_count-clause-first c =
+    let problem = c.args.problem.now in
+    let table = c.in-Some.table in
+    let frequencies = frequencies_in problem table in
+    let long = concept_long problem frequencies
+    (length-map problem.lines (λ line. frequency_in table line.id)) in
+    other_lines problem c.args.concept.now (option_copied c.args.tree) table
+    (sym c.in-Some.is ∙ c.in_ok-table.ensures.read) frequencies refl
+    (concept_rows problem frequencies) refl
+    (other_cells table (concept_rows problem frequencies)
+    (ap (nat_eq (length table)) long
+    ∙ ap (λ count. nat_eq count (row_count problem.lines)) (sym c.len.ensures.len)
+    ∙ sym c.has_row_count.ensures ∙ c.if-not-has_row_count.true))
 
 pub returns-then-not-have_same_cells-clause-first :
     goal.returns-then-not-have_same_cells-clause-first

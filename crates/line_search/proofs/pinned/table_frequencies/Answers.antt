@@ -1,9 +1,10 @@
-use Rattle.std.proofs.Common.{ap, refl, sym, ◌∙◌, Some}
+use Rattle.std.proofs.Common.{ap, nat_eq, refl, sym, ◌∙◌, Some}
 use Rattle.std.proofs.lemmas.Result.{err_from_is_err_and}
 use Rattle.giv_files.proofs.Inputs.{refused_rows}
 use Rattle.line_cost_model.specs.Concepts.{is_feasible}
+use Rattle.line_search.specs.ConceptTables.{frequencies_in, row_count}
 use Rattle.line_search.specs.PinnedConcepts.{pinned_input}
-use Rattle.line_search.proofs.PinnedCalls.{none_at_fault, other_bounds, other_rows}
+use Rattle.line_search.proofs.PinnedCalls.{none_at_fault, other_bounds, other_count, other_rows}
 use Rattle.line_search.proofs.pinned.table_frequencies.Goals as goal
 
 pub returns-in_err-test_frequencies-clause-read : goal.returns-in_err-test_frequencies-clause-read
@@ -13,6 +14,16 @@ returns-in_err-test_frequencies-clause-read c =
     rw (p.1, p.2) (refused_rows (pinned_input problem) c.args.table.now
     c.in_err-test_frequencies.field-0.0 refl (c.in_err-test_frequencies.ensures problem))
 
+pub returns-then-not-has_row_count-clause-read : goal.returns-then-not-has_row_count-clause-read
+returns-then-not-has_row_count-clause-read c =
+    let problem = c.args.problem.now in
+    let table = c.args.table.now in
+    let kept = (c.in_ok-test_frequencies.ensures problem).0 in
+    other_count problem table kept (frequencies_in problem table) refl
+    (ap (λ count. nat_eq count (row_count problem.lines)) (sym c.len.ensures.len)
+    ∙ sym c.has_row_count.ensures ∙ c.if-not-has_row_count.true)
+    ∙ ap (λ why. Some why) (sym c.whole_file.ensures)
+
 pub returns-then-not-branch-clause-read : goal.returns-then-not-branch-clause-read
 returns-then-not-branch-clause-read c =
     let problem = c.args.problem.now in
@@ -21,7 +32,7 @@ returns-then-not-branch-clause-read c =
     other_rows problem table kept c.deref.result.now
     (c.deref.ensures.value ∙ c.in_ok-frequencies.ensures.read)
     (sym c.if-not-branch.true ∙ c.in_ok-are_of_pool.ensures)
-    ∙ ap (λ why. Some why) (sym c.whole_file.ensures)
+    ∙ ap (λ why. Some why) (sym c.whole_file-then-not-branch.ensures)
 
 pub returns-then-not-is_feasible-clause-read : goal.returns-then-not-is_feasible-clause-read
 returns-then-not-is_feasible-clause-read c =

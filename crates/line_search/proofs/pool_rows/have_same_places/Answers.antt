@@ -8,8 +8,10 @@ returns-then-not-is_same_place c =
     let table = c.args.table.now in
     let i = c.loop-row.row in
     sym (c.loop-row.invariant.so_far
-    ∙ same_behind rows table i _ c.loop-row-test.true (omega (arith, c.loop-row-test.true, c.loop-row.invariant.long))
-    ∙ ap (λ same. same && same_from rows table (i + 1) (i + 1)) (sym c.if-not-is_same_place.ensures))
+    ∙ same_behind rows table i _ c.loop-row-test.true
+    (omega (arith, c.loop-row-test.true, c.loop-row.invariant.long))
+    ∙ ap (λ same. same && same_from rows table (i + 1) (i + 1))
+    (sym c.if-not-is_same_place.ensures))
 
 pub loop-row-preserved : goal.loop-row-preserved
 loop-row-preserved c =

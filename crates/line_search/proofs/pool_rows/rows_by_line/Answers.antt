@@ -1,4 +1,4 @@
-use Rattle.line_search.proofs.Grouped.{places_sorted}
+use Rattle.line_search.proofs.GroupedRows.{places_sorted}
 use Rattle.line_search.proofs.pool_rows.rows_by_line.Goals as goal
 
 pub returns : goal.returns

@@ -1,0 +1,100 @@
+-- How many rows a concept has.
+use Rattle.std.proofs.Common.{◌≡◌, ℕ, ◌+◌, ◌-◌, ◌<◌, ◌≤◌, Bool, true, false, nat_eq, ℤ, List, []}
+use Rattle.std.proofs.Common.{◌∷◌, length, map, drop, get_or, slice_get, zip, refl, ap, sym, ◌∙◌}
+use Rattle.std.proofs.Common.{arith, Some, option_map, pos}
+use Rattle.std.specs.List.{enumerate_from, flat_map}
+use Rattle.std.specs.Ordering.{int_eq}
+use Rattle.std.proofs.lemmas.Bool.{eq-eqb, eqb-true, false≢true, ne_eqb}
+use Rattle.std.proofs.lemmas.List.{at_drop_all, at_drop_more, length-append, length-map}
+use Rattle.std.proofs.lemmas.List.FromFn.{length-enumerate_from}
+use Rattle.std.proofs.lemmas.Option.{same_Some, slice_get-get_or}
+use Rattle.std.specs.Cmp.Rules.{signed_items}
+use lib.Pointwise.{pointwise, pointwise_decides}
+use Rattle.giv_files.specs.Tables.{TableRow}
+use Rattle.line_cost_model.specs.Problems.{CostedLine, ProblemParts}
+use Rattle.line_search.specs.ConceptTables.{concept_rows, line_rows, row_at, row_count}
+use Rattle.line_search.specs.Judged.{same_cells}
+
+no_line : CostedLine
+no_line = record { id = pos 0; cost = 0; edges = [] }
+
+-- ---- the rows that are left
+
+rows_behind : (lines : List CostedLine) (i : ℕ) (edges : List ℕ) → i < length lines
+    → option_map (λ at. at.edges) (slice_get lines i) ≡ Some edges
+    → row_count (drop i lines) ≡ length edges + row_count (drop (i + 1) lines)
+rows_behind lines i edges there is =
+    let own : (get_or lines i no_line).edges ≡ edges =
+    same_Some _ _ (sym (ap (option_map (λ at. at.edges)) (slice_get-get_or lines i no_line there))
+    ∙ is) in
+    at_drop_more row_count lines i no_line there
+    ∙ ap (λ edges. length edges + row_count (drop (i + 1) lines)) own
+
+same_test : (a b c d : ℕ) → (a ≡ b → c ≡ d) → (c ≡ d → a ≡ b) → nat_eq a b ≡ nat_eq c d
+same_test a b c d there back = by (nat_eq a b) (nat_eq c d) refl refl
+  where
+    by : (s t : Bool) → nat_eq a b ≡ s → nat_eq c d ≡ t → s ≡ t
+    by true true p q = refl
+    by false false p q = refl
+    by true false p q = absurd (false≢true (sym q ∙ eq-eqb c d (there (eqb-true a b p))))
+    by false true p q = absurd (false≢true (sym p ∙ eq-eqb a b (back (eqb-true c d q))))
+
+module _ (lines : List CostedLine) (i left : ℕ) (edges : List ℕ) (there : i < length lines)
+    (is : option_map (λ at. at.edges) (slice_get lines i) ≡ Some edges) where
+  pub too_few : left < length edges → nat_eq left (row_count (drop i lines)) ≡ false
+  too_few less =
+      let rows = rows_behind lines i edges there is in
+      ne_eqb left (row_count (drop i lines)) (λ same. omega (arith, same, rows, less))
+
+  pub line_passed : length edges ≤ left → nat_eq left (row_count (drop i lines))
+      ≡ nat_eq (left - length edges) (row_count (drop (i + 1) lines))
+  line_passed enough =
+      let rows = rows_behind lines i edges there is in
+      same_test left (row_count (drop i lines)) (left - length edges)
+      (row_count (drop (i + 1) lines))
+      (λ same. omega (arith, same, rows, enough)) (λ same. omega (arith, same, rows, enough))
+
+pub none_behind : (lines : List CostedLine) (i left : ℕ) → length lines ≤ i
+    → nat_eq left (row_count (drop i lines)) ≡ nat_eq left 0
+none_behind lines i left past = at_drop_all (λ rest. nat_eq left (row_count rest)) lines i past
+
+-- ---- the rows of a concept
+
+rows_of_all : (problem : ProblemParts) (lines : List CostedLine) (frequencies : List ℕ)
+    → length frequencies ≡ length lines
+    → length (flat_map (λ at. line_rows problem at.0 at.1) (zip lines frequencies))
+    ≡ row_count lines
+rows_of_all problem [] frequencies each = refl
+rows_of_all problem (line ∷ lines) [] each = absurd (omega (arith, each))
+rows_of_all problem (line ∷ lines) (frequency ∷ frequencies) each =
+    let rest = flat_map (λ at. line_rows problem at.0 at.1) (zip lines frequencies) in
+    length-append (line_rows problem line frequency) rest
+    ∙ ap (λ own. own + length rest)
+    (length-map (enumerate_from 1 line.edges) (row_at problem line.id frequency)
+    ∙ length-enumerate_from 1 line.edges)
+    ∙ ap (λ count. length line.edges + count)
+    (rows_of_all problem lines frequencies (omega (arith, each)))
+
+pub concept_long : (problem : ProblemParts) (frequencies : List ℕ)
+    → length frequencies ≡ length problem.lines
+    → length (concept_rows problem frequencies) ≡ row_count problem.lines
+concept_long problem frequencies each = rows_of_all problem problem.lines frequencies each
+
+-- lists of other lengths are others
+pub other_lists : (xs ys : List (List ℤ)) → nat_eq (length xs) (length ys) ≡ false
+    → false ≡ pointwise (pointwise int_eq) xs ys
+other_lists xs ys differ = by (pointwise (pointwise int_eq) xs ys) refl
+  where
+    by : (b : Bool) → pointwise (pointwise int_eq) xs ys ≡ b → false ≡ b
+    by false e = refl
+    by true e =
+        let same : xs ≡ ys = (pointwise_decides {E = pointwise int_eq} signed_items xs ys).0 e in
+        absurd (false≢true (sym differ ∙ eq-eqb (length xs) (length ys) (ap length same)))
+
+-- and so are rows of another number
+pub other_cells : (rows other : List TableRow) → nat_eq (length rows) (length other) ≡ false
+    → false ≡ same_cells rows other
+other_cells rows other differ =
+    other_lists (map (λ row. row.cells) rows) (map (λ row. row.cells) other)
+    ((λ i. nat_eq (length-map rows (λ row. row.cells) i) (length-map other (λ row. row.cells) i))
+    ∙ differ)
