@@ -20,16 +20,21 @@ def millionths(cell):
     parts = NUMBER.match(cell)
     if parts is None:
         raise Refused('%r is not a number' % cell)
-    sign, whole, fraction = parts.groups()
-    value = int(whole) * MILLION + int(((fraction or '') + '000000')[:6])
+    sign, units, fraction = parts.groups()
+    value = int(units) * MILLION + int(((fraction or '') + '000000')[:6])
     return -value if sign else value
+
+
+def whole(cell):
+    """A whole number, which may be spelled with zeros behind a point."""
+    return millionths(cell) // MILLION
 
 
 def number_text(value):
     """The shortest spelling of millionths."""
-    whole, fraction = divmod(abs(value), MILLION)
+    units, fraction = divmod(abs(value), MILLION)
     sign = '-' if value < 0 else ''
-    return '%s%d' % (sign, whole) + ('.%06d' % fraction).rstrip('0') * (fraction > 0)
+    return '%s%d' % (sign, units) + ('.%06d' % fraction).rstrip('0') * (fraction > 0)
 
 
 def cells_of(line):
