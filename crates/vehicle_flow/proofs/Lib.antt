@@ -11,6 +11,7 @@ pub mod Expanding
 pub mod FirstFound
 pub mod FirstOfLists
 pub mod FirstRules
+pub mod Flags
 mod ForwardRides
 pub mod GivenTrips
 pub mod Grown

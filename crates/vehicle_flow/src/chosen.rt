@@ -248,7 +248,7 @@ fn is_open(claims: &Claims, assignment: &Assignment, trip: usize, place: usize) 
     ensures no { IsUndecided assignment.now trip place → result ≡ false
         → is_claimed claims.now place ≡ true }
 {
-    claims.at(place).is_none() && is_undecided(assignment, trip, place)
+    !claims.is_claimed(place) && is_undecided(assignment, trip, place)
 }
 
 // Whether no trip before one has a place.

@@ -1,5 +1,5 @@
 // Places that trips would take.
-ghost use Rattle.std.specs.Prelude.{◌≡◌, ◌<◌, ◌≤◌, ◌+◌, List, [], ◌∷◌, ◌++◌, length, replicate, slice_get, slice_set, None, Some, IfOk, IfNone, IfSome, OnOk};
+ghost use Rattle.std.specs.Prelude.{◌≡◌, ◌<◌, ◌≤◌, ◌+◌, false, is_some, List, [], ◌∷◌, ◌++◌, length, replicate, slice_get, slice_set, None, Some, IfOk, IfNone, IfSome, OnOk};
 ghost use Rattle.vehicle_flow.specs.Claims.{claim_at, AreClaims};
 
 use plan_num::NoMemory;
@@ -22,21 +22,24 @@ pub(crate) struct Claim {
 pub(crate) struct Claims {
     claims: Vec<Option<Claim>>,
     order: Vec<usize>,
+    // Whether each place is claimed, which is asked most.
+    flags: Vec<bool>,
 }
 
 impl Model for Claims {
-    ghost use Rattle.vehicle_flow.specs.Claims.{ClaimsParts, AreClaims};
+    ghost use Rattle.vehicle_flow.specs.Claims.{ClaimsParts, AreFlagged};
 
     ghost Value = { ClaimsParts };
 
     ghost view = { λ claims. record { at = claims.claims.items; order = claims.order.items } };
 
-    ghost invariant = { λ claims. AreClaims (record { at = claims.claims.items; order = claims.order.items }) };
+    ghost invariant = { λ claims. AreFlagged
+        (record { at = claims.claims.items; order = claims.order.items }) claims.flags.items };
 }
 
 impl Claims {
     /// So many places without a claim.
-    #[tactic(auto, using(crate::proofs::ClaimLists::no_claims))]
+    #[tactic(auto, using(crate::proofs::Flags::none_flagged))]
     pub(crate) fn new(alloc: Global, places: usize) -> Result<Claims, NoMemory>
         ensures { IfOk result (λ made. made ≡ record { at = replicate places None; order = [] }) }
     {
@@ -47,16 +50,18 @@ impl Claims {
         Ok(Claims {
             claims,
             order: Vec::new(alloc),
+            flags: no_flags(alloc, places)?,
         })
     }
 
     /// Takes all claims back.
-    #[tactic(auto, using(crate::proofs::ClaimLists::no_claims))]
+    #[tactic(auto, using(crate::proofs::Flags::none_flagged))]
     pub(crate) fn clear(&mut self)
         ensures { self.new ≡ record { at = replicate (length self.old.at) None; order = [] } }
     {
         reset(&mut self.claims);
         self.order.clear();
+        unset(&mut self.flags);
     }
 
     /// How many places are claimed.
@@ -84,6 +89,15 @@ impl Claims {
         self.claims[place]
     }
 
+    /// Whether a place is claimed.
+    #[tactic(auto, using(crate::proofs::Flags::flag_there))]
+    pub(crate) fn is_claimed(&self, place: usize) -> bool
+        requires { place < length self.now.at }
+        ensures { result ≡ is_some (claim_at self.now place) }
+    {
+        self.flags[place]
+    }
+
     /// Claims a place that is not claimed.
     #[tactic(auto, using(crate::proofs::ClaimLists::claimed_more, crate::proofs::ClaimLists::few_claims))]
     pub(crate) fn claim(
@@ -103,6 +117,7 @@ impl Claims {
         let step = self.count();
         self.order.push(place)?;
         self.claims[place] = Some(Claim { by, from, step });
+        self.flags[place] = true;
         Ok(())
     }
 }
@@ -115,4 +130,25 @@ fn reset(claims: &mut Vec<Option<Claim>>)
     for place in 0..claims.len() {
         claims[place] = None;
     }
+}
+
+// Takes all flags back.
+#[tactic(auto, using(crate::proofs::Flags::unset_more, crate::proofs::Flags::unset_all))]
+fn unset(flags: &mut Vec<bool>)
+    ensures { flags.new.items ≡ replicate (length flags.old.items) false }
+{
+    for place in 0..flags.len() {
+        flags[place] = false;
+    }
+}
+
+// So many flags that are not set.
+fn no_flags(alloc: Global, places: usize) -> Result<Vec<bool>, NoMemory>
+    ensures { IfOk result (λ flags. flags.items ≡ replicate places false) }
+{
+    let mut flags = Vec::new(alloc);
+    for _place in 0..places {
+        flags.push(false)?;
+    }
+    Ok(flags)
 }

@@ -93,7 +93,7 @@ fn look_at(
     ensures { result ≡ looked (claim_at claims.now place)
         (slack_to (links_of trips.now) potentials.now by place) by from old }
 {
-    if claims.at(place).is_some() {
+    if claims.is_claimed(place) {
         return old;
     }
     match slack(trips, potentials, by, place) {
@@ -137,7 +137,7 @@ fn shifted(claims: &Claims, place: usize, slack: u64, old: Option<Near>) -> Opti
     requires { place < length claims.now.at }
     ensures { result ≡ shifted (claim_at claims.now place) slack old }
 {
-    if claims.at(place).is_some() {
+    if claims.is_claimed(place) {
         return old;
     }
     match old {
@@ -175,7 +175,7 @@ fn open_near(claims: &Claims, nears: &[Option<Near>], place: usize) -> Option<Ne
     requires nears { place < length nears.now }
     ensures { result ≡ open_near (claim_at claims.now place) (get_or nears.now place None) }
 {
-    if claims.at(place).is_some() {
+    if claims.is_claimed(place) {
         None
     } else {
         near_at(nears, place)

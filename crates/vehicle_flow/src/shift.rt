@@ -67,7 +67,7 @@ fn raise(count: usize, claims: &Claims, potentials: &mut Potentials, slack: u64)
 {
     for j in 0..count {
         let own = potentials.v(j).unsigned_abs();
-        let now = raised(claims.at(j).is_some(), own, slack);
+        let now = raised(claims.is_claimed(j), own, slack);
         potentials.set_v(j, as_i64(now));
     }
 }
@@ -109,7 +109,7 @@ fn is_claimed_at(claims: &Claims, place: Option<usize>) -> bool
     ensures { result ≡ is_claimed_at claims.now place }
 {
     match place {
-        Some(place) => claims.at(place).is_some(),
+        Some(place) => claims.is_claimed(place),
         None => false,
     }
 }
