@@ -1,6 +1,6 @@
 -- A text without a fault as a tree is one.
-use Rattle.std.proofs.Common.{◌≡◌, ℕ, ℤ, zero, suc, pos, negsuc, ◌+◌, ◌^◌, ◌<◌, ◌≤◌, ◌≤ℤ◌, ◌<ℤ◌, arith, Bool, true, false, cond, not, ◌||◌, nat_lt, List, [], ◌∷◌, ◌++◌}
-use Rattle.std.proofs.Common.{length, map, take, drop, get_or, slice_get, unsigned_abs, int_lt, position, refl, ap, sym, ◌∙◌, subst, Option, Some, None, All}
+use Rattle.std.proofs.Common.{◌≡◌, ℕ, ℤ, zero, suc, pos, negsuc, ◌+◌, ◌^◌, ◌<◌, ◌≤◌, ◌≤ℤ◌, ◌<ℤ◌, arith, Bool, true, false, cond, not, ◌||◌, nat_lt, List, [], ◌∷◌}
+use Rattle.std.proofs.Common.{length, take, get_or, slice_get, unsigned_abs, int_lt, position, refl, ap, sym, ◌∙◌, subst, Option, Some, None, All}
 use Rattle.std.specs.List.Sorted.{IsStrictlySortedBy}
 use Rattle.std.specs.Ordering.{int_cmp, int_eq, MatchOrdering}
 use Rattle.std.specs.declared.cmp.Ordering.TheVariants.{Less}
@@ -23,20 +23,19 @@ use Rattle.giv_files.proofs.Ranges.{table_in_columns, unmapped}
 use Rattle.line_cost_model.specs.declared.edge.BoundedEdge.{BoundedEdge}
 use Rattle.line_cost_model.specs.declared.side.Side.{Side}
 use Rattle.line_cost_model.specs.Problems.{IsId, IsProblem, ProblemParts}
-use Rattle.branch_certificate.specs.declared.node.Node.{Node}
 use Rattle.branch_certificate.specs.declared.node.Node.TheVariants as node
 use Rattle.branch_certificate.specs.declared.read_so_far.ReadSoFar.{ReadSoFar}
 use Rattle.branch_certificate.specs.declared.row_says.RowSays.{RowSays}
 use Rattle.branch_certificate.specs.declared.row_says.RowSays.TheVariants as says
 use Rattle.branch_certificate.specs.declared.tree_row.TreeRow.{TreeRow}
-use Rattle.branch_certificate.specs.ReadRows.{AreRising, IsReadSoFar, IsRefused, IsSoundNode, IsTreeRow, Says, SaysBound, SaysNode, first_why, closed, is_due_in, takes_row, with_row}
+use Rattle.branch_certificate.specs.ReadRows.{AreRising, IsReadSoFar, IsRefused, IsSoundNode, IsTreeRow, Says, SaysBound, SaysNode, first_why, closed, takes_row, with_row}
 use Rattle.branch_certificate.specs.TreeFiles.{NamedIds, announced, has_stray_cell, ids_of, is_due, node_of, side_of, tree_input, tree_of, tree_row, tree_rules, read_faults}
 use Rattle.branch_certificate.specs.TreeTexts.{CanBeWritten, NamesWhatIs}
 use Rattle.branch_certificate.proofs.ReadIds.{rises}
 use Rattle.branch_certificate.proofs.ReadRules.{empty_aside, empty_says, empty_stray, empty_unknown, multiplier_of_0, multiplier_says, multiplier_stray, multiplier_unknown, or_false, or_true, out_of_order, split_says, split_stray, split_unknown, with_kind}
 use Rattle.branch_certificate.proofs.ReadSteps.{due_told}
 use Rattle.branch_certificate.proofs.ReadTaken.{taken}
-use Rattle.branch_certificate.proofs.ReadTexts.{tree_read, IsRead}
+use Rattle.branch_certificate.proofs.ReadTexts.{tree_read}
 use Rattle.branch_certificate.proofs.ReadWhole.{next_row}
 
 -- ---- a bound, and a point

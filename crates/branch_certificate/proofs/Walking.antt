@@ -1,10 +1,11 @@
 -- From one node of a tree to the next: which regions wait.
-use Rattle.std.proofs.Common.{◌≡◌, ℕ, ◌+◌, ◌<◌, ◌∙◌, Bool, true, false, if◌then◌else◌}
+use Rattle.std.proofs.Common.{◌≡◌, ℕ, ◌+◌, ◌-◌, ◌<◌, ◌∙◌, Bool, true, false, if◌then◌else◌}
+use Rattle.std.proofs.Common.{slice_get, take, Some, None}
 use Rattle.std.proofs.Common.{List, [], ◌∷◌, ◌++◌, length, reverse, set, get_or, All, refl, ap, sym}
 use Rattle.std.proofs.Common.{subst, arith}
-use Rattle.std.proofs.lemmas.Bool.{false≢true}
 use Rattle.std.proofs.lemmas.List.{set-set, set-get_or, length-set, reverse-append}
-use Rattle.std.proofs.lemmas.List.{length-append, get_or_push, get_or_default}
+use Rattle.std.proofs.lemmas.List.{length-append, get_or_push, get_or_default, take_all, take_more}
+use Rattle.std.proofs.lemmas.Option.{get_or_from_slice_get, slice_get-get_or, slice_get_within}
 use Rattle.std.proofs.lemmas.List.Elements.{All-push}
 use Rattle.std.proofs.Math.ListN.{get_or-append}
 use Rattle.line_cost_model.specs.declared.range.LineRange.{LineRange}
@@ -28,6 +29,17 @@ waits splits split region in_lower is =
 turned : (splits : List OpenSplit) (split : OpenSplit)
     → reverse (splits ++ split ∷ []) ≡ split ∷ reverse splits
 turned splits split = reverse-append splits (split ∷ [])
+
+-- some splits are all but the last one, and that
+pub last_apart : (items : List OpenSplit) (split : OpenSplit)
+    → slice_get items (length items - 1) ≡ Some split
+    → items ≡ take (length items - 1) items ++ split ∷ []
+last_apart items split found =
+    let last = length items - 1 in
+    let there = slice_get_within items last split found in
+    sym (take_all (last + 1) items (omega (arith, there)))
+    ∙ take_more items last split there
+    ∙ ap (λ own. take last items ++ own ∷ []) (get_or_from_slice_get items last split split found)
 
 module _ (items splits : List OpenSplit) (split : OpenSplit) (region : List LineRange)
     (are : items ≡ splits ++ split ∷ []) where
@@ -139,10 +151,30 @@ module _ (items splits : List OpenSplit) (split : OpenSplit) (region now : List 
 
 -- no split is left
 pub none_waits : (items : List OpenSplit) (region : List LineRange)
-    → (0 < length items → false ≡ true) → waiting_of (reverse items) region ≡ []
+    → slice_get items (length items - 1) ≡ None → waiting_of (reverse items) region ≡ []
 unfolding waiting_of
 none_waits [] region none = refl
-none_waits (split ∷ items) region none = absurd (false≢true (none (omega arith)))
+none_waits (split ∷ items) region none =
+    let last = slice_get-get_or (split ∷ items) (length (split ∷ items) - 1) split (omega arith) in
+    absurd (cc)
+
+-- the last split with another part that is walked
+set_last : (others : List OpenSplit) (split now : OpenSplit)
+    → set (others ++ split ∷ []) (length others) now ≡ others ++ now ∷ []
+set_last [] split now = refl
+set_last (other ∷ others) split now = ap (λ rest. other ∷ rest) (set_last others split now)
+
+pub last_turned : (items others : List OpenSplit) (split own : OpenSplit) (last : ℕ)
+    → last ≡ length items - 1 → own ≡ get_or items last own → items ≡ others ++ split ∷ []
+    → set items last (record own { in_lower = false })
+    ≡ others ++ record split { in_lower = false } ∷ []
+last_turned items others split own last last_is own_is are =
+    let long : last ≡ length others =
+    omega (arith, last_is, ap length are, length-append others (split ∷ [])) in
+    let same : own ≡ split = own_is ∙ (λ i. get_or (are i) (long i) own)
+    ∙ get_or_push others split own (length others) refl in
+    (λ i. set (are i) (long i) (record (same i) { in_lower = false }))
+    ∙ set_last others split (record split { in_lower = false })
 
 -- ---- the regions that are walked
 

@@ -1,7 +1,9 @@
 // The regions of the nodes of a tree, one after the other.
-ghost use Rattle.std.specs.Prelude.{◌≡◌, ◌<◌, ◌+◌, ◌∷◌, [], length, reverse, false, if◌then◌else◌};
+ghost use Rattle.std.specs.Prelude.{◌≡◌, ◌<◌, ◌+◌, ◌-◌, ◌∷◌, ◌++◌, [], List, length, reverse};
+ghost use Rattle.std.specs.Prelude.{slice_get, vec_len, false, if◌then◌else◌};
 ghost use Rattle.std.specs.Prelude.{All, IfOk, OnOk, MatchBool};
 ghost use Rattle.line_cost_model.specs.Regions.{HasEachFeasible, root_of, part_from, part_up_to};
+ghost use Rattle.branch_certificate.specs.declared.region_walk.OpenSplit.{OpenSplit};
 ghost use Rattle.branch_certificate.specs.Certified.{SplitsInside};
 ghost use Rattle.branch_certificate.specs.TreeFaults.{splits_outside};
 ghost use Rattle.branch_certificate.specs.Walks.{IsOpenSplit, SplitsOne, behind_node, waiting_of};
@@ -93,9 +95,9 @@ impl<'a> RegionWalk<'a> {
     }
 
     /// From a leaf on to the root of the innermost upper part that waits, where there is one.
-    pub(crate) fn leave(&mut self) -> Result<bool, NoMemory>
-        ensures waiting { IfOk result (λ more. MatchBool more
-            (self.new.region ∷ self.new.waiting ≡ self.old.waiting) (self.old.waiting ≡ [])) }
+    pub(crate) fn leave(&mut self) -> bool
+        ensures waiting { MatchBool result
+            (self.new.region ∷ self.new.waiting ≡ self.old.waiting) (self.old.waiting ≡ []) }
         ensures problem { self.new.problem ≡ self.old.problem }
         ensures size { length self.new.region ≡ length self.old.region }
     {
@@ -118,32 +120,48 @@ pub fn go_on<'a>(walk: &mut RegionWalk<'a>, node: &Node) -> Result<bool, NoMemor
             walk.enter(*line, *at)?;
             Ok(true)
         }
-        _ => walk.leave(),
+        _ => Ok(walk.leave()),
     }
 }
 
 // From the end of a part on to the innermost upper part that waits, where there is one. The range
 // of a split whose parts are both walked is as it was before.
-fn leave<'a>(region: &mut SummedRegion<'a>, splits: &mut Vec<OpenSplit>) -> Result<bool, NoMemory>
+fn leave<'a>(region: &mut SummedRegion<'a>, splits: &mut Vec<OpenSplit>) -> bool
     requires { All (IsOpenSplit (length region.old.ranges)) splits.old.items }
-    ensures waiting { IfOk result (λ more. MatchBool more
+    ensures waiting { MatchBool result
         (region.new.ranges ∷ waiting_of (reverse splits.new.items) region.new.ranges
         ≡ waiting_of (reverse splits.old.items) region.old.ranges)
-        (waiting_of (reverse splits.old.items) region.old.ranges ≡ [])) }
+        (waiting_of (reverse splits.old.items) region.old.ranges ≡ []) }
     ensures problem { region.new.problem ≡ region.old.problem }
     ensures size { length region.new.ranges ≡ length region.old.ranges }
     ensures open { All (IsOpenSplit (length region.new.ranges)) splits.new.items }
 {
-    while let Some(split) = splits.pop() {
+    while let Some(split) = last_split(splits) {
         if split.in_lower {
             region.set_range(split.line, split.at + 1, split.hi);
-            splits.push(OpenSplit {
-                in_lower: false,
-                ..split
-            })?;
-            return Ok(true);
+            turn_last(splits);
+            return true;
         }
         region.set_range(split.line, split.lo, split.hi);
+        splits.pop();
     }
-    Ok(false)
+    false
+}
+
+// The last of some splits.
+fn last_split(splits: &[OpenSplit]) -> Option<OpenSplit>
+    ensures { result ≡ slice_get splits.now (length splits.now - 1) }
+{
+    splits.last().copied()
+}
+
+// The upper part of the last split is walked from now on.
+fn turn_last(splits: &mut Vec<OpenSplit>)
+    requires { 0 < vec_len splits.old }
+    ensures { (others : List OpenSplit) (split : OpenSplit)
+        → splits.old.items ≡ others ++ split ∷ []
+        → splits.new.items ≡ others ++ record split { in_lower = false } ∷ [] }
+{
+    let last = splits.len() - 1;
+    splits[last].in_lower = false;
 }

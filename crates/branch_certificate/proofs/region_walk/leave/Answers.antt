@@ -1,107 +1,95 @@
-use Rattle.std.proofs.Common.{◌≡◌, ◌∙◌, length, ap, sym, refl, arith}
-use Rattle.std.proofs.lemmas.List.{length-append}
+use Rattle.std.proofs.Common.{◌≡◌, ◌-◌, ◌∙◌, ◌++◌, ◌∷◌, [], List, length, slice_get, take, vec_len}
+use Rattle.std.proofs.Common.{ap, sym, arith}
 use Rattle.line_cost_model.specs.Regions.{RegionParts}
-use Rattle.branch_certificate.proofs.Walking.{none_waits, open_split, others_are_open, part_closed}
-use Rattle.branch_certificate.proofs.Walking.{size_stays, upper_entered, upper_is_open}
+use Rattle.branch_certificate.specs.declared.region_walk.OpenSplit.{OpenSplit}
+use Rattle.branch_certificate.proofs.Walking.{last_apart, none_waits, open_split, others_are_open}
+use Rattle.branch_certificate.proofs.Walking.{part_closed, size_stays, upper_entered, upper_is_open}
 use Rattle.branch_certificate.proofs.region_walk.leave.Goals as goal
 
 ranges_of : {region now : RegionParts} → now ≡ region → now.ranges ≡ region.ranges
 ranges_of is = ap (λ (region : RegionParts). region.ranges) is
 
-pub loop-split-init : goal.loop-split-init
-loop-split-init c = record { waiting = refl; problem = refl; size = refl; still = c.requires }
-
-pub overflow_add-split : goal.overflow_add-split
-overflow_add-split c =
-    let split = c.in-Some.split in
-    let own = open_split c.loop-split.splits.items c.pop.new.self.items split c.loop-split.region.ranges
-    c.loop-split.region.ranges c.in-Some.ensures.items c.loop-split.invariant.still in
-    record { fits = omega (arith, own.high, own.few) }
-
-pub set_range-requires-clause-there : goal.set_range-requires-clause-there
-set_range-requires-clause-there c =
-    (open_split c.loop-split.splits.items c.pop.new.self.items c.in-Some.split c.loop-split.region.ranges
-    c.loop-split.region.ranges c.in-Some.ensures.items c.loop-split.invariant.still).there
-
-pub set_range-requires-clause-in_order : goal.set_range-requires-clause-in_order
-set_range-requires-clause-in_order c =
-    let own = open_split c.loop-split.splits.items c.pop.new.self.items c.in-Some.split
-    c.loop-split.region.ranges c.loop-split.region.ranges c.in-Some.ensures.items c.loop-split.invariant.still in
-    omega (arith, own.high)
-
-pub set_range-requires-clause-few : goal.set_range-requires-clause-few
-set_range-requires-clause-few c =
-    (open_split c.loop-split.splits.items c.pop.new.self.items c.in-Some.split c.loop-split.region.ranges
-    c.loop-split.region.ranges c.in-Some.ensures.items c.loop-split.invariant.still).few
+last_found : (items some : List OpenSplit) → some ≡ items
+    → slice_get items (length items - 1) ≡ slice_get some (length some - 1)
+last_found items some same = ap (λ some. slice_get some (length some - 1)) (sym same)
 
 pub returns-then-split-clause-waiting : goal.returns-then-split-clause-waiting
 returns-then-split-clause-waiting c =
-    upper_entered c.loop-split.splits.items c.pop.new.self.items c.in-Some.split c.loop-split.region.ranges
-    c.set_range.new.self.ranges c.in-Some.ensures.items c.push.new.self.items c.if-split.true
-    (ranges_of c.set_range.ensures) c.in_ok-push.ensures.items ∙ c.loop-split.invariant.waiting
-
-pub returns-then-split-clause-problem : goal.returns-then-split-clause-problem
-returns-then-split-clause-problem c =
-    ap (λ (region : RegionParts). region.problem) c.set_range.ensures
-    ∙ c.loop-split.invariant.problem
-
-pub returns-then-split-clause-size : goal.returns-then-split-clause-size
-returns-then-split-clause-size c =
-    size_stays c.loop-split.region.ranges c.set_range.new.self.ranges _ _ _ (ranges_of c.set_range.ensures)
-    ∙ c.loop-split.invariant.size
+    let items = c.loop-split.splits.items in
+    let others = take (length items - 1) items in
+    let split = c.in-Some.split in
+    let are = last_apart items split (last_found _ _ c.deref.ensures.value ∙ sym c.in-Some.ensures)
+    in
+    upper_entered items others split c.loop-split.region.ranges c.set_range.new.self.ranges are
+    c.turn_last.new.splits.items c.if-split.true (ranges_of c.set_range.ensures)
+    (c.turn_last.ensures others split are)
+    ∙ c.loop-split.invariant.waiting
 
 pub returns-then-split-clause-open : goal.returns-then-split-clause-open
 returns-then-split-clause-open c =
-    upper_is_open c.loop-split.splits.items c.pop.new.self.items c.in-Some.split c.loop-split.region.ranges
-    c.set_range.new.self.ranges c.in-Some.ensures.items c.push.new.self.items c.loop-split.invariant.still
-    (size_stays c.loop-split.region.ranges c.set_range.new.self.ranges _ _ _ (ranges_of c.set_range.ensures))
-    c.in_ok-push.ensures.items
+    let items = c.loop-split.splits.items in
+    let others = take (length items - 1) items in
+    let split = c.in-Some.split in
+    let are = last_apart items split (last_found _ _ c.deref.ensures.value ∙ sym c.in-Some.ensures)
+    in
+    upper_is_open items others split c.loop-split.region.ranges c.set_range.new.self.ranges are
+    c.turn_last.new.splits.items c.loop-split.invariant.still
+    (size_stays c.loop-split.region.ranges c.set_range.new.self.ranges _ _ _
+    (ranges_of c.set_range.ensures))
+    (c.turn_last.ensures others split are)
 
 pub set_range-requires-in-Some-clause-there : goal.set_range-requires-in-Some-clause-there
 set_range-requires-in-Some-clause-there c =
-    (open_split c.loop-split.splits.items c.pop.new.self.items c.in-Some.split c.loop-split.region.ranges
-    c.loop-split.region.ranges c.in-Some.ensures.items c.loop-split.invariant.still).there
+    let items = c.loop-split.splits.items in
+    let ranges = c.loop-split.region.ranges in
+    let are = last_apart items c.in-Some.split (last_found _ _ c.deref.ensures.value
+    ∙ sym c.in-Some.ensures) in
+    (open_split items (take (length items - 1) items) c.in-Some.split ranges ranges are
+    c.loop-split.invariant.still).there
 
 pub set_range-requires-in-Some-clause-in_order : goal.set_range-requires-in-Some-clause-in_order
 set_range-requires-in-Some-clause-in_order c =
-    let own = open_split c.loop-split.splits.items c.pop.new.self.items c.in-Some.split
-    c.loop-split.region.ranges c.loop-split.region.ranges c.in-Some.ensures.items c.loop-split.invariant.still in
+    let items = c.loop-split.splits.items in
+    let ranges = c.loop-split.region.ranges in
+    let are = last_apart items c.in-Some.split (last_found _ _ c.deref.ensures.value
+    ∙ sym c.in-Some.ensures) in
+    let own = open_split items (take (length items - 1) items) c.in-Some.split ranges ranges are
+    c.loop-split.invariant.still in
     omega (arith, own.low, own.high)
 
 pub set_range-requires-in-Some-clause-few : goal.set_range-requires-in-Some-clause-few
 set_range-requires-in-Some-clause-few c =
-    (open_split c.loop-split.splits.items c.pop.new.self.items c.in-Some.split c.loop-split.region.ranges
-    c.loop-split.region.ranges c.in-Some.ensures.items c.loop-split.invariant.still).few
-
-pub loop-split-smaller : goal.loop-split-smaller
-loop-split-smaller c =
-    let more = ap length c.in-Some.ensures.items ∙ length-append c.pop.new.self.items _ in
-    omega (arith, more)
+    let items = c.loop-split.splits.items in
+    let ranges = c.loop-split.region.ranges in
+    let are = last_apart items c.in-Some.split (last_found _ _ c.deref.ensures.value
+    ∙ sym c.in-Some.ensures) in
+    (open_split items (take (length items - 1) items) c.in-Some.split ranges ranges are
+    c.loop-split.invariant.still).few
 
 pub loop-split-preserved : goal.loop-split-preserved
 loop-split-preserved c =
     let items = c.loop-split.splits.items in
+    let left = c.pop.new.self.items in
+    let split = c.in-Some.split in
+    let ranges = c.loop-split.region.ranges in
     let now = c.set_range-in-Some in
-    let same = size_stays c.loop-split.region.ranges now.new.self.ranges _ _ _ (ranges_of now.ensures) in
+    let long : vec_len c.loop-split.splits ≡ length items = omega (arith, c.loop-split.splits.ok) in
+    let are = last_apart items split (last_found _ _ c.deref.ensures.value ∙ sym c.in-Some.ensures)
+    ∙ ap (λ count. take (count - 1) items ++ split ∷ []) (sym long)
+    ∙ ap (λ some. some ++ split ∷ []) (sym c.pop.ensures.rest) in
+    let same = size_stays ranges now.new.self.ranges _ _ _ (ranges_of now.ensures) in
     record {
-      waiting = part_closed items c.pop.new.self.items c.in-Some.split c.loop-split.region.ranges
-          now.new.self.ranges c.in-Some.ensures.items c.if-split.false (ranges_of now.ensures)
-          ∙ c.loop-split.invariant.waiting;
+      waiting = part_closed items left split ranges now.new.self.ranges are c.if-split.false
+          (ranges_of now.ensures) ∙ c.loop-split.invariant.waiting;
       problem = ap (λ (region : RegionParts). region.problem) now.ensures
           ∙ c.loop-split.invariant.problem;
       size = same ∙ c.loop-split.invariant.size;
-      still = others_are_open items c.pop.new.self.items c.in-Some.split c.loop-split.region.ranges
-          now.new.self.ranges c.in-Some.ensures.items c.loop-split.invariant.still same;
+      still = others_are_open items left split ranges now.new.self.ranges are
+          c.loop-split.invariant.still same;
     }
 
 pub returns-clause-waiting : goal.returns-clause-waiting
 returns-clause-waiting c =
     sym c.loop-split.invariant.waiting
     ∙ none_waits c.loop-split.splits.items c.loop-split.region.ranges
-    (λ some. c.in_default.ensures.variant.1 (omega (arith, some, c.loop-split.splits.ok)))
-
-pub returns-clause-size : goal.returns-clause-size
-returns-clause-size c = c.loop-split.invariant.size
-
-pub returns-clause-problem : goal.returns-clause-problem
-returns-clause-problem c = c.loop-split.invariant.problem
+    (last_found _ _ c.deref.ensures.value ∙ sym c.in_default.ensures)
