@@ -1,7 +1,7 @@
 -- What is right about the concept that a search finds, and about the files that are made of it.
-use Rattle.std.specs.Prelude.{◌≡◌, ℕ, pos, ◌+◌, ◌*◌, ◌≤◌, List, [], ◌∷◌, length, take, Option, Some}
-use Rattle.std.specs.Prelude.{None}
-use Rattle.std.specs.Prelude.{◌⊎◌, IfSome, Result, Ok, Err, ⊤}
+use Rattle.std.specs.Prelude.{◌≡◌, ◌≢◌, ℕ, pos, ◌+◌, ◌*◌, ◌≤◌, List, [], ◌∷◌, length, take, Option}
+use Rattle.std.specs.Prelude.{Some}
+use Rattle.std.specs.Prelude.{None, ◌⊎◌, IfSome, Result, Ok, Err, ⊤}
 use Rattle.giv_files.specs.declared.file_id.FileId.TheVariants as file
 use Rattle.giv_files.specs.declared.made.Made.{Made}
 use Rattle.giv_files.specs.declared.made.MadeFile.{MadeFile}
@@ -13,7 +13,7 @@ use Rattle.giv_files.specs.Settings.{BundleParts}
 use Rattle.giv_files.specs.Writing.{ReadsBack}
 use Rattle.ptn_network.specs.Networks.{network_in}
 use Rattle.line_pool.specs.Pools.{concept_faults}
-use Rattle.std.specs.List.{AllByRecursion, Contains}
+use Rattle.std.specs.List.{AllByRecursion, AllPairs, Contains}
 use Rattle.line_cost_model.specs.declared.range.LineRange.{LineRange}
 use Rattle.line_cost_model.specs.Chosen.{IsChosen}
 use Rattle.line_cost_model.specs.Concepts.{IsFeasible, cost_of}
@@ -39,11 +39,12 @@ found_by problem = best_after None (listing problem)
 abbrev pub AreOrdered : List LineRange → Type 0
 AreOrdered region = AllByRecursion (λ range. range.lo ≤ range.hi) region
 
--- The concepts of a region are listed: each that lies in it and no other, and there are as many as
--- are counted.
+-- The concepts of a region are listed: each that lies in it and no other, none of them twice, and
+-- there are as many as are counted.
 pub record AreListed (region : List LineRange) : Type 0 where
   pub each : (concept : List ℕ) → LiesIn region concept → Contains (concepts_in region) concept
   pub only : (concept : List ℕ) → Contains (concepts_in region) concept → LiesIn region concept
+  pub once : AllPairs (λ concept other. concept ≢ other) (concepts_in region)
   pub many : length (concepts_in region) ≡ concept_count region
 
 -- What a search finds is right. What any first entries of a listing find is feasible. What all of
