@@ -80,6 +80,8 @@ mod names;
 #[cfg(test)]
 mod network_scripts;
 #[cfg(test)]
+mod pinned_scripts;
+#[cfg(test)]
 mod player;
 #[cfg(test)]
 mod query_scripts;
