@@ -14,6 +14,9 @@ fn kind_text(alloc: Global, kind: KeyKind) -> Result<String, Fail> {
         KeyKind::Word {
             words: KeyWords::LoadSources,
         } => format!(in alloc; "`od` or `file`")?,
+        KeyKind::Word {
+            words: KeyWords::NoOrYes,
+        } => format!(in alloc; "`no` or `yes`")?,
         KeyKind::Whole { min, max } => format!(in alloc; "whole {min} to {max}")?,
         KeyKind::Fixed { min, max } => {
             format!(in alloc; "fixed {} to {}", min / 1_000_000, max / 1_000_000)?
@@ -44,6 +47,9 @@ fn default_text(alloc: Global, key: Key) -> Result<String, Fail> {
         KeyKind::Word {
             words: KeyWords::LoadSources,
         } => String::from_str(alloc, if value == 0 { "od" } else { "file" })?,
+        KeyKind::Word {
+            words: KeyWords::NoOrYes,
+        } => String::from_str(alloc, if value == 0 { "no" } else { "yes" })?,
         KeyKind::Fixed { min: _, max: _ } => format!(in alloc; "{}", value / 1_000_000)?,
         KeyKind::Whole { min: _, max: _ } | KeyKind::Wait { max: _ } => {
             format!(in alloc; "{value}")?
@@ -91,7 +97,8 @@ const ROWS: &str = "| `last_stage` | a stage | statistic | |\n\
     | `lpool_costs_length` | fixed 0 to 10000 | 1 | cost |\n\
     | `lpool_costs_edges` | fixed 0 to 1000000 | 0 | cost |\n\
     | `concept_budget` | whole 1 to 20000 | 5000 | concept |\n\
-    | `period_length` | whole 1 to 720 | 60 | ean, timetable, rollout, statistic |\n\
+    | `period_length` | whole 1 to 720 | 60 | ean, timetable, rollout, statistic, \
+    pinned-timetable |\n\
     | `ean_default_minimal_waiting_time` | whole 0 to 10000 | 1 | ean |\n\
     | `ean_default_maximal_waiting_time` | whole 0 to 10000, \
     not below `ean_default_minimal_waiting_time` | 3 | ean |\n\
@@ -102,10 +109,13 @@ const ROWS: &str = "| `last_stage` | a stage | statistic | |\n\
     | `timetable_budget` | whole 1 to 1000000 | 100000 | timetable |\n\
     | `DM_earliest_time` | whole 0 to 10080 | 300 | rollout |\n\
     | `DM_latest_time` | whole 0 to 10080, not below `DM_earliest_time` | 1380 | rollout |\n\
-    | `vs_turn_over_time` | whole 0 to 10000 | 5 | vehicles, disposition |\n\
-    | `vs_vehicle_costs` | fixed 0 to 1000000 | 100 | vehicles, statistic |\n\
-    | `vs_empty_costs` | fixed 0 to 1000000 | 1 | vehicles, statistic |\n\
-    | `dm_wait` | whole 0 to 10000, or `all` or `none` | 3 | disposition |\n";
+    | `vs_turn_over_time` | whole 0 to 10000 | 5 | vehicles, disposition, pinned-vehicles |\n\
+    | `vs_vehicle_costs` | fixed 0 to 1000000 | 100 | vehicles, statistic, pinned-vehicles |\n\
+    | `vs_empty_costs` | fixed 0 to 1000000 | 1 | vehicles, statistic, pinned-vehicles |\n\
+    | `dm_wait` | whole 0 to 10000, or `all` or `none` | 3 | disposition |\n\
+    | `pin_concept` | `no` or `yes` | no | |\n\
+    | `pin_timetable` | `no` or `yes` | no | |\n\
+    | `pin_vehicles` | `no` or `yes` | no | |\n";
 
 #[test]
 fn rows_of_the_page(rt: HostRuntime) -> Result<(), Fail> {
