@@ -17,6 +17,7 @@ pub mod GivenTrips
 pub mod Grown
 mod HandingOn
 mod Hands
+mod Late
 pub mod LeastPotentials
 pub mod Moves
 pub mod NearPlaces

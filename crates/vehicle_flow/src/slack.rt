@@ -1,5 +1,5 @@
 // How much the potentials of a trip and of a place are more than the gain of its link.
-ghost use Rattle.std.specs.Prelude.{ℕ, pos, ◌≡◌, ◌<◌, ◌≤◌, length, slice_set, unsigned_abs, Some, IfSome};
+ghost use Rattle.std.specs.Prelude.{ℕ, pos, ◌≡◌, ◌<◌, ◌≤◌, true, length, slice_set, unsigned_abs, None, Some, IfSome};
 ghost use Rattle.flow_potentials.specs.Potentials.{AreOver};
 ghost use Rattle.vehicle_model.specs.Trips.{links_of};
 ghost use Rattle.vehicle_flow.specs.Slacks.{slack_to, worth, Covers};
@@ -41,6 +41,9 @@ pub(crate) fn worth(trips: &Trips, i: usize, j: usize) -> Option<u64>
     ensures small { IfSome result (λ gain. gain ≤ 1000000000000) }
 {
     let _ = trips.len();
+    if is_late(trips, i, j) {
+        return None;
+    }
     match trips.link_gain(i, j) {
         Some(gain) => {
             let natural = gain + 0;
@@ -52,6 +55,16 @@ pub(crate) fn worth(trips: &Trips, i: usize, j: usize) -> Option<u64>
         }
         None => None,
     }
+}
+
+// Whether a trip starts before another one has ended, which is soon seen.
+#[tactic(auto, using(crate::proofs::Late::late_gain))]
+fn is_late(trips: &Trips, i: usize, j: usize) -> bool
+    requires from { i < length trips.now.trips }
+    requires to { j < length trips.now.trips }
+    ensures { result ≡ true → (links_of trips.now).gain i j ≡ None }
+{
+    trips.trip(j).start.time < trips.trip(i).end.time
 }
 
 /// Raises the potential of a trip that has none so that it covers its links, by no more than it has to.
