@@ -26,10 +26,10 @@ mod load;
 mod named;
 #[cfg(test)]
 mod periods;
+mod pinned_concept;
+mod pinned_schedule;
 #[cfg(test)]
 mod pinned_times;
-mod pinned_schedule;
-mod pinned_concept;
 #[cfg(test)]
 mod play;
 #[cfg(test)]
