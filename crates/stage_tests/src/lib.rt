@@ -26,7 +26,9 @@ mod load;
 mod named;
 #[cfg(test)]
 mod periods;
+#[cfg(test)]
 mod pinned_concept;
+#[cfg(test)]
 mod pinned_schedule;
 #[cfg(test)]
 mod pinned_times;
