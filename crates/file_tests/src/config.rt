@@ -229,7 +229,10 @@ const SETTINGS: &str = "load: 1 70 3\n\
     rollout: 20 0 20\n\
     vehicles: 2 100000000 1000000\n\
     disposition: 2 3\n\
-    statistic: 20 100000000 1000000\n";
+    statistic: 20 100000000 1000000\n\
+    pinned-concept:\n\
+    pinned-timetable: 20\n\
+    pinned-vehicles: 2 100000000 1000000\n";
 
 // Appends the line of a stage with the values of its settings.
 fn push_stage(alloc: Global, text: &mut String, config: &Config, stage: Stage) -> Result<(), Fail> {
