@@ -87,7 +87,7 @@ impl Stage {
         ]
     }
 
-    /// Its place in the order of stages, from 0.
+    /// Its number among all stages, from 0, in the order of the enum.
     pub fn place(self) -> usize
         ensures { result ≡ stage_tag self }
     {
