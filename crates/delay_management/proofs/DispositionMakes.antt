@@ -1,5 +1,5 @@
 -- Which files the stage of dispositions makes, and which it names where it refuses a row.
-use Rattle.std.proofs.Common.{◌≡◌, [], true, Bool, Ok, Err, ap, lit<, sym, subst}
+use Rattle.std.proofs.Common.{◌≡◌, true, Bool, Ok, Err, ap, lit<}
 use Rattle.giv_files.specs.declared.file_id.FileId.{FileId}
 use Rattle.giv_files.specs.declared.file_id.FileId.TheVariants as file
 use Rattle.giv_files.specs.declared.made.Made.{Made}
@@ -7,7 +7,7 @@ use Rattle.giv_files.specs.declared.refusal.Refusal.{Refusal}
 use Rattle.giv_files.specs.declared.stage.Stage.TheVariants as stage
 use Rattle.giv_files.specs.Inputs.{input_faults}
 use Rattle.giv_files.specs.MadeLists.{MakesAs, ids_of}
-use Rattle.giv_files.specs.NamedFiles.{NamesOnly}
+use Rattle.giv_files.specs.NamedFiles.{NamesInput}
 use Rattle.giv_files.specs.Settings.{BundleParts}
 use Rattle.giv_files.specs.StageCalls.{input_text}
 use Rattle.giv_files.proofs.Named.{AllName, input_names, names_both, refused_names}
@@ -23,12 +23,12 @@ unfolding disposition_stage disposed_of
 disposition_stage_makes bundle made is =
     (0, lit< tt, ap (λ (made : Made). ids_of made.files) (made_unless _ _ made is))
 
--- where the files that earlier stages make have no fault, a refusal by a row names a file of delays
+-- a refusal by a row names a file of delays, or what the faults of the files that earlier stages make do
 pub disposition_names_delays : (test : FileId → Bool) → test file.EventDelays ≡ true
     → test file.ActivityDelays ≡ true → (bundle : BundleParts) (reason : Refusal)
-    → made_faults bundle ≡ [] → disposition_stage bundle ≡ Err reason → NamesOnly test reason
+    → AllName test (made_faults bundle) → disposition_stage bundle ≡ Err reason → NamesInput test reason
 unfolding disposition_stage disposition_faults
-disposition_names_delays test events activities bundle reason none is =
+disposition_names_delays test events activities bundle reason made is =
     let event_ids = expanded_event_ids (events_in bundle) in
     let activity_ids = expanded_activity_ids (activities_in bundle) in
     let delays : AllName test (delay_faults bundle) =
@@ -37,4 +37,4 @@ disposition_names_delays test events activities bundle reason none is =
     (input_names test (event_delay_input event_ids) (input_text bundle 3) events)
     (input_names test (activity_delay_input activity_ids) (input_text bundle 4) activities) in
     refused_names test _ _ reason
-    (names_both test (made_faults bundle) (delay_faults bundle) (subst (AllName test) (sym none) tt) delays) is
+    (names_both test (made_faults bundle) (delay_faults bundle) made delays) is

@@ -9,7 +9,7 @@ use Rattle.giv_files.specs.declared.setting.Setting.{Setting}
 use Rattle.giv_files.specs.Inputs.{input_faults}
 use Rattle.giv_files.specs.Settings.{BundleParts}
 use Rattle.giv_files.specs.StageCalls.{input_text}
-use Rattle.giv_files.specs.NamedFiles.{NamesOnly}
+use Rattle.giv_files.specs.NamedFiles.{NamesInput}
 use Rattle.giv_files.proofs.Named.{AllName, names_both, names_or_else, names_where, input_names, refused_names}
 use Rattle.ptn_network.specs.Networks.{NetworkParts, network_faults}
 use Rattle.ptn_network.proofs.NamedFaults.{network_names}
@@ -37,7 +37,7 @@ text_names test od given settings network text =
 -- a refusal by a row names the file of stops, of edges, of demand or of given loads
 pub load_stage_names : (test : FileId → Bool) → test file.Stop ≡ true → test file.Edge ≡ true
     → test file.Od ≡ true → test file.LoadGiven ≡ true → (bundle : BundleParts) (reason : Refusal)
-    → load_stage bundle ≡ Err reason → NamesOnly test reason
+    → load_stage bundle ≡ Err reason → NamesInput test reason
 unfolding load_stage
 load_stage_names test stop edge od given bundle reason e =
     let loads = loads_in bundle in

@@ -1,11 +1,11 @@
 -- Which files the stage of the statistic makes, and which it names where it refuses a row.
-use Rattle.std.proofs.Common.{◌≡◌, Bool, [], Ok, Err, ap, lit<, sym, subst}
+use Rattle.std.proofs.Common.{◌≡◌, Bool, Ok, Err, ap, lit<}
 use Rattle.giv_files.specs.declared.file_id.FileId.{FileId}
 use Rattle.giv_files.specs.declared.made.Made.{Made}
 use Rattle.giv_files.specs.declared.refusal.Refusal.{Refusal}
 use Rattle.giv_files.specs.declared.stage.Stage.TheVariants as stage
 use Rattle.giv_files.specs.MadeLists.{MakesAs, ids_of}
-use Rattle.giv_files.specs.NamedFiles.{NamesOnly}
+use Rattle.giv_files.specs.NamedFiles.{NamesInput}
 use Rattle.giv_files.specs.Settings.{BundleParts}
 use Rattle.giv_files.proofs.Named.{AllName, refused_names}
 use Rattle.giv_files.proofs.StageCalls.{made_unless}
@@ -18,9 +18,9 @@ unfolding statistic_stage
 statistic_stage_makes bundle made is =
     (0, lit< tt, ap (λ (made : Made). ids_of made.files) (made_unless _ _ made is))
 
--- where the inputs have no fault, no refusal names a file
-pub statistic_names_none : (test : FileId → Bool) (bundle : BundleParts) (reason : Refusal)
-    → statistic_faults bundle ≡ [] → statistic_stage bundle ≡ Err reason → NamesOnly test reason
+-- a refusal names what the faults of the inputs do
+pub statistic_stage_names : (test : FileId → Bool) (bundle : BundleParts) (reason : Refusal)
+    → AllName test (statistic_faults bundle) → statistic_stage bundle ≡ Err reason → NamesInput test reason
 unfolding statistic_stage
-statistic_names_none test bundle reason none is =
-    refused_names test _ _ reason (subst (AllName test) (sym none) tt) is
+statistic_stage_names test bundle reason named is =
+    refused_names test _ _ reason named is

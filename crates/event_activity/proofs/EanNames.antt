@@ -7,7 +7,7 @@ use Rattle.giv_files.specs.declared.file_id.FileId.TheVariants as file
 use Rattle.giv_files.specs.declared.refusal.Refusal.{Refusal}
 use Rattle.giv_files.specs.declared.refusal.Refusal.TheVariants as refusal
 use Rattle.giv_files.specs.Inputs.{Limit, limit_faults, row_limit}
-use Rattle.giv_files.specs.NamedFiles.{NamesOnly}
+use Rattle.giv_files.specs.NamedFiles.{NamesInput}
 use Rattle.giv_files.specs.Settings.{BundleParts}
 use Rattle.giv_files.specs.StageCalls.{input_text}
 use Rattle.giv_files.proofs.Named.{AllName, names_both, names_or_else, names_where, input_names, refused_names}
@@ -17,7 +17,7 @@ use Rattle.ptn_network.proofs.NamedFaults.{network_names}
 use Rattle.event_activity.specs.EanStage.{network_in, ean_faults, ean_stage, events_in, activities_in, too_many}
 
 -- the faults of a line concept name its file
-concept_names : (test : FileId → Bool) → test file.Concept ≡ true → (network : NetworkParts)
+pub concept_names : (test : FileId → Bool) → test file.Concept ≡ true → (network : NetworkParts)
     (text : List ℕ) → AllName test (concept_faults network text)
 unfolding line_faults
 concept_names test concept network text = input_names test _ text concept
@@ -29,40 +29,22 @@ length_names {X} test what most rows =
     names_where {X = Limit X} test (λ limit. nat_lt limit.most (limit.count rows))
     (λ limit. refusal.TooMany limit.what (limit.count rows)) (λ _. tt) (row_limit what most ∷ [])
 
-module _ (test : FileId → Bool) (stop : test file.Stop ≡ true) (edge : test file.Edge ≡ true)
-    (bundle : BundleParts) (reason : Refusal) where
-  abbrev ConceptNames : Type 0
-  ConceptNames = AllName test (concept_faults (network_in bundle) (input_text bundle 2))
-
-  -- a refusal by a row names the file of stops, of edges, or what the faults of the concept name
-  stage_names : ConceptNames → ean_stage bundle ≡ Err reason → NamesOnly test reason
-  unfolding ean_stage
-  stage_names concept e =
-      let rows : AllName test (ean_faults bundle) =
-      names_both test (network_faults (input_text bundle 0) (input_text bundle 1))
-      (concept_faults (network_in bundle) (input_text bundle 2))
-      (network_names test stop edge (input_text bundle 0) (input_text bundle 1)) concept in
-      let lengths : AllName test (too_many (events_in bundle) (activities_in bundle)) =
-      names_both test
-      (limit_faults (row_limit counted.PeriodicEvents 4000 ∷ []) (events_in bundle))
-      (limit_faults (row_limit counted.PeriodicActivities 200000 ∷ []) (activities_in bundle))
-      (length_names test counted.PeriodicEvents 4000 (events_in bundle))
-      (length_names test counted.PeriodicActivities 200000 (activities_in bundle)) in
-      refused_names test _ _ reason (names_or_else test (ean_faults bundle)
-      (too_many (events_in bundle) (activities_in bundle)) rows lengths) e
-
--- a refusal by a row names the file of stops, of edges or of the line concept
+-- a refusal by a row names the file of stops, of edges, or what the faults of the concept do
 pub ean_stage_names : (test : FileId → Bool) → test file.Stop ≡ true → test file.Edge ≡ true
-    → test file.Concept ≡ true → (bundle : BundleParts) (reason : Refusal)
-    → ean_stage bundle ≡ Err reason → NamesOnly test reason
-ean_stage_names test stop edge concept bundle reason =
-    stage_names test stop edge bundle reason
-    (concept_names test concept (network_in bundle) (input_text bundle 2))
-
--- and where the concept has no fault, that of stops or of edges
-pub ean_names_network : (test : FileId → Bool) → test file.Stop ≡ true → test file.Edge ≡ true
     → (bundle : BundleParts) (reason : Refusal)
-    → concept_faults (network_in bundle) (input_text bundle 2) ≡ []
-    → ean_stage bundle ≡ Err reason → NamesOnly test reason
-ean_names_network test stop edge bundle reason none =
-    stage_names test stop edge bundle reason (subst (AllName test) (sym none) tt)
+    → AllName test (concept_faults (network_in bundle) (input_text bundle 2))
+    → ean_stage bundle ≡ Err reason → NamesInput test reason
+unfolding ean_stage
+ean_stage_names test stop edge bundle reason concept e =
+    let rows : AllName test (ean_faults bundle) =
+    names_both test (network_faults (input_text bundle 0) (input_text bundle 1))
+    (concept_faults (network_in bundle) (input_text bundle 2))
+    (network_names test stop edge (input_text bundle 0) (input_text bundle 1)) concept in
+    let lengths : AllName test (too_many (events_in bundle) (activities_in bundle)) =
+    names_both test
+    (limit_faults (row_limit counted.PeriodicEvents 4000 ∷ []) (events_in bundle))
+    (limit_faults (row_limit counted.PeriodicActivities 200000 ∷ []) (activities_in bundle))
+    (length_names test counted.PeriodicEvents 4000 (events_in bundle))
+    (length_names test counted.PeriodicActivities 200000 (activities_in bundle)) in
+    refused_names test _ _ reason (names_or_else test (ean_faults bundle)
+    (too_many (events_in bundle) (activities_in bundle)) rows lengths) e

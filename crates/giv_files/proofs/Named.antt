@@ -1,5 +1,5 @@
 -- Which file a refusal by a row names: that of the input that the row stands in.
-use Rattle.std.proofs.Common.{◌≡◌, ℕ, Bool, true, false, cond, List, [], ◌∷◌, ◌++◌, map, nat_lt, subst, Option, Some, None, Err}
+use Rattle.std.proofs.Common.{◌≡◌, ℕ, Bool, true, false, cond, List, [], ◌∷◌, ◌++◌, map, nat_lt, subst, sym, Option, Some, None, Err}
 use Rattle.std.specs.Prelude.{⊤}
 use Rattle.std.specs.List.{flat_map}
 use Rattle.giv_files.specs.declared.file_id.FileId.{FileId}
@@ -9,13 +9,23 @@ use Rattle.giv_files.specs.declared.refusal.Refusal.{Refusal}
 use Rattle.giv_files.specs.declared.refusal.Refusal.TheVariants as refusal
 use Rattle.giv_files.specs.Reading.{faults, table_of}
 use Rattle.giv_files.specs.Inputs.{Numbered, RowRule, TableRule, Input, records, numbered, cell_faults, limit_faults, broken_whys, row_faults, table_row_faults, fault_at, whole_faults, or_else, input_faults}
-use Rattle.giv_files.specs.NamedFiles.{NamesOnly}
+use Rattle.giv_files.specs.NamedFiles.{NamesInput, NamesOnly}
 use Rattle.giv_files.specs.StageCalls.{unless_fault}
 
--- each of some refusals does
+-- each of some refusals is that of an input
 abbrev pub AllName : (FileId → Bool) → List Refusal → Type 0
 AllName test [] = ⊤
-AllName test (first ∷ more) = NamesOnly test first × AllName test more
+AllName test (first ∷ more) = NamesInput test first × AllName test more
+
+-- such a refusal names no other file
+pub names_only : (test : FileId → Bool) (reason : Refusal) → NamesInput test reason → NamesOnly test reason
+names_only test (refusal.BadRow file row why) h = h
+names_only test (refusal.TooMany what count) h = tt
+names_only test refusal.NoSolution h = absurd h
+names_only test (refusal.Spent entries) h = absurd h
+
+pub none_names : (test : FileId → Bool) (faults : List Refusal) → faults ≡ [] → AllName test faults
+none_names test faults none = subst (AllName test) (sym none) tt
 
 -- the refusals of two lists, one behind the other
 pub names_both : (test : FileId → Bool) (some others : List Refusal) → AllName test some → AllName test others → AllName test (some ++ others)
@@ -28,12 +38,12 @@ names_or_else test [] others h k = k
 names_or_else test (first ∷ some) others h k = h
 
 -- a refusal that is made in some case alone
-names_if : (test : FileId → Bool) (b : Bool) (one : Refusal) → NamesOnly test one → AllName test (cond b (one ∷ []) [])
+names_if : (test : FileId → Bool) (b : Bool) (one : Refusal) → NamesInput test one → AllName test (cond b (one ∷ []) [])
 names_if test true one h = (h, tt)
 names_if test false one h = tt
 
 -- for each of some things a refusal, in some case
-pub names_where : {X : Type 0} (test : FileId → Bool) (is_at_fault : X → Bool) (one : X → Refusal) → ((x : X) → NamesOnly test (one x)) → (all : List X) → AllName test (flat_map (λ x. cond (is_at_fault x) (one x ∷ []) []) all)
+pub names_where : {X : Type 0} (test : FileId → Bool) (is_at_fault : X → Bool) (one : X → Refusal) → ((x : X) → NamesInput test (one x)) → (all : List X) → AllName test (flat_map (λ x. cond (is_at_fault x) (one x ∷ []) []) all)
 names_where test is_at_fault one h [] = tt
 names_where test is_at_fault one h (x ∷ all) =
     names_both test (cond (is_at_fault x) (one x ∷ []) []) _ (names_if test (is_at_fault x) (one x) (h x)) (names_where test is_at_fault one h all)
@@ -74,6 +84,6 @@ input_names test input text is =
     (names_both test _ (whole_faults input.file input.table_rules (numbered input rows)) (names_both test (limit_faults input.limits all) (table_row_faults input rows) limits (rules_name test input.file is input.row_rules [] (numbered input rows))) whole)
 
 -- what is refused is one of the faults
-pub refused_names : (test : FileId → Bool) (faults : List Refusal) (made : Made) (reason : Refusal) → AllName test faults → unless_fault faults made ≡ Err reason → NamesOnly test reason
+pub refused_names : (test : FileId → Bool) (faults : List Refusal) (made : Made) (reason : Refusal) → AllName test faults → unless_fault faults made ≡ Err reason → NamesInput test reason
 refused_names test [] made reason h e = absurd (cc)
-refused_names test (first ∷ more) made reason h e = let same : first ≡ reason = cc in subst (NamesOnly test) same h.0
+refused_names test (first ∷ more) made reason h e = let same : first ≡ reason = cc in subst (NamesInput test) same h.0

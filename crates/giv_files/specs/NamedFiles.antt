@@ -10,3 +10,10 @@ NamesOnly test (refusal.BadRow file row why) = test file ≡ true
 NamesOnly test (refusal.TooMany what count) = ⊤
 NamesOnly test refusal.NoSolution = ⊤
 NamesOnly test (refusal.Spent entries) = ⊤
+
+-- a refusal is that of an input: by a row of a file that passes a test, or by a limit
+abbrev pub NamesInput : (FileId → Bool) → Refusal → Type 0
+NamesInput test (refusal.BadRow file row why) = test file ≡ true
+NamesInput test (refusal.TooMany what count) = ⊤
+NamesInput test refusal.NoSolution = ⊥
+NamesInput test (refusal.Spent entries) = ⊥

@@ -5,7 +5,7 @@ use Rattle.giv_files.specs.declared.file_id.FileId.TheVariants as file
 use Rattle.giv_files.specs.declared.refusal.Refusal.{Refusal}
 use Rattle.giv_files.specs.Settings.{BundleParts}
 use Rattle.giv_files.specs.StageCalls.{input_text}
-use Rattle.giv_files.specs.NamedFiles.{NamesOnly}
+use Rattle.giv_files.specs.NamedFiles.{NamesInput}
 use Rattle.giv_files.proofs.Named.{AllName, names_both, input_names, refused_names}
 use Rattle.ptn_network.specs.Networks.{NetworkParts, network_faults}
 use Rattle.ptn_network.proofs.NamedFaults.{network_names}
@@ -19,7 +19,7 @@ unfolding line_faults
 pool_names test pool network text = input_names test (line_input kind.Pool network.edges) text pool
 
 -- a refusal by a row names the file of stops, of edges or of the pool
-pub cost_stage_names : (test : FileId → Bool) → test file.Stop ≡ true → test file.Edge ≡ true → test file.Pool ≡ true → (bundle : BundleParts) (reason : Refusal) → cost_stage bundle ≡ Err reason → NamesOnly test reason
+pub cost_stage_names : (test : FileId → Bool) → test file.Stop ≡ true → test file.Edge ≡ true → test file.Pool ≡ true → (bundle : BundleParts) (reason : Refusal) → cost_stage bundle ≡ Err reason → NamesInput test reason
 unfolding cost_stage
 cost_stage_names test stop edge pool bundle reason e =
     let named : AllName test (cost_faults bundle) =

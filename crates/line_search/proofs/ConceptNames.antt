@@ -1,5 +1,5 @@
 -- Which files the stage of line concepts names where it refuses a row.
-use Rattle.std.proofs.Common.{◌≡◌, ℕ, Bool, true, false, cond, List, [], ◌∷◌, ◌++◌, length, nat_le}
+use Rattle.std.proofs.Common.{◌≡◌, ℕ, Bool, true, false, cond, List, [], ◌∷◌, ◌++◌, length, nat_le, slice_get}
 use Rattle.std.proofs.Common.{Option, Some, None, Result, Err, subst, sym}
 use Rattle.std.specs.Prelude.{ok_or}
 use Rattle.giv_files.specs.declared.file_id.FileId.{FileId}
@@ -8,10 +8,10 @@ use Rattle.giv_files.specs.declared.made.Made.{Made}
 use Rattle.giv_files.specs.declared.refusal.Refusal.{Refusal}
 use Rattle.giv_files.specs.declared.refusal.Refusal.TheVariants as refusal
 use Rattle.giv_files.specs.Inputs.{input_faults}
-use Rattle.giv_files.specs.NamedFiles.{NamesOnly}
+use Rattle.giv_files.specs.NamedFiles.{NamesInput, NamesOnly}
 use Rattle.giv_files.specs.Settings.{BundleParts}
 use Rattle.giv_files.specs.StageCalls.{input_text}
-use Rattle.giv_files.proofs.Named.{AllName, names_both, input_names}
+use Rattle.giv_files.proofs.Named.{AllName, input_names, names_both, names_only}
 use Rattle.ptn_network.specs.Loads.{load_input}
 use Rattle.ptn_network.specs.Networks.{NetworkParts, network_faults, network_in}
 use Rattle.ptn_network.proofs.NamedFaults.{network_names}
@@ -49,7 +49,7 @@ names_after : (test : FileId → Bool) (faults : List Refusal) (outcome : Result
     → after_faults faults outcome ≡ Err reason → NamesOnly test reason
 names_after test [] outcome reason named so is = so is
 names_after test (first ∷ more) outcome reason named so is =
-    let same : first ≡ reason = cc in subst (NamesOnly test) same named.0
+    let same : first ≡ reason = cc in subst (NamesOnly test) same (names_only test first named.0)
 
 -- the faults of a pool name its file
 pool_names : (test : FileId → Bool) → test file.Pool ≡ true → (network : NetworkParts)
@@ -57,40 +57,52 @@ pool_names : (test : FileId → Bool) → test file.Pool ≡ true → (network :
 unfolding line_faults
 pool_names test pool network text = input_names test _ text pool
 
-nothing_named : (test : FileId → Bool) (faults : List Refusal) → faults ≡ [] → AllName test faults
-nothing_named test faults none = subst (AllName test) (sym none) tt
-
--- where loads and costs have no fault, those of a bundle name the file of stops, of edges or of the
--- pool
+-- the faults of a bundle name the file of stops, of edges, of the pool, and what those of loads and costs do
 pub problem_names : (test : FileId → Bool) → test file.Stop ≡ true → test file.Edge ≡ true
     → test file.Pool ≡ true → (bundle : BundleParts)
-    → input_faults (load_input file.Load (network_in bundle).edges) (input_text bundle 3) ≡ []
-    → input_faults (pool_cost_input (lines_in bundle)) (input_text bundle 4) ≡ []
+    → AllName test (input_faults (load_input file.Load (network_in bundle).edges) (input_text bundle 3))
+    → AllName test (input_faults (pool_cost_input (lines_in bundle)) (input_text bundle 4))
     → AllName test (problem_faults bundle)
 unfolding problem_faults
-problem_names test stop edge pool bundle no_load no_cost =
+problem_names test stop edge pool bundle of_loads of_costs =
     let network = network_faults (input_text bundle 0) (input_text bundle 1) in
     let lines = pool_faults (network_in bundle) (input_text bundle 2) in
     let loads = input_faults (load_input file.Load (network_in bundle).edges) (input_text bundle 3)
     in
-    let costs = input_faults (pool_cost_input (lines_in bundle)) (input_text bundle 4) in
-    names_both test (network ++ lines ++ loads) costs
+    names_both test (network ++ lines ++ loads) _
     (names_both test (network ++ lines) loads
     (names_both test network lines
     (network_names test stop edge (input_text bundle 0) (input_text bundle 1))
     (pool_names test pool (network_in bundle) (input_text bundle 2)))
-    (nothing_named test loads no_load))
-    (nothing_named test costs no_cost)
+    of_loads)
+    of_costs
+
+-- each of them is that of an input, and so is the first one
+pub input_faults_only : (bundle : BundleParts) → AllName (λ _. true) (problem_faults bundle)
+input_faults_only bundle =
+    problem_names (λ _. true) refl refl refl bundle
+    (input_names (λ _. true) (load_input file.Load (network_in bundle).edges) (input_text bundle 3) refl)
+    (input_names (λ _. true) (pool_cost_input (lines_in bundle)) (input_text bundle 4) refl)
+
+first_named : (test : FileId → Bool) (faults : List Refusal) (first : Refusal) → AllName test faults
+    → slice_get faults 0 ≡ Some first → NamesInput test first
+first_named test [] first all is = absurd (cc)
+first_named test (refusal ∷ more) first all is =
+    let same : refusal ≡ first = cc in subst (NamesInput test) same all.0
+
+pub input_refused : (bundle : BundleParts) (first : Refusal)
+    → slice_get (problem_faults bundle) 0 ≡ Some first → NamesInput (λ _. true) first
+input_refused bundle first is = first_named (λ _. true) (problem_faults bundle) first (input_faults_only bundle) is
 
 -- so a refusal by a row names one of these
 pub concept_stage_names : (test : FileId → Bool) → test file.Stop ≡ true → test file.Edge ≡ true
     → test file.Pool ≡ true → (bundle : BundleParts)
-    → input_faults (load_input file.Load (network_in bundle).edges) (input_text bundle 3) ≡ []
-    → input_faults (pool_cost_input (lines_in bundle)) (input_text bundle 4) ≡ []
+    → AllName test (input_faults (load_input file.Load (network_in bundle).edges) (input_text bundle 3))
+    → AllName test (input_faults (pool_cost_input (lines_in bundle)) (input_text bundle 4))
     → (reason : Refusal) → concept_stage bundle ≡ Err reason → NamesOnly test reason
 unfolding concept_stage
-concept_stage_names test stop edge pool bundle no_load no_cost reason is =
+concept_stage_names test stop edge pool bundle of_loads of_costs reason is =
     names_after test (problem_faults bundle) _ reason
-    (problem_names test stop edge pool bundle no_load no_cost)
+    (problem_names test stop edge pool bundle of_loads of_costs)
     (search_names test (problem_of bundle) (budget_of bundle) (listing (problem_of bundle)) reason)
     is

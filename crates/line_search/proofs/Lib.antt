@@ -4,12 +4,11 @@ mod ConceptWritten
 mod DearestLines
 mod EdgesOfTexts
 mod FirstRows
-mod InputRefusals
 mod Judging
 mod Levels
 mod Lists
 mod NamedNodes
-mod NoConcepts
+pub mod NoConcepts
 mod PushedEdges
 mod PushedLines
 mod Refusals

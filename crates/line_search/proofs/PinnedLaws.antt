@@ -1,6 +1,6 @@
 -- The laws of the stage of a planner's concept: which files it makes, that they are right, and
 -- which file a refusal names.
-use Rattle.std.proofs.Common.{◌≡◌, ℕ, Bool, true, List, [], Option, Some, None, Result, Ok, Err, ap}
+use Rattle.std.proofs.Common.{◌≡◌, ℕ, Bool, true, List, Option, Some, None, Result, Ok, Err, ap}
 use Rattle.std.proofs.Common.{lit<}
 use Rattle.std.specs.Prelude.{IfOk}
 use Rattle.giv_files.specs.declared.file_id.FileId.{FileId}
@@ -11,10 +11,10 @@ use Rattle.giv_files.specs.declared.refusal.StageFault.{StageFault}
 use Rattle.giv_files.specs.declared.stage.Stage.TheVariants as stage
 use Rattle.giv_files.specs.Inputs.{input_faults}
 use Rattle.giv_files.specs.MadeLists.{MakesAs, ids_of}
-use Rattle.giv_files.specs.NamedFiles.{NamesOnly}
+use Rattle.giv_files.specs.NamedFiles.{NamesInput}
 use Rattle.giv_files.specs.Settings.{BundleParts, Fits}
 use Rattle.giv_files.specs.StageCalls.{StageGives, input_text}
-use Rattle.giv_files.proofs.Named.{input_names, names_both, refused_names}
+use Rattle.giv_files.proofs.Named.{AllName, input_names, names_both, refused_names}
 use Rattle.giv_files.proofs.StageCalls.{made_unless}
 use Rattle.ptn_network.specs.Loads.{load_input}
 use Rattle.ptn_network.specs.Networks.{network_in}
@@ -62,18 +62,18 @@ pub pinned_files_given : (bundle : BundleParts) (result : Result Made StageFault
 pinned_files_given bundle (Ok made) given = pinned_right bundle made given
 pinned_files_given bundle (Err fault) given = tt
 
--- a refusal by a row names the file of stops, of edges, of the pool or of the planner's concept,
--- where loads and costs have no fault
+-- a refusal by a row names the file of stops, of edges, of the pool or of the planner's concept, or
+-- what the faults of loads and of costs do
 pub pinned_concept_names : (test : FileId → Bool) → test file.Stop ≡ true → test file.Edge ≡ true
     → test file.Pool ≡ true → test file.PinnedConcept ≡ true → (bundle : BundleParts)
-    → input_faults (load_input file.Load (network_in bundle).edges) (input_text bundle 3) ≡ []
-    → input_faults (pool_cost_input (lines_in bundle)) (input_text bundle 4) ≡ []
-    → (reason : Refusal) → pinned_concept_stage bundle ≡ Err reason → NamesOnly test reason
+    → AllName test (input_faults (load_input file.Load (network_in bundle).edges) (input_text bundle 3))
+    → AllName test (input_faults (pool_cost_input (lines_in bundle)) (input_text bundle 4))
+    → (reason : Refusal) → pinned_concept_stage bundle ≡ Err reason → NamesInput test reason
 unfolding pinned_concept_stage
-pinned_concept_names test stop edge pool concept bundle no_load no_cost reason is =
+pinned_concept_names test stop edge pool concept bundle of_loads of_costs reason is =
     let given = pinned_input (problem_of bundle) in
     refused_names test (pinned_concept_faults bundle)
     (made_of_texts (problem_of bundle) (input_text bundle 5) (input_text bundle 6)) reason
     (names_both test (problem_faults bundle) (input_faults given (input_text bundle 5))
-    (problem_names test stop edge pool bundle no_load no_cost)
+    (problem_names test stop edge pool bundle of_loads of_costs)
     (input_names test given (input_text bundle 5) concept)) is

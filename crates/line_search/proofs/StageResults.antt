@@ -27,7 +27,7 @@ use Rattle.line_search.specs.GivenProblems.{problem_faults, problem_of}
 use Rattle.line_search.specs.Listings.{Entry, best_after, listing}
 use Rattle.line_search.specs.RightConcepts.{IsEnough, IsWhole}
 use Rattle.line_search.specs.Searches.{IsResult, concept_in, result_by, result_of, why_none}
-use Rattle.line_search.proofs.InputRefusals.{input_refused}
+use Rattle.line_search.proofs.ConceptNames.{input_refused}
 use Rattle.line_search.proofs.Lengths.{listing_bound}
 
 -- ---- the concept within a budget

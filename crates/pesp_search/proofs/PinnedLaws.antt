@@ -13,7 +13,7 @@ use Rattle.giv_files.specs.declared.row_why.RowWhy.TheVariants as why
 use Rattle.giv_files.specs.declared.stage.Stage.TheVariants as stage
 use Rattle.giv_files.specs.Inputs.{input_faults, or_else}
 use Rattle.giv_files.specs.MadeLists.{MakesAs, ids_of}
-use Rattle.giv_files.specs.NamedFiles.{NamesOnly}
+use Rattle.giv_files.specs.NamedFiles.{NamesInput}
 use Rattle.giv_files.specs.Settings.{BundleParts, Fits, SettingsFit}
 use Rattle.giv_files.specs.StageCalls.{input_text}
 use Rattle.giv_files.proofs.Named.{AllName, input_names, names_both, names_or_else, refused_names}
@@ -55,18 +55,18 @@ tension_names : (test : FileId → Bool) → test file.PinnedTimes ≡ true → 
 tension_names test times None = tt
 tension_names test times (Some at) = (times, tt)
 
--- where the texts of events and of activities have no fault, a refusal names the file of the times alone
+-- a refusal names the file of the times, or what the faults of events and of activities do
 pub pinned_timetable_names : (test : FileId → Bool) → test file.PinnedTimes ≡ true → (bundle : BundleParts)
-    (reason : Refusal) → timetable_faults bundle ≡ [] → pinned_timetable_stage bundle ≡ Err reason
-    → NamesOnly test reason
+    (reason : Refusal) → AllName test (timetable_faults bundle) → pinned_timetable_stage bundle ≡ Err reason
+    → NamesInput test reason
 unfolding pinned_timetable_stage
-pinned_timetable_names test times bundle reason none is =
+pinned_timetable_names test times bundle reason networks is =
     let text = input_text bundle 2 in
     let reads = input_faults (pinned_input bundle) text in
     let tensions = tension_faults bundle (times_in text) in
     let named : AllName test (pinned_timetable_faults bundle) =
     names_both test (timetable_faults bundle) (or_else reads tensions)
-    (subst (AllName test) (sym none) tt)
+    networks
     (names_or_else test reads tensions (input_names test (pinned_input bundle) text times)
     (tension_names test times (first_broken (problem_in bundle) (times_in text)))) in
     refused_names test (pinned_timetable_faults bundle) (times_kept (times_in text)) reason named is

@@ -12,7 +12,7 @@ use Rattle.giv_files.specs.MadeLists.{MakesAs, ids_of}
 use Rattle.giv_files.specs.NamedFiles.{NamesOnly}
 use Rattle.giv_files.specs.Settings.{BundleParts}
 use Rattle.giv_files.specs.StageCalls.{input_text}
-use Rattle.giv_files.proofs.Named.{AllName, input_names, names_both}
+use Rattle.giv_files.proofs.Named.{AllName, input_names, names_both, names_only}
 use Rattle.event_tables.specs.PeriodicFiles.{periodic_activity_input, periodic_event_ids, periodic_event_input}
 use Rattle.pesp_model.specs.PespTexts.{events_of, problem_faults}
 use Rattle.pesp_search.specs.Listings.{Listing, TimesFound, listing, result_within, whole_result}
@@ -64,27 +64,23 @@ names_after : (test : FileId → Bool) (faults : List Refusal) (outcome : Result
     → after_faults faults outcome ≡ Err reason → NamesOnly test reason
 names_after test [] outcome reason named so is = so is
 names_after test (first ∷ more) outcome reason named so is =
-    let same : first ≡ reason = cc in subst (NamesOnly test) same named.0
+    let same : first ≡ reason = cc in subst (NamesOnly test) same (names_only test first named.0)
 
--- a refusal by a row names the file of events or of activities
-pub timetable_stage_names : (test : FileId → Bool) → test file.EventsP ≡ true
-    → test file.ActivitiesP ≡ true → (bundle : BundleParts) (reason : Refusal)
-    → timetable_stage bundle ≡ Err reason → NamesOnly test reason
-unfolding timetable_stage problem_faults
-timetable_stage_names test events activities bundle reason is =
+-- the faults name the file of events or of activities
+pub timetable_faults_name : (test : FileId → Bool) → test file.EventsP ≡ true
+    → test file.ActivitiesP ≡ true → (bundle : BundleParts) → AllName test (timetable_faults bundle)
+unfolding problem_faults
+timetable_faults_name test events activities bundle =
     let ids = periodic_event_ids (events_of (input_text bundle 0)) in
-    let named : AllName test (timetable_faults bundle) =
     names_both test (input_faults periodic_event_input (input_text bundle 0))
     (input_faults (periodic_activity_input ids) (input_text bundle 1))
     (input_names test periodic_event_input (input_text bundle 0) events)
-    (input_names test (periodic_activity_input ids) (input_text bundle 1) activities) in
-    names_after test (timetable_faults bundle) _ reason named
-    (search_names test (budget_in bundle) (listing (problem_in bundle)) reason) is
+    (input_names test (periodic_activity_input ids) (input_text bundle 1) activities)
 
--- where the texts of events and of activities have no fault, no refusal names a file
-pub timetable_names_none : (test : FileId → Bool) (bundle : BundleParts) (reason : Refusal)
-    → timetable_faults bundle ≡ [] → timetable_stage bundle ≡ Err reason → NamesOnly test reason
+-- a refusal names what they do
+pub timetable_stage_names : (test : FileId → Bool) (bundle : BundleParts) (reason : Refusal)
+    → AllName test (timetable_faults bundle) → timetable_stage bundle ≡ Err reason → NamesOnly test reason
 unfolding timetable_stage
-timetable_names_none test bundle reason none is =
-    names_after test (timetable_faults bundle) _ reason (subst (AllName test) (sym none) tt)
+timetable_stage_names test bundle reason named is =
+    names_after test (timetable_faults bundle) _ reason named
     (search_names test (budget_in bundle) (listing (problem_in bundle)) reason) is

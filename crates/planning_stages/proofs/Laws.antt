@@ -25,6 +25,7 @@ use Rattle.giv_files.specs.declared.stage.Stage.{Stage}
 use Rattle.giv_files.specs.declared.stage.Stage.TheVariants as stage
 use Rattle.giv_files.specs.MadeLists.{MakesAs, ids_of}
 use Rattle.giv_files.specs.NamedFiles.{NamesOnly}
+use Rattle.giv_files.proofs.Named.{AllName, names_only, none_names}
 use Rattle.giv_files.specs.Settings.{BundleParts, Fits}
 use Rattle.demand_load.proofs.LoadMakes.{load_stage_makes}
 use Rattle.demand_load.proofs.LoadNames.{load_stage_names}
@@ -36,16 +37,16 @@ use Rattle.line_search.proofs.ConceptMakes.{concept_stage_makes}
 use Rattle.line_search.proofs.ConceptNames.{concept_stage_names}
 use Rattle.line_search.proofs.ConceptReads.{concept_is_right}
 use Rattle.event_activity.proofs.EanMakes.{ean_stage_makes}
-use Rattle.event_activity.proofs.EanNames.{ean_names_network}
+use Rattle.event_activity.proofs.EanNames.{ean_stage_names}
 use Rattle.event_activity.proofs.EanReads.{ean_is_right}
-use Rattle.pesp_search.proofs.TimetableMakes.{timetable_names_none, timetable_stage_makes}
+use Rattle.pesp_search.proofs.TimetableMakes.{timetable_stage_makes, timetable_stage_names}
 use Rattle.pesp_search.proofs.TimetableReads.{timetable_is_right}
-use Rattle.roll_out.proofs.RolloutMakes.{rollout_names_none, rollout_stage_makes}
+use Rattle.roll_out.proofs.RolloutMakes.{rollout_stage_makes, rollout_stage_names}
 use Rattle.roll_out.proofs.RolloutReads.{rollout_is_right}
 use Rattle.delay_management.proofs.DispositionMakes.{disposition_names_delays}
 use Rattle.delay_management.proofs.DispositionMakes.{disposition_stage_makes}
 use Rattle.delay_management.proofs.DispositionReads.{disposition_is_right}
-use Rattle.evaluators.proofs.StatisticMakes.{statistic_names_none, statistic_stage_makes}
+use Rattle.evaluators.proofs.StatisticMakes.{statistic_stage_makes, statistic_stage_names}
 use Rattle.evaluators.proofs.StatisticReads.{statistic_is_right}
 use Rattle.vehicle_flow.proofs.VehicleLaws.{vehicles_are_right}
 use Rattle.vehicle_flow.proofs.VehicleMakes.{vehicles_stage_makes, vehicles_stage_names}
@@ -133,79 +134,105 @@ content_laws at run IsRight lists needed laws = record {
   pass = λ folder bundle made solved right found. content_passes at run lists folder bundle made solved (laws.makes bundle made solved) found;
 }
 
+-- faults that are none name nothing
+fine : {faults : List Refusal} → faults ≡ [] → AllName is_hand_file faults
+fine {faults} none = none_names is_hand_file faults none
+
 pub stage_laws : (at : Stage) → StageLaws at (stage_model at)
 unfolding planning stage_model is_hand
 stage_laws stage.Load = content_laws stage.Load _ _ refl refl (record {
   makes = load_stage_makes;
   right = loads_are_right;
-  refuses = λ values look reason _. load_stage_names is_hand_file refl refl refl refl (bundle_over values look stage.Load) reason;
+  refuses = λ values look reason _ is.
+      names_only is_hand_file reason (load_stage_names is_hand_file refl refl refl refl (bundle_over values look stage.Load) reason is);
 })
 stage_laws stage.Cost = content_laws stage.Cost _ _ refl refl (record {
   makes = cost_stage_makes;
   right = costs_are_right;
-  refuses = λ values look reason _. cost_stage_names is_hand_file refl refl refl (bundle_over values look stage.Cost) reason;
+  refuses = λ values look reason _ is.
+      names_only is_hand_file reason (cost_stage_names is_hand_file refl refl refl (bundle_over values look stage.Cost) reason is);
 })
 stage_laws stage.Concept = record {
   makes = concept_stage_makes;
   right = concept_is_right;
-  refuses = λ values look reason right. let was = right_before planning values look (at_point values) stage.Concept right in concept_stage_names is_hand_file refl refl refl (bundle_over values look stage.Concept) (loads_accepted values look (was stage.Load refl)) (costs_accepted values look (was stage.Cost refl)) reason;
+  refuses = λ values look reason right is.
+      let was = right_before planning values look (at_point values) stage.Concept right in
+      concept_stage_names is_hand_file refl refl refl (bundle_over values look stage.Concept) (fine (loads_accepted values look (was stage.Load refl))) (fine (costs_accepted values look (was stage.Cost refl))) reason is;
   stand = λ folder bundle lacks none. concept_stands (map.get folder (file_name file.Concept)) (map.get folder (file_name file.Tree)) lacks;
   pass = λ folder bundle made solved right found. (concept_there (map.get folder (file_name file.Concept)) (map.get folder (file_name file.Tree)) right.text right.tree (found ∙ right.each), ap (concept_verdict bundle) found ∙ concept_none bundle made.files (found_right bundle made.files right));
 }
 stage_laws stage.Ean = content_laws stage.Ean _ _ refl refl (record {
   makes = ean_stage_makes;
   right = ean_is_right;
-  refuses = λ values look reason right. let was = right_before planning values look (at_point values) stage.Ean right in ean_names_network is_hand_file refl refl (bundle_over values look stage.Ean) reason (concept_accepted values look (was stage.Concept refl));
+  refuses = λ values look reason right is.
+      let was = right_before planning values look (at_point values) stage.Ean right in
+      names_only is_hand_file reason (ean_stage_names is_hand_file refl refl (bundle_over values look stage.Ean) reason (fine (concept_accepted values look (was stage.Concept refl))) is);
 })
 stage_laws stage.Timetable = record {
   makes = timetable_stage_makes;
   right = timetable_is_right;
-  refuses = λ values look reason right. let was = right_before planning values look (at_point values) stage.Timetable right in timetable_names_none is_hand_file (bundle_over values look stage.Timetable) reason (periodic_accepted values look (was stage.Ean refl));
+  refuses = λ values look reason right is.
+      let was = right_before planning values look (at_point values) stage.Timetable right in
+      timetable_stage_names is_hand_file (bundle_over values look stage.Timetable) reason (fine (periodic_accepted values look (was stage.Ean refl))) is;
   stand = λ folder bundle lacks none. times_stand (map.get folder (file_name file.TimesP)) lacks;
   pass = λ folder bundle made solved right found. (times_there (map.get folder (file_name file.TimesP)) right.text (found ∙ right.one), ap (timetable_verdict bundle) found ∙ timetable_none bundle made.files right);
 }
 stage_laws stage.Rollout = content_laws stage.Rollout _ _ refl refl (record {
   makes = rollout_stage_makes;
   right = rollout_is_right;
-  refuses = λ values look reason right. let was = right_before planning values look (at_point values) stage.Rollout right in rollout_names_none is_hand_file (bundle_over values look stage.Rollout) reason (day_accepted values look (was stage.Ean refl) (was stage.Timetable refl));
+  refuses = λ values look reason right is.
+      let was = right_before planning values look (at_point values) stage.Rollout right in
+      names_only is_hand_file reason (rollout_stage_names is_hand_file (bundle_over values look stage.Rollout) reason (fine (day_accepted values look (was stage.Ean refl) (was stage.Timetable refl))) is);
 })
 stage_laws stage.Vehicles = record {
   makes = vehicles_stage_makes;
   right = λ bundle made own fits is. vehicles_are_right bundle own fits made is;
-  refuses = λ values look reason right. let was = right_before planning values look (at_point values) stage.Vehicles right in vehicles_stage_names is_hand_file refl refl (bundle_over values look stage.Vehicles) reason (trips_accepted values look (was stage.Ean refl) (was stage.Rollout refl));
+  refuses = λ values look reason right is.
+      let was = right_before planning values look (at_point values) stage.Vehicles right in
+      names_only is_hand_file reason (vehicles_stage_names is_hand_file refl refl (bundle_over values look stage.Vehicles) reason (fine (trips_accepted values look (was stage.Ean refl) (was stage.Rollout refl))) is);
   stand = λ folder bundle lacks none. schedule_stands bundle _ (map.get folder (file_name file.Schedule)) (map.get folder (file_name file.Potential)) lacks refl none;
   pass = λ folder bundle made solved right found. (schedule_there (map.get folder (file_name file.Schedule)) (map.get folder (file_name file.Potential)) right.right.schedule right.right.potentials (found ∙ right.right.both), ap (schedule_verdict bundle) found ∙ schedule_none bundle made.files right);
 }
 stage_laws stage.Disposition = record {
   makes = disposition_stage_makes;
   right = disposition_is_right;
-  refuses = λ values look reason right. let was = right_before planning values look (at_point values) stage.Disposition right in disposition_names_delays is_hand_file refl refl (bundle_over values look stage.Disposition) reason (plans_accepted values look (was stage.Rollout refl) (was stage.Vehicles refl));
+  refuses = λ values look reason right is.
+      let was = right_before planning values look (at_point values) stage.Disposition right in
+      names_only is_hand_file reason (disposition_names_delays is_hand_file refl refl (bundle_over values look stage.Disposition) reason (fine (plans_accepted values look (was stage.Rollout refl) (was stage.Vehicles refl))) is);
   stand = λ folder bundle lacks none. disposition_stands bundle _ (map.get folder (file_name file.Disposed)) (map.get folder (file_name file.Reasons)) lacks refl none;
   pass = λ folder bundle made solved right found. (disposition_there (map.get folder (file_name file.Disposed)) (map.get folder (file_name file.Reasons)) right.times_text right.reasons_text (found ∙ right.both), ap (disposition_verdict bundle) found ∙ disposition_none bundle made.files right);
 }
 stage_laws stage.Statistic = content_laws stage.Statistic _ _ refl refl (record {
   makes = statistic_stage_makes;
   right = statistic_is_right;
-  refuses = λ values look reason right. let was = right_before planning values look (at_point values) stage.Statistic right in statistic_names_none is_hand_file (bundle_over values look stage.Statistic) reason (all_accepted values look (was stage.Cost refl) (was stage.Concept refl) (was stage.Ean refl) (was stage.Timetable refl) (was stage.Rollout refl) (was stage.Vehicles refl) (was stage.Disposition refl));
+  refuses = λ values look reason right is.
+      let was = right_before planning values look (at_point values) stage.Statistic right in
+      names_only is_hand_file reason (statistic_stage_names is_hand_file (bundle_over values look stage.Statistic) reason (fine (all_accepted values look (was stage.Cost refl) (was stage.Concept refl) (was stage.Ean refl) (was stage.Timetable refl) (was stage.Rollout refl) (was stage.Vehicles refl) (was stage.Disposition refl))) is);
 })
 stage_laws stage.PinnedConcept = record {
   makes = pinned_concept_makes;
   right = pinned_concept_right;
-  refuses = λ values look reason right. let was = right_before planning values look (at_point values) stage.PinnedConcept right in pinned_concept_names is_hand_file refl refl refl refl (bundle_over values look stage.PinnedConcept) (loads_accepted values look (was stage.Load refl)) (costs_accepted values look (was stage.Cost refl)) reason;
+  refuses = λ values look reason right is.
+      let was = right_before planning values look (at_point values) stage.PinnedConcept right in
+      names_only is_hand_file reason (pinned_concept_names is_hand_file refl refl refl refl (bundle_over values look stage.PinnedConcept) (fine (loads_accepted values look (was stage.Load refl))) (fine (costs_accepted values look (was stage.Cost refl))) reason is);
   stand = λ folder bundle lacks none. concept_stands (map.get folder (file_name file.Concept)) (map.get folder (file_name file.Tree)) lacks;
   pass = λ folder bundle made solved right found. (concept_there (map.get folder (file_name file.Concept)) (map.get folder (file_name file.Tree)) right.text right.tree (found ∙ right.each), refl);
 }
 stage_laws stage.PinnedTimetable = record {
   makes = pinned_timetable_makes;
   right = pinned_timetable_right;
-  refuses = λ values look reason right. let was = right_before planning values look (at_point values) stage.PinnedTimetable right in pinned_timetable_names is_hand_file refl (bundle_over values look stage.PinnedTimetable) reason (periodic_accepted values look (was stage.Ean refl));
+  refuses = λ values look reason right is.
+      let was = right_before planning values look (at_point values) stage.PinnedTimetable right in
+      names_only is_hand_file reason (pinned_timetable_names is_hand_file refl (bundle_over values look stage.PinnedTimetable) reason (fine (periodic_accepted values look (was stage.Ean refl))) is);
   stand = λ folder bundle lacks none. times_stand (map.get folder (file_name file.TimesP)) lacks;
   pass = λ folder bundle made solved right found. (times_there (map.get folder (file_name file.TimesP)) right.text (found ∙ right.one), refl);
 }
 stage_laws stage.PinnedVehicles = record {
   makes = pinned_vehicles_makes;
   right = λ bundle made own fits is. pinned_vehicles_right bundle own fits made is;
-  refuses = λ values look reason right. let was = right_before planning values look (at_point values) stage.PinnedVehicles right in pinned_vehicles_names is_hand_file refl refl refl (bundle_over values look stage.PinnedVehicles) reason (trips_accepted values look (was stage.Ean refl) (was stage.Rollout refl));
+  refuses = λ values look reason right is.
+      let was = right_before planning values look (at_point values) stage.PinnedVehicles right in
+      names_only is_hand_file reason (pinned_vehicles_names is_hand_file refl refl refl (bundle_over values look stage.PinnedVehicles) reason (fine (trips_accepted values look (was stage.Ean refl) (was stage.Rollout refl))) is);
   stand = λ folder bundle lacks none. bare_stands (map.get folder (file_name file.Schedule)) (map.get folder (file_name file.Potential)) lacks;
   pass = λ folder bundle made solved right found. (bare_there (map.get folder (file_name file.Schedule)) (map.get folder (file_name file.Potential)) right.right.schedule right.right.potentials (found ∙ right.right.each), refl);
 }

@@ -1,9 +1,11 @@
 pub mod AllPlans
 pub mod ContentFiles
+pub mod InputFaults
 pub mod Laws
 pub mod OneLook
 pub mod PinnedPlaces
 pub mod SameTexts
+pub mod SearchEnds
 pub mod Standing
 pub mod StatisticLines
 pub mod StopsThere

@@ -1,5 +1,5 @@
 -- Which files the stage of the roll-out makes, and which it names where it refuses a row.
-use Rattle.std.proofs.Common.{◌≡◌, ℕ, Bool, true, List, [], ◌∷◌, ◌++◌, Err, Ok, nat_lt, ap, lit<, subst, sym}
+use Rattle.std.proofs.Common.{◌≡◌, ℕ, Bool, true, List, [], ◌∷◌, ◌++◌, Err, Ok, nat_lt, ap, lit<}
 use Rattle.giv_files.specs.declared.column.ColumnKind.{ColumnKind}
 use Rattle.giv_files.specs.declared.counted.Counted.{Counted}
 use Rattle.giv_files.specs.declared.counted.Counted.TheVariants as counted
@@ -11,7 +11,7 @@ use Rattle.giv_files.specs.declared.row_why.RowWhy.{RowWhy}
 use Rattle.giv_files.specs.declared.stage.Stage.TheVariants as stage
 use Rattle.giv_files.specs.Inputs.{Limit, limit_faults, row_limit}
 use Rattle.giv_files.specs.MadeLists.{MakesAs, ids_of}
-use Rattle.giv_files.specs.NamedFiles.{NamesOnly}
+use Rattle.giv_files.specs.NamedFiles.{NamesInput}
 use Rattle.giv_files.specs.Settings.{BundleParts}
 use Rattle.giv_files.proofs.Named.{AllName, names_both, names_or_else, names_where, refused_names}
 use Rattle.giv_files.proofs.StageCalls.{made_unless}
@@ -46,19 +46,20 @@ lists_name test network trips =
     (length_names test counted.ExpandedEvents 100000 (day_events trips)))
     (length_names test counted.ExpandedActivities 500000 (day_activities network trips))
 
-rows_name : (test : FileId → Bool) (file : FileId) → test file ≡ true
+-- rules of runs name the file of the rows
+pub rows_name : (test : FileId → Bool) (file : FileId) → test file ≡ true
     → (columns : List ColumnKind) (text : List ℕ)
     (why : RowWhy) (ids : List ℕ) → AllName test (faults_at file columns text why ids)
 rows_name test file named columns text why [] = tt
 rows_name test file named columns text why (id ∷ ids) =
     (named, rows_name test file named columns text why ids)
 
--- and where the inputs have no fault, no refusal names a file
-pub rollout_names_none : (test : FileId → Bool) (bundle : BundleParts) (reason : Refusal)
-    → rollout_faults bundle ≡ []
-    → rollout_stage bundle ≡ Err reason → NamesOnly test reason
+-- a refusal names what the faults of the inputs do
+pub rollout_stage_names : (test : FileId → Bool) (bundle : BundleParts) (reason : Refusal)
+    → AllName test (rollout_faults bundle)
+    → rollout_stage bundle ≡ Err reason → NamesInput test reason
 unfolding rollout_stage
-rollout_names_none test bundle reason none is =
+rollout_stage_names test bundle reason named is =
     refused_names test _ _ reason
     (names_or_else test (rollout_faults bundle) (long_lists (network_in bundle) (trips_in bundle))
-    (subst (AllName test) (sym none) tt) (lists_name test (network_in bundle) (trips_in bundle))) is
+    named (lists_name test (network_in bundle) (trips_in bundle))) is

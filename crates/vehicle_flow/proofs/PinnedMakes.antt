@@ -8,7 +8,7 @@ use Rattle.giv_files.specs.declared.refusal.StageFault.{StageFault}
 use Rattle.giv_files.specs.declared.stage.Stage.TheVariants as stage
 use Rattle.giv_files.specs.Inputs.{input_faults}
 use Rattle.giv_files.specs.MadeLists.{MakesAs, ids_of}
-use Rattle.giv_files.specs.NamedFiles.{NamesOnly}
+use Rattle.giv_files.specs.NamedFiles.{NamesInput}
 use Rattle.giv_files.specs.Settings.{BundleParts, Fits}
 use Rattle.giv_files.specs.StageCalls.{StageGives, input_text}
 use Rattle.giv_files.proofs.Named.{AllName, names_both, refused_names}
@@ -55,14 +55,14 @@ plan_names test is (plan_fault.Trips row ∷ more) = (is, plan_names test is mor
 plan_names test is (plan_fault.Follow trip ∷ more) = (is, plan_names test is more)
 plan_names test is (plan_fault.NoMemory ∷ more) = (is, plan_names test is more)
 
--- where the file of trips has no fault over the stops, a refusal by a row names the file of stops, that of edges
--- or that of the planner's schedule
+-- a refusal by a row names the file of stops, that of edges, that of the planner's schedule, or what the
+-- faults of the trips do
 pub pinned_vehicles_names : (test : FileId → Bool) → test file.Stop ≡ true → test file.Edge ≡ true
     → test file.PinnedSchedule ≡ true → (bundle : BundleParts) (reason : Refusal)
-    → input_faults (trip_input (Some (stops_of (input_text bundle 0)))) (input_text bundle 2) ≡ []
-    → pinned_vehicles_stage bundle ≡ Err reason → NamesOnly test reason
+    → AllName test (input_faults (trip_input (Some (stops_of (input_text bundle 0)))) (input_text bundle 2))
+    → pinned_vehicles_stage bundle ≡ Err reason → NamesInput test reason
 unfolding pinned_vehicles_stage trips_faults
-pinned_vehicles_names test stop edge schedule bundle reason none is =
+pinned_vehicles_names test stop edge schedule bundle reason named is =
     let trips = trips_in bundle in
     let plan = plan_of trips (input_text bundle 3) in
     let potentials = marking_potentials trips plan (input_text bundle 4) in
@@ -71,7 +71,7 @@ pinned_vehicles_names test stop edge schedule bundle reason none is =
     (names_both test (network_faults (input_text bundle 0) (input_text bundle 1))
     (input_faults (trip_input (Some (stops_of (input_text bundle 0)))) (input_text bundle 2))
     (network_names test stop edge (input_text bundle 0) (input_text bundle 1))
-    (subst (AllName test) (sym none) tt))
+    named)
     (plan_names test schedule (plan_faults trips (input_text bundle 3)))) is
 
 module _ (bundle : BundleParts) (own : bundle.stage ≡ stage.PinnedVehicles) (fits : Fits bundle) where

@@ -8,7 +8,7 @@ use Rattle.giv_files.specs.declared.refusal.StageFault.{StageFault}
 use Rattle.giv_files.specs.declared.stage.Stage.TheVariants as stage
 use Rattle.giv_files.specs.Inputs.{Refuses, input_faults}
 use Rattle.giv_files.specs.MadeLists.{MakesAs, ids_of}
-use Rattle.giv_files.specs.NamedFiles.{NamesOnly}
+use Rattle.giv_files.specs.NamedFiles.{NamesInput}
 use Rattle.giv_files.specs.Settings.{BundleParts}
 use Rattle.giv_files.specs.StageCalls.{StageGives, input_text}
 use Rattle.giv_files.proofs.Named.{AllName, names_both, refused_names}
@@ -27,19 +27,18 @@ unfolding vehicles_stage
 vehicles_stage_makes bundle made is =
     (0, lit< tt, ap (λ (made : Made). ids_of made.files) (made_unless _ _ made is))
 
--- where the file of trips has no fault over the stops, a refusal by a row names the file of stops or
--- that of edges
+-- a refusal by a row names the file of stops, that of edges, or what the faults of the trips do
 pub vehicles_stage_names : (test : FileId → Bool) → test file.Stop ≡ true → test file.Edge ≡ true
     → (bundle : BundleParts) (reason : Refusal)
-    → input_faults (trip_input (Some (stops_of (input_text bundle 0)))) (input_text bundle 2) ≡ []
-    → vehicles_stage bundle ≡ Err reason → NamesOnly test reason
+    → AllName test (input_faults (trip_input (Some (stops_of (input_text bundle 0)))) (input_text bundle 2))
+    → vehicles_stage bundle ≡ Err reason → NamesInput test reason
 unfolding vehicles_stage trips_faults
-vehicles_stage_names test stop edge bundle reason none is =
+vehicles_stage_names test stop edge bundle reason trips is =
     refused_names test (vehicles_faults bundle) _ reason
     (names_both test (network_faults (input_text bundle 0) (input_text bundle 1))
     (input_faults (trip_input (Some (stops_of (input_text bundle 0)))) (input_text bundle 2))
     (network_names test stop edge (input_text bundle 0) (input_text bundle 1))
-    (subst (AllName test) (sym none) tt)) is
+    trips) is
 
 -- ---- what the call gives
 

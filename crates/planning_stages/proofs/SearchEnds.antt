@@ -1,0 +1,221 @@
+-- How a search ends that has a solution or none, within its budget or beyond it.
+use Rattle.std.proofs.Common.{◌≡◌, ◌<◌, ◌⊎◌, inl, inr, ⊎_elim, ℕ, Bool, true, false, cond, nat_le, nat_lt, List, [], ◌∷◌}
+use Rattle.std.proofs.Common.{length, take, Option, Some, None, Result, Ok, Err, refl, ap, sym, subst, ◌∙◌, arith}
+use Rattle.std.specs.Prelude.{ok_or}
+use Rattle.std.proofs.lemmas.Bool.{leb-false, ltb-true}
+use Rattle.giv_files.specs.declared.file_id.FileId.{FileId}
+use Rattle.giv_files.specs.declared.made.Made.{Made}
+use Rattle.giv_files.specs.declared.refusal.Refusal.{Refusal}
+use Rattle.giv_files.specs.declared.refusal.Refusal.TheVariants as refusal
+use Rattle.giv_files.specs.declared.refusal.StageFault.{StageFault}
+use Rattle.giv_files.specs.declared.refusal.StageFault.TheVariants as fault
+use Rattle.giv_files.specs.declared.stage.Stage.{Stage}
+use Rattle.giv_files.specs.declared.stage.Stage.TheVariants as stage
+use Rattle.giv_files.specs.NamedFiles.{NamesInput}
+use Rattle.giv_files.specs.Settings.{BundleParts, Fits}
+use Rattle.giv_files.specs.StageCalls.{StageGives}
+use Rattle.giv_files.proofs.Named.{AllName}
+use Rattle.line_cost_model.specs.Problems.{ProblemParts}
+use Rattle.line_search.specs.Budgets.{last_found, result_within, spent_result, whole_result}
+use Rattle.line_search.specs.ConceptStage.{after_faults, budget_of, concept_stage, search_made}
+use Rattle.line_search.specs.GivenProblems.{problem_faults, problem_of}
+use Rattle.line_search.specs.Listings.{Entry, best_after, listing}
+use Rattle.line_search.proofs.ConceptNames.{input_faults_only}
+use Rattle.line_search.proofs.Lengths.{listing_bound}
+use Rattle.line_search.proofs.NoConcepts.{none_told as no_concept}
+use Rattle.pesp_search.specs.Listings.{Listing, listing as times_listed, result_within as times_within}
+use Rattle.pesp_search.specs.Listings.{whole_result as whole_times}
+use Rattle.pesp_search.specs.TimetableStage.{after_faults as after_times, budget_in, problem_in}
+use Rattle.pesp_search.specs.TimetableStage.{search_made as times_made, timetable_faults, timetable_stage}
+use Rattle.pesp_search.proofs.ListingRight.{listing_right}
+use Rattle.pesp_search.proofs.TimetableEnds.{none_told as no_timetable}
+use Rattle.pesp_search.proofs.TimetableMakes.{timetable_faults_name}
+use Rattle.pesp_search.proofs.TimetableReads.{is_problem}
+use Rattle.planning_stages.specs.Planning.{stage_model}
+use Rattle.planning_stages.specs.Searches.{CanBeFound, HasNoSolution, IsSpent}
+use Rattle.planning_stages.proofs.InputFaults.{Searches, any, input_refused}
+
+-- ---- a stage answers as its function says
+
+as_result : Result Made Refusal → Result Made StageFault
+as_result (Ok made) = Ok made
+as_result (Err reason) = Err (fault.Refused reason)
+
+as_gives : (told : Result Made Refusal) → StageGives told (as_result told)
+as_gives (Ok made) = refl
+as_gives (Err reason) = refl
+
+only_refused : (told : Result Made Refusal) (reason : Refusal)
+    → (as_result told ≡ Err (fault.Refused reason)) ⊎ (as_result told ≡ Err fault.NoMemory)
+    → told ≡ Err reason
+only_refused (Ok made) reason (inl is) = absurd (cc)
+only_refused (Ok made) reason (inr is) = absurd (cc)
+only_refused (Err other) reason (inl is) = let same : other ≡ reason = cc in ap Err same
+only_refused (Err other) reason (inr is) = absurd (cc)
+
+-- ---- faults of the inputs are no end of a search
+
+no_fault : (faults : List Refusal) (outcome : Result Made Refusal) (reason : Refusal)
+    → AllName any faults → ¬ NamesInput any reason
+    → after_faults faults outcome ≡ Err reason → faults ≡ []
+no_fault [] outcome reason named end is = refl
+no_fault (first ∷ more) outcome reason named end is =
+    let same : first ≡ reason = cc in absurd (end (subst (NamesInput any) same named.0))
+
+no_time_fault : (faults : List Refusal) (outcome : Result Made Refusal) (reason : Refusal)
+    → AllName any faults → ¬ NamesInput any reason
+    → after_times faults outcome ≡ Err reason → faults ≡ []
+no_time_fault [] outcome reason named end is = refl
+no_time_fault (first ∷ more) outcome reason named end is =
+    let same : first ≡ reason = cc in absurd (end (subst (NamesInput any) same named.0))
+
+-- ---- line concepts
+
+module _ (problem : ProblemParts) (budget : ℕ) (all : List Entry) where
+  abbrev Ends : Refusal → Type 0
+  Ends reason = search_made problem (result_within budget all) ≡ Err reason
+
+  by_found : (found : Option (List ℕ)) (why reason : Refusal)
+      → search_made problem (ok_or (option_map (λ frequencies. record { frequencies = frequencies; tree = None; entries = length (take budget all) }) found) why) ≡ Err reason
+      → (found ≡ None) × (why ≡ reason)
+  by_found None why reason is = (refl, cc)
+  by_found (Some found) why reason is = absurd (cc)
+
+  whole_unspent : (found : Option (List ℕ)) (spent : ℕ)
+      → ¬ (search_made problem (ok_or (option_map (λ frequencies. record { frequencies = frequencies; tree = Some (nodes_in all); entries = length all }) found) refusal.NoSolution) ≡ Err (refusal.Spent spent))
+  whole_unspent None spent is = absurd (cc)
+  whole_unspent (Some found) spent is = absurd (cc)
+
+  spent_by : (spent : ℕ) → Ends (refusal.Spent spent)
+      → (budget < length all) × (best_after None (take budget all) ≡ None)
+  unfolding result_within
+  spent_by spent is = by (nat_le (length all) budget) refl is
+    where
+      by : (within : Bool) → nat_le (length all) budget ≡ within
+          → search_made problem (cond within (whole_result all) (spent_result budget all)) ≡ Err (refusal.Spent spent)
+          → (budget < length all) × (best_after None (take budget all) ≡ None)
+      by true within is = absurd (whole_unspent (best_after None all) spent is)
+      by false within is =
+          (leb-false (length all) budget within, (by_found (best_after None (take budget all)) (refusal.Spent budget) (refusal.Spent spent) is).0)
+
+  spent_ends : budget < length all → best_after None (take budget all) ≡ None → Ends (refusal.Spent budget)
+  unfolding result_within
+  spent_ends over none =
+      ap (λ b. search_made problem (cond b (whole_result all) (spent_result budget all))) (beyond (nat_le (length all) budget) refl)
+      ∙ ap (λ found. search_made problem (ok_or (option_map (λ frequencies. record { frequencies = frequencies; tree = None; entries = length (take budget all) }) found) (refusal.Spent budget))) none
+    where
+      beyond : (b : Bool) → nat_le (length all) budget ≡ b → b ≡ false
+      beyond false is = refl
+      beyond true is = absurd (omega (arith, over, leb-true (length all) budget is))
+
+-- ---- timetables
+
+module _ (budget : ℕ) (all : Listing) where
+  times_unspent : (found : Option (List ℕ)) (spent : ℕ)
+      → ¬ (times_made (whole_times all.entries found) ≡ Err (refusal.Spent spent))
+  times_unspent None spent is = absurd (cc)
+  times_unspent (Some found) spent is = absurd (cc)
+
+  times_spent_by : (spent : ℕ) → times_made (times_within budget all) ≡ Err (refusal.Spent spent) → budget < all.entries
+  unfolding times_within
+  times_spent_by spent is = by (nat_lt budget all.entries) refl is
+    where
+      by : (over : Bool) → nat_lt budget all.entries ≡ over
+          → times_made (cond over (Err (refusal.Spent budget)) (whole_times all.entries all.found)) ≡ Err (refusal.Spent spent)
+          → budget < all.entries
+      by true over is = ltb-true budget all.entries over
+      by false over is = absurd (times_unspent all.found spent is)
+
+  times_spent : budget < all.entries → times_made (times_within budget all) ≡ Err (refusal.Spent budget)
+  unfolding times_within
+  times_spent over =
+      ap (λ b. times_made (cond b (Err (refusal.Spent budget)) (whole_times all.entries all.found))) (lt-ltb budget all.entries over)
+
+-- ---- what the stages refuse
+
+module _ (bundle : BundleParts) where
+  abbrev told : Stage → Result Made Refusal
+  told at = (stage_model at).run bundle
+
+  concept_fine : (reason : Refusal) → ¬ NamesInput any reason → concept_stage bundle ≡ Err reason
+      → problem_faults bundle ≡ []
+  unfolding concept_stage
+  concept_fine reason end is = no_fault (problem_faults bundle) _ reason (input_faults_only bundle) end is
+
+  times_fine : (reason : Refusal) → ¬ NamesInput any reason → timetable_stage bundle ≡ Err reason
+      → timetable_faults bundle ≡ []
+  unfolding timetable_stage
+  times_fine reason end is =
+      no_time_fault (timetable_faults bundle) _ reason (timetable_faults_name any refl refl bundle) end is
+
+  concept_outcome : problem_faults bundle ≡ [] → concept_stage bundle
+      ≡ search_made (problem_of bundle) (result_within (budget_of bundle) (listing (problem_of bundle)))
+  unfolding concept_stage
+  concept_outcome fine = ap (λ faults. after_faults faults (search_made (problem_of bundle) (result_within (budget_of bundle) (listing (problem_of bundle))))) fine
+
+  times_outcome : timetable_faults bundle ≡ [] → timetable_stage bundle
+      ≡ times_made (times_within (budget_in bundle) (times_listed (problem_in bundle)))
+  unfolding timetable_stage
+  times_outcome fine = ap (λ faults. after_times faults (times_made (times_within (budget_in bundle) (times_listed (problem_in bundle))))) fine
+
+  module _ (fits : Fits bundle) where
+    -- a search says that there is no solution only where there is none, within its budget
+    pub ends_none : (at : Stage) → bundle.stage ≡ at → told at ≡ Err refusal.NoSolution
+        → HasNoSolution at bundle
+    unfolding stage_model
+    ends_none stage.Concept own is =
+        let fine = concept_fine refusal.NoSolution (λ h. h) is in
+        (fine, (no_concept bundle (Err (fault.Refused refusal.NoSolution)) is fine).only refl)
+    ends_none stage.Timetable own is =
+        let fine = times_fine refusal.NoSolution (λ h. h) is in
+        (fine, (no_timetable bundle own fits (Err (fault.Refused refusal.NoSolution)) is fine).only refl)
+    ends_none at own is = ⊎_elim (λ searches. absurd searches) (λ input. absurd input) (input_refused at bundle refusal.NoSolution is)
+
+    -- and where there is none it says so
+    pub none_ends : (at : Stage) → bundle.stage ≡ at → HasNoSolution at bundle
+        → told at ≡ Err refusal.NoSolution
+    unfolding stage_model
+    none_ends stage.Concept own has =
+        only_refused (concept_stage bundle) refusal.NoSolution
+        ((no_concept bundle (as_result (concept_stage bundle)) (as_gives (concept_stage bundle)) has.0).always has.1)
+    none_ends stage.Timetable own has =
+        only_refused (timetable_stage bundle) refusal.NoSolution
+        ((no_timetable bundle own fits (as_result (timetable_stage bundle)) (as_gives (timetable_stage bundle)) has.0).always has.1)
+    none_ends at own has = absurd has
+
+    -- the same of a budget that is spent
+    pub ends_spent : (at : Stage) → bundle.stage ≡ at → (entries : ℕ) → told at ≡ Err (refusal.Spent entries)
+        → IsSpent at bundle
+    unfolding stage_model
+    ends_spent stage.Concept own entries is =
+        let fine = concept_fine (refusal.Spent entries) (λ h. h) is in
+        let both = spent_by (problem_of bundle) (budget_of bundle) (listing (problem_of bundle)) entries (sym (concept_outcome fine) ∙ is) in
+        (fine, both.0, both.1)
+    ends_spent stage.Timetable own entries is =
+        let fine = times_fine (refusal.Spent entries) (λ h. h) is in
+        (fine, times_spent_by (budget_in bundle) (times_listed (problem_in bundle)) entries (sym (times_outcome fine) ∙ is))
+    ends_spent at own entries is = ⊎_elim (λ searches. absurd searches) (λ input. absurd input) (input_refused at bundle (refusal.Spent entries) is)
+
+    pub spent_ends_so : (at : Stage) → bundle.stage ≡ at → IsSpent at bundle
+        → (entries : ℕ) × (told at ≡ Err (refusal.Spent entries))
+    unfolding stage_model
+    spent_ends_so stage.Concept own spent =
+        (budget_of bundle, concept_outcome spent.0 ∙ spent_ends (problem_of bundle) (budget_of bundle) (listing (problem_of bundle)) spent.1 spent.2)
+    spent_ends_so stage.Timetable own spent =
+        (budget_in bundle, times_outcome spent.0 ∙ times_spent (budget_in bundle) (times_listed (problem_in bundle)) spent.1)
+    spent_ends_so at own spent = absurd spent
+
+    -- neither is so where a solution exists and the budget suffices
+    pub can_end : (at : Stage) → bundle.stage ≡ at → CanBeFound at bundle
+        → (¬ HasNoSolution at bundle) × (¬ IsSpent at bundle)
+    can_end stage.Concept own can = (
+      (λ none. none.1.none can.0.0 can.0.1),
+      (λ spent. absurd (omega (arith, spent.1, can.1, listing_bound (problem_of bundle)))),
+    )
+    can_end stage.Timetable own can = (
+      (λ none. none.1.none can.0.0 can.0.1),
+      (λ spent.
+      let right = listing_right (problem_in bundle) (is_problem bundle own fits spent.0) in
+      absurd (omega (arith, spent.1, can.1, right.short))),
+    )
+    can_end at own can = ((λ none. none), (λ spent. spent))
