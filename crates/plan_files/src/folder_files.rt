@@ -3,9 +3,10 @@ ghost use Rattle.std.specs.Prelude.{◌≡◌, ◌≤◌, None, IfOk};
 ghost use Rattle.plan_files.specs.Counts.{Counts, last_count};
 ghost use Rattle.plan_files.specs.Folder.{has_failed, KeepsLimit};
 
+use crate::again::uninterrupted;
 use crate::faults::count_fault;
 use crate::file_fault::FileFault;
-use crate::place::{Place, place_of};
+use crate::place::{Place, place_of, stands_at};
 use crate::store::{Files, Got};
 use plan_num::{Tally, Text};
 use std::alloc::Global;
@@ -74,18 +75,19 @@ impl<R: rt::Files> Files for FolderFiles<'_, R> {
     }
 }
 
-// Reads at most one byte more than the file had when it was opened.
+// Reads at most one byte more than the file had when it was opened, and none before what was opened
+// is known to be the file that stands there.
 fn read_file<R: rt::Files>(rt: &R, alloc: Global, name: &str, limit: u64) -> Result<Got, FileFault>
     ensures { IfOk result (KeepsLimit limit) }
 {
     match place_of(rt, name)? {
         Place::Vacant => return Ok(Got::Absent),
-        Place::Regular => {}
+        Place::Regular(_) => {}
         Place::Other => return Err(FileFault::Failed),
     }
-    let file = fs::open(rt, name)?;
-    let found = file.metadata()?;
-    if !found.is_file() {
+    let file = uninterrupted(|| fs::open(rt, name))?;
+    let found = uninterrupted(|| file.metadata())?;
+    if !stands_at(rt, name, &found)? {
         return Err(FileFault::Failed);
     }
     if found.len() > limit {
@@ -104,11 +106,11 @@ fn read_file<R: rt::Files>(rt: &R, alloc: Global, name: &str, limit: u64) -> Res
 fn write_file<R: rt::Files>(rt: &R, name: &str, bytes: &[u8]) -> Result<(), FileFault> {
     let is_new = match place_of(rt, name)? {
         Place::Vacant => true,
-        Place::Regular => false,
+        Place::Regular(_) => false,
         Place::Other => return Err(FileFault::Failed),
     };
     if let Some((folder, _)) = name.rsplit_once('/') {
-        fs::create_dir_all(rt, folder)?;
+        uninterrupted(|| fs::create_dir_all(rt, folder))?;
     }
     // From here on bytes may have changed, and no fault is want of memory.
     match replace_bytes(rt, name, is_new, bytes) {
@@ -117,15 +119,15 @@ fn write_file<R: rt::Files>(rt: &R, name: &str, bytes: &[u8]) -> Result<(), File
     }
 }
 
-// Makes a file that was not there, and empties one that was, once it is known to be a regular file
-// that has no other name.
+// Makes a file that was not there, and empties one that was, once what was opened is known to be the
+// regular file that stands there, and to have no other name. It is opened for reading too, since a
+// fifo that another program put in its place is then opened without waiting.
 fn replace_bytes<R: rt::Files>(rt: &R, name: &str, is_new: bool, bytes: &[u8]) -> io::Result<()> {
-    let mut file = OpenOptions::new()
-        .write(true)
-        .create_new(is_new)
-        .open(rt, name)?;
-    let found = file.metadata()?;
-    if !found.is_file() || found.nlink() > 1 {
+    let mut how = OpenOptions::new();
+    how.read(true).write(true).create_new(is_new);
+    let mut file = uninterrupted(|| how.open(rt, name))?;
+    let found = uninterrupted(|| file.metadata())?;
+    if found.nlink() > 1 || !stands_at(rt, name, &found)? {
         return Err(io::Error::from(ErrorKind::InvalidInput));
     }
     file.set_len(0)?;
@@ -136,7 +138,7 @@ fn replace_bytes<R: rt::Files>(rt: &R, name: &str, is_new: bool, bytes: &[u8]) -
 fn remove_file<R: rt::Files>(rt: &R, name: &str) -> Result<(), FileFault> {
     match place_of(rt, name)? {
         Place::Vacant => Ok(()),
-        Place::Regular => Ok(fs::remove_file(rt, name)?),
+        Place::Regular(_) => Ok(uninterrupted(|| fs::remove_file(rt, name))?),
         Place::Other => Err(FileFault::Failed),
     }
 }

@@ -2,6 +2,7 @@
 //! of faults.
 #![tactic(auto)]
 
+mod again;
 mod apply;
 mod fault_plan;
 mod faults;
