@@ -8,10 +8,10 @@ use crate::faults::count_fault;
 use crate::file_fault::FileFault;
 use crate::place::{Place, place_of, stands_at};
 use crate::store::{Files, Got};
-use plan_num::{Tally, Text};
+use plan_num::{NoMemory, Tally, Text};
 use std::alloc::Global;
 use std::fs::{OpenFile, OpenOptions};
-use std::io::{ErrorKind, Read, Write};
+use std::io::{ErrorKind, Read, Seek, SeekFrom, Write};
 use std::os::unix::fs::MetadataExt;
 use std::{fs, io, rt};
 
@@ -23,7 +23,7 @@ use std::{fs, io, rt};
 #[derive(Drop)]
 pub struct FolderFiles<'a, R: rt::Files> {
     rt: &'a R,
-    // for what a call needs beside its arguments, which is nothing so far
+    // for what a call needs beside its arguments
     alloc: Global,
     faults: Tally,
 }
@@ -66,6 +66,10 @@ impl<R: rt::Files> Files for FolderFiles<'_, R> {
         self.counted(read_file(self.rt, alloc, name, limit))
     }
 
+    fn may_have_ends(&mut self, name: &str, front: &[u8], back: &[u8]) -> Result<bool, FileFault> {
+        self.counted(may_have_ends(self.rt, self.alloc, name, front, back))
+    }
+
     fn put(&mut self, name: &str, bytes: &[u8]) -> Result<(), FileFault> {
         self.counted(write_file(self.rt, name, bytes))
     }
@@ -85,21 +89,71 @@ fn read_file<R: rt::Files>(rt: &R, alloc: Global, name: &str, limit: u64) -> Res
         Place::Regular(_) => {}
         Place::Other => return Err(FileFault::Failed),
     }
-    let file = uninterrupted(|| fs::open(rt, name))?;
-    let found = uninterrupted(|| file.metadata())?;
-    if !stands_at(rt, name, &found)? {
-        return Err(FileFault::Failed);
-    }
-    if found.len() > limit {
+    let (file, length) = open_there(rt, name)?;
+    if length > limit {
         return Ok(Got::TooLong);
     }
-    let mut bytes = Vec::new(alloc);
-    file.take(found.len().saturating_add(1))
-        .read_to_end(&mut bytes)?;
-    if bytes.len() as u64 > found.len() {
+    let most = length.saturating_add(1);
+    let mut bytes = room_for(alloc, most as usize)?;
+    file.take(most).read_to_end(&mut bytes)?;
+    if bytes.len() as u64 > length {
         return Err(FileFault::Failed);
     }
     Ok(Got::Bytes(Text::from_vec(bytes)))
+}
+
+// Opens a file for reading, and tells its length. It is the file that stands there.
+fn open_there<R: rt::Files>(rt: &R, name: &str) -> Result<(R::File, u64), FileFault> {
+    let file = uninterrupted(|| fs::open(rt, name))?;
+    let found = uninterrupted(|| file.metadata())?;
+    if stands_at(rt, name, &found)? {
+        Ok((file, found.len()))
+    } else {
+        Err(FileFault::Failed)
+    }
+}
+
+// Room for so many bytes. Where they are more than there is memory for, none of them is read.
+fn room_for(alloc: Global, count: usize) -> Result<Vec<u8>, NoMemory> {
+    Ok(Vec::with_capacity(alloc, count)?)
+}
+
+// A file with fewer bytes may as well be read as a whole.
+const LONG: u64 = 67_108_864;
+
+// Reads the two ends of a long file.
+fn may_have_ends<R: rt::Files>(
+    rt: &R,
+    alloc: Global,
+    name: &str,
+    front: &[u8],
+    back: &[u8],
+) -> Result<bool, FileFault> {
+    match place_of(rt, name)? {
+        Place::Vacant => return Ok(false),
+        Place::Regular(seen) if seen.len() < LONG => return Ok(true),
+        Place::Regular(_) => {}
+        Place::Other => return Err(FileFault::Failed),
+    }
+    let (mut file, length) = open_there(rt, name)?;
+    let back_length = back.len() as u64;
+    if length < back_length.saturating_add(front.len() as u64) {
+        return Ok(false);
+    }
+    if !has_next(alloc, &mut file, front)? {
+        return Ok(false);
+    }
+    file.seek(SeekFrom::Start(length - back_length))?;
+    Ok(has_next(alloc, &mut file, back)?)
+}
+
+// Whether these are the next bytes of a file.
+fn has_next<F: Read>(alloc: Global, file: &mut F, bytes: &[u8]) -> io::Result<bool> {
+    let mut there = Vec::new(alloc);
+    file.by_ref()
+        .take(bytes.len() as u64)
+        .read_to_end(&mut there)?;
+    Ok(there.as_slice() == bytes)
 }
 
 // Makes the name's folder where it is not there.

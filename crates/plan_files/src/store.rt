@@ -1,12 +1,12 @@
 // Files by name.
-ghost use Rattle.std.specs.Prelude.{◌≡◌, ◌≤◌, List, ℕ, Option, None, IfSome, IfOk};
+ghost use Rattle.std.specs.Prelude.{◌≡◌, ◌≤◌, List, ℕ, Option, None, IfSome, IfOk, false};
 ghost use Rattle.std.specs.FinMap as map;
 ghost use Rattle.plan_files.specs.declared.write.Write.{Write};
 ghost use Rattle.plan_files.specs.declared.write.Write.TheVariants.{Put, Removal};
 ghost use Rattle.plan_files.specs.Applied.{Leaves, Notes};
 ghost use Rattle.plan_files.specs.Counts.{Counts, last_count};
 ghost use Rattle.plan_files.specs.Folder.{Folder, got_of, has_failed, KeepsLimit};
-ghost use Rattle.plan_files.specs.Reads.{OnlyReads};
+ghost use Rattle.plan_files.specs.Reads.{LacksEnds, OnlyReads};
 
 use crate::file_fault::FileFault;
 use plan_num::Text;
@@ -39,6 +39,16 @@ pub trait Files {
         ensures within { IfOk result (KeepsLimit limit) }
         ensures reads { OnlyReads contents writes faults self.old self.new (has_failed result) }
         ensures capped { faults self.new ≤ last_count };
+
+    /// Whether the bytes under a name may begin with some bytes and end with others: a look before a
+    /// file that may be long is got. Where they do, the answer is yes; it may be yes of any others.
+    fn may_have_ends(&mut self, _name: &str, _front: &[u8], _back: &[u8]) -> Result<bool, FileFault>
+        ensures ends { IfSome (contents self.old) (λ folder. IfOk result (λ may. may ≡ false
+            → IfSome (map.get folder _name.now) (LacksEnds _front.now _back.now))) }
+        ensures reads { OnlyReads contents writes faults self.old self.new (has_failed result) }
+    {
+        Ok(true)
+    }
 
     /// Puts bytes under a name, in the place of those that are there.
     fn put(&mut self, name: &str, bytes: &[u8]) -> Result<(), FileFault>
