@@ -16,6 +16,7 @@ mod sink;
 mod sink_fault;
 mod std_sink;
 mod steady_files;
+mod steady_sink;
 mod store;
 mod write;
 
@@ -29,5 +30,6 @@ pub use sink::Sink;
 pub use sink_fault::SinkFault;
 pub use std_sink::StdSink;
 pub use steady_files::SteadyFiles;
+pub use steady_sink::SteadySink;
 pub use store::{Files, Got};
 pub use write::Write;

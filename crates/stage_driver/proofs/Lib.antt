@@ -1,2 +1,3 @@
 pub mod AlwaysMarked
 pub mod Planned
+pub mod SolvedEnds

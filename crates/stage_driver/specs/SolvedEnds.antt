@@ -1,0 +1,34 @@
+-- How the chain from scratch ends, in the words of its searches.
+use Rattle.std.specs.Prelude.{◌≡◌, ◌≢◌, List, Contains}
+use Rattle.plan_files.specs.Folder.{Folder}
+use Rattle.giv_files.specs.declared.stage.Stage.{Stage}
+use Rattle.giv_files.specs.Settings.{BundleParts}
+use Rattle.stage_chain.specs.declared.outcome.RunEnd.TheVariants as end
+use Rattle.stage_chain.specs.Built.{trace_of}
+use Rattle.stage_chain.specs.Chain.{handed}
+use Rattle.planning_stages.specs.Planning.{planning}
+use Rattle.planning_stages.specs.Searches.{CanBeFound, HasNoSolution, IsSpent}
+use Rattle.stage_driver.specs.PlanningChain.{made}
+
+-- what the chain over hand files hands to its stages
+abbrev pub handed_in : Folder → List BundleParts
+handed_in hand = handed (trace_of planning hand)
+
+-- it hands to a stage what has a property
+abbrev pub SomeHanded : (Stage → BundleParts → Type 0) → Folder → Type 0
+SomeHanded Has hand = (bundle : BundleParts) × Contains (handed_in hand) bundle × Has bundle.stage bundle
+
+-- No hand file or key is refused and no limit is exceeded, and each search that is handed its inputs has
+-- a solution, and a budget that suffices.
+pub record CanBeDone (hand : Folder) : Type 0 where
+  pub fine : (made hand).end ≢ end.BadInput
+  pub found : (bundle : BundleParts) → Contains (handed_in hand) bundle → CanBeFound bundle.stage bundle
+
+-- The chain ends with no solution exactly where a search is handed what has none within its budget, and
+-- spent exactly where one is handed what it lists beyond its budget. It ends done where it can.
+pub record EndsAsSolved (hand : Folder) : Type 0 where
+  pub none : (made hand).end ≡ end.NoSolution → SomeHanded HasNoSolution hand
+  pub none_comes : SomeHanded HasNoSolution hand → (made hand).end ≡ end.NoSolution
+  pub spent : (made hand).end ≡ end.Spent → SomeHanded IsSpent hand
+  pub spent_comes : SomeHanded IsSpent hand → (made hand).end ≡ end.Spent
+  pub done : CanBeDone hand → (made hand).end ≡ end.Done
