@@ -8,6 +8,7 @@ pub mod Headers
 pub mod Inputs
 pub mod KeyPlaces
 pub mod Lines
+pub mod LongLines
 pub mod Named
 pub mod PlainBytes
 pub mod Ranges

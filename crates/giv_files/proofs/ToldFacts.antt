@@ -8,8 +8,9 @@ use Rattle.std.proofs.lemmas.Bool.{not-true, not-false}
 use Rattle.std.proofs.lemmas.List.{map-append}
 use Rattle.giv_files.specs.Rows.{Row, is_blank, before_comment, row_of, has_byte, lines, parts_of}
 use Rattle.giv_files.specs.Rows.{parts_left, rows, pieces, cleaned}
-use Rattle.giv_files.specs.Told.{Told, told_of, told_left, row_told, left_size}
-use Rattle.giv_files.proofs.FieldFacts.{cleaned_spaced}
+use Rattle.giv_files.specs.Told.{Told, told_of, told_left, row_told, left_size, long_line}
+use Rattle.giv_files.specs.Told.{pieces_of, short_line}
+use Rattle.giv_files.proofs.LongLines.{fields_are}
 use Rattle.giv_files.proofs.RowsLeft.{no_parts, rest_smaller}
 
 -- where nothing is left no line is
@@ -94,9 +95,11 @@ rows_told text = rows_of_told (enumerate_from 1 (filter has_byte (lines text)))
 abbrev row_with : ℕ → List (List ℕ) → Row
 row_with number fields = record { number = number; fields = fields }
 
--- the pieces of a line behind a space are the row of the line
-pub row_is : (number : ℕ) (told : Told) (found : List (List ℕ)) → told.number ≡ number
-    → found ≡ pieces (32 ∷ told.line) → record { number = number; fields = cleaned found }
-    ≡ row_told told
-row_is number told found same is =
-    ap₂ row_with (sym same) (ap cleaned is ∙ cleaned_spaced told.line)
+-- the pieces that csv gives of a line behind a space are the row of the line
+pub row_is : (number : ℕ) (told : Told) (long : Option (List ℕ)) (found : List (List ℕ))
+    → told.number ≡ number → long ≡ long_line told.line → found ≡ pieces (32 ∷ short_line told.line)
+    → record { number = number; fields = cleaned (pieces_of long found) } ≡ row_told told
+row_is number told long found same own is =
+    ap₂ row_with (sym same)
+    (ap (λ (line : Option (List ℕ)). cleaned (pieces_of line found)) own
+    ∙ fields_are told.line found is)

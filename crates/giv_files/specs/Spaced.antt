@@ -1,6 +1,6 @@
 -- Inner words: what csv is given of a text, and how it reads that. A reader of the contracts of
 -- this crate needs none of them.
-use Rattle.std.specs.Prelude.{ℕ, ◌≡◌, List, [], ◌∷◌, ◌++◌, Option, Some, None, false, true}
+use Rattle.std.specs.Prelude.{ℕ, ◌≡◌, List, [], ◌∷◌, ◌++◌, map, Option, Some, None, false, true}
 use Rattle.csv.specs.Reading.{Ready, has_failed, is_flexible, reader_config, reader_state}
 use Rattle.csv.specs.Reading.{reader_trim, source_of}
 use Rattle.csv.specs.declared.parser.Config.{Config}
@@ -11,7 +11,7 @@ use Rattle.csv.specs.declared.reader.Trim.TheVariants as trim
 use Rattle.giv_files.specs.declared.spaced.Unread.{Unread}
 use Rattle.giv_files.specs.declared.spaced.Unread.TheVariants as unread
 use Rattle.giv_files.specs.declared.spaced.Spaced.{Spaced}
-use Rattle.giv_files.specs.Told.{Told}
+use Rattle.giv_files.specs.Told.{Told, handed}
 
 -- lines, each alone behind a space and before a line feed
 unfoldable pub spaced_lines : List Told → List ℕ
@@ -26,7 +26,7 @@ unread_onto unread.Nothing more = more
 
 -- what csv is still given
 abbrev pub spaced_left : Spaced → Option (List ℕ)
-spaced_left spaced = Some (unread_onto spaced.line (spaced_lines spaced.lines))
+spaced_left spaced = Some (unread_onto spaced.line (spaced_lines (map handed spaced.lines)))
 
 -- semicolons between fields, no quotes, and only a line feed ends a record
 abbrev pub table_config : Config

@@ -1,6 +1,7 @@
 -- Inner words: the lines of a text that have rows. A reader of the contracts of this crate needs
 -- none of them.
-use Rattle.std.specs.Prelude.{ℕ, ◌+◌, if◌then◌else◌, List, [], ◌∷◌, length, filter, map, Option}
+use Rattle.std.specs.Prelude.{ℕ, ◌+◌, nat_lt, if◌then◌else◌, List, [], ◌∷◌, length, filter, map}
+use Rattle.std.specs.Prelude.{Option}
 use Rattle.std.specs.Prelude.{Some, None}
 use Rattle.std.specs.List.{list_all, flat_map, enumerate_from}
 use Rattle.std.specs.Str.Lines.{strip_carriage_return}
@@ -26,6 +27,23 @@ told_left number parts =
 -- the row of such a line
 abbrev pub row_told : Told → Row
 row_told told = record { number = told.number; fields = cleaned (pieces told.line) }
+
+-- a line, where it is too long for csv
+unfoldable pub long_line : List ℕ → Option (List ℕ)
+long_line line = if nat_lt 4096 (length line) then Some line else None
+
+-- a line, and an empty one in the place of one that is too long
+unfoldable pub short_line : List ℕ → List ℕ
+short_line line = if nat_lt 4096 (length line) then [] else line
+
+-- what csv is given of a line
+abbrev pub handed : Told → Told
+handed told = record { number = told.number; line = short_line told.line }
+
+-- the pieces of a line: its own where it is too long, and else those that csv gives
+abbrev pub pieces_of : Option (List ℕ) → List (List ℕ) → List (List ℕ)
+pieces_of None parts = parts
+pieces_of (Some line) parts = pieces line
 
 -- how much is left of a text, with one for its end
 abbrev pub left_size : Option (List ℕ) → ℕ

@@ -15,6 +15,7 @@ mod key_kind;
 mod key_row;
 mod key_words;
 mod line;
+mod long_line;
 mod made;
 mod pieces;
 mod read;

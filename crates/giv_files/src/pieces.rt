@@ -1,8 +1,8 @@
 // The pieces of the lines of a text, as csv splits them.
-ghost use Rattle.std.specs.Prelude.{◌≡◌, ◌∷◌, ◌≢◌, List, All, OnOk};
+ghost use Rattle.std.specs.Prelude.{◌≡◌, ◌∷◌, ◌≢◌, List, All, OnOk, map};
 ghost use Rattle.csv.specs.Records.{fields_of};
 ghost use Rattle.giv_files.specs.Rows.{parts_of, pieces};
-ghost use Rattle.giv_files.specs.Told.{Told, told_left};
+ghost use Rattle.giv_files.specs.Told.{Told, handed, told_left};
 ghost use Rattle.giv_files.specs.Spaced.{StandsBefore};
 
 use crate::spaced::Spaced;
@@ -12,7 +12,7 @@ use std::alloc::Global;
 
 /// A reader of the lines of a text that have rows.
 pub(crate) fn pieces_reader(alloc: Global, text: &[u8]) -> Reader<Spaced<'_>>
-    ensures { StandsBefore result (told_left 0 (parts_of text.now)) }
+    ensures { StandsBefore result (map handed (told_left 0 (parts_of text.now))) }
 {
     ReaderBuilder::new()
         .delimiter(b';')

@@ -1,13 +1,14 @@
 // The lines of a text that have rows, as csv is given them.
 ghost use Rattle.std.specs.Prelude.{◌≡◌, ◌<◌, ◌≤◌, ◌++◌, ◌∷◌, [], List, ℕ, length, min, take, drop};
-ghost use Rattle.std.specs.Prelude.{Some, IsOk};
+ghost use Rattle.std.specs.Prelude.{Some, IsOk, map};
 ghost use Rattle.std.specs.Io.{ReadsAtMost};
 ghost use Rattle.std.specs.Io.KnownBytes.{ReadConsumes};
 ghost use Rattle.giv_files.specs.Rows.{parts_of};
-ghost use Rattle.giv_files.specs.Told.{told_left};
+ghost use Rattle.giv_files.specs.Told.{handed, told_left};
 ghost use Rattle.giv_files.specs.Spaced.{spaced_lines, spaced_left, unread_onto};
 ghost use Rattle.giv_files.specs.declared.spaced.Unread.TheVariants as unread;
 
+use crate::long_line::short_line;
 use crate::row_lines::RowLines;
 use std::io;
 use std::io::Read;
@@ -21,7 +22,8 @@ enum Unread<'a> {
     Nothing,
 }
 
-/// The lines of a text that have rows, each alone behind a space and before a line feed.
+/// The lines of a text that have rows, each alone behind a space and before a line feed. In the
+/// place of a long line stands an empty one.
 #[derive(Drop)]
 pub(crate) struct Spaced<'a> {
     lines: RowLines<'a>,
@@ -31,7 +33,8 @@ pub(crate) struct Spaced<'a> {
 impl<'a> Spaced<'a> {
     /// Those of a text.
     pub(crate) fn new(text: &'a [u8]) -> Spaced<'a>
-        ensures { spaced_left result ≡ Some (spaced_lines (told_left 0 (parts_of text.now))) }
+        ensures { spaced_left result
+            ≡ Some (spaced_lines (map handed (told_left 0 (parts_of text.now)))) }
     {
         Spaced {
             lines: RowLines::new(text),
@@ -41,13 +44,13 @@ impl<'a> Spaced<'a> {
 
     // Takes the next line where the one before is handed out.
     fn advance(&mut self)
-        ensures same { unread_onto self.new.line (spaced_lines self.new.lines)
-            ≡ unread_onto self.old.line (spaced_lines self.old.lines) }
+        ensures same { unread_onto self.new.line (spaced_lines (map handed self.new.lines))
+            ≡ unread_onto self.old.line (spaced_lines (map handed self.old.lines)) }
         ensures end { self.new.line ≡ unread.Nothing → self.new.lines ≡ [] }
     {
         if let Unread::Nothing = self.line {
             if let Some(row) = self.lines.next() {
-                self.line = Unread::Line(row.told());
+                self.line = Unread::Line(short_line(row.told()));
             }
         }
     }

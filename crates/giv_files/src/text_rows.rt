@@ -14,7 +14,7 @@ use std::alloc::Global;
 use std::marker::Model;
 
 /// The rows that are left of a text, in order. Contracts see them as the list of them. They take no
-/// memory but a buffer of a fixed size and the room for a row. After want of memory, which is told
+/// memory but a buffer of a fixed size and the room for a row, which is small. After want of memory, which is told
 /// for each further row too, they are of no use.
 #[derive(Drop)]
 pub struct TextRows<'a> {
@@ -28,12 +28,12 @@ impl<'a> Model for TextRows<'a> {
 
     ghost Value = { List Row };
 
-    ghost use Rattle.giv_files.specs.Told.{row_told};
+    ghost use Rattle.giv_files.specs.Told.{handed, row_told};
     ghost use Rattle.giv_files.specs.Spaced.{StandsBefore};
 
     ghost view = { λ rows. map row_told rows.lines };
 
-    ghost invariant = { λ rows. StandsBefore rows.reader rows.lines };
+    ghost invariant = { λ rows. StandsBefore rows.reader (map handed rows.lines) };
 }
 
 impl<'a> TextRows<'a> {
@@ -52,14 +52,14 @@ impl<'a> TextRows<'a> {
     }
 
     /// Reads the next row, and says whether there was one.
-    pub fn next_row(&mut self, row: &mut TextRow) -> Result<bool, NoMemory>
+    pub fn next_row(&mut self, row: &mut TextRow<'a>) -> Result<bool, NoMemory>
         ensures { IfOk result (λ found.
             MatchBool found (self.old ≡ row.new ∷ self.new) (self.old ≡ [])) }
     {
         match self.lines.next() {
             None => Ok(false),
             Some(line) => {
-                row.read(line.number, &mut self.reader)?;
+                row.read(line.number, line.told(), &mut self.reader)?;
                 Ok(true)
             }
         }

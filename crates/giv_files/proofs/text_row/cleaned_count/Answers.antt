@@ -14,16 +14,16 @@ tested last trimmed piece answer told e f g h =
 
 pub returns-then-is_empty : goal.returns-then-is_empty
 returns-then-is_empty c =
-    counts_less _ _ c.len-count.ensures c.if-count-ge2.true
+    counts_less _ _ c.piece_count-count.ensures c.if-count-ge2.true
     (tested _ _ _ _ true c.piece.ensures c.without_blanks.ensures c.is_empty.ensures
     c.if-is_empty.true)
 
 pub returns-else-count-ge2 : goal.returns-else-count-ge2
 returns-else-count-ge2 c =
     elim c.else-count-ge2.branch [
-      | else-count-ge2-via-then-count-ge2+else-is_empty w ↦ counts_all _ _ c.len-count.ensures
+      | else-count-ge2-via-then-count-ge2+else-is_empty w ↦ counts_all _ _ c.piece_count-count.ensures
           w.if-count-ge2.true (tested _ _ _ _ false w.piece.ensures w.without_blanks.ensures
           w.is_empty.ensures w.if-is_empty.false)
-      | else-count-ge2-via-else-count-ge2 w ↦ counts_one _ _ c.len-count.ensures
+      | else-count-ge2-via-else-count-ge2 w ↦ counts_one _ _ c.piece_count-count.ensures
           w.if-count-ge2.false
     ]
