@@ -10,8 +10,9 @@ use Rattle.giv_files.specs.declared.read_fault.ReadFault.{ReadFault}
 use Rattle.giv_files.specs.declared.read_fault.ReadFault.TheVariants as fault
 use Rattle.giv_files.specs.Rows.{Row}
 use Rattle.giv_files.specs.Tables.{TableRow, rows_of}
-use Rattle.giv_files.specs.InnerReading.{CellsGive, RowGives}
-use Rattle.giv_files.specs.Reading.{cells_from, errors, values, row_whys, row_faults, table_row}
+use Rattle.giv_files.specs.InnerReading.{CellsGive}
+use Rattle.giv_files.specs.Reading.{RowGives, cells_from, errors, values, row_whys, row_faults}
+use Rattle.giv_files.specs.Reading.{table_row}
 use Rattle.giv_files.proofs.TableRows.{rows_push}
 
 -- a row with another number of fields is refused for that

@@ -12,8 +12,8 @@ use Rattle.giv_files.specs.declared.read_fault.ReadFault.TheVariants as fault
 use Rattle.giv_files.specs.Rows.{Row, row_of, has_byte, parts_of, parts_left, rows}
 use Rattle.giv_files.specs.Tables.{TableRow}
 use Rattle.giv_files.specs.Told.{left_size}
-use Rattle.giv_files.specs.InnerReading.{RowGives}
 use Rattle.giv_files.specs.Reading.{row_faults, table_row, faults, table_of, has_mark, ReadGives}
+use Rattle.giv_files.specs.Reading.{RowGives}
 
 -- the rows of lines, after so many that were numbered
 unfoldable pub rows_left : ℕ → List (List ℕ) → List Row

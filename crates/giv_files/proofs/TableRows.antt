@@ -4,7 +4,7 @@ use Rattle.std.proofs.lemmas.List.{take_all, nil_from_length, take-append-le, dr
 use Rattle.std.proofs.lemmas.List.{length-take-le}
 use Rattle.std.proofs.lemmas.List.Elements.{All-nil, All-cons}
 use Rattle.std.proofs.lemmas.Nat.{mul-add-lt}
-use Rattle.std.proofs.Math.Nat.{mul_comm}
+use Rattle.std.proofs.Math.Nat.{mul_comm, mul-le-mul_right}
 use Rattle.giv_files.specs.Tables.{TableRow, rows_of, no_row, row_number, cell_at, Wide}
 
 -- a table without numbers has no rows
@@ -58,6 +58,22 @@ pub cell_within : (width : ℕ) (numbers : List ℕ) (cells : List ℤ) (rows : 
 cell_within width numbers cells rows i j count size whole all e h k =
     let told = whole ∙ ap (λ n. n * width) all ∙ mul_comm (length numbers) width in
     omega (arith, told, mul-add-lt i width j (length numbers) (row_within width numbers cells rows i e h) k)
+
+-- the cells of a row end among all cells
+pub row_ends : (width : ℕ) (numbers : List ℕ) (cells : List ℤ) (rows : List TableRow) (i count size : ℕ) → size ≡ count * width → count ≡ length numbers
+    → rows_of width numbers cells ≡ rows → i < length rows → i * width + width ≤ size
+row_ends width numbers cells rows i count size whole all e h =
+    let room : i + 1 ≤ count = omega (arith, all, row_within width numbers cells rows i e h) in
+    let told : (i + 1) * width ≤ count * width = mul-le-mul_right width room in
+    let next : (i + 1) * width ≡ i * width + width = grind arith in
+    omega (arith, whole, told, next)
+
+-- and they are its own
+pub row_cells : (width : ℕ) (numbers : List ℕ) (cells : List ℤ) (rows : List TableRow) (i : ℕ) → rows_of width numbers cells ≡ rows → i < length rows
+    → take width (drop (i * width) cells) ≡ (get_or rows i no_row).cells
+row_cells width numbers cells rows i e h =
+    sym (ap (λ (row : TableRow). row.cells) (row_at width numbers cells i (row_within width numbers cells rows i e h)))
+    ∙ ap (λ (all : List TableRow). (get_or all i no_row).cells) e
 
 -- the cell that is read there is that of the row
 pub cell_is : (width : ℕ) (numbers : List ℕ) (cells : List ℤ) (rows : List TableRow) (i j : ℕ) → rows_of width numbers cells ≡ rows → i < length rows → j < width

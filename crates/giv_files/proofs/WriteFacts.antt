@@ -16,7 +16,14 @@ in_column (k ∷ kinds) [] i kind cell h lt = absurd h
 in_column (k ∷ kinds) (c ∷ cells) zero kind cell h lt = h.0
 in_column (k ∷ kinds) (c ∷ cells) (suc i) kind cell h lt = in_column kinds cells i kind cell h.1 (omega arith)
 
--- there are as many cells and texts as columns
+-- there are as many cells as columns
+pub cells_length : (kinds : List ColumnKind) (cells : List ℤ) → InColumns kinds cells → length cells ≡ length kinds
+cells_length [] [] h = refl
+cells_length [] (cell ∷ cells) h = absurd h
+cells_length (kind ∷ kinds) [] h = absurd h
+cells_length (kind ∷ kinds) (cell ∷ cells) h = ap suc (cells_length kinds cells h.1)
+
+-- and as many texts
 pub texts_length : (kinds : List ColumnKind) (cells : List ℤ) → InColumns kinds cells → length (cell_texts kinds cells) ≡ length kinds
 unfolding cell_texts
 texts_length [] [] h = refl

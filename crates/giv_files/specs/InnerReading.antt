@@ -1,14 +1,11 @@
 -- Inner words: what parts of reading a table give. A reader of the contracts of this crate needs
 -- none of them.
-use Rattle.std.specs.Prelude.{ℕ, ℤ, ◌≡◌, List, [], ◌∷◌, ◌++◌, map, slice_get, Some, Result, Ok, Err}
+use Rattle.std.specs.Prelude.{ℕ, ℤ, ◌≡◌, List, [], ◌++◌, map, slice_get, Some, Result, Ok, Err}
 use Rattle.std.specs.Prelude.{⊤}
-use Rattle.giv_files.specs.declared.column.ColumnKind.{ColumnKind}
 use Rattle.giv_files.specs.declared.row_why.RowWhy.{RowWhy}
 use Rattle.giv_files.specs.declared.read_fault.ReadFault.{ReadFault}
 use Rattle.giv_files.specs.declared.read_fault.ReadFault.TheVariants as fault
-use Rattle.giv_files.specs.Rows.{Row}
-use Rattle.giv_files.specs.Tables.{TableRow}
-use Rattle.giv_files.specs.Reading.{errors, values, row_faults, table_row}
+use Rattle.giv_files.specs.Reading.{errors, values}
 
 -- what appending the cells of a row does
 abbrev pub CellsGive : ℕ → List (Result ℤ RowWhy) → List ℤ → List ℤ → Result (Unit {0}) ReadFault
@@ -17,11 +14,3 @@ CellsGive number made old new (Ok _) = (errors made ≡ []) × (new ≡ old ++ v
 CellsGive number made old new (Err (fault.Row first)) =
     slice_get (map (λ reason. record { row = number; why = reason }) (errors made)) 0 ≡ Some first
 CellsGive number made old new (Err fault.NoMemory) = ⊤
-
--- what reading one row more into a table does
-abbrev pub RowGives : List ColumnKind → Row → List TableRow → List TableRow
-    → Result (Unit {0}) ReadFault → Type 0
-RowGives kinds row old new (Ok _) =
-    (row_faults kinds row ≡ []) × (new ≡ old ++ table_row kinds row ∷ [])
-RowGives kinds row old new (Err (fault.Row first)) = slice_get (row_faults kinds row) 0 ≡ Some first
-RowGives kinds row old new (Err fault.NoMemory) = ⊤

@@ -1,5 +1,5 @@
 -- The table that a text is, and its faults.
-use Rattle.std.specs.Prelude.{ℕ, ℤ, pos, ◌≡◌, ◌+◌, ◌==◌, ◌&&◌, nat_eq, int_le, if◌then◌else◌, Bool, true, false, List, [], ◌∷◌, length, map, position, slice_get, Option, Some, None, option_map, Result, Ok, Err, ⊤}
+use Rattle.std.specs.Prelude.{ℕ, ℤ, pos, ◌≡◌, ◌+◌, ◌++◌, ◌==◌, ◌&&◌, nat_eq, int_le, if◌then◌else◌, Bool, true, false, List, [], ◌∷◌, length, map, position, slice_get, Option, Some, None, option_map, Result, Ok, Err, ⊤}
 use Rattle.std.specs.List.{flat_map, starts_with}
 use Rattle.std.specs.Option.{ok_or}
 use Rattle.std.specs.Str.{bytes_eq}
@@ -77,6 +77,14 @@ abbrev pub ReadGives : List RowFault → List TableRow → Result (List TableRow
 ReadGives all table (Ok read) = (all ≡ []) × (read ≡ table)
 ReadGives all table (Err (fault.Row first)) = slice_get all 0 ≡ Some first
 ReadGives all table (Err fault.NoMemory) = ⊤
+
+-- what reading one row more into a table does
+abbrev pub RowGives : List ColumnKind → Row → List TableRow → List TableRow
+    → Result (Unit {0}) ReadFault → Type 0
+RowGives kinds row old new (Ok _) =
+    (row_faults kinds row ≡ []) × (new ≡ old ++ table_row kinds row ∷ [])
+RowGives kinds row old new (Err (fault.Row first)) = slice_get (row_faults kinds row) 0 ≡ Some first
+RowGives kinds row old new (Err fault.NoMemory) = ⊤
 
 -- what beginning to read the rows of a text gives: them, or the one fault of a text that begins with a byte order mark
 abbrev pub RowsGive : List ℕ → Result (List Row) RowFault → Type 0

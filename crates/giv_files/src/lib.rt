@@ -59,4 +59,4 @@ pub use table::Table;
 pub use text_row::TextRow;
 pub use text_rows::TextRows;
 pub use words::WordTable;
-pub use write::write_table;
+pub use write::{push_line, write_table};

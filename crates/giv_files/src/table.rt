@@ -1,7 +1,7 @@
 // Tables of whole numbers.
-ghost use Rattle.std.specs.Prelude.{◌≡◌, ◌<◌, ◌^◌, ◌++◌, ◌∷◌, [], length, OnOk, OnErr};
-ghost use Rattle.giv_files.specs.InnerReading.{RowGives};
-ghost use Rattle.giv_files.specs.Tables.{row_number, cell_at, Wide};
+ghost use Rattle.std.specs.Prelude.{◌≡◌, ◌<◌, ◌^◌, ◌++◌, ◌∷◌, [], length, slice_index_or, OnOk, OnErr};
+ghost use Rattle.giv_files.specs.Reading.{RowGives};
+ghost use Rattle.giv_files.specs.Tables.{row_number, cell_at, no_row, Wide};
 
 use crate::column::ColumnKind;
 use crate::read_fault::{ReadFault, RowFault};
@@ -63,6 +63,15 @@ impl<const C: usize> Table<C> {
         self.numbers.len()
     }
 
+    /// The cells of a row.
+    pub fn row(&self, row: usize) -> &[i64]
+        requires { row < length self.now }
+        ensures { result.now ≡ (slice_index_or self.now row no_row).cells }
+    {
+        let (_, from) = self.cells.split_at(row * C);
+        from.split_at(C).0
+    }
+
     /// The cell of a row in a column.
     pub fn cell(&self, row: usize, column: usize) -> i64
         requires row_in { row < length self.now }
@@ -80,12 +89,16 @@ impl<const C: usize> Table<C> {
         self.numbers[row]
     }
 
+    /// No row any more; the memory is kept for other rows.
+    pub fn clear(&mut self)
+        ensures { self.new ≡ [] }
+    {
+        self.numbers.clear();
+        self.cells.clear();
+    }
+
     /// One row more, of the cells that its fields make.
-    pub(crate) fn read_row(
-        &mut self,
-        row: &TextRow,
-        kinds: &[ColumnKind; C],
-    ) -> Result<(), ReadFault>
+    pub fn read_row(&mut self, row: &TextRow, kinds: &[ColumnKind; C]) -> Result<(), ReadFault>
         requires { C < 2 ^ 32 }
         ensures { RowGives kinds.now row.now self.old self.new result }
     {

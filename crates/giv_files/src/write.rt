@@ -35,7 +35,26 @@ pub fn write_table<const C: usize>(
     Ok(Text::from_vec(bytes))
 }
 
-// Appends the line of a row.
+/// Appends the line of a row with these cells, joined by `; `.
+pub fn push_line(
+    alloc: Global,
+    bytes: &mut Vec<u8>,
+    cells: &[i64],
+    kinds: &[ColumnKind],
+) -> Result<(), NoMemory>
+    requires { InColumns kinds.now cells.now }
+    ensures { OnOk result (bytes.new.items
+        ≡ bytes.old.items ++ line_text kinds.now record { number = 0; cells = cells.now }) }
+{
+    for (column, kind) in kinds.iter().enumerate() {
+        push_separator(bytes, column)?;
+        push_cell(alloc, bytes, *kind, cells[column])?;
+    }
+    bytes.push(b'\n')?;
+    Ok(())
+}
+
+// Appends the line of a row of a table.
 fn push_row<const C: usize>(
     alloc: Global,
     bytes: &mut Vec<u8>,
@@ -47,12 +66,7 @@ fn push_row<const C: usize>(
     requires cells { All (λ row. InColumns kinds.now row.cells) table.now }
     ensures { OnOk result (bytes.new.items ≡ bytes.old.items ++ line_text kinds.now (row_line table.now row)) }
 {
-    for (column, kind) in kinds.iter().enumerate() {
-        push_separator(bytes, column)?;
-        push_cell(alloc, bytes, *kind, table.cell(row, column))?;
-    }
-    bytes.push(b'\n')?;
-    Ok(())
+    push_line(alloc, bytes, table.row(row), kinds)
 }
 
 // Appends what stands before the cell of a column.
