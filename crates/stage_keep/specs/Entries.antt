@@ -71,6 +71,12 @@ abbrev pub entry_for : BundleParts → Made → EntryParts
 entry_for bundle made =
     record { settings = settings_text bundle.settings; inputs = bundle.inputs; made = made }
 
+-- the front of the entry of a bundle, whatever was made of it: the first line, and the settings
+abbrev pub entry_front : BundleParts → List ℕ
+entry_front bundle =
+    first_line bundle.stage
+    ++ block_bytes (record { head = codes "settings"; text = settings_text bundle.settings })
+
 -- the name of the file in which the entry of a stage is kept
 abbrev pub keep_name : Stage → List ℕ
 keep_name stage = codes "keep/" ++ stage_name stage ++ codes ".keep"

@@ -1,0 +1,54 @@
+-- Bytes that do not begin and end as the entry of a bundle keep nothing for it.
+use Rattle.std.proofs.Common.{◌≡◌, ◌≢◌, ◌<◌, ◌^◌, ℕ, List, [], ◌∷◌, ◌++◌, length, map, codes, refl, ap, sym, subst, ◌∙◌, Bool, true, false, cond, Option, Some, None, option_and_then, append_assoc}
+use Rattle.std.specs.List.{flat_map}
+use Rattle.std.specs.Cmp.Lexicographic.{pointwise}
+use Rattle.std.specs.Str.{bytes_eq}
+use Rattle.std.proofs.lemmas.Bool.{and_parts}
+use Rattle.std.proofs.lemmas.Slice.Eq.{bytes_eq-Decides}
+use Rattle.giv_files.specs.Settings.{BundleParts}
+use Rattle.giv_files.specs.SettingsText.{settings_text}
+use Rattle.stage_keep.specs.Entries.{EntryParts, block_bytes, entry_bytes, entry_front, first_line, input_block, last_line, made_block}
+use Rattle.stage_keep.specs.EntryReading.{ReadsEntry, read_entry}
+use Rattle.stage_keep.specs.Honest.{held_for, kept_for, matches}
+use Rattle.stage_keep.proofs.EntriesRead.{reading_is_exact}
+
+-- what stands behind the settings of an entry, but for the last line
+behind_settings : EntryParts → List ℕ
+behind_settings entry =
+    flat_map block_bytes (map input_block entry.inputs ++ map made_block entry.made.files
+    ++ record { head = codes "report"; text = entry.made.report } ∷ [])
+
+-- an entry has the front of each bundle whose settings it has, and the last line
+framed : (bundle : BundleParts) (entry : EntryParts) → entry.settings ≡ settings_text bundle.settings
+    → entry_bytes bundle.stage entry ≡ entry_front bundle ++ behind_settings entry ++ last_line
+unfolding entry_bytes behind_settings
+framed bundle entry same =
+    let first = first_line bundle.stage in
+    let block = λ (text : List ℕ). block_bytes (record { head = codes "settings"; text = text }) in
+    let rest = behind_settings entry in
+    ap (λ (text : List ℕ). first ++ (block text ++ rest) ++ last_line) same
+    ∙ ap (λ (front : List ℕ). front ++ last_line)
+    (sym (append_assoc first (block (settings_text bundle.settings)) rest))
+
+-- bytes without such ends are no entry of the bundle
+pub unframed_is_unkept : (bundle : BundleParts) (bytes : List ℕ) → length bytes < 2 ^ 64
+    → ((middle : List ℕ) → bytes ≢ entry_front bundle ++ middle ++ last_line)
+    → kept_for bundle (Some bytes) ≡ None
+unframed_is_unkept bundle bytes short lacks = by (read_entry bundle.stage bytes) refl
+  where
+    held : (entry : EntryParts) (b : Bool) → matches entry bundle ≡ b
+        → bytes ≡ entry_bytes bundle.stage entry → cond b (Some entry.made) None ≡ None
+    held entry true same is =
+        let both = and_parts (bytes_eq entry.settings (settings_text bundle.settings))
+        (pointwise bytes_eq entry.inputs bundle.inputs) same in
+        let text = (bytes_eq-Decides entry.settings (settings_text bundle.settings)).0 both.0 in
+        absurd (lacks (behind_settings entry) (is ∙ framed bundle entry text))
+    held entry false same is = refl
+
+    by : (found : Option EntryParts) → read_entry bundle.stage bytes ≡ found
+        → option_and_then (held_for bundle) found ≡ None
+    by None at = refl
+    by (Some entry) at =
+        let told = subst (λ found. ReadsEntry bundle.stage bytes found) at
+        (reading_is_exact bundle.stage bytes short) in
+        held entry (matches entry bundle) refl told.1
