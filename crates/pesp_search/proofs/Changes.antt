@@ -1,27 +1,27 @@
 -- Changes of sets of times, and what they say of the sets before them.
-use Rattle.std.proofs.Common.{◌≡◌, ◌∙◌, ℕ, ◌<◌, true, false, List}
-use Rattle.std.proofs.Common.{[], ◌∷◌, ◌++◌}
+use Rattle.std.proofs.Common.{◌≡◌, ◌∙◌, ℕ, ◌+◌, ◌*◌, ◌<◌, List, [], ◌∷◌, ◌++◌, get_or}
 use Rattle.std.proofs.Common.{length, reverse, refl, ap, sym, subst, arith, All}
 use Rattle.std.proofs.Math.Seq.{get_or-append_seam}
 use Rattle.std.proofs.lemmas.List.{get_or_append_left, length_push, reverse-append}
 use Rattle.pesp_search.specs.declared.time_sets.Branch.{Branch}
 use Rattle.pesp_search.specs.declared.time_sets.Change.{Change}
 use Rattle.pesp_search.specs.declared.time_sets.Change.TheVariants as change
-use Rattle.pesp_search.specs.Marks.{AreMarks, Marks, Saved, Tracked, is_left, saved_by, with_mark}
-use Rattle.pesp_search.proofs.MarkBits.{marked_again}
+use Rattle.pesp_search.specs.Marks.{Marks, Saved, Tracked, saved_by, with_word, words_of}
+use Rattle.pesp_search.proofs.MarkBits.{word_again}
 
 pub last_first : {X : Type 0} (xs : List X) (x : X) → reverse (xs ++ x ∷ []) ≡ x ∷ reverse xs
 last_first xs x = reverse-append xs (x ∷ [])
 
-pub saved_removed : (sets : Marks) (changes : List Change) (event time : ℕ)
-    → AreMarks sets → event < sets.events → is_left sets event time ≡ true
-    → saved_by (with_mark sets event time false) (reverse (changes ++ change.Removed event time ∷
-    []))
+pub saved_replaced : (sets : Marks) (changes : List Change) (event index word other : ℕ)
+    → get_or sets.words (event * words_of sets.period + index) 0 ≡ word
+    → saved_by (with_word sets event index other)
+    (reverse (changes ++ change.Replaced event index word ∷ []))
     ≡ saved_by sets (reverse changes)
 unfolding saved_by
-saved_removed sets changes event time are inside left =
-    ap (saved_by (with_mark sets event time false)) (last_first changes (change.Removed event time))
-    ∙ ap (λ sets. saved_by sets (reverse changes)) (marked_again sets event time are inside left)
+saved_replaced sets changes event index word other was =
+    ap (saved_by (with_word sets event index other))
+    (last_first changes (change.Replaced event index word))
+    ∙ ap (λ sets. saved_by sets (reverse changes)) (word_again sets event index word other was)
 
 pub saved_branched : (sets : Marks) (changes : List Change) (branch : Branch)
     → saved_by sets (reverse (changes ++ change.Branched branch ∷ []))
@@ -36,15 +36,16 @@ none_saved sets = refl
 
 -- ---- what is left of the changes behind the last one
 
-pub popped_removed : (sets now : Marks) (all rest : List Change) (last : Change) (event time : ℕ)
-    → all ≡ rest ++ last ∷ [] → last ≡ change.Removed event time
-    → now ≡ with_mark sets event time true
+pub popped_replaced : (sets now : Marks) (all rest : List Change) (last : Change)
+    (event index word : ℕ)
+    → all ≡ rest ++ last ∷ [] → last ≡ change.Replaced event index word
+    → now ≡ with_word sets event index word
     → saved_by now (reverse rest) ≡ saved_by sets (reverse all)
 unfolding saved_by
-popped_removed sets now all rest last event time is removed same =
+popped_replaced sets now all rest last event index word is replaced same =
     ap (λ now. saved_by now (reverse rest)) same
     ∙ sym (ap (λ all. saved_by sets (reverse all)) is ∙ ap (saved_by sets) (last_first rest last)
-    ∙ ap (λ last. saved_by sets (last ∷ reverse rest)) removed)
+    ∙ ap (λ last. saved_by sets (last ∷ reverse rest)) replaced)
 
 pub popped_branched : (sets : Marks) (all rest : List Change) (last : Change) (branch : Branch)
     → all ≡ rest ++ last ∷ [] → last ≡ change.Branched branch
@@ -82,16 +83,16 @@ last_holds P all rest last is holds =
 abbrev pub tracked : Marks → List Saved → Tracked
 tracked sets saved = record { sets = sets; saved = saved }
 
-pub removed_view : (sets now : Marks) (changes more : List Change) (event time : ℕ)
-    → AreMarks sets → event < sets.events → is_left sets event time ≡ true
-    → more ≡ changes ++ change.Removed event time ∷ []
-    → now ≡ with_mark sets event time false
+pub replaced_view : (sets now : Marks) (changes more : List Change) (event index word other : ℕ)
+    → get_or sets.words (event * words_of sets.period + index) 0 ≡ word
+    → more ≡ changes ++ change.Replaced event index word ∷ []
+    → now ≡ with_word sets event index other
     → tracked now (saved_by now (reverse more))
-    ≡ tracked (with_mark sets event time false) (saved_by sets (reverse changes))
-removed_view sets now changes more event time are inside left is same =
+    ≡ tracked (with_word sets event index other) (saved_by sets (reverse changes))
+replaced_view sets now changes more event index word other was is same =
     (λ i. tracked (same i) (saved_by (same i) (reverse (is i))))
-    ∙ ap (tracked (with_mark sets event time false))
-    (saved_removed sets changes event time are inside left)
+    ∙ ap (tracked (with_word sets event index other))
+    (saved_replaced sets changes event index word other was)
 
 pub branched_view : (sets : Marks) (changes more : List Change) (branch : Branch)
     → more ≡ changes ++ change.Branched branch ∷ []

@@ -5,10 +5,11 @@ use Rattle.std.proofs.Common.{List, [], ◌∷◌, length, map, filter, ap, sym,
 use Rattle.std.proofs.Common.{◌⊎◌, ◌-◌, if◌then◌else◌, refl, slice_set, subst}
 use Rattle.std.specs.List.{list_any, range_with_len}
 use Rattle.std.proofs.lemmas.Bool.{cases_Bool, cases_eq, eq-eqb, eqb-true, false≢true, ne_eqb}
-use Rattle.std.proofs.lemmas.Bool.{or_left}
+use Rattle.std.proofs.lemmas.Bool.{le-ltb, ltb-false, or_left}
 use Rattle.std.proofs.lemmas.Bool.{or_parts, or_right}
 use Rattle.pesp_search.specs.Listings.{is_empty, times_at_first, with_time}
-use Rattle.pesp_search.specs.Marks.{Marks, Prunes, Tracked, family, is_left, sets_of, times_from}
+use Rattle.pesp_search.specs.Marks.{IsSettled, Marks, Prunes, Tracked, family, is_left, sets_of}
+use Rattle.pesp_search.specs.Marks.{times_from}
 use Rattle.pesp_search.specs.Revising.{HasEmpty, IsFull, IsWithin, Left, StaysFull}
 use Rattle.pesp_search.proofs.Families.{sets_family}
 use Rattle.pesp_search.proofs.Partners.{kept_first, left_out}
@@ -73,6 +74,18 @@ empty_marks some many period events within none =
     ∙ (λ i. family (period i) (events i) (is_left some)))
     ∙ empty_within many.period (is_left some) (is_left many) within many.events
     (sym (ap (list_any is_empty) (sets_family many)) ∙ none)
+
+-- where no event before one has several times none has among fewer
+pub settled_within : (some many : Marks) (end : ℕ) → some.period ≡ many.period
+    → IsWithin (is_left some) (is_left many) → IsSettled many end → IsSettled some end
+settled_within some many end period within so event low =
+    let times : ℕ → List ℕ = λ period. filter (is_left many event) (range_with_len 0 (period - 0)) in
+    let fewer = fewer_pass (is_left some event) (is_left many event) (within event)
+    (range_with_len 0 (some.period - 0)) in
+    let same : length (times some.period) ≡ length (times many.period) =
+    ap (λ period. length (times period)) period in
+    let few = ltb-false 1 (length (times many.period)) (so event low) in
+    le-ltb 1 _ (omega (arith, fewer, same, few))
 
 -- where none is empty, times are left to each event
 times_at : (sets : Marks) (from n event : ℕ) → from ≤ event → event < from + n

@@ -1,5 +1,5 @@
 -- A search entry by entry, and what it comes to.
-use Rattle.pesp_search.specs.Marks.{IsChildOf, Saved, is_left}
+use Rattle.pesp_search.specs.Marks.{IsChildOf, IsSettled, Saved, is_left}
 use Rattle.std.proofs.Common.{◌==◌}
 use Rattle.std.proofs.Common.{inl, inr}
 use Rattle.std.proofs.Common.{◌≡◌, ◌∙◌, ℕ, ◌+◌, ◌<◌, ◌≤◌, true, false, if◌then◌else◌}
@@ -24,7 +24,7 @@ use Rattle.pesp_search.specs.Searches.{Branches, IsSearched, SavesOnce, behind, 
 use Rattle.pesp_search.specs.Searches.{listed_on}
 use Rattle.pesp_search.specs.TimeSets.{left_to, reduced}
 use Rattle.pesp_search.specs.TimeSets.{reduced as all_reduced}
-use Rattle.pesp_search.proofs.EmptySets.{with_time_full}
+use Rattle.pesp_search.proofs.EmptySets.{settled_within, with_time_full}
 use Rattle.pesp_search.proofs.Revised.{carried_firsts, carried_seconds}
 use Rattle.pesp_search.proofs.Turns.{first_turn, listed, no_turn, none_behind, turns_append}
 use Rattle.pesp_search.proofs.Turns.{turns_map, unless_one}
@@ -41,6 +41,14 @@ event_within sets event is =
     let at = position-Some has_several (sets_of sets) event [] is in
     let long = length-map-range_with_len (λ event. times_from sets event 0) 0 sets.events in
     omega (arith, at.0, long)
+
+-- no event before the first one with several times has several
+settled_at : (sets : Marks) (end : ℕ) → position has_several (sets_of sets) ≡ Some end
+    → IsSettled sets end
+settled_at sets end is event low =
+    sym (ap has_several (get_or-map-range_with_len (λ event. times_from sets event 0) 0 sets.events
+    event event [] (omega (arith, low, event_within sets end is)) (omega arith)))
+    ∙ (position-Some has_several (sets_of sets) end [] is).2 event low
 
 pub branched : (before after : Tracked) (event : ℕ)
     → list_any is_empty (sets_of before.sets) ≡ false
@@ -75,7 +83,12 @@ branched before after event none is same = (
       ∙ turns_append visit children (waiting before.saved)
       ∙ ap (λ (tracked : Tracked). in_turn visit (waiting tracked.saved)) (sym same))),
   ap (λ (tracked : Tracked). tracked.sets) same,
-  inr (record { event = event; from = 0 }, none, ap (λ (tracked : Tracked). tracked.saved) same),
+  inr (
+    record { event = event; from = 0 },
+    none,
+    settled_at before.sets event is,
+    ap (λ (tracked : Tracked). tracked.saved) same,
+  ),
 )
 
 -- ---- an entry
@@ -131,9 +144,22 @@ module _ (problem : Problem) (before reduced : Tracked) (so : Reduces problem be
   saved_revised : (after : Tracked) → AreRevised problem before.saved → SavesOnce reduced after
       → AreRevised problem after.saved
   saved_revised after was (inl same) = subst (AreRevised problem) (sym (same ∙ so.saved)) was
-  saved_revised after was (inr (branch, none, is)) =
+  saved_revised after was (inr (branch, none, settled, is)) =
       subst (AreRevised problem) (sym is)
-      (all_revised so.stands none, none, subst (AreRevised problem) (sym so.saved) was)
+      (all_revised so.stands none, none, settled, subst (AreRevised problem) (sym so.saved) was)
+
+  rest_revised : (passed rest : List Saved) → AreRevised problem (passed ++ rest)
+      → AreRevised problem rest
+  rest_revised [] rest all = all
+  rest_revised (saved ∷ passed) rest all = rest_revised passed rest all.3
+
+  child_settled : (after next : Tracked) (event : ℕ) → AreRevised problem after.saved
+      → IsChildOf after next event → IsSettled next.sets event
+  child_settled after next event was child =
+      let parts = rest_revised child.passed (record { sets = child.branched; branch = child.from }
+      ∷ child.earlier) (subst (AreRevised problem) child.was was) in
+      settled_within next.sets child.branched event child.period child.within
+      (subst (IsSettled child.branched) child.here.0 parts.2)
 
   -- and the sets of a child are ready where its event has a flag
   child_ready : (after next : Tracked) (event : ℕ) (flags : Flags)
@@ -155,14 +181,14 @@ module _ (problem : Problem) (before reduced : Tracked) (so : Reduces problem be
               carried_firsts problem.period (is_left child.branched) (is_left next.sets)
                   (λ _. false) (has_changed flags) activity child.within untouched (λ _. is.firsts),
             );
-        saved = subst (AreRevised problem) (sym child.now) parts;
+        saved = subst (AreRevised problem) (sym child.now) (
+          parts.0,
+          parts.1,
+          subst (IsSettled child.branched) (child.here.0 ∙ sym child.here.1) parts.2,
+          parts.3,
+        );
       }
     where
-      rest_revised : (passed rest : List Saved) → AreRevised problem (passed ++ rest)
-          → AreRevised problem rest
-      rest_revised [] rest all = all
-      rest_revised (saved ∷ passed) rest all = rest_revised passed rest all.2
-
       set_there : has_changed flags event ≡ true
       set_there = are event ∙ eq-eqb event event refl
 
@@ -181,13 +207,16 @@ module _ (problem : Problem) (before reduced : Tracked) (so : Reduces problem be
       × (next.sets.period ≡ before.sets.period)
       × (next.sets.events ≡ before.sets.events)
       × IsReady problem next flags
+      × IsSettled next.sets event
   entry_next after next event flags branch child was each are =
+      let revised = saved_revised after was branch.2 in
       let events = child.2 ∙ ap (λ (sets : Marks). sets.events) branch.1 ∙ so.events in (
         entry_is ∙ branch.0 (listing_of problem)
             ∙ ap (λ sets. one_more (in_turn (listing_of problem) sets)) child.0,
         child.1 ∙ ap (λ (sets : Marks). sets.period) branch.1 ∙ so.period,
         events,
-        child_ready after next event flags (saved_revised after was branch.2) child.3 each are,
+        child_ready after next event flags revised child.3 each are,
+        child_settled after next event revised child.3,
       )
 
 -- ---- the first entry, and one more

@@ -245,6 +245,13 @@ one_set flags after event there is none other =
           ∙ sym (ne_eqb other event apart)
     ]
 
+-- where no flag is left
+pub none_left_over : (flags : Flags) (words : List ℕ) → AreFlags flags
+    → length words ≡ length flags.words → All (λ word. word ≡ 0) words
+    → AreFlags (record { events = flags.events; words = words })
+none_left_over flags words are each zeros =
+    none_flagged flags.events words are.few (each ∙ are.each) zeros
+
 pub one_more_set : (flags after : Flags) (event : ℕ) → event / 64 < length flags.words
     → after ≡ with_flag flags event true
     → ((other : ℕ) → other < event → has_changed flags other ≡ true) → (other : ℕ)

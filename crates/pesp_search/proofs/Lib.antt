@@ -10,6 +10,7 @@ mod FirstWords
 mod FlagBits
 mod FoundTimes
 mod JudgedTimes
+mod KeptBits
 mod Linked
 mod ListedTimes
 mod MarkBits

@@ -1,10 +1,12 @@
 -- The sets of events, one after the other.
-use Rattle.std.proofs.Common.{◌≡◌, ◌∙◌, ℕ, zero, suc, ◌+◌, ◌-◌, ◌<◌, ◌≤◌, Bool, true, false}
+use Rattle.std.proofs.Common.{◌≡◌, ◌∙◌, inl, inr, ℕ, position, zero, suc, ◌+◌, ◌-◌, ◌<◌, ◌≤◌, Bool, true, false}
 use Rattle.std.proofs.Common.{cond}
 use Rattle.std.proofs.Common.{List, [], ◌∷◌, ◌++◌, map, slice_index_or, Some, None, refl, ap, sym}
 use Rattle.std.proofs.Common.{arith}
 use Rattle.std.specs.List.{position_from, range_with_len}
+use Rattle.std.proofs.lemmas.Bool.{cases_lt}
 use Rattle.std.proofs.lemmas.List.FromFn.{map-range_with_len_more}
+use Rattle.pesp_model.proofs.FirstBroken.{place_start}
 use Rattle.pesp_search.specs.Listings.{first_times}
 use Rattle.pesp_search.specs.Marks.{Marks, sets_of, times_from}
 
@@ -47,6 +49,21 @@ place_later sets event test some is =
 pub no_place : (sets : Marks) (event : ℕ) (test : List ℕ → Bool) → sets.events ≤ event
     → position_from test event (sets_from sets event) ≡ None
 no_place sets event test none = ap (position_from test event) (sets_none sets event none)
+
+-- the sets so far do not pass
+pub place_behind : (sets : Marks) (test : List ℕ → Bool) (n : ℕ)
+    → ((event : ℕ) → event < n → test (times_from sets event 0) ≡ false)
+    → position test (sets_of sets) ≡ position_from test n (sets_from sets n)
+place_behind sets test zero none =
+    place_start test (sets_of sets) ∙ ap (position_from test 0) (sets_all sets)
+place_behind sets test (suc n) none =
+    let next : n + 1 ≡ suc n = omega arith in
+    place_behind sets test n (λ event low. none event (omega (arith, low)))
+    ∙ elim (cases_lt n sets.events) [
+      | inl low ↦ place_later sets n test low (none n (omega arith))
+      | inr high ↦ no_place sets n test high ∙ sym (no_place sets (n + 1) test (omega (arith, high)))
+    ]
+    ∙ ap (λ n. position_from test n (sets_from sets n)) next
 
 -- ---- the first time of each
 

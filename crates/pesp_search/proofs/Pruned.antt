@@ -1,46 +1,54 @@
--- Times that are taken out of the set of an event, one after the other.
-use Rattle.std.proofs.Common.{◌≡◌, ◌∙◌, ◌⊎◌, inl, inr, ℕ, zero, suc, ◌+◌, ◌<◌, ◌≤◌, ◌==◌}
-use Rattle.std.proofs.Common.{nat_lt}
-use Rattle.std.proofs.Common.{Bool, true, false, not, ◌&&◌, ◌||◌, List}
-use Rattle.std.proofs.Common.{refl, ap, sym, subst, arith, IfOk, Result, Ok, Err, Some, None, ◌-◌}
-use Rattle.std.proofs.lemmas.Bool.{cases_Bool, cases_eq, cases_lt, cases_order, eq-eqb, ne_eqb}
-use Rattle.std.proofs.lemmas.Bool.{lt-ltb}
-use Rattle.std.proofs.lemmas.Bool.{le-ltb, ltb-true, false≢true}
-use Rattle.pesp_search.specs.Marks.{AreMarks, IsNextBesides, Marks, Prunes, Tracked, is_left}
-use Rattle.pesp_search.specs.Marks.{marked}
-use Rattle.pesp_search.specs.Marks.{marks_left, with_mark}
-use Rattle.pesp_search.proofs.MarkBits.{one_less, other_bit, place_within, this_bit}
+-- Times that are taken out of the set of an event, one word after the other.
+use Rattle.std.proofs.Common.{◌≡◌, ◌∙◌, ◌⊎◌, inl, inr, ℕ, ◌+◌, ◌*◌, ◌/◌, ◌%◌, ◌<◌, ◌≤◌, ◌==◌, nat_lt}
+use Rattle.std.proofs.Common.{bit_and, Bool, true, false, not, ◌&&◌, ◌||◌, List, get_or, length}
+use Rattle.std.proofs.Common.{refl, ap, sym, subst, arith, IfOk, Result, Ok, Err}
+use Rattle.std.proofs.lemmas.Bool.{cases_Bool, cases_eq, cases_lt, cases_order, eq-eqb, le-ltb}
+use Rattle.std.proofs.lemmas.Bool.{lt-ltb, ltb-true, ne_eqb, or_parts}
+use Rattle.pesp_search.specs.Marks.{AreMarks, KeepsBits, Marks, Prunes, Tracked, has_bit, is_left}
+use Rattle.pesp_search.specs.Marks.{marked, marks_left, with_word, word_of, words_of}
+use Rattle.pesp_search.proofs.MarkBits.{other_word, place_low, sum_less, this_word}
+use Rattle.pesp_search.proofs.KeptBits.{word_here}
+use Rattle.pesp_search.proofs.WordBits.{and_bit}
 use Rattle.pesp_search.specs.Revising.{Left, stays}
 
--- ---- one mark that is taken away
+-- ---- one word of which some bits stay
 
--- it is another time
-other_left : (sets : Marks) (event time e t : ℕ) → AreMarks sets → event < sets.events
-    → time < sets.period
-    → (e ≡ event → t ≡ time → ⊥)
-    → is_left (with_mark sets event time false) e t ≡ is_left sets e t
-other_left sets event time e t are inside within other = one (cases_lt t sets.period)
-  where
-    one : (t < sets.period) ⊎ (sets.period ≤ t)
-        → is_left (with_mark sets event time false) e t ≡ is_left sets e t
-    one (inl low) =
-        ap (λ b. nat_lt t sets.period && b)
-        (other_bit sets event time false
-        (place_within sets event time are inside (omega (arith, within))) (omega (arith, within))
-        e t
-        (omega (arith, low)) other)
-    one (inr high) = rw (le-ltb t sets.period high) refl
+and_assoc : (x y z : Bool) → (x && (y && z)) ≡ ((x && y) && z)
+and_assoc true y z = refl
+and_assoc false y z = refl
 
-this_out : (sets : Marks) (event time : ℕ) → AreMarks sets → event < sets.events
-    → time < sets.period
-    → is_left (with_mark sets event time false) event time ≡ false
-this_out sets event time are inside within =
-    one (nat_lt time sets.period) _ (this_bit sets event time false
-    (place_within sets event time are inside (omega (arith, within))))
-  where
-    one : (b c : Bool) → c ≡ false → (b && c) ≡ false
-    one true c is = is
-    one false c is = refl
+module _ (now : Marks) (event index word keep : ℕ) (are : AreMarks now)
+    (inside : event < now.events) (within : index < words_of now.period)
+    (was : (time : ℕ) → time / 64 ≡ index → word_of now event time ≡ word) where
+  abbrev less : Marks
+  less = with_word now event index (bit_and word keep)
+
+  there : event * words_of now.period + index < length now.words
+  there = place_low now event index are inside within
+
+  left_elsewhere : (e t : ℕ) → (e ≡ event → t / 64 ≡ index → ⊥)
+      → is_left less e t ≡ is_left now e t
+  left_elsewhere e t apart = elim (cases_lt t now.period) [
+    | inl low ↦
+        ap (λ word. nat_lt t now.period && has_bit word (t % 64))
+        (other_word now event index (bit_and word keep) there within e t (omega (arith, low)) apart)
+    | inr high ↦ rw (le-ltb t now.period high) refl
+  ]
+
+  left_here : (t : ℕ) → t / 64 ≡ index
+      → is_left less event t ≡ (is_left now event t && has_bit keep (t % 64))
+  left_here t at =
+      ap (λ word. nat_lt t now.period && has_bit word (t % 64))
+      (this_word now event index (bit_and word keep) there t at)
+      ∙ ap (λ b. nat_lt t now.period && b)
+      (and_bit word keep (t % 64)
+      ∙ ap (λ word. has_bit word (t % 64) && has_bit keep (t % 64)) (sym (was t at)))
+      ∙ and_assoc (nat_lt t now.period) _ _
+
+  fewer_left : bit_and word keep < word → marks_left less < marks_left now
+  fewer_left small =
+      sum_less now.words (event * words_of now.period + index) (bit_and word keep)
+      (subst (λ old. bit_and word keep < old) (sym (word_here now event index word was)) small)
 
 -- ---- the times up to one
 
@@ -50,10 +58,6 @@ stays_below kept keep end event time =
 
 abbrev both : Left → Left → Left
 both left keeps event time = left event time && keeps event time
-
-and_true : (x y : Bool) → y ≡ true → x ≡ (x && y)
-and_true true y is = sym is
-and_true false y is = refl
 
 or_end : (x y : Bool) → y ≡ true → (x || y) ≡ true
 or_end true y is = refl
@@ -77,121 +81,97 @@ reached_here keep end e t h =
     ap (λ b. not b || (not (nat_lt t end) || marked keep t)) (eq-eqb e e refl)
     ∙ ap (λ b. not b || marked keep t) (lt-ltb t end h)
 
--- a turn that removes nothing
-kept_turn : (left : Left) (kept : ℕ) (keep : List ℕ) (end : ℕ)
-    → (marked keep end ≡ true) ⊎ (left kept end ≡ false) → (e t : ℕ)
-    → both left (stays_below kept keep end) e t ≡ both left (stays_below kept keep (end + 1)) e t
-kept_turn left kept keep end why e t = one (cases_eq e kept) (cases_order t end)
-  where
-    here : t ≡ end → e ≡ kept → (marked keep end ≡ true) ⊎ (left kept end ≡ false)
-        → both left (stays_below kept keep end) e t ≡ both left (stays_below kept keep (end + 1))
-        e t
-    here same own (inl flag) =
-        ap (λ b. left e t && b)
-        (later kept keep end e t (omega (arith, same))
-        ∙ sym (rw (own) (reached_here keep (end + 1) kept t (omega (arith, same))
-        ∙ ap (λ t. marked keep t) same ∙ flag)))
-    here same own (inr gone) = rw (own, same, gone) refl
-
-    one : (e ≡ kept) ⊎ (e ≡ kept → ⊥) → (t ≡ end) ⊎ ((t < end) ⊎ (end < t))
-        → both left (stays_below kept keep end) e t ≡ both left (stays_below kept keep (end + 1))
-        e t
-    one (inr other) place =
-        ap (λ b. left e t && b)
-        (elsewhere kept keep end e t other ∙ sym (elsewhere kept keep (end + 1) e t other))
-    one (inl own) (inl same) = here same own why
-    one (inl own) (inr (inl less)) =
-        ap (λ b. left e t && b)
-        (rw (own) (reached_here keep end kept t less
-        ∙ sym (reached_here keep (end + 1) kept t (omega (arith, less)))))
-    one (inl own) (inr (inr more)) =
-        ap (λ b. left e t && b)
-        (later kept keep end e t (omega (arith, more))
-        ∙ sym (later kept keep (end + 1) e t (omega (arith, more))))
-
--- a turn that removes a time
-removed_turn : (left now : Left) (kept : ℕ) (keep : List ℕ) (end : ℕ)
-    → marked keep end ≡ false
-    → ((e t : ℕ) → (e ≡ kept → t ≡ end → ⊥) → now e t ≡ both left (stays_below kept keep end) e t)
-    → now kept end ≡ false → (e t : ℕ)
-    → now e t ≡ both left (stays_below kept keep (end + 1)) e t
-removed_turn left now kept keep end flag other gone e t = one (cases_eq e kept) (cases_order t end)
-  where
-    and_false : (x y : Bool) → y ≡ false → (x && y) ≡ false
-    and_false true y is = is
-    and_false false y is = refl
-
-    one : (e ≡ kept) ⊎ (e ≡ kept → ⊥) → (t ≡ end) ⊎ ((t < end) ⊎ (end < t))
-        → now e t ≡ both left (stays_below kept keep (end + 1)) e t
-    one (inr apart) place =
-        other e t (λ own _. apart own)
-        ∙ ap (λ b. left e t && b)
-        (elsewhere kept keep end e t apart ∙ sym (elsewhere kept keep (end + 1) e t apart))
-    one (inl own) (inl same) =
-        rw (own, same) (gone ∙ sym (and_false (left kept end) _
-        (reached_here keep (end + 1) kept end (omega arith) ∙ flag)))
-    one (inl own) (inr (inl less)) =
-        other e t (λ _ same. absurd (omega (arith, same, less)))
-        ∙ ap (λ b. left e t && b)
-        (rw (own) (reached_here keep end kept t less
-        ∙ sym (reached_here keep (end + 1) kept t (omega (arith, less)))))
-    one (inl own) (inr (inr more)) =
-        other e t (λ _ same. absurd (omega (arith, same, more)))
-        ∙ ap (λ b. left e t && b)
-        (later kept keep end e t (omega (arith, more))
-        ∙ sym (later kept keep (end + 1) e t (omega (arith, more))))
-
 -- ---- the loop
 
-pub prune_kept : (before now : Tracked) (event : ℕ) (keep : List ℕ) (end : ℕ) (changes : Bool)
-    → Prunes before now (stays_below event keep end) changes
-    → (marked keep end ≡ true) ⊎ (is_left now.sets event end ≡ false)
-    → Prunes before now (stays_below event keep (end + 1)) changes
-prune_kept before now event keep end changes so why = record {
-  period = so.period;
-  events = so.events;
-  saved = so.saved;
-  left = so.left ∙ (λ i e t. kept_turn (is_left before.sets) event keep end (was why) e t i);
-  same = so.same;
-  fewer = so.fewer;
-  no_more = so.no_more;
+and_unit : (x y z : Bool) → y ≡ true → ((x && y) && z) ≡ (x && z)
+and_unit true y z is = ap (λ y. y && z) is
+and_unit false y z is = refl
+
+or_either : (x y : Bool) → (x || y) ≡ true → (x ≡ true) ⊎ (y ≡ true)
+or_either true y is = inl refl
+or_either false y is = inr is
+
+pub prune_word : (before now after : Tracked) (event index : ℕ) (keep : List ℕ)
+    (changes is : Bool) → event < now.sets.events → index < words_of now.sets.period
+    → Prunes before now (stays_below event keep (64 * index)) changes
+    → KeepsBits now after event index (get_or keep index 0) is
+    → Prunes before after (stays_below event keep (64 * (index + 1))) (changes || is)
+prune_word before now after event index keep changes is inside within so turn = record {
+  period = ap (λ (tracked : Tracked). tracked.sets.period) turn.is ∙ so.period;
+  events = ap (λ (tracked : Tracked). tracked.sets.events) turn.is ∙ so.events;
+  saved = ap (λ (tracked : Tracked). tracked.saved) turn.is ∙ so.saved;
+  left = λ i e t. left e t (cases_eq e event) (cases_order (t / 64) index) i;
+  same = λ none. let parts = or_parts changes is none in turn.same parts.1 ∙ so.same parts.0;
+  fewer = λ some. fewer (or_either changes is some);
+  no_more = let one = no_more (cases_Bool is) in omega (arith, one, so.no_more);
 }
   where
-    was : (marked keep end ≡ true) ⊎ (is_left now.sets event end ≡ false)
-        → (marked keep end ≡ true) ⊎ (is_left before.sets event end ≡ false)
-    was (inl flag) = inl flag
-    was (inr gone) = inr (and_true (is_left before.sets event end) _ (later event keep end event end
-        (omega arith))
-        ∙ sym (ap (λ (left : Left). left event end) so.left) ∙ gone)
+    less_here : is ≡ true → marks_left after.sets < marks_left now.sets
+    less_here some =
+        subst (λ (tracked : Tracked). marks_left tracked.sets < marks_left now.sets) (sym turn.is)
+        (fewer_left now.sets event index turn.word (get_or keep index 0) turn.sound inside within
+        turn.was (turn.fewer some))
 
-and_parts_right : (b c : Bool) → (b && c) ≡ true → c ≡ true
-and_parts_right true c is = is
-and_parts_right false c is = absurd (false≢true is)
+    no_more : (is ≡ true) ⊎ (is ≡ false) → marks_left after.sets ≤ marks_left now.sets
+    no_more (inl some) = let less = less_here some in omega (arith, less)
+    no_more (inr none) =
+        let same = ap (λ (tracked : Tracked). marks_left tracked.sets) (turn.same none) in
+        omega (arith, same)
 
-pub prune_removed : (before now after : Tracked) (event : ℕ) (keep : List ℕ) (end : ℕ)
-    (changes : Bool) → AreMarks now.sets → event < now.sets.events
-    → Prunes before now (stays_below event keep end) changes
-    → marked keep end ≡ false → is_left now.sets event end ≡ true → end < now.sets.period
-    → after ≡ record { sets = with_mark now.sets event end false; saved = now.saved }
-    → Prunes before after (stays_below event keep (end + 1)) true
-prune_removed before now after event keep end changes are inside so flag left within is =
-    subst (λ after. Prunes before after (stays_below event keep (end + 1)) true) (sym is) (record {
-      period = so.period;
-      events = so.events;
-      saved = so.saved;
-      left = λ i e t. removed_turn (is_left before.sets) (is_left (with_mark now.sets event end
-          false))
-          event keep end flag
-          (λ e t other. other_left now.sets event end e t are inside within other
-          ∙ ap (λ (left : Left). left e t) so.left)
-          (this_out now.sets event end are inside within) e t i;
-      same = λ no. absurd (false≢true (sym no));
-      fewer = λ _. omega (arith, less, so.no_more);
-      no_more = omega (arith, less, so.no_more);
-    })
-  where
-    less : marks_left (with_mark now.sets event end false) < marks_left now.sets
-    less = one_less now.sets event end (and_parts_right (nat_lt end now.sets.period) _ left)
+    fewer : (changes ≡ true) ⊎ (is ≡ true) → marks_left after.sets < marks_left before.sets
+    fewer (inl some) =
+        let less = so.fewer some in
+        let one = no_more (cases_Bool is) in
+        omega (arith, less, one)
+    fewer (inr some) = let less = less_here some in omega (arith, less, so.no_more)
+
+    at : (e t : ℕ) → is_left now.sets e t
+        ≡ both (is_left before.sets) (stays_below event keep (64 * index)) e t
+    at e t = ap (λ (left : Left). left e t) so.left
+
+    unchanged : (e t : ℕ) → (e ≡ event → t / 64 ≡ index → ⊥)
+        → stays_below event keep (64 * index) e t ≡ stays_below event keep (64 * (index + 1)) e t
+        → is_left after.sets e t
+        ≡ both (is_left before.sets) (stays_below event keep (64 * (index + 1))) e t
+    unchanged e t apart same =
+        ap (λ (tracked : Tracked). is_left tracked.sets e t) turn.is
+        ∙ left_elsewhere now.sets event index turn.word (get_or keep index 0) turn.sound inside
+        within turn.was e t apart
+        ∙ at e t ∙ ap (λ b. is_left before.sets e t && b) same
+
+    left : (e t : ℕ) → (e ≡ event) ⊎ (e ≡ event → ⊥)
+        → (t / 64 ≡ index) ⊎ ((t / 64 < index) ⊎ (index < t / 64))
+        → is_left after.sets e t
+        ≡ both (is_left before.sets) (stays_below event keep (64 * (index + 1))) e t
+    left e t (inr apart) place =
+        unchanged e t (λ own _. apart own)
+        (elsewhere event keep (64 * index) e t apart
+        ∙ sym (elsewhere event keep (64 * (index + 1)) e t apart))
+    left e t (inl own) (inl here) =
+        let low : 64 * index ≤ t = omega (arith, here) in
+        let high : t < 64 * (index + 1) = omega (arith, here) in
+        let bits : has_bit (get_or keep index 0) (t % 64) ≡ marked keep t =
+        sym (ap (λ index. has_bit (get_or keep index 0) (t % 64)) here) in
+        rw (own) (ap (λ (tracked : Tracked). is_left tracked.sets event t) turn.is
+        ∙ left_here now.sets event index turn.word (get_or keep index 0) turn.sound inside within
+        turn.was t here
+        ∙ (λ i. at event t i && bits i)
+        ∙ and_unit (is_left before.sets event t) _ (marked keep t)
+        (later event keep (64 * index) event t low)
+        ∙ ap (λ b. is_left before.sets event t && b)
+        (sym (reached_here keep (64 * (index + 1)) event t high)))
+    left e t (inl own) (inr (inl less)) =
+        let low : t < 64 * index = omega (arith, less) in
+        let high : t < 64 * (index + 1) = omega (arith, less) in
+        unchanged e t (λ _ here. absurd (omega (arith, here, less)))
+        (rw (own) (reached_here keep (64 * index) event t low
+        ∙ sym (reached_here keep (64 * (index + 1)) event t high)))
+    left e t (inl own) (inr (inr more)) =
+        let low : 64 * index ≤ t = omega (arith, more) in
+        let high : 64 * (index + 1) ≤ t = omega (arith, more) in
+        unchanged e t (λ _ here. absurd (omega (arith, here, more)))
+        (later event keep (64 * index) e t low
+        ∙ sym (later event keep (64 * (index + 1)) e t high))
 
 pub prune_ended : (before after : Tracked) (event : ℕ) (keep : List ℕ) (end : ℕ)
     (changes : Bool) → Prunes before after (stays_below event keep end) changes
@@ -214,56 +194,6 @@ prune_ended before after event keep end changes so all = record {
         ap (λ b. is_left before.sets e t && (not (e == event) || (not b || marked keep t)))
         (lt-ltb t end (omega (arith, h, all)))
     last e t (inr is) = rw (is) refl
-
--- many times that are kept
-prune_passed : (before now : Tracked) (event : ℕ) (keep : List ℕ) (changes : Bool) (n end : ℕ)
-    → Prunes before now (stays_below event keep end) changes
-    → ((time : ℕ) → end ≤ time → time < end + n
-    → is_left now.sets event time ≡ true → marked keep time ≡ true)
-    → Prunes before now (stays_below event keep (end + n)) changes
-prune_passed before now event keep changes zero end so all =
-    let same : end ≡ end + 0 = omega arith in
-    subst (λ end. Prunes before now (stays_below event keep end) changes) same so
-prune_passed before now event keep changes (suc n) end so all =
-    let same : end + 1 + n ≡ end + suc n = omega arith in
-    subst (λ end. Prunes before now (stays_below event keep end) changes) same
-    (prune_passed before now event keep changes n (end + 1)
-    (prune_kept before now event keep end changes so (either (cases_Bool (is_left now.sets event
-    end))))
-    (λ time low high. all time (omega (arith, low)) (omega (arith, high))))
-  where
-    either : (is_left now.sets event end ≡ true) ⊎ (is_left now.sets event end ≡ false)
-        → (marked keep end ≡ true) ⊎ (is_left now.sets event end ≡ false)
-    either (inl left) = inl (all end (omega arith) (omega arith) left)
-    either (inr gone) = inr gone
-
--- what is told of sets that are looked at
-pub prune_turn : (before now after : Tracked) (sets : Marks) (event : ℕ) (keep : List ℕ) (from
-    time : ℕ)
-    (changes : Bool) → sets ≡ now.sets → AreMarks sets → event < now.sets.events
-    → Prunes before now (stays_below event keep from) changes
-    → IsNextBesides sets event keep from (Some time)
-    → after ≡ record { sets = with_mark now.sets event time false; saved = now.saved }
-    → Prunes before after (stays_below event keep (time + 1)) true
-prune_turn before now after sets event keep from time changes same are inside so looked is =
-    let next = subst (λ (sets : Marks). IsNextBesides sets event keep from (Some time)) same
-    looked in
-    let far : from + (time - from) ≡ time = (let low = next.0 in omega (arith, low)) in
-    prune_removed before now after event keep time changes (subst AreMarks same are) inside
-    (subst (λ end. Prunes before now (stays_below event keep end) changes) far
-    (prune_passed before now event keep changes (time - from) from so
-    (λ other low high. next.4 other low (omega (arith, high, far)))))
-    next.3 next.2 next.1 is
-
-pub prune_over : (before now : Tracked) (sets : Marks) (event : ℕ) (keep : List ℕ) (from : ℕ)
-    (changes : Bool) → sets ≡ now.sets → Prunes before now (stays_below event keep from) changes
-    → IsNextBesides sets event keep from None → Prunes before now (stays event keep) changes
-prune_over before now sets event keep from changes same so looked =
-    let none = subst (λ (sets : Marks). IsNextBesides sets event keep from None) same looked in
-    prune_ended before now event keep (from + before.sets.period) changes
-    (prune_passed before now event keep changes before.sets.period from so
-    (λ time low _. none time low))
-    (omega arith)
 
 -- ---- bits by a test
 

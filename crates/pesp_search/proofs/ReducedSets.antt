@@ -317,6 +317,7 @@ module _ (problem : Problem) (sound : IsProblem problem) where
       period = so.period;
       events = so.events;
       saved = so.saved;
+      within = so.within;
       stands = inl (empty, none_reduced empty);
     }
 
@@ -333,6 +334,7 @@ module _ (problem : Problem) (sound : IsProblem problem) where
             period = so.period;
             events = so.events;
             saved = so.saved;
+            within = so.within;
             stands = inr (sets_reduced all, all);
           }
     ]

@@ -1,6 +1,6 @@
 -- The children that wait, one after the other.
 use Rattle.std.proofs.Common.{◌<◌}
-use Rattle.std.proofs.Common.{subst}
+use Rattle.std.proofs.Common.{refl, subst}
 use Rattle.std.proofs.Common.{◌≡◌, ◌∙◌, ℕ, ◌+◌, List, [], ◌∷◌, ◌++◌, map, Some, None, ap, sym}
 use Rattle.std.proofs.lemmas.List.{append_assoc}
 use Rattle.pesp_search.specs.declared.time_sets.Branch.{Branch}
@@ -55,8 +55,10 @@ next_waits before restored saved after sets branch time is same next save keep =
     later = tried branch time;
     earlier = restored.saved;
     inside = subst (λ events. branch.event < events) (sym (keep.events ∙ events_are)) is.1;
+    period = keep.period ∙ ap (λ (tracked : Tracked). tracked.sets.period) save;
     was = is.0;
     now = saved_are;
+    here = (refl, refl);
     within = λ e t is.
         ap (λ (tracked : Tracked). is_left tracked.sets e t) (sym save) ∙ keep.within e t is;
     others = λ e other. keep.others e other
@@ -92,10 +94,12 @@ next_from first before after passed event same period events all next = (
     later = next.3.later;
     earlier = next.3.earlier;
     inside = next.3.inside;
+    period = next.3.period;
     was = all ∙ ap (λ saved. passed ++ saved) next.3.was
         ∙ sym (append_assoc passed next.3.passed (saved_at next.3.branched next.3.from ∷
         next.3.earlier));
     now = next.3.now;
+    here = next.3.here;
     within = next.3.within;
     others = next.3.others;
     one = next.3.one;

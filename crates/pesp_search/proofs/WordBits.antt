@@ -2,19 +2,18 @@
 use Rattle.std.proofs.Common.{◌≡◌, ◌∙◌, ◌⊎◌, inl, inr, ℕ, ◌+◌, ◌-◌, ◌*◌, ◌/◌, ◌%◌, ◌^◌, ◌<◌, ◌≤◌}
 use Rattle.std.proofs.Common.{◌==◌}
 use Rattle.std.proofs.Common.{if◌then◌else◌, nat_lt, bit_and, bit_or, w64}
-use Rattle.std.proofs.Common.{Bool, true, false, not, ◌&&◌, ◌||◌, List, get_or}
+use Rattle.std.proofs.Common.{Bool, true, false, ◌&&◌, ◌||◌, List, get_or}
 use Rattle.std.proofs.Common.{Some, None, refl, ap, sym, subst, arith}
 use Rattle.std.specs.Int.{bit_at, bit_not, trailing_zeros}
-use Rattle.std.proofs.lemmas.Bool.{cases_Bool, cases_eq, cases_lt, eq-eqb, eqb-true, ne_eqb}
+use Rattle.std.proofs.lemmas.Bool.{cases_eq, cases_lt, eq-eqb, eqb-true, ne_eqb}
 use Rattle.std.proofs.lemmas.Bool.{false≢true, lt-ltb, le-ltb}
 use Rattle.std.proofs.lemmas.Nat.{and_le_l, or_lt, one_shl, pow_below, pow_pos, shr-shr}
 use Rattle.std.proofs.lemmas.Nat.Bits.{bit_at-lt, bit_at-zero, bit_at_above, bit_at_and}
 use Rattle.std.proofs.lemmas.Nat.Bits.{bit_at_cat_high}
 use Rattle.std.proofs.lemmas.Nat.Bits.{bit_at_cat_low, bit_at_clear_other, bit_at_clear_same}
-use Rattle.std.proofs.lemmas.Nat.Bits.{bit_at_not}
 use Rattle.std.proofs.lemmas.Nat.Bits.{bit_at-pow_other, bit_at-pow_same, bit_at_ones}
 use Rattle.std.proofs.lemmas.Nat.Bits.{bit_at_ones_above, bit_at_or, bit_at_set_other}
-use Rattle.std.proofs.lemmas.Nat.Bits.{bit_at_set_same, bit_at-trailing_zeros, same_from_bits_below}
+use Rattle.std.proofs.lemmas.Nat.Bits.{bit_at_set_same, bit_at-trailing_zeros}
 use Rattle.pesp_search.specs.Marks.{IsFirstBit, has_bit, marked, one_bit, with_bit}
 
 -- ---- a bit as a number
@@ -68,23 +67,6 @@ and_bit a b i = elim (one_or_none a i) [
       unset_from _ i (omega (arith, bit_at_and a b i, none))
       ∙ sym (ap (λ x. x && has_bit b i) (unset_from a i none))
 ]
-
-pub not_bit : (word bit : ℕ) → word < 2 ^ 64 → bit < 64
-    → has_bit (bit_not w64 word) bit ≡ not (has_bit word bit)
-not_bit word bit fits low = elim (one_or_none word bit) [
-  | inr one ↦
-      unset_from _ bit (omega (arith, bit_at_not w64 word bit fits low, one))
-      ∙ sym (ap not (set_from word bit one))
-  | inl none ↦
-      set_from _ bit (omega (arith, bit_at_not w64 word bit fits low, none))
-      ∙ sym (ap not (unset_from word bit none))
-]
-
-pub besides_bit : (word other bit : ℕ) → other < 2 ^ 64 → bit < 64
-    → has_bit (bit_and word (bit_not w64 other)) bit ≡ (has_bit word bit && not (has_bit other bit))
-besides_bit word other bit fits low =
-    and_bit word (bit_not w64 other) bit ∙ ap (λ b. has_bit word bit
-    && b) (not_bit other bit fits low)
 
 pub zero_bit : (bit : ℕ) → has_bit 0 bit ≡ false
 zero_bit bit = unset_from 0 bit (bit_at-zero bit)
@@ -183,42 +165,6 @@ with_fits word bit true fits low =
     or_lt 64 word (one_bit bit) fits small
 with_fits word bit false fits low =
     let less = and_le_l word (bit_not w64 (one_bit bit)) in omega (arith, less, fits)
-
-below_old : (word bit : ℕ) → with_bit word bit false ≤ word
-unfolding with_bit
-below_old word bit = and_le_l word (bit_not w64 (one_bit bit))
-
-pub with_less : (word bit : ℕ) → bit < 64 → has_bit word bit ≡ true → with_bit word bit false < word
-with_less word bit low is = elim (cases_eq (with_bit word bit false) word) [
-  | inl same ↦ absurd (false≢true (sym (with_same word bit false low)
-      ∙ ap (λ w. has_bit w bit) same ∙ is))
-  | inr other ↦ omega (arith, below_old word bit, other)
-]
-
--- a bit that was set, taken away and set again
-pub with_again : (word bit : ℕ) → word < 2 ^ 64 → bit < 64 → has_bit word bit ≡ true
-    → with_bit (with_bit word bit false) bit true ≡ word
-with_again word bit fits low is =
-    let less = with_fits word bit false fits low in
-    same_from_bits_below 64 _ word (with_fits (with_bit word bit false) bit true less low) fits
-    (λ i small. by_bit i small)
-  where
-    bits : (i : ℕ) → i < 64 → has_bit (with_bit (with_bit word bit false) bit true) i ≡ has_bit
-        word i
-    bits i small = elim (cases_eq i bit) [
-      | inl same ↦
-          rw (same) (with_same (with_bit word bit false) bit true low ∙ sym is)
-      | inr other ↦
-          with_other (with_bit word bit false) bit i true low small other
-          ∙ with_other word bit i false low small other
-    ]
-
-    by_bit : (i : ℕ) → i < 64
-        → bit_at (with_bit (with_bit word bit false) bit true) i ≡ bit_at word i
-    by_bit i small = elim (cases_Bool (has_bit word i)) [
-      | inl one ↦ set_is _ i (bits i small ∙ one) ∙ sym (set_is word i one)
-      | inr none ↦ unset_is _ i (bits i small ∙ none) ∙ sym (unset_is word i none)
-    ]
 
 -- ---- the first bit from one on
 

@@ -9,7 +9,7 @@ use Rattle.std.specs.List.{range_with_len}
 use Rattle.pesp_search.specs.declared.time_sets.Branch.{Branch}
 use Rattle.pesp_search.specs.declared.time_sets.Change.{Change}
 use Rattle.pesp_search.specs.declared.time_sets.Change.TheVariants as change
-use Rattle.pesp_search.specs.Listings.{with_time}
+use Rattle.pesp_search.specs.Listings.{has_several, with_time}
 
 -- ---- words of 64 bits
 
@@ -59,14 +59,18 @@ word_of sets event time = get_or sets.words (place_of sets.period event time) 0
 abbrev pub is_left : Marks → ℕ → ℕ → Bool
 is_left sets event time = nat_lt time sets.period && has_bit (word_of sets event time) (time % 64)
 
--- the marks where that of one time is another one
-abbrev pub with_mark : Marks → ℕ → ℕ → Bool → Marks
-with_mark sets event time mark = record {
+-- the marks where one word of an event is another one
+abbrev pub with_word : Marks → ℕ → ℕ → ℕ → Marks
+with_word sets event index word = record {
   period = sets.period;
   events = sets.events;
-  words = slice_set sets.words (place_of sets.period event time)
-      (with_bit (word_of sets event time) (time % 64) mark);
+  words = slice_set sets.words (event * words_of sets.period + index) word;
 }
+
+-- no bit of a word is set behind the period
+abbrev pub IsWord : ℕ → ℕ → ℕ → Type 0
+IsWord period index word = (word < 2 ^ 64)
+    × ((bit : ℕ) → bit < 64 → period ≤ 64 * index + bit → has_bit word bit ≡ false)
 
 -- the times of an event, from one on
 abbrev pub times_from : Marks → ℕ → ℕ → List ℕ
@@ -75,6 +79,11 @@ times_from sets event from = filter (is_left sets event) (range_with_len from (s
 -- the times that are left to each event
 abbrev pub sets_of : Marks → List (List ℕ)
 sets_of sets = map (λ event. times_from sets event 0) (range_with_len 0 sets.events)
+
+-- no event before one has several times
+abbrev pub IsSettled : Marks → ℕ → Type 0
+IsSettled sets end =
+    (event : ℕ) → event < end → has_several (times_from sets event 0) ≡ false
 
 -- the sets of times by a test of events and times
 abbrev pub family : ℕ → ℕ → (ℕ → ℕ → Bool) → List (List ℕ)
@@ -110,14 +119,15 @@ pub record Tracked : Type 0 where
 -- what changes say of the sets before them, the last change first
 unfoldable pub saved_by : Marks → List Change → List Saved
 saved_by sets [] = []
-saved_by sets (change.Removed event time ∷ earlier) =
-    saved_by (with_mark sets event time true) earlier
+saved_by sets (change.Replaced event index word ∷ earlier) =
+    saved_by (with_word sets event index word) earlier
 saved_by sets (change.Branched branch ∷ earlier) =
     record { sets = sets; branch = branch } ∷ saved_by sets earlier
 
--- a change is one of an event and a time that are there
+-- a change is one of an event and a word that are there
 abbrev pub IsChange : ℕ → ℕ → Change → Type 0
-IsChange period events (change.Removed event time) = (event < events) × (time < period)
+IsChange period events (change.Replaced event index word) =
+    (event < events) × (index < words_of period) × IsWord period index word
 IsChange period events (change.Branched branch) = branch.event < events
 
 -- what restoring finds: nothing that was saved, or the last sets that were
@@ -150,15 +160,19 @@ waiting (saved ∷ earlier) = children saved ++ waiting earlier
 abbrev pub marks_left : Marks → ℕ
 marks_left sets = sum sets.words
 
--- the first time from one on that is left to an event and has no bit among other words, if one is
-abbrev pub IsNextBesides : Marks → ℕ → List ℕ → ℕ → Option ℕ → Type 0
-IsNextBesides sets event keep from None =
-    (time : ℕ) → from ≤ time → is_left sets event time ≡ true → marked keep time ≡ true
-IsNextBesides sets event keep from (Some first) =
-    (from ≤ first) × (first < sets.period) × (is_left sets event first ≡ true)
-    × (marked keep first ≡ false)
-    × ((time : ℕ) → from ≤ time → time < first → is_left sets event time ≡ true
-    → marked keep time ≡ true)
+-- Some bits of a word stay, and no others. Where nothing is said to change nothing does, and else
+-- fewer bits are left.
+pub record KeepsBits (before after : Tracked) (event index keep : ℕ) (changes : Bool) : Type 0 where
+  pub word : ℕ
+  pub was : (time : ℕ) → time / 64 ≡ index → word_of before.sets event time ≡ word
+  pub is : after
+      ≡ record {
+        sets = with_word before.sets event index (bit_and word keep);
+        saved = before.saved;
+      }
+  pub same : changes ≡ false → after ≡ before
+  pub fewer : changes ≡ true → bit_and word keep < word
+  pub sound : AreMarks before.sets
 
 -- Some times of an event are taken out: of all events those stay for which a test holds. Where
 -- nothing is said to change nothing does, and else fewer times are left.
@@ -190,8 +204,10 @@ pub record IsChildOf (before after : Tracked) (event : ℕ) : Type 0 where
   pub later : Branch
   pub earlier : List Saved
   pub inside : event < after.sets.events
+  pub period : after.sets.period ≡ branched.period
   pub was : before.saved ≡ passed ++ record { sets = branched; branch = from } ∷ earlier
   pub now : after.saved ≡ record { sets = branched; branch = later } ∷ earlier
+  pub here : (from.event ≡ event) × (later.event ≡ event)
   pub within : (other time : ℕ) → is_left after.sets other time ≡ true
       → is_left branched other time ≡ true
   pub others : (other : ℕ) → (other ≡ event → ⊥) → is_left after.sets other ≡ is_left branched other

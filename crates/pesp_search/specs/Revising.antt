@@ -10,7 +10,8 @@ use Rattle.pesp_model.specs.declared.activity.PespActivity.{PespActivity}
 use Rattle.pesp_model.specs.Timetables.{Problem, keeps}
 use Rattle.pesp_search.specs.Flags.{Flags, has_changed, some_changed, with_flag}
 use Rattle.pesp_search.specs.Listings.{is_empty}
-use Rattle.pesp_search.specs.Marks.{Marks, Saved, Tracked, is_left, marked, marks_left, sets_of}
+use Rattle.pesp_search.specs.Marks.{IsSettled, Marks, Saved, Tracked, is_left, marked, marks_left}
+use Rattle.pesp_search.specs.Marks.{sets_of}
 use Rattle.pesp_search.specs.TimeSets.{reduced}
 
 -- which times are left to which events
@@ -226,6 +227,7 @@ pub record Reduces (problem : Problem) (before after : Tracked) : Type 0 where
   pub period : after.sets.period ≡ before.sets.period
   pub events : after.sets.events ≡ before.sets.events
   pub saved : after.saved ≡ before.saved
+  pub within : IsWithin (is_left after.sets) (is_left before.sets)
   pub stands : Stands problem before after
 
 -- ---- activities by their events
@@ -261,12 +263,14 @@ pub record AreLinksAt (problem : Problem) (event : ℕ) (indexes : List ℕ) : T
       → slice_get problem.activities index ≡ Some activity → is_free problem.period activity ≡ false
       → activity.to ≡ event → Contains indexes index
 
--- all activities are revised in each of the sets that were saved, and times are left to all events
+-- all activities are revised in each of the sets that were saved, times are left to all events, and
+-- no event before that of the branch has several
 abbrev pub AreRevised : Problem → List Saved → Type 0
 AreRevised problem [] = ⊤
 AreRevised problem (saved ∷ earlier) =
     AllFrom problem.activities (IsRevised problem.period (is_left saved.sets)) 0
     × IsFull saved.sets
+    × IsSettled saved.sets saved.branch.event
     × AreRevised problem earlier
 
 -- sets are ready for an entry: activities are revised unless the set of one of their events is

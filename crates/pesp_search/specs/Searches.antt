@@ -17,7 +17,8 @@ use Rattle.pesp_search.specs.Listings.{listing_of}
 use Rattle.pesp_search.specs.Listings.{one_more}
 use Rattle.pesp_search.specs.Listings.{unless_found, with_time}
 use Rattle.pesp_search.specs.declared.time_sets.Branch.{Branch}
-use Rattle.pesp_search.specs.Marks.{Tracked, sets_of, waiting}
+use Rattle.pesp_search.specs.Flags.{Flags}
+use Rattle.pesp_search.specs.Marks.{IsSettled, Tracked, sets_of, waiting}
 use Rattle.pesp_search.specs.Revising.{IsReady}
 
 -- a listing behind so many entries that found nothing
@@ -37,10 +38,12 @@ entry_here visit sets =
     (entry (sets_of sets.sets) (λ event time. visit (with_time (sets_of sets.sets) event time)))
     (in_turn visit (waiting sets.saved))
 
--- sets are saved at a branch where times are left to all events, or none are
+-- sets are saved at a branch where times are left to all events and no event before that of the
+-- branch has several, or none are
 abbrev pub SavesOnce : Tracked → Tracked → Type 0
 SavesOnce before after = (after.saved ≡ before.saved)
     ⊎ ((branch : Branch) × (list_any is_empty (sets_of before.sets) ≡ false)
+    × IsSettled before.sets branch.event
     × (after.saved ≡ record { sets = before.sets; branch = branch } ∷ before.saved))
 
 -- what an entry comes to whose sets are reduced: the times that are found, or the children that
@@ -54,17 +57,19 @@ Branches before after None =
 Branches before after (Some times) = (visit : List (List ℕ) → Listing)
     → entry_here visit before ≡ record { entries = 1; found = Some times.items }
 
--- one entry is taken: a timetable is found, or no entry is to come, or another one is
-abbrev pub TakesEntry : Problem → Tracked → Tracked → Entry → Type 0
-TakesEntry problem before after (entries.Found times) =
+-- one entry is taken: a timetable is found, or no entry is to come, or another one is, for which
+-- flags tell the events whose sets have changed
+abbrev pub TakesEntry : Problem → Tracked → Tracked → Flags → Entry → Type 0
+TakesEntry problem before after changed (entries.Found times) =
     listed_on problem before ≡ record { entries = 1; found = Some times.items }
-TakesEntry problem before after entries.Last =
+TakesEntry problem before after changed entries.Last =
     listed_on problem before ≡ record { entries = 1; found = None }
-TakesEntry problem before after (entries.Next changed) =
+TakesEntry problem before after changed (entries.Next event) =
     (listed_on problem before ≡ one_more (listed_on problem after))
     × (after.sets.period ≡ before.sets.period)
     × (after.sets.events ≡ before.sets.events)
     × IsReady problem after changed
+    × IsSettled after.sets event
 
 -- a search behind some entries, each of which took a step
 pub record IsSearched (problem : Problem) (sets : Tracked) (count : ℕ) : Type 0 where

@@ -1,6 +1,6 @@
 // Flags of events.
 ghost use Rattle.std.specs.Prelude.{◌≡◌, ℕ, ◌/◌, ◌<◌, ◌≤◌, ◌==◌, not, length, slice_index, true};
-ghost use Rattle.std.specs.Prelude.{false, IfOk};
+ghost use Rattle.std.specs.Prelude.{false, All, IfOk};
 ghost use Rattle.std.specs.List.{list_any};
 ghost use Rattle.pesp_search.specs.Flags.{AreFlags, IsNextFlag, has_changed, some_changed};
 ghost use Rattle.pesp_search.specs.Flags.{with_flag};
@@ -56,17 +56,22 @@ impl EventFlags {
         Ok(flags)
     }
 
-    /// Flags of so many events, of which one is set.
-    pub(crate) fn one(alloc: Global, event: usize, events: usize) -> Result<EventFlags, NoMemory>
-        requires few { events ≤ 4000 }
-        requires event { event < events }
-        ensures events { IfOk result (λ flags. flags.events ≡ events) }
-        ensures one { IfOk result
-            (λ flags. (other : ℕ) → has_changed flags other ≡ (other == event)) }
+    /// Sets the flag of one event alone.
+    pub(crate) fn set_alone(&mut self, event: usize)
+        requires { event < self.old.events }
+        ensures events { self.new.events ≡ self.old.events }
+        ensures alone { (other : ℕ) → has_changed self.new other ≡ (other == event) }
     {
-        let mut flags = EventFlags::none(alloc, events)?;
-        flags.put(event, true);
-        Ok(flags)
+        self.clear();
+        self.put(event, true);
+    }
+
+    // Takes all flags away.
+    fn clear(&mut self)
+        ensures events { self.new.events ≡ self.old.events }
+        ensures none { (event : ℕ) → has_changed self.new event ≡ false }
+    {
+        put_zeros(&mut self.words);
     }
 
     /// How many events there are.
@@ -122,6 +127,16 @@ impl EventFlags {
             }
         }
         None
+    }
+}
+
+// Makes all words 0.
+fn put_zeros(words: &mut [u64])
+    ensures each { length words.new ≡ length words.old }
+    ensures zeros { All (λ word. word ≡ 0) words.new }
+{
+    for index in 0..words.len() {
+        words[index] = 0;
     }
 }
 

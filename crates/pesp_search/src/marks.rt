@@ -3,12 +3,12 @@ ghost use Rattle.std.specs.Prelude.{◌≡◌, ℕ, ◌<◌, ◌≤◌, ◌==◌
 ghost use Rattle.std.specs.Prelude.{length, map, IfOk, IfSome};
 ghost use Rattle.std.specs.List.{range_with_len};
 ghost use Rattle.pesp_search.specs.Listings.{is_empty, times_at_first};
-ghost use Rattle.pesp_search.specs.Marks.{AreMarks, IsNext, IsNextBesides, has_bit, is_left};
+ghost use Rattle.pesp_search.specs.Marks.{AreMarks, IsNext, IsWord, has_bit, is_left};
 ghost use Rattle.pesp_search.specs.Marks.{marked};
-ghost use Rattle.pesp_search.specs.Marks.{first_bit_at, sets_of, times_from, with_mark, word_of};
+ghost use Rattle.pesp_search.specs.Marks.{first_bit_at, sets_of, times_from, with_word, word_of};
 ghost use Rattle.pesp_search.specs.Marks.{words_of};
 
-use crate::words::{WORDS, besides, cut, first_bit, with_bit, words_of};
+use crate::words::{WORDS, cut, first_bit, words_of};
 use plan_num::NoMemory;
 use std::alloc::Global;
 use std::marker::Model;
@@ -82,32 +82,34 @@ impl TimeMarks {
         self.events
     }
 
-    // How many words an event has.
-    fn width(&self) -> usize
+    /// How many words an event has.
+    pub(crate) fn width(&self) -> usize
         ensures value { result ≡ words_of self.now.period }
         ensures sound { AreMarks self.now }
     {
         words_of(self.period)
     }
 
-    // The word of some times of an event.
-    fn word(&self, event: usize, index: usize) -> u64
+    /// The word of some times of an event.
+    pub(crate) fn word(&self, event: usize, index: usize) -> u64
         requires event { event < self.now.events }
         requires index { index < words_of self.now.period }
-        ensures { (time : ℕ) → time / 64 ≡ index → word_of self.now event time ≡ result }
+        ensures value { (time : ℕ) → time / 64 ≡ index → word_of self.now event time ≡ result }
+        ensures sound { AreMarks self.now }
     {
         self.words[event * self.width() + index]
     }
 
-    /// Sets or takes away the mark of a time of an event.
-    pub(crate) fn mark(&mut self, event: usize, time: usize, mark: bool)
+    /// Replaces the word of some times of an event.
+    pub(crate) fn put_word(&mut self, event: usize, index: usize, word: u64)
         requires event { event < self.old.events }
-        requires time { time < self.old.period }
-        ensures marked { self.new ≡ with_mark self.old event time mark }
+        requires index { index < words_of self.old.period }
+        requires word { IsWord self.old.period index word }
+        ensures put { self.new ≡ with_word self.old event index word }
         ensures sound { AreMarks self.old }
     {
-        let place = event * words_of(self.period) + time / 64;
-        self.words[place] = with_bit(self.words[place], time % 64, mark);
+        let place = event * words_of(self.period) + index;
+        self.words[place] = word;
     }
 
     /// The times that are left to an event.
@@ -129,25 +131,9 @@ impl TimeMarks {
         ensures next { IsNext self.now event from result }
         ensures few { IfSome result (λ time. time < 720) }
     {
-        self.next_besides(event, &[0; WORDS], from)
-    }
-
-    /// The first time from one on that is left to an event and has no bit among others.
-    pub(crate) fn next_besides(
-        &self,
-        event: usize,
-        others: &[u64; WORDS],
-        from: usize,
-    ) -> Option<usize>
-        requires event { event < self.now.events }
-        requires long { length others.now ≡ 13 }
-        ensures next { IsNextBesides self.now event others.now from result }
-        ensures few { IfSome result (λ time. time < 720) }
-        ensures sound { AreMarks self.now }
-    {
         for index in from / 64..self.width() {
-            let rest = besides(self.word(event, index), others[index]);
-            if let Some(bit) = first_bit(rest, from.max(64 * index) - 64 * index) {
+            let word = self.word(event, index);
+            if let Some(bit) = first_bit(word, from.max(64 * index) - 64 * index) {
                 return Some(64 * index + bit);
             }
         }

@@ -1,5 +1,5 @@
 // Times that are taken out of sets.
-ghost use Rattle.std.specs.Prelude.{◌≡◌, ◌<◌, length, IfOk};
+ghost use Rattle.std.specs.Prelude.{◌≡◌, ◌<◌, ◌||◌, length, IfOk};
 ghost use Rattle.pesp_search.specs.Marks.{Prunes};
 ghost use Rattle.pesp_search.specs.Revising.{stays};
 
@@ -18,11 +18,15 @@ pub(crate) fn prune(
     ensures { IfOk result (Prunes sets.old sets.new (stays event keep.now)) }
 {
     let mut changes = false;
-    let mut from = 0;
-    while let Some(time) = sets.sets().next_besides(event, keep, from) {
-        sets.remove(event, time)?;
-        changes = true;
-        from = time + 1;
+    for index in 0..sets.sets().width() {
+        changes = any_of(changes, sets.keep_bits(event, index, keep[index])?);
     }
     Ok(changes)
+}
+
+/// Whether one of two tests holds.
+pub(crate) fn any_of(first: bool, second: bool) -> bool
+    ensures { result ≡ (first || second) }
+{
+    first || second
 }

@@ -22,20 +22,20 @@ pub(crate) fn reduce(
     pesp: &Pesp,
     links: &Links,
     sets: &mut TimeSets,
-    changed: EventFlags,
+    changed: &mut EventFlags,
 ) -> Result<bool, NoMemory>
     requires period { sets.old.sets.period ≡ pesp.now.period }
     requires events { sets.old.sets.events ≡ pesp.now.events }
     requires links { AreLinks pesp.now (length pesp.now.activities) links.now }
-    requires ready { IsReady pesp.now sets.old changed }
+    requires ready { IsReady pesp.now sets.old changed.old }
+    ensures each { OnOk result (changed.new.events ≡ changed.old.events) }
     ensures reduces { OnOk result (Reduces pesp.now sets.old sets.new) }
     ensures empty { IfOk result
         (λ has_empty. has_empty ≡ list_any is_empty (sets_of sets.new.sets)) }
 {
     let _ = pesp.event_count();
-    let mut changed = changed;
     while changed.has_some() {
-        if sweep(pesp, links, sets, &mut changed)? {
+        if sweep(pesp, links, sets, changed)? {
             return Ok(true);
         }
     }
@@ -57,8 +57,9 @@ fn sweep(
     requires each { changed.old.events ≡ pesp.now.events }
     requires revised { AllFrom pesp.now.activities
         (BoundUnless pesp.now.period (is_left sets.old.sets) (has_changed changed.old)) 0 }
-    ensures { IfOk result (λ is_dead. MatchBool is_dead (Dies pesp.now sets.old sets.new)
+    ensures sweeps { IfOk result (λ is_dead. MatchBool is_dead (Dies pesp.now sets.old sets.new)
         (Sweeps pesp.now sets.old sets.new changed.new)) }
+    ensures each { OnOk result (changed.new.events ≡ changed.old.events) }
 {
     let mut from = 0;
     while let Some(event) = changed.next(from) {
@@ -86,8 +87,9 @@ fn visit(
     requires each { changed.old.events ≡ pesp.now.events }
     requires revised { AllFrom pesp.now.activities
         (BoundUnless pesp.now.period (is_left sets.old.sets) (has_changed changed.old)) 0 }
-    ensures { IfOk result (λ is_dead. MatchBool is_dead (Dies pesp.now sets.old sets.new)
+    ensures visits { IfOk result (λ is_dead. MatchBool is_dead (Dies pesp.now sets.old sets.new)
         (Visits pesp.now event sets.old sets.new changed.old changed.new)) }
+    ensures each { OnOk result (changed.new.events ≡ changed.old.events) }
 {
     changed.put(event, false);
     for index in indexes {

@@ -12,7 +12,7 @@ ghost use Rattle.pesp_search.specs.Revising.{keeps_firsts, keeps_seconds, noted}
 
 use crate::flags::EventFlags;
 use crate::marks::TimeMarks;
-use crate::prune::prune;
+use crate::prune::{any_of, prune};
 use crate::time_sets::TimeSets;
 use crate::windows::reached;
 use crate::words::WORDS;
@@ -82,13 +82,6 @@ fn revise_firsts(
     let is_changed = keep_firsts(activity, sets)?;
     note(changed, activity.to, is_changed);
     Ok(is_emptied(sets.sets(), activity.to, is_changed))
-}
-
-// Whether one of two tests holds.
-fn any_of(first: bool, second: bool) -> bool
-    ensures { result ≡ (first || second) }
-{
-    first || second
 }
 
 // Whether no time is left to an event whose set has changed.

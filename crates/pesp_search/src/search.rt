@@ -3,7 +3,7 @@ ghost use Rattle.std.specs.Prelude.{◌≡◌, [], length, IfOk};
 ghost use Rattle.giv_files.specs.StageCalls.{TakesSteps};
 ghost use Rattle.std.specs.List.{list_any};
 ghost use Rattle.pesp_search.specs.Listings.{entries_listed, is_empty, listing, result_within};
-ghost use Rattle.pesp_search.specs.Marks.{sets_of};
+ghost use Rattle.pesp_search.specs.Marks.{IsSettled, sets_of};
 ghost use Rattle.pesp_search.specs.Revising.{AreLinks, IsFull, IsReady};
 ghost use Rattle.pesp_search.specs.Searches.{Branches, IsSearched, SearchGives, TakesEntry};
 
@@ -27,12 +27,12 @@ pub(crate) struct FoundTimes {
 }
 
 /// What an entry comes to: the times of a timetable, or none where it is the last one or another
-/// one is to come, with the flags of the events whose sets have changed for it.
+/// one is to come, with the event of its branch.
 #[derive(Debug, Drop)]
 pub(crate) enum Entry {
     Found(Vec<u32>),
     Last,
-    Next(EventFlags),
+    Next(usize),
 }
 
 /// Searches a timetable of a problem of a period, with so many entries at most. Each entry takes a
@@ -52,15 +52,16 @@ pub(crate) fn search_times<L: Ledger>(
     let mut sets = first_sets(alloc, pesp, period)?;
     let links = Links::new(alloc, pesp, period as usize)?;
     let mut changed = EventFlags::all(alloc, pesp.event_count())?;
+    let mut from = 0;
     for entry in 0..budget {
         steps.tick();
-        match take_entry(alloc, pesp, &links, &mut sets, changed)? {
+        match take_entry(alloc, pesp, &links, &mut sets, &mut changed, from)? {
             Entry::Found(times) => return Ok(FoundTimes {
                 times,
                 entries: entry + 1,
             }),
             Entry::Last => return Err(StageFault::Refused(Refusal::NoSolution)),
-            Entry::Next(flags) => changed = flags,
+            Entry::Next(event) => from = event,
         }
     }
     Err(StageFault::Refused(Refusal::Spent { entries: budget }))
@@ -77,40 +78,52 @@ fn first_sets(alloc: Global, pesp: &Pesp, period: u32) -> Result<TimeSets, NoMem
     Ok(TimeSets::new(alloc, marks))
 }
 
-// Takes an entry.
+// Takes an entry. No event before one has several times.
 fn take_entry(
     alloc: Global,
     pesp: &Pesp,
     links: &Links,
     sets: &mut TimeSets,
-    changed: EventFlags,
+    changed: &mut EventFlags,
+    from: usize,
 ) -> Result<Entry, NoMemory>
     requires period { sets.old.sets.period ≡ pesp.now.period }
     requires events { sets.old.sets.events ≡ pesp.now.events }
     requires links { AreLinks pesp.now (length pesp.now.activities) links.now }
-    requires ready { IsReady pesp.now sets.old changed }
-    ensures { IfOk result (TakesEntry pesp.now sets.old sets.new) }
+    requires ready { IsReady pesp.now sets.old changed.old }
+    requires settled { IsSettled sets.old.sets from }
+    ensures { IfOk result (TakesEntry pesp.now sets.old sets.new changed.new) }
 {
     let has_empty = reduce(pesp, links, sets, changed)?;
-    if let Some(times) = branch(alloc, sets, has_empty)? {
+    if let Some(times) = branch(alloc, sets, has_empty, from)? {
         return Ok(Entry::Found(times));
     }
     match next_child(sets)? {
-        Some(event) => Ok(Entry::Next(EventFlags::one(alloc, event, pesp.event_count())?)),
+        Some(event) => {
+            changed.set_alone(event);
+            Ok(Entry::Next(event))
+        }
         None => Ok(Entry::Last),
     }
 }
 
 // The times of reduced sets where each event has one. Where some event has several, the sets are
-// saved as a branch on the first such event, unless some event has none.
-fn branch(alloc: Global, sets: &mut TimeSets, has_empty: bool) -> Result<Option<Vec<u32>>, NoMemory>
-    requires { has_empty ≡ list_any is_empty (sets_of sets.old.sets) }
+// saved as a branch on the first such event, unless some event has none. No event before one has
+// several.
+fn branch(
+    alloc: Global,
+    sets: &mut TimeSets,
+    has_empty: bool,
+    from: usize,
+) -> Result<Option<Vec<u32>>, NoMemory>
+    requires empty { has_empty ≡ list_any is_empty (sets_of sets.old.sets) }
+    requires settled { IsSettled sets.old.sets from }
     ensures { IfOk result (Branches sets.old sets.new) }
 {
     if has_empty {
         return Ok(None);
     }
-    match first_open(sets.sets()) {
+    match first_open(sets.sets(), from) {
         Some(event) => {
             sets.save(Branch { event, from: 0 })?;
             Ok(None)

@@ -1,17 +1,18 @@
 // How a search stands where its sets are reduced.
 ghost use Rattle.std.specs.Prelude.{◌≡◌, ◌<◌, position, slice_index_or, IfOk};
 ghost use Rattle.pesp_search.specs.Listings.{first_times, has_several};
-ghost use Rattle.pesp_search.specs.Marks.{sets_of, times_from};
+ghost use Rattle.pesp_search.specs.Marks.{IsSettled, sets_of, times_from};
 
 use crate::marks::TimeMarks;
 use plan_num::NoMemory;
 use std::alloc::Global;
 
-/// The first event to which several times are left.
-pub(crate) fn first_open(sets: &TimeMarks) -> Option<usize>
+/// The first event to which several times are left. No event before one has several.
+pub(crate) fn first_open(sets: &TimeMarks, from: usize) -> Option<usize>
+    requires { IsSettled sets.now from }
     ensures { result ≡ position has_several (sets_of sets.now) }
 {
-    for event in 0..sets.events() {
+    for event in from..sets.events() {
         if sets.count(event) > 1 {
             return Some(event);
         }

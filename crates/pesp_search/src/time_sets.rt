@@ -1,6 +1,6 @@
 // Sets of times that are changed and restored.
-ghost use Rattle.std.specs.Prelude.{◌≡◌, ◌<◌, ◌∷◌, [], true, false, OnOk};
-ghost use Rattle.pesp_search.specs.Marks.{AreMarks, Restores, is_left, with_mark};
+ghost use Rattle.std.specs.Prelude.{◌≡◌, ◌<◌, ◌∷◌, [], IfOk, OnOk};
+ghost use Rattle.pesp_search.specs.Marks.{AreMarks, KeepsBits, Restores, words_of};
 
 use crate::marks::TimeMarks;
 use plan_num::NoMemory;
@@ -14,11 +14,11 @@ pub(crate) struct Branch {
     pub(crate) from: usize,
 }
 
-/// A change of sets: a time was taken out of the set of an event, or the sets were saved at a
-/// branch.
+/// A change of sets: a word of the set of an event was another one before, or the sets were saved
+/// at a branch.
 #[derive(Clone, Copy, Debug, PartialEq, Eq)]
 pub(crate) enum Change {
-    Removed(usize, usize),
+    Replaced(usize, usize, u64),
     Branched(Branch),
 }
 
@@ -63,17 +63,26 @@ impl TimeSets {
         &self.sets
     }
 
-    /// Takes a time out of the set of an event.
-    pub(crate) fn remove(&mut self, event: usize, time: usize) -> Result<(), NoMemory>
+    /// Takes the times of a word that have no bit out of the set of an event, and tells whether
+    /// there were any.
+    pub(crate) fn keep_bits(
+        &mut self,
+        event: usize,
+        index: usize,
+        keep: u64,
+    ) -> Result<bool, NoMemory>
         requires event { event < self.old.sets.events }
-        requires time { time < self.old.sets.period }
-        requires left { is_left self.old.sets event time ≡ true }
-        ensures { OnOk result (self.new
-            ≡ record { sets = with_mark self.old.sets event time false; saved = self.old.saved }) }
+        requires index { index < words_of self.old.sets.period }
+        ensures { IfOk result (KeepsBits self.old self.new event index keep) }
     {
-        self.changes.push(Change::Removed(event, time))?;
-        self.sets.mark(event, time, false);
-        Ok(())
+        let old = self.sets.word(event, index);
+        let new = old & keep;
+        if new == old {
+            return Ok(false);
+        }
+        self.changes.push(Change::Replaced(event, index, old))?;
+        self.sets.put_word(event, index, new);
+        Ok(true)
     }
 
     /// Saves the sets at a branch.
@@ -95,7 +104,7 @@ impl TimeSets {
     {
         while let Some(change) = self.changes.pop() {
             match change {
-                Change::Removed(event, time) => self.sets.mark(event, time, true),
+                Change::Replaced(event, index, word) => self.sets.put_word(event, index, word),
                 Change::Branched(branch) => return Some(branch),
             }
         }

@@ -39,14 +39,6 @@ pub(crate) fn first_bit(word: u64, from: usize) -> Option<usize>
     Some(from + rest.trailing_zeros() as usize)
 }
 
-/// The bits of a word that another word does not have.
-pub(crate) fn besides(word: u64, other: u64) -> u64
-    ensures { (bit : ℕ) → bit < 64
-        → has_bit result bit ≡ (has_bit word bit && not (has_bit other bit)) }
-{
-    word & !other
-}
-
 /// The first bits of a word, so many, and none of the others.
 pub(crate) fn cut(word: u64, count: usize) -> u64
     ensures { (bit : ℕ) → bit < 64 → has_bit result bit ≡ (nat_lt bit count && has_bit word bit) }

@@ -1,17 +1,26 @@
-use Rattle.std.proofs.Common.{◌<◌, subst, sym}
-use Rattle.pesp_search.proofs.Pruned.{prune_over, prune_turn}
+use Rattle.std.proofs.Common.{◌∙◌, ◌<◌, ◌*◌, ◌+◌, ap, arith, subst, sym}
+use Rattle.pesp_search.specs.Marks.{Marks, Prunes, words_of}
+use Rattle.pesp_search.proofs.Pruned.{prune_ended, prune_word, stays_below}
 use Rattle.pesp_search.proofs.prune.prune.Goals as goal
 
-pub loop-time-preserved : goal.loop-time-preserved
-loop-time-preserved c =
-    prune_turn c.args.sets.now c.loop-time.sets c.remove.new.self c.sets.result.now c.args.event
-    c.args.keep.now c.loop-time.from c.in-Some.time c.loop-time.changes c.sets.ensures
-    c.in-Some.ensures.sound
-    (subst (λ events. c.args.event < events) (sym c.loop-time.invariant.events) c.requires.event)
-    c.loop-time.invariant c.in-Some.ensures.next c.in_ok-remove.ensures
+pub loop-index-preserved : goal.loop-index-preserved
+loop-index-preserved c =
+    let so = c.loop-index.invariant in
+    let width = c.width-index-end.ensures.value
+    ∙ ap (λ (sets : Marks). words_of sets.period) c.sets.ensures
+    ∙ ap words_of (sym so.period) in
+    subst (Prunes c.args.sets.now c.keep_bits.new.self
+    (stays_below c.args.event c.args.keep.now (64 * (c.loop-index.index + 1))))
+    (sym c.any_of-changes.ensures)
+    (prune_word c.args.sets.now c.loop-index.sets c.keep_bits.new.self c.args.event
+    c.loop-index.index c.args.keep.now c.loop-index.changes c.in_ok-keep_bits.field-0
+    (subst (λ events. c.args.event < events) (sym so.events) c.requires.event)
+    (omega (arith, c.loop-index-test.true, width)) so c.in_ok-keep_bits.ensures)
 
 pub returns : goal.returns
 returns c =
-    prune_over c.args.sets.now c.loop-time.sets c.sets.result.now c.args.event c.args.keep.now
-    c.loop-time.from
-    c.loop-time.changes c.sets.ensures c.loop-time.invariant c.in_default.ensures.next
+    let width = c.width-index-end.ensures.value
+    ∙ ap (λ (sets : Marks). words_of sets.period) c.sets.ensures in
+    prune_ended c.args.sets.now c.loop-index.sets c.args.event c.args.keep.now
+    (64 * c.loop-index.index) c.loop-index.changes c.loop-index.invariant
+    (omega (arith, c.loop-index-test.false, c.loop-index.auto.index-end, width))

@@ -8,13 +8,13 @@ use Rattle.pesp_search.proofs.Sweeping.{when_true}
 use Rattle.pesp_search.proofs.reduce.reduce.Goals as goal
 
 pub loop-sets-init : goal.loop-sets-init
-loop-sets-init c = reducing_begun c.args.pesp.now c.args.sets.now c.args.changed c.requires.ready
+loop-sets-init c = reducing_begun c.args.pesp.now c.args.sets.now c.args.changed.now c.requires.ready
 
 pub returns-then-branch-clause-reduces : goal.returns-then-branch-clause-reduces
 returns-then-branch-clause-reduces c =
     let dead = when_true (Dies c.args.pesp.now c.loop-sets.sets c.sweep.new.sets)
     (Sweeps c.args.pesp.now c.loop-sets.sets c.sweep.new.sets c.sweep.new.changed)
-    c.in_ok-sweep.field-0 c.if-branch.true c.in_ok-sweep.ensures in
+    c.in_ok-sweep.field-0 c.if-branch.true c.in_ok-sweep.ensures.sweeps in
     dead_stands c.args.pesp.now c.event_count.ensures.problem c.args.sets.now c.sweep.new.sets
     c.requires.period c.requires.events
     (both_propagate c.args.pesp.now c.args.sets.now c.loop-sets.sets c.sweep.new.sets
@@ -26,7 +26,7 @@ loop-sets-preserved c =
     c.loop-sets.changed c.sweep.new.changed c.loop-sets.invariant
     (when_false (Dies c.args.pesp.now c.loop-sets.sets c.sweep.new.sets)
     (Sweeps c.args.pesp.now c.loop-sets.sets c.sweep.new.sets c.sweep.new.changed)
-    c.in_ok-sweep.field-0 c.if-branch.false c.in_ok-sweep.ensures)
+    c.in_ok-sweep.field-0 c.if-branch.false c.in_ok-sweep.ensures.sweeps)
 
 pub returns-clause-reduces : goal.returns-clause-reduces
 returns-clause-reduces c =
@@ -40,7 +40,14 @@ pub returns-then-branch-clause-empty : goal.returns-then-branch-clause-empty
 returns-then-branch-clause-empty c =
     sym (when_true (Dies c.args.pesp.now c.loop-sets.sets c.sweep.new.sets)
     (Sweeps c.args.pesp.now c.loop-sets.sets c.sweep.new.sets c.sweep.new.changed)
-    c.in_ok-sweep.field-0 c.if-branch.true c.in_ok-sweep.ensures).empty
+    c.in_ok-sweep.field-0 c.if-branch.true c.in_ok-sweep.ensures.sweeps).empty
 
 pub returns-clause-empty : goal.returns-clause-empty
 returns-clause-empty c = sym (c.loop-sets.invariant.full c.requires.ready.full)
+
+pub returns-then-branch-clause-each : goal.returns-then-branch-clause-each
+returns-then-branch-clause-each c =
+    c.in_ok-sweep.ensures.each ∙ c.loop-sets.invariant.each ∙ sym c.requires.ready.each
+
+pub returns-clause-each : goal.returns-clause-each
+returns-clause-each c = c.loop-sets.invariant.each ∙ sym c.requires.ready.each

@@ -1,4 +1,4 @@
-use Rattle.std.proofs.Common.{arith}
+use Rattle.std.proofs.Common.{◌∙◌, arith, sym}
 use Rattle.pesp_search.specs.Revising.{Dies, Visits}
 use Rattle.pesp_search.proofs.Linked.{links_at}
 use Rattle.pesp_search.proofs.Sweeping.{sweep_begun, sweep_died, sweep_ended, sweep_turn}
@@ -19,14 +19,14 @@ visit-requires-clause-links c =
 pub overflow_add-from : goal.overflow_add-from
 overflow_add-from c = omega (arith, c.in-Some.ensures.next.1, c.in-Some.ensures.sound.few)
 
-pub returns-then-branch : goal.returns-then-branch
-returns-then-branch c =
+pub returns-then-branch-clause-sweeps : goal.returns-then-branch-clause-sweeps
+returns-then-branch-clause-sweeps c =
     sweep_died c.args.pesp.now c.args.sets.now c.loop-event.sets c.visit.new.sets
     c.loop-event.changed
     c.loop-event.from c.loop-event.invariant (when_true
     (Dies c.args.pesp.now c.loop-event.sets c.visit.new.sets)
     (Visits c.args.pesp.now c.in-Some.event c.loop-event.sets c.visit.new.sets c.loop-event.changed
-    c.visit.new.changed) c.in_ok-visit.field-0 c.if-branch.true c.in_ok-visit.ensures)
+    c.visit.new.changed) c.in_ok-visit.field-0 c.if-branch.true c.in_ok-visit.ensures.visits)
 
 pub loop-event-preserved : goal.loop-event-preserved
 loop-event-preserved c =
@@ -35,10 +35,17 @@ loop-event-preserved c =
     c.visit.new.changed c.loop-event.from c.in-Some.event c.loop-event.invariant
     c.in-Some.ensures.next (when_false (Dies c.args.pesp.now c.loop-event.sets c.visit.new.sets)
     (Visits c.args.pesp.now c.in-Some.event c.loop-event.sets c.visit.new.sets c.loop-event.changed
-    c.visit.new.changed) c.in_ok-visit.field-0 c.if-branch.false c.in_ok-visit.ensures)
+    c.visit.new.changed) c.in_ok-visit.field-0 c.if-branch.false c.in_ok-visit.ensures.visits)
 
-pub returns : goal.returns
-returns c =
+pub returns-clause-sweeps : goal.returns-clause-sweeps
+returns-clause-sweeps c =
     sweep_ended c.args.pesp.now c.args.sets.now c.loop-event.sets c.loop-event.changed
     c.loop-event.from
     c.in_default.ensures.sound c.loop-event.invariant c.in_default.ensures.next
+
+pub returns-then-branch-clause-each : goal.returns-then-branch-clause-each
+returns-then-branch-clause-each c =
+    c.in_ok-visit.ensures.each ∙ c.loop-event.invariant.each ∙ sym c.requires.each
+
+pub returns-clause-each : goal.returns-clause-each
+returns-clause-each c = c.loop-event.invariant.each ∙ sym c.requires.each

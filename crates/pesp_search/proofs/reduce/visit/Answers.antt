@@ -12,8 +12,8 @@ loop-index-init c =
     c.args.changed.now c.put.ensures.sound
     (omega (arith, c.requires.event, c.requires.each)) c.requires.links c.requires.revised)
 
-pub returns-then-branch : goal.returns-then-branch
-returns-then-branch c =
+pub returns-then-branch-clause-visits : goal.returns-then-branch-clause-visits
+returns-then-branch-clause-visits c =
     visit_died c.args.pesp.now c.args.event c.args.indexes.now c.args.sets.now c.loop-index.sets
     c.revise.new.sets c.args.changed.now c.loop-index.changed c.revise.new.changed
     c.loop-index.index-index
@@ -32,8 +32,15 @@ loop-index-preserved c =
     (c.loop-index.invariant.propagates.period ∙ c.requires.period) c.in_ok-revise.ensures.revises
     (c.in_ok-revise.ensures.full c.if-branch.false)
 
-pub returns : goal.returns
-returns c =
+pub returns-clause-visits : goal.returns-clause-visits
+returns-clause-visits c =
     visit_ended c.args.pesp.now c.args.event c.args.indexes.now c.args.sets.now c.loop-index.sets
     c.args.changed.now c.loop-index.changed c.loop-index.index-index c.loop-index.invariant (omega
     arith)
+
+pub returns-then-branch-clause-each : goal.returns-then-branch-clause-each
+returns-then-branch-clause-each c =
+    c.in_ok-revise.ensures.revises.0.each ∙ c.loop-index.invariant.each
+
+pub returns-clause-each : goal.returns-clause-each
+returns-clause-each c = c.loop-index.invariant.each

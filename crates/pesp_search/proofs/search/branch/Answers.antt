@@ -14,7 +14,7 @@ save-requires c = record {
 pub returns-in_ok-save-in-Some : goal.returns-in_ok-save-in-Some
 returns-in_ok-save-in-Some c =
     branched c.args.sets.now c.save.new.self c.in-Some.event
-    (sym c.requires ∙ c.if-has_empty.false)
+    (sym c.requires.empty ∙ c.if-has_empty.false)
     (sym (c.in-Some.ensures ∙ ap (λ (sets : Marks). position has_several (sets_of sets))
     c.sets.ensures))
     c.in_ok-save-in-Some.ensures

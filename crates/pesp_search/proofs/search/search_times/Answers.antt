@@ -20,7 +20,8 @@ returns-in_err-times-clause-steps g c =
 
 pub returns-in-Found-clause-found : goal.returns-in-Found-clause-found
 returns-in-Found-clause-found g c =
-    let taken = subst (TakesEntry c.args.pesp.now c.loop-entry.sets c.take_entry.new.sets)
+    let taken = subst (TakesEntry c.args.pesp.now c.loop-entry.sets c.take_entry.new.sets
+    c.take_entry.new.changed)
     c.in-Found.is
     c.in_ok-times.ensures in
     (search_ended c.args.pesp.now c.loop-entry.sets c.loop-entry.entry c.args.budget
@@ -28,7 +29,8 @@ returns-in-Found-clause-found g c =
 
 pub returns-in-Found-clause-steps : goal.returns-in-Found-clause-steps
 returns-in-Found-clause-steps g c =
-    let taken = subst (TakesEntry c.args.pesp.now c.loop-entry.sets c.take_entry.new.sets)
+    let taken = subst (TakesEntry c.args.pesp.now c.loop-entry.sets c.take_entry.new.sets
+    c.take_entry.new.changed)
     c.in-Found.is
     c.in_ok-times.ensures in
     let listed = (search_ended c.args.pesp.now c.loop-entry.sets c.loop-entry.entry c.args.budget
@@ -37,7 +39,8 @@ returns-in-Found-clause-steps g c =
 
 pub returns-in-Last-clause-found : goal.returns-in-Last-clause-found
 returns-in-Last-clause-found g c =
-    let taken = subst (TakesEntry c.args.pesp.now c.loop-entry.sets c.take_entry.new.sets)
+    let taken = subst (TakesEntry c.args.pesp.now c.loop-entry.sets c.take_entry.new.sets
+    c.take_entry.new.changed)
     c.in-Last.is
     c.in_ok-times.ensures in
     (search_ended c.args.pesp.now c.loop-entry.sets c.loop-entry.entry c.args.budget None
@@ -45,7 +48,8 @@ returns-in-Last-clause-found g c =
 
 pub returns-in-Last-clause-steps : goal.returns-in-Last-clause-steps
 returns-in-Last-clause-steps g c =
-    let taken = subst (TakesEntry c.args.pesp.now c.loop-entry.sets c.take_entry.new.sets)
+    let taken = subst (TakesEntry c.args.pesp.now c.loop-entry.sets c.take_entry.new.sets
+    c.take_entry.new.changed)
     c.in-Last.is
     c.in_ok-times.ensures in
     let listed = (search_ended c.args.pesp.now c.loop-entry.sets c.loop-entry.entry c.args.budget
@@ -80,12 +84,14 @@ loop-entry-init g c = record {
         c.event_count.ensures.count,
       )))
       c.in_ok-sets.ensures.saved c.in_ok-sets.ensures.full;
+  settled = λ event low. absurd (omega (arith, low));
   steps = omega arith;
 }
 
 pub loop-entry-preserved : goal.loop-entry-preserved
 loop-entry-preserved g c =
-    let taken = subst (TakesEntry c.args.pesp.now c.loop-entry.sets c.take_entry.new.sets)
+    let taken = subst (TakesEntry c.args.pesp.now c.loop-entry.sets c.take_entry.new.sets
+    c.take_entry.new.changed)
     c.in-Next.is
     c.in_ok-times.ensures in
     record {
@@ -93,5 +99,6 @@ loop-entry-preserved g c =
           c.loop-entry.entry
           c.loop-entry.invariant.searched taken.0 taken.1 taken.2;
       ready = taken.3;
+      settled = taken.4;
       steps = omega (arith, c.tick.ensures, c.loop-entry.invariant.steps);
     }

@@ -1,16 +1,11 @@
-use Rattle.std.proofs.Common.{◌∙◌, ◌<◌, arith, ap, sym}
-use Rattle.std.specs.List.{position_from}
+use Rattle.std.proofs.Common.{◌∙◌, ◌<◌, arith, sym}
 use Rattle.std.proofs.lemmas.Bool.{le-ltb, lt-ltb}
-use Rattle.pesp_model.proofs.FirstBroken.{place_start}
 use Rattle.pesp_search.specs.Listings.{has_several}
-use Rattle.pesp_search.specs.Marks.{sets_of}
-use Rattle.pesp_search.proofs.NextSets.{no_place, place_here, place_later, sets_all}
+use Rattle.pesp_search.proofs.NextSets.{no_place, place_behind, place_here, place_later}
 use Rattle.pesp_search.proofs.standing.first_open.Goals as goal
 
 pub loop-event-init : goal.loop-event-init
-loop-event-init c =
-    place_start has_several (sets_of c.args.sets.now)
-    ∙ ap (position_from has_several 0) (sets_all c.args.sets.now)
+loop-event-init c = place_behind c.args.sets.now has_several c.args.from c.requires
 
 pub loop-event-preserved : goal.loop-event-preserved
 loop-event-preserved c =

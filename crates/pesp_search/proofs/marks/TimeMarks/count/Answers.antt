@@ -15,7 +15,7 @@ loop-index-preserved c = record {
   counted = ap (λ n. n + count_ones c.word.result) c.loop-index.invariant.counted
       ∙ sym (word_counted c.args.self.now c.args.event c.loop-index.index c.word.result
       c.word.type_inv
-      c.word.ensures);
+      c.word.ensures.value);
 }
 
 pub returns : goal.returns

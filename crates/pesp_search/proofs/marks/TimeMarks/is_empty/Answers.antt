@@ -7,12 +7,12 @@ returns-then-word-ne0 c =
     sym (some_in_word c.args.self.now c.args.event c.loop-index.index c.word.result
     c.width-index-end.ensures.sound c.requires.event (omega arith) c.word.type_inv
     c.if-word-ne0.true
-    c.word.ensures)
+    c.word.ensures.value)
 
 pub loop-index-preserved : goal.loop-index-preserved
 loop-index-preserved c =
     zero_word c.args.self.now c.args.event c.loop-index.index c.word.result c.if-word-ne0.false
-    c.word.ensures c.loop-index.invariant
+    c.word.ensures.value c.loop-index.invariant
 
 pub returns : goal.returns
 returns c =

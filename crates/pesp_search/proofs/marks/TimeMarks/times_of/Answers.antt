@@ -15,7 +15,7 @@ pub loop-index-preserved : goal.loop-index-preserved
 loop-index-preserved c = record {
   long = length-set c.loop-index.times c.loop-index.index _ ∙ c.loop-index.invariant.long;
   each = one_copied c.args.self.now c.args.event c.loop-index.index c.word.result c.loop-index.times
-      (omega arith) c.word.ensures c.loop-index.invariant.each;
+      (omega arith) c.word.ensures.value c.loop-index.invariant.each;
 }
 
 pub returns-clause-each : goal.returns-clause-each

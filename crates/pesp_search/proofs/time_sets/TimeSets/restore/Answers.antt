@@ -1,22 +1,33 @@
 use Rattle.std.proofs.Common.{◌∙◌, All, ap, arith, subst, sym}
 use Rattle.pesp_search.specs.Marks.{IsChange, Marks}
 use Rattle.pesp_search.proofs.Changes.{last_holds, none_left, others_hold, popped_branched}
-use Rattle.pesp_search.proofs.Changes.{popped_removed}
+use Rattle.pesp_search.proofs.Changes.{popped_replaced}
 use Rattle.pesp_search.proofs.time_sets.TimeSets.restore.Goals as goal
+
+pub put_word-requires : goal.put_word-requires
+put_word-requires c =
+    let so = subst (IsChange c.loop-change.self-inside.sets.period
+    c.loop-change.self-inside.sets.events) c.in-Replaced.is
+    (last_holds (IsChange c.loop-change.self-inside.sets.period
+    c.loop-change.self-inside.sets.events)
+    c.loop-change.self-inside.changes.items c.pop.new.self.items c.in-Some.change
+    c.in-Some.ensures.items c.loop-change.invariant.changes) in
+    record { event = so.0; index = so.1; word = so.2 }
 
 pub loop-change-preserved : goal.loop-change-preserved
 loop-change-preserved c = record {
-  period = ap (λ (sets : Marks). sets.period) c.mark.ensures.marked
+  period = ap (λ (sets : Marks). sets.period) c.put_word.ensures.put
       ∙ c.loop-change.invariant.period;
-  events = ap (λ (sets : Marks). sets.events) c.mark.ensures.marked
+  events = ap (λ (sets : Marks). sets.events) c.put_word.ensures.put
       ∙ c.loop-change.invariant.events;
-  saved = popped_removed c.loop-change.self-inside.sets c.mark.new.self
+  saved = popped_replaced c.loop-change.self-inside.sets c.put_word.new.self
       c.loop-change.self-inside.changes.items c.pop.new.self.items c.in-Some.change
-      c.in-Removed.event
-      c.in-Removed.time c.in-Some.ensures.items c.in-Removed.is c.mark.ensures.marked
+      c.in-Replaced.event
+      c.in-Replaced.index c.in-Replaced.word c.in-Some.ensures.items c.in-Replaced.is
+      c.put_word.ensures.put
       ∙ c.loop-change.invariant.saved;
   changes = subst (λ (now : Marks). All (IsChange now.period now.events) c.pop.new.self.items)
-      (sym c.mark.ensures.marked)
+      (sym c.put_word.ensures.put)
       (others_hold (IsChange c.loop-change.self-inside.sets.period
       c.loop-change.self-inside.sets.events)
       c.loop-change.self-inside.changes.items c.pop.new.self.items c.in-Some.change
