@@ -20,7 +20,7 @@ pub(crate) fn check<F: Files, K: Sink>(alloc: Global, files: &mut F, out: &mut K
         CheckTells folder (K.written out.old) (K.written out.new) result) }
     ensures passes { IfSome (F.contents files.old) (λ folder.
         result ≡ Status.Done → PassesIn folder) }
-    ensures runs_pass { (folder : Folder) → RunsPass folder }
+    ensures runs_pass { (mode : Mode) (folder : Folder) → RunsPass mode folder }
     ensures contents { F.contents files.new ≡ F.contents files.old }
     ensures writes { F.writes files.new ≡ F.writes files.old }
     ensures file_fault { result ≡ Status.FileFault →

@@ -88,7 +88,7 @@ pub fn lintim<F: Files, K: Sink, L: Ledger>(
     ensures check_changes_nothing { Asks commands.Check words.now →
         ChangesNothing (F.contents files.old) (F.contents files.new)
         (F.writes files.old) (F.writes files.new) steps.old steps.new }
-    ensures runs_pass { (folder : Folder) → RunsPass folder }
+    ensures runs_pass { (mode : Mode) (folder : Folder) → RunsPass mode folder }
 
     // What is told of the states of a told folder's stages. Nothing is changed.
     ensures status_tells { Asks commands.Status words.now →

@@ -20,7 +20,7 @@ use Rattle.stage_chain.specs.Right.{IsLeftRight, StandRightIn}
 use Rattle.stage_chain.specs.Runs.{AreNotAll, IsFromScratch, IsLeft, IsOutcome, IsUnfinished, Trusts}
 use Rattle.stage_chain.specs.Runs.{removed, run_over, started, without_keep, writes_of}
 use Rattle.stage_chain.proofs.HandAlone.{over_alone}
-use Rattle.stage_chain.proofs.Keeping.{from_scratch}
+use Rattle.stage_chain.proofs.Keeping.{from_scratch, nothing_honest}
 use Rattle.stage_chain.proofs.KeptAfter.{honest_after, none_again}
 use Rattle.stage_chain.proofs.Left.{after_is, fresh_left}
 use Rattle.stage_chain.proofs.LeftRight.{left_in}
@@ -50,7 +50,7 @@ fresh_hand folder = same_folder (files.retain_keys (without_keep folder) is_hand
         ∙ sym (ap (λ hand. cond hand (files.get folder name) None) (kept_no_hand name is))
     by name false is = refl
 
-fresh_none : (folder : Folder) (at : Stage) → files.get (without_keep folder) (keep_name at) ≡ None
+pub fresh_none : (folder : Folder) (at : Stage) → files.get (without_keep folder) (keep_name at) ≡ None
 fresh_none folder at =
     fresh_gets folder (keep_name at)
     ∙ ap (λ kept. cond (not kept) (files.get folder (keep_name at)) None) (own_keep at)
@@ -58,13 +58,10 @@ fresh_none folder at =
 module _ (S : StageParts) (laws : AreStages S) where
   -- it keeps nothing
   fresh_honest : (folder : Folder) → IsKeptHonest S (without_keep folder)
-  fresh_honest folder = λ at bytes there. absurd (never bytes (sym (fresh_none folder at) ∙ there))
-    where
-      never : (bytes : List ℕ) → None ≡ Some bytes → ⊥
-      never bytes e = cc
+  fresh_honest folder = nothing_honest S laws (without_keep folder) (fresh_none folder)
 
   -- what a run goes over is honest where it trusts what is kept, and where it is fresh
-  honest_start : (by : Mode) (folder : Folder) → Trusts S by folder → IsKeptHonest S (started by folder)
+  pub honest_start : (by : Mode) (folder : Folder) → Trusts S by folder → IsKeptHonest S (started by folder)
   honest_start mode.Make folder trusts = trusts
   honest_start mode.Fresh folder trusts = fresh_honest folder
 

@@ -1,7 +1,7 @@
 -- The folder that a finished run leaves passes a check.
 use Rattle.config_keys.specs.Config.{last_stage_of}
 use Rattle.std.proofs.Common.{map, nat_le}
-use Rattle.std.proofs.Common.{◌≡◌, ℤ, suc, Bool, true, false, cond, List, [], ◌∷◌, ◌++◌, length, Option, Some, None, Result, Ok, Err, refl, ap, subst, sym, ◌∙◌, arith}
+use Rattle.std.proofs.Common.{◌≡◌, ℤ, suc, Bool, true, false, cond, List, [], ◌∷◌, ◌++◌, length, Option, Some, None, IfSome, Result, Ok, Err, refl, ap, subst, sym, ◌∙◌, arith}
 use Rattle.std.specs.Option.{option_or}
 use Rattle.plan_files.specs.Folder.{Folder}
 use Rattle.giv_files.specs.declared.made.Made.{Made}
@@ -26,7 +26,9 @@ use Rattle.stage_chain.specs.Passing.{RunsPass}
 use Rattle.stage_chain.specs.Reports.{end_of, end_of_refusal}
 use Rattle.stage_chain.specs.Right.{AllStandRight, files_by, text_in}
 use Rattle.stage_chain.specs.Kept.{IsKeptHonest}
-use Rattle.stage_chain.specs.Runs.{after, run_over}
+use Rattle.stage_chain.specs.Runs.{Trusts, after, run_over, started}
+use Rattle.stage_chain.specs.declared.outcome.Mode.{Mode}
+use Rattle.stage_chain.proofs.BothModes.{honest_start}
 use Rattle.stage_chain.proofs.Keeping.{from_scratch}
 use Rattle.stage_chain.proofs.LeftRight.{left_by, run_files, settings_after}
 use Rattle.stage_chain.proofs.Placed.{ArePlaced}
@@ -171,13 +173,24 @@ never : (reason : ConfigFault) → end.BadInput ≡ end.Done → ⊥
 never reason done = absurd (cc)
 
 module _ (S : StageParts) (laws : AreStages S) where
-  pub runs_pass : (folder : Folder) → RunsPass S folder
-  unfolding RunsPass
-  runs_pass folder = λ honest done. by honest (sym (from_scratch S laws folder honest).end ∙ done)
+  honest_passes : (folder : Folder) → IsKeptHonest S folder → (run_over S folder).end ≡ end.Done
+      → check_of S (after S folder) ≡ None
+  honest_passes folder honest done = by (sym (from_scratch S laws folder honest).end ∙ done)
     where
-      by : IsKeptHonest S folder → (made S (hand_of folder)).end ≡ end.Done
-          → check_of S (after S folder) ≡ None
-      by honest done = traced S laws (hand_of folder) (λ trace. trace_of S (hand_of folder) ≡ trace → check_of S (after S folder) ≡ None)
+      by : (made S (hand_of folder)).end ≡ end.Done → check_of S (after S folder) ≡ None
+      by done = traced S laws (hand_of folder) (λ trace. trace_of S (hand_of folder) ≡ trace → check_of S (after S folder) ≡ None)
           (λ reason is same. absurd (never reason (sym (end_by S laws (hand_of folder) (trace_under S (Err reason) (hand_of folder)) same) ∙ done)))
           (λ values is same. passes_under S laws folder values is (run_files S laws folder honest (chain S laws values (hand_of folder)) same) (no_cause (chain S laws values (hand_of folder)).halt (sym (end_by S laws (hand_of folder) (chain S laws values (hand_of folder)) same) ∙ done)))
           refl
+
+  pub runs_pass : (by : Mode) (folder : Folder) → RunsPass S by folder
+  unfolding RunsPass
+  runs_pass by folder = λ trusts done. honest_passes (started by folder) (honest_start S laws by folder trusts) done
+
+  -- so the folder passes that a finished run left
+  pub passes_left : (by : Mode) (read : Folder) (left : Option Folder) → left ≡ Some (after S (started by read))
+      → Trusts S by read → (run_over S (started by read)).end ≡ end.Done
+      → IfSome left (λ folder. check_of S folder ≡ None)
+  unfolding RunsPass
+  passes_left by read left is trusts done =
+      subst (λ left. IfSome left (λ folder. check_of S folder ≡ None)) (sym is) (runs_pass by read trusts done)

@@ -24,7 +24,7 @@ use Rattle.stage_chain.specs.Built.{told_by, trace_of}
 use Rattle.stage_chain.specs.Chain.{Trace, bundle_told, chain_from, go_on, input_text, texts_of, to_run}
 use Rattle.stage_chain.specs.Chain.{tried, visit_of}
 use Rattle.stage_chain.specs.Hand.{hand_of}
-use Rattle.stage_chain.specs.Kept.{IsKeptHonest, kept_in, kept_or, made_over, solve_over, trace_over, work_over}
+use Rattle.stage_chain.specs.Kept.{IsKeptHonest, KeepsNothing, kept_in, kept_or, made_over, solve_over, trace_over, work_over}
 use Rattle.stage_chain.specs.Reports.{end_of, last_line, stage_lines}
 use Rattle.stage_chain.specs.Runs.{IsFromScratch, run_over}
 use Rattle.stage_chain.proofs.MadeRight.{given_fits}
@@ -102,7 +102,14 @@ module _ (S : StageParts) (laws : AreStages S) where
 
   -- ---- where nothing is kept
 
-  module _ (folder : Folder) (none : (stage : Stage) → files.get folder (keep_name stage) ≡ None) where
+  -- what keeps nothing is honest
+  pub nothing_honest : (folder : Folder) → KeepsNothing folder → IsKeptHonest S folder
+  nothing_honest folder none = λ stage bytes there. absurd (never bytes (sym (none stage) ∙ there))
+    where
+      never : (bytes : List ℕ) → None ≡ Some bytes → ⊥
+      never bytes is = cc
+
+  module _ (folder : Folder) (none : KeepsNothing folder) where
     none_kept : (bundle : BundleParts) → kept_in folder bundle ≡ None
     none_kept bundle = ap (kept_for bundle) (none bundle.stage)
 
@@ -114,8 +121,5 @@ module _ (S : StageParts) (laws : AreStages S) where
     pub nothing_kept : run_over S folder ≡ made S (hand_of folder)
     unfolding made made_over
     nothing_kept =
-        ap (told_by (work_over S folder)) (honest_trace folder (λ stage bytes there. absurd (never bytes (sym (none stage) ∙ there))) (hand_of folder))
+        ap (told_by (work_over S folder)) (honest_trace folder (nothing_honest folder none) (hand_of folder))
         ∙ ap (λ work. told_by work (trace_of S (hand_of folder))) (λ i bundle. all_work bundle i)
-      where
-        never : (bytes : List ℕ) → None ≡ Some bytes → ⊥
-        never bytes is = cc

@@ -80,13 +80,13 @@ module _ (S : StageParts) (laws : AreStages S) where
       (and_parts _ _ (differ_swap names (keep_name at ∷ []) out)).0
 
   module _ (folder : Folder) where
-    abbrev run_visits : List Visit
+    abbrev pub run_visits : List Visit
     run_visits = (trace_over S folder (hand_of folder)).visits
 
-    abbrev made_base : Folder
+    abbrev pub made_base : Folder
     made_base = with_files (files_of run_visits) (without_made S folder)
 
-    base_keeps : (at : Stage) → files.get made_base (keep_name at) ≡ files.get folder (keep_name at)
+    pub base_keeps : (at : Stage) → files.get made_base (keep_name at) ≡ files.get folder (keep_name at)
     base_keeps at =
         let apart = are_apart S laws folder (hand_of folder) in
         let out = not_among (map name_of (files_of run_visits)) (keep_name at) (apart.within (λ name. not (bytes_eq (keep_name at) name)) (built_apart_of at)) in
@@ -172,11 +172,11 @@ KeepsOn left keep (at ∷ stages) (visit ∷ visits) =
     × KeepsOn left keep stages visits
 
 -- each stage that was made is kept
-abbrev AreKept : Folder → List Visit → Type 0
+abbrev pub AreKept : Folder → List Visit → Type 0
 AreKept left [] = ⊤
 AreKept left (visit ∷ visits) = (kept_in left visit.bundle ≡ Some visit.made) × AreKept left visits
 
-kept_none : (left : Folder) (visits : List Visit) → AreKept left visits → new_entries left visits ≡ []
+pub kept_none : (left : Folder) (visits : List Visit) → AreKept left visits → new_entries left visits ≡ []
 kept_none left [] h = refl
 kept_none left (visit ∷ visits) h =
     ap (λ kept. cond (is_some kept) [] (entry_put visit.bundle visit.made ∷ []) ++ new_entries left visits) h.0

@@ -1,11 +1,14 @@
 pub mod BothModes
 pub mod CheckedRuns
 pub mod Differing
+pub mod Endings
+pub mod FreshKeep
 pub mod Gathering
 pub mod Going
 pub mod HandAlone
 pub mod HandFiles
 pub mod HandKept
+pub mod IdleRuns
 pub mod Judging
 pub mod Keeping
 pub mod KeptAfter
@@ -17,6 +20,7 @@ pub mod MadeParts
 pub mod MadeRight
 pub mod MadeTexts
 pub mod MadeThere
+pub mod NextRuns
 pub mod Passed
 pub mod Pieces
 pub mod Placed

@@ -22,7 +22,7 @@ use Rattle.stage_chain.specs.StageLists.{differing, differs_from}
 abbrev pub names_of : List MadeFile → List (List ℕ)
 names_of made = map name_of made
 
-neither : (a b : Bool) → (a || b) ≡ false → (a ≡ false) × (b ≡ false)
+pub neither : (a b : Bool) → (a || b) ≡ false → (a ≡ false) × (b ≡ false)
 neither true b e = absurd (false≢true (sym e))
 neither false b e = (refl, e)
 

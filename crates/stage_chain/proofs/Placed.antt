@@ -91,7 +91,7 @@ names_more stage stages = map-append file_name (stage_makes stage) (flat_map sta
 
 module _ (stage : Stage) (made : List MadeFile) (makes : MakesAs stage (ids_of made)) where
   -- what holds of the names that a stage makes holds of those that it made
-  own_within : (p : List ℕ → Bool) → list_all p (map file_name (stage_makes stage)) ≡ true
+  pub own_within : (p : List ℕ → Bool) → list_all p (map file_name (stage_makes stage)) ≡ true
       → list_all p (names_of made) ≡ true
   own_within p h =
       ap (list_all p) (sym (names_are made)) ∙ list_all-map p file_name (ids_of made)
@@ -100,7 +100,7 @@ module _ (stage : Stage) (made : List MadeFile) (makes : MakesAs stage (ids_of m
   own_differ : differing (names_of made) ≡ true
   own_differ = ap differing (sym (names_are made)) ∙ (made_list stage (ids_of made) makes).differ
 
-  own_found : files_by (made_text made) (stage_makes stage) ≡ made
+  pub own_found : files_by (made_text made) (stage_makes stage) ≡ made
   own_found = found_own made (stage_makes stage) own_differ (subst (λ names. filter (λ file. is_among (file_name file) names) (stage_makes stage) ≡ ids_of made) (names_are made) (made_list stage (ids_of made) makes).kept)
 
 -- what is found of files whose names are none of those before and behind

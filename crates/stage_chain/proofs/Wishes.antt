@@ -22,7 +22,7 @@ use Rattle.stage_chain.specs.StageLists.{differing, differs_from}
 abbrev pub names_in : List Write → List (List ℕ)
 names_in writes = map write_name writes
 
-same_is : (there left : Option (List ℕ)) → same_bytes there left ≡ true → there ≡ left
+pub same_is : (there left : Option (List ℕ)) → same_bytes there left ≡ true → there ≡ left
 same_is None None e = refl
 same_is None (Some bytes) e = absurd (false≢true e)
 same_is (Some there) None e = absurd (false≢true e)

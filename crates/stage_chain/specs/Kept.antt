@@ -8,6 +8,7 @@ use Rattle.plan_files.specs.declared.write.Write.TheVariants.{Put}
 use Rattle.plan_files.specs.Folder.{Folder}
 use Rattle.giv_files.specs.declared.made.Made.{Made}
 use Rattle.giv_files.specs.declared.refusal.Refusal.{Refusal}
+use Rattle.giv_files.specs.declared.stage.Stage.{Stage}
 use Rattle.giv_files.specs.Settings.{BundleParts}
 use Rattle.config_keys.specs.Items.{look_in}
 use Rattle.config_keys.specs.Values.{effective}
@@ -72,6 +73,10 @@ abbrev pub HaveEntries : Folder → List Visit → Type 0
 HaveEntries keep [] = ⊤
 HaveEntries keep (visit ∷ visits) =
     (kept_in keep visit.bundle ≡ None → HasEntry visit) × HaveEntries keep visits
+
+-- a folder keeps nothing of any stage
+abbrev pub KeepsNothing : Folder → Type 0
+KeepsNothing folder = (stage : Stage) → files.get folder (keep_name stage) ≡ None
 
 module _ (S : StageParts) where
   -- What a folder keeps is honest: where an entry has the settings and the inputs of what a stage is

@@ -7,6 +7,7 @@ pub mod Hand
 pub mod Kept
 pub mod Laws
 pub mod Looks
+pub mod NextRuns
 pub mod Passing
 pub mod Progress
 pub mod Reports

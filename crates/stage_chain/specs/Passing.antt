@@ -5,12 +5,12 @@ use Rattle.giv_files.specs.declared.stage.Stage.{Stage}
 use Rattle.giv_files.specs.Settings.{BundleParts}
 use Rattle.config_keys.specs.Items.{look_in}
 use Rattle.config_keys.specs.Values.{effective}
+use Rattle.stage_chain.specs.declared.outcome.Mode.{Mode}
 use Rattle.stage_chain.specs.declared.outcome.RunEnd.TheVariants as end
 use Rattle.stage_chain.specs.Chain.{bundle_by, is_to_run}
 use Rattle.stage_chain.specs.Checks.{check_of, standing}
-use Rattle.stage_chain.specs.Kept.{IsKeptHonest}
 use Rattle.stage_chain.specs.Right.{text_in}
-use Rattle.stage_chain.specs.Runs.{after, run_over}
+use Rattle.stage_chain.specs.Runs.{Trusts, after, run_over, started}
 use Rattle.stage_chain.specs.StageParts.{StageParts}
 
 module _ (S : StageParts) where
@@ -36,7 +36,8 @@ module _ (S : StageParts) where
     pub settled : effective (look_in folder) ≡ Ok values
     pub stand : AllStand folder values S.places
 
-  -- The folder that a run leaves which started from an honest keep and made all of its stages passes.
-  unfoldable pub RunsPass : Folder → Type 0
-  RunsPass folder =
-      IsKeptHonest S folder → (run_over S folder).end ≡ end.Done → check_of S (after S folder) ≡ None
+  -- The folder passes that a run leaves which made all of its stages: one over an honest keep, and a
+  -- fresh one over any.
+  unfoldable pub RunsPass : Mode → Folder → Type 0
+  RunsPass by folder = Trusts S by folder → (run_over S (started by folder)).end ≡ end.Done
+      → check_of S (after S (started by folder)) ≡ None

@@ -113,6 +113,16 @@ abbrev pub removed : Mode → Folder → List Write
 removed mode.Make folder = []
 removed mode.Fresh folder = unmet folder (map Removal keep_names)
 
+-- the files of a folder in which stages keep
+abbrev pub kept_part : Folder → Folder
+kept_part folder = files.retain_keys folder (λ name. is_among name keep_names)
+
+module _ (S : StageParts) where
+  -- After a fresh run over a folder what is kept are the new entries, and nothing else.
+  unfoldable pub FreshKeeps : Folder → Type 0
+  FreshKeeps folder = kept_part (after S (without_keep folder))
+      ≡ folder_after (entries_over S (without_keep folder)) files.empty
+
 -- no two of some writes have one name
 abbrev pub IsOnce : List Write → Type 0
 IsOnce [] = ⊤

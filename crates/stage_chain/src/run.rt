@@ -7,11 +7,11 @@ ghost use Rattle.plan_files.specs.Reads.{OnlyReads};
 ghost use Rattle.plan_files.specs.Others.{AreOutside};
 ghost use Rattle.stage_chain.specs.Ends.{has_failed};
 ghost use Rattle.stage_chain.specs.Hand.{hand_of, is_hand};
-ghost use Rattle.stage_chain.specs.Kept.{HaveEntries, IsKeptHonest, trace_over};
+ghost use Rattle.stage_chain.specs.Kept.{HaveEntries, IsKeptHonest, KeepsNothing, trace_over};
 ghost use Rattle.stage_chain.specs.Progress.{EndGives, NamesNoHand, nothing};
 ghost use Rattle.stage_chain.specs.Reports.{last_line, end_of};
 ghost use Rattle.stage_chain.specs.Right.{IsLeftRight, MadeFilesAreRight, RefusesHand};
-ghost use Rattle.stage_chain.specs.Runs.{AddsNoHandFile, AreNotAll, IsFromScratch, IsLeft};
+ghost use Rattle.stage_chain.specs.Runs.{AddsNoHandFile, AreNotAll, FreshKeeps, IsFromScratch, IsLeft};
 ghost use Rattle.stage_chain.specs.Runs.{IsOnce, IsOutcome, IsUnfinished, SameHand, run_over};
 ghost use Rattle.stage_chain.specs.Runs.{Trusts, started, unmet, writes_for, writes_of};
 ghost use Rattle.stage_chain.specs.Stopped.{AddsHarmless, StopsSafely};
@@ -66,6 +66,10 @@ pub fn run_chain<S: Stages, F: Files, L: Ledger>(
 
     ensures keeps_honest { IfSome (F.contents files.old) (λ folder.
         IsKeptHonest S.parts folder → IfSome (F.contents files.new) (IsKeptHonest S.parts)) }
+
+    // A folder without keep files is honest, and after a fresh run there are the new entries alone.
+    ensures empty_keep { (folder : Folder) → KeepsNothing folder → IsKeptHonest S.parts folder }
+    ensures fresh_keep { (folder : Folder) → FreshKeeps S.parts folder }
 
     // Wherever the writes that it added are stopped, the next one perhaps in part, that is so.
     ensures stops { IfSome (F.contents files.old) (λ folder.

@@ -2,7 +2,8 @@
 ghost use Rattle.std.specs.Prelude.{◌≡◌, ◌++◌, IfSome, IfOk, OnOk};
 ghost use Rattle.std.specs.List.{list_all};
 ghost use Rattle.std.specs.Option.{option_copied};
-ghost use Rattle.plan_files.specs.Folder.{has_failed};
+ghost use Rattle.plan_files.specs.Folder.{Folder, has_failed};
+ghost use Rattle.stage_chain.specs.NextRuns.{TellsNext};
 ghost use Rattle.plan_files.specs.Reads.{OnlyReads};
 ghost use Rattle.giv_files.specs.Stages.{stage_makes};
 ghost use Rattle.stage_chain.specs.declared.state.StatesEnd.TheVariants as ends;
@@ -29,13 +30,15 @@ use plan_num::Text;
 use std::alloc::Global;
 
 /// Tells of each stage whether its files are those that are kept of it, and whether what is kept is
-/// of what it would be given. It changes no file.
+/// of what it would be given. So it tells what the next run takes from what is kept, and what it
+/// makes. It changes no file.
 pub fn stage_states<S: Stages, F: Files>(
     alloc: Global,
     files: &mut F,
 ) -> Result<StatesOutcome, ChainFault>
     ensures outcome { IfSome (F.contents files.old) (λ folder.
         IfOk result (TellsStates S.parts folder)) }
+    ensures next { (folder : Folder) → TellsNext S.parts folder }
     ensures only_reads { OnlyReads F.contents F.writes F.faults files.old files.new
         (has_broken result) }
 {

@@ -42,7 +42,7 @@ left_right = left_right_by.left_right planning planning_laws
 pub refuses_hand : (hand : Folder) → RefusesHand hand
 refuses_hand = refusing.refuses_hand planning planning_laws
 
-pub runs_pass : (folder : Folder) → RunsPass folder
+pub runs_pass : (by : Mode) (folder : Folder) → RunsPass by folder
 runs_pass = checked_runs.runs_pass planning planning_laws
 
 -- no write of a run names a file that people write, and no two have one name

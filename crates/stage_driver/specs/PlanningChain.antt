@@ -88,8 +88,8 @@ abbrev pub PassesIn : Folder → Type 0
 PassesIn folder = passing_by.PassesIn planning folder
 
 -- the folder that a finished run leaves passes
-abbrev pub RunsPass : Folder → Type 0
-RunsPass folder = passing_by.RunsPass planning folder
+abbrev pub RunsPass : Mode → Folder → Type 0
+RunsPass mode folder = passing_by.RunsPass planning mode folder
 
 -- what is told of the states of a folder's stages
 abbrev pub states_of : Folder → List ℕ

@@ -3,6 +3,7 @@ ghost use Rattle.std.specs.Prelude.{◌≡◌, IfSome, IfOk};
 ghost use Rattle.plan_files.specs.Folder.{Folder};
 ghost use Rattle.plan_files.specs.Reads.{OnlyReads};
 ghost use Rattle.stage_chain.specs.declared.checked.CheckEnd.TheVariants as ends;
+ghost use Rattle.stage_chain.specs.declared.outcome.Mode.{Mode};
 ghost use Rattle.stage_chain.specs.Ends.{has_failed};
 ghost use Rattle.stage_driver.specs.PlanningChain.{IsCheck, PassesIn, RunsPass};
 
@@ -19,7 +20,7 @@ pub fn check_chain<F: Files>(alloc: Global, files: &mut F) -> Result<CheckOutcom
     ensures outcome { IfSome (F.contents files.old) (λ folder. IfOk result (IsCheck folder)) }
     ensures passes { IfSome (F.contents files.old) (λ folder.
         IfOk result (λ outcome. outcome.end ≡ ends.Passed → PassesIn folder)) }
-    ensures runs_pass { (folder : Folder) → RunsPass folder }
+    ensures runs_pass { (mode : Mode) (folder : Folder) → RunsPass mode folder }
     ensures only_reads { OnlyReads F.contents F.writes F.faults files.old files.new
         (has_failed result) }
 {

@@ -5,7 +5,9 @@ use Rattle.stage_chain.proofs.BothModes.{again_left, keep_left}
 use Rattle.stage_chain.proofs.BothModes.{entries_both, both_scratch, cleared_not}
 use Rattle.stage_chain.proofs.BothModes.{left_both, most_both, outcome_both, right_left}
 use Rattle.stage_chain.proofs.BothModes.{unfinished_both, work_both}
+use Rattle.stage_chain.proofs.FreshKeep.{fresh_keeps}
 use Rattle.stage_chain.proofs.HandKept.{writes_once, writes_outside}
+use Rattle.stage_chain.proofs.Keeping.{nothing_honest}
 use Rattle.stage_chain.proofs.LeftRight.{left_right}
 use Rattle.stage_chain.proofs.Refusing.{refuses_hand}
 use Rattle.stage_chain.proofs.Running.{adds_both}
@@ -42,6 +44,18 @@ returns-in_err-clear-clause-outside g c = writes_outside g.S.Stages.parts g.met.
 
 pub returns-clause-outside : goal.returns-clause-outside
 returns-clause-outside g c = writes_outside g.S.Stages.parts g.met.S.Stages.laws
+
+pub returns-in_err-clear-clause-empty_keep : goal.returns-in_err-clear-clause-empty_keep
+returns-in_err-clear-clause-empty_keep g c = nothing_honest g.S.Stages.parts g.met.S.Stages.laws
+
+pub returns-clause-empty_keep : goal.returns-clause-empty_keep
+returns-clause-empty_keep g c = nothing_honest g.S.Stages.parts g.met.S.Stages.laws
+
+pub returns-in_err-clear-clause-fresh_keep : goal.returns-in_err-clear-clause-fresh_keep
+returns-in_err-clear-clause-fresh_keep g c = fresh_keeps g.S.Stages.parts g.met.S.Stages.laws
+
+pub returns-clause-fresh_keep : goal.returns-clause-fresh_keep
+returns-clause-fresh_keep g c = fresh_keeps g.S.Stages.parts g.met.S.Stages.laws
 
 pub returns-in_err-clear-clause-unfinished : goal.returns-in_err-clear-clause-unfinished
 returns-in_err-clear-clause-unfinished g c =
