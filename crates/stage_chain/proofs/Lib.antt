@@ -34,6 +34,7 @@ pub mod StoppedAnywhere
 pub mod StoppedRuns
 pub mod Stopping
 pub mod Traces
+mod Unkept
 pub mod Visiting
 pub mod Visits
 pub mod Wishes

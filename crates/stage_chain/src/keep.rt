@@ -1,5 +1,5 @@
 // What a folder keeps of the stages.
-ghost use Rattle.std.specs.Prelude.{◌≡◌, IfOk, IfSome, Some};
+ghost use Rattle.std.specs.Prelude.{◌≡◌, IfOk, IfSome, None, Some, false};
 ghost use Rattle.plan_files.specs.declared.write.Write.TheVariants.{Put};
 ghost use Rattle.plan_files.specs.Folder.{has_failed};
 ghost use Rattle.plan_files.specs.Reads.{OnlyReads};
@@ -12,7 +12,7 @@ ghost use Rattle.stage_chain.specs.Kept.{kept_in};
 use giv_files::{Bundle, Made, Stage};
 use plan_files::{FileFault, Files, Got, Name, Write};
 use plan_num::NoMemory;
-use stage_keep::{read_keep, write_keep};
+use stage_keep::{entry_front, last_line, read_keep, write_keep};
 use std::alloc::Global;
 
 /// The name of the file in which the entry of a stage is kept.
@@ -49,10 +49,26 @@ pub(crate) fn kept<F: Files>(
     ensures only_reads { OnlyReads F.contents F.writes F.faults files.old files.new
         (has_failed result) }
 {
+    if !may_keep(alloc, files, bundle)? {
+        return Ok(None);
+    }
     match files.get(alloc, keep_name(bundle.stage()), u64::MAX)? {
         Got::Bytes(text) => Ok(kept_for(alloc, text.as_bytes(), bundle)?),
         Got::Absent | Got::TooLong => Ok(None),
     }
+}
+
+// Whether something may be kept of what a stage is given, by the two ends of the keep file: one that
+// no run wrote may be longer than memory.
+fn may_keep<F: Files>(alloc: Global, files: &mut F, bundle: &Bundle) -> Result<bool, FileFault>
+    requires { Fits bundle.now }
+    ensures unkept { IfSome (F.contents files.old) (λ folder. IfOk result (λ may. may ≡ false
+        → kept_in folder bundle.now ≡ None)) }
+    ensures only_reads { OnlyReads F.contents F.writes F.faults files.old files.new
+        (has_failed result) }
+{
+    let front = entry_front(alloc, bundle)?;
+    files.may_have_ends(keep_name(bundle.stage()), front.as_bytes(), last_line())
 }
 
 // What the bytes of a keep file hold for what its stage is given.
