@@ -1,5 +1,5 @@
 // The files of the real folder.
-ghost use Rattle.std.specs.Prelude.{◌≡◌, ◌≤◌, None, IfOk};
+ghost use Rattle.std.specs.Prelude.{◌≡◌, ◌≤◌, None, Ok, IfOk};
 ghost use Rattle.plan_files.specs.Counts.{Counts, last_count};
 ghost use Rattle.plan_files.specs.Folder.{has_failed, KeepsLimit};
 
@@ -8,6 +8,7 @@ use crate::faults::count_fault;
 use crate::file_fault::FileFault;
 use crate::place::{Place, place_of, stands_at};
 use crate::store::{Files, Got};
+use crate::trouble::{Failure, Trouble};
 use plan_num::{NoMemory, Tally, Text};
 use std::alloc::Global;
 use std::fs::{OpenFile, OpenOptions};
@@ -26,6 +27,7 @@ pub struct FolderFiles<'a, R: rt::Files> {
     // for what a call needs beside its arguments
     alloc: Global,
     faults: Tally,
+    failure: Option<Failure>,
 }
 
 impl<'a, R: rt::Files> FolderFiles<'a, R> {
@@ -37,21 +39,32 @@ impl<'a, R: rt::Files> FolderFiles<'a, R> {
             rt,
             alloc,
             faults: Tally::new(),
+            failure: None,
         }
     }
 
-    // Passes an answer on, and counts it where it is a fault other than want of memory.
-    fn counted<T>(&mut self, answer: Result<T, FileFault>) -> Result<T, FileFault>
-        ensures answer { result ≡ answer }
-        ensures faults { Counts (has_failed answer) self.old.faults self.new.faults }
+    /// The call that failed last, for a reader, where memory for its name was there.
+    pub fn failure(&self) -> Option<&Failure> {
+        self.failure.as_ref()
+    }
+
+    // Hands an answer on. A failure other than want of memory is counted, and noted with the name.
+    fn counted<T>(&mut self, name: &str, answer: Result<T, Trouble>) -> Result<T, FileFault>
+        ensures answer { IfOk result (λ got. answer ≡ Ok got) }
+        ensures faults { Counts (has_failed result) self.old.faults self.new.faults }
         ensures capped { self.new.faults ≤ last_count }
     {
         // What is read is known to be a number of 64 bits.
         let _seen = self.faults.seen();
-        if let Err(FileFault::Failed) = answer {
-            count_fault(&mut self.faults);
+        match answer {
+            Ok(got) => Ok(got),
+            Err(Trouble::NoMemory) => Err(FileFault::NoMemory),
+            Err(Trouble::Failed(error)) => {
+                count_fault(&mut self.faults);
+                self.failure = Failure::of(self.alloc, name, error);
+                Err(FileFault::Failed)
+            }
         }
-        answer
     }
 }
 
@@ -63,31 +76,38 @@ impl<R: rt::Files> Files for FolderFiles<'_, R> {
     ghost faults = { λ files. files.faults };
 
     fn get(&mut self, alloc: Global, name: &str, limit: u64) -> Result<Got, FileFault> {
-        self.counted(read_file(self.rt, alloc, name, limit))
+        self.counted(name, read_file(self.rt, alloc, name, limit))
     }
 
     fn may_have_ends(&mut self, name: &str, front: &[u8], back: &[u8]) -> Result<bool, FileFault> {
-        self.counted(may_have_ends(self.rt, self.alloc, name, front, back))
+        self.counted(name, may_have_ends(self.rt, self.alloc, name, front, back))
     }
 
     fn put(&mut self, name: &str, bytes: &[u8]) -> Result<(), FileFault> {
-        self.counted(write_file(self.rt, name, bytes))
+        self.counted(name, write_file(self.rt, name, bytes))
     }
 
     fn remove(&mut self, name: &str) -> Result<(), FileFault> {
-        self.counted(remove_file(self.rt, name))
+        self.counted(name, remove_file(self.rt, name))
     }
+}
+
+const REPLACED: &str = "replaced while it was opened";
+
+// Something stands there, and is no file of the dataset.
+fn no_file() -> Trouble {
+    Trouble::because("not a regular file to which folders lead")
 }
 
 // Reads at most one byte more than the file had when it was opened, and none before what was opened
 // is known to be the file that stands there.
-fn read_file<R: rt::Files>(rt: &R, alloc: Global, name: &str, limit: u64) -> Result<Got, FileFault>
+fn read_file<R: rt::Files>(rt: &R, alloc: Global, name: &str, limit: u64) -> Result<Got, Trouble>
     ensures { IfOk result (KeepsLimit limit) }
 {
     match place_of(rt, name)? {
         Place::Vacant => return Ok(Got::Absent),
         Place::Regular(_) => {}
-        Place::Other => return Err(FileFault::Failed),
+        Place::Other => return Err(no_file()),
     }
     let (file, length) = open_there(rt, name)?;
     if length > limit {
@@ -97,19 +117,19 @@ fn read_file<R: rt::Files>(rt: &R, alloc: Global, name: &str, limit: u64) -> Res
     let mut bytes = room_for(alloc, most as usize)?;
     file.take(most).read_to_end(&mut bytes)?;
     if bytes.len() as u64 > length {
-        return Err(FileFault::Failed);
+        return Err(Trouble::because("grew while it was read"));
     }
     Ok(Got::Bytes(Text::from_vec(bytes)))
 }
 
 // Opens a file for reading, and tells its length. It is the file that stands there.
-fn open_there<R: rt::Files>(rt: &R, name: &str) -> Result<(R::File, u64), FileFault> {
+fn open_there<R: rt::Files>(rt: &R, name: &str) -> Result<(R::File, u64), Trouble> {
     let file = uninterrupted(|| fs::open(rt, name))?;
     let found = uninterrupted(|| file.metadata())?;
     if stands_at(rt, name, &found)? {
         Ok((file, found.len()))
     } else {
-        Err(FileFault::Failed)
+        Err(Trouble::because(REPLACED))
     }
 }
 
@@ -128,12 +148,12 @@ fn may_have_ends<R: rt::Files>(
     name: &str,
     front: &[u8],
     back: &[u8],
-) -> Result<bool, FileFault> {
+) -> Result<bool, Trouble> {
     match place_of(rt, name)? {
         Place::Vacant => return Ok(false),
         Place::Regular(seen) if seen.len() < LONG => return Ok(true),
         Place::Regular(_) => {}
-        Place::Other => return Err(FileFault::Failed),
+        Place::Other => return Err(no_file()),
     }
     let (mut file, length) = open_there(rt, name)?;
     let back_length = back.len() as u64;
@@ -157,19 +177,28 @@ fn has_next<F: Read>(alloc: Global, file: &mut F, bytes: &[u8]) -> io::Result<bo
 }
 
 // Makes the name's folder where it is not there.
-fn write_file<R: rt::Files>(rt: &R, name: &str, bytes: &[u8]) -> Result<(), FileFault> {
+fn write_file<R: rt::Files>(rt: &R, name: &str, bytes: &[u8]) -> Result<(), Trouble> {
     let is_new = match place_of(rt, name)? {
         Place::Vacant => true,
         Place::Regular(_) => false,
-        Place::Other => return Err(FileFault::Failed),
+        Place::Other => return Err(no_file()),
     };
     if let Some((folder, _)) = name.rsplit_once('/') {
-        uninterrupted(|| fs::create_dir_all(rt, folder))?;
+        make_folder(rt, folder)?;
     }
     // From here on bytes may have changed, and no fault is want of memory.
     match replace_bytes(rt, name, is_new, bytes) {
         Ok(()) => Ok(()),
-        Err(_) => Err(FileFault::Failed),
+        Err(error) => Err(Trouble::Failed(error)),
+    }
+}
+
+// Makes a folder, and those on the way to it. Where something is there, the opening of the file tells
+// whether it is a folder.
+fn make_folder<R: rt::Files>(rt: &R, folder: &str) -> io::Result<()> {
+    match uninterrupted(|| fs::create_dir_all(rt, folder)) {
+        Err(error) if error.kind() == ErrorKind::AlreadyExists => Ok(()),
+        made => made,
     }
 }
 
@@ -181,18 +210,21 @@ fn replace_bytes<R: rt::Files>(rt: &R, name: &str, is_new: bool, bytes: &[u8]) -
     how.read(true).write(true).create_new(is_new);
     let mut file = uninterrupted(|| how.open(rt, name))?;
     let found = uninterrupted(|| file.metadata())?;
-    if found.nlink() > 1 || !stands_at(rt, name, &found)? {
-        return Err(io::Error::from(ErrorKind::InvalidInput));
+    if found.nlink() > 1 {
+        return Err(io::Error::new(ErrorKind::InvalidInput, "has a second name"));
+    }
+    if !stands_at(rt, name, &found)? {
+        return Err(io::Error::new(ErrorKind::InvalidInput, REPLACED));
     }
     file.set_len(0)?;
     file.write_all(bytes)?;
     file.flush()
 }
 
-fn remove_file<R: rt::Files>(rt: &R, name: &str) -> Result<(), FileFault> {
+fn remove_file<R: rt::Files>(rt: &R, name: &str) -> Result<(), Trouble> {
     match place_of(rt, name)? {
         Place::Vacant => Ok(()),
         Place::Regular(_) => Ok(uninterrupted(|| fs::remove_file(rt, name))?),
-        Place::Other => Err(FileFault::Failed),
+        Place::Other => Err(no_file()),
     }
 }

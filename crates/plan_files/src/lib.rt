@@ -18,6 +18,7 @@ mod std_sink;
 mod steady_files;
 mod steady_sink;
 mod store;
+mod trouble;
 mod write;
 
 pub use apply::apply_all;
@@ -32,4 +33,5 @@ pub use std_sink::StdSink;
 pub use steady_files::SteadyFiles;
 pub use steady_sink::SteadySink;
 pub use store::{Files, Got};
+pub use trouble::Failure;
 pub use write::Write;
