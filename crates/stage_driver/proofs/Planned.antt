@@ -7,17 +7,21 @@ use Rattle.giv_files.specs.declared.stage.Stage.{Stage}
 use Rattle.stage_keep.specs.Entries.{keep_name}
 use Rattle.stage_chain.specs.declared.outcome.Mode.{Mode}
 use Rattle.stage_chain.specs.Hand.{hand_of, is_hand}
+use Rattle.stage_chain.specs.Kept.{KeepsNothing}
 use Rattle.stage_chain.specs.Runs.{IsOnce, after, started, with_files}
 use Rattle.stage_chain.proofs.BothModes as both_modes
 use Rattle.stage_chain.proofs.CheckedRuns as checked_runs
+use Rattle.stage_chain.proofs.FreshKeep as fresh_keep
 use Rattle.stage_chain.proofs.HandKept as hand_kept
+use Rattle.stage_chain.proofs.IdleRuns as idle_runs
 use Rattle.stage_chain.proofs.Keeping as keeping
 use Rattle.stage_chain.proofs.LeftRight as left_right_by
 use Rattle.stage_chain.proofs.MadeParts as made_parts
 use Rattle.stage_chain.proofs.Refusing as refusing
 use Rattle.planning_stages.specs.Planning.{planning}
 use Rattle.planning_stages.proofs.Laws.{planning_laws}
-use Rattle.stage_driver.specs.PlanningChain.{IsFromScratch, MadeFilesAreRight, RefusesHand, RunsPass}
+use Rattle.stage_driver.specs.PlanningChain.{FreshKeeps, IsFromScratch, IsKeptHonest, MadeFilesAreRight}
+use Rattle.stage_driver.specs.PlanningChain.{RefusesHand, RunsPass, TellsNext}
 use Rattle.stage_driver.specs.PlanningChain.{Trusts, made, made_part, run_over, writes_of}
 
 -- a run over what it may trust makes what is made from scratch
@@ -51,3 +55,13 @@ writes_outside = hand_kept.writes_outside planning planning_laws
 
 pub writes_once : (folder : Folder) → IsOnce (writes_of folder)
 writes_once = hand_kept.writes_once planning planning_laws
+
+-- a folder that keeps nothing is honest, and after a fresh run there are the new entries alone
+pub nothing_honest : (folder : Folder) → KeepsNothing folder → IsKeptHonest folder
+nothing_honest = keeping.nothing_honest planning planning_laws
+
+pub fresh_keeps : (folder : Folder) → FreshKeeps folder
+fresh_keeps = fresh_keep.fresh_keeps planning planning_laws
+
+pub tells_next : (folder : Folder) → TellsNext folder
+tells_next = idle_runs.tells_next planning planning_laws

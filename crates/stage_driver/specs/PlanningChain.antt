@@ -12,6 +12,7 @@ use Rattle.stage_chain.specs.Built.{RunParts}
 use Rattle.stage_chain.specs.Built as built_by
 use Rattle.stage_chain.specs.Checks as checks_by
 use Rattle.stage_chain.specs.Kept as kept_by
+use Rattle.stage_chain.specs.NextRuns as next_by
 use Rattle.stage_chain.specs.Passing as passing_by
 use Rattle.stage_chain.specs.Right as right_by
 use Rattle.stage_chain.specs.Runs as runs_by
@@ -90,6 +91,14 @@ PassesIn folder = passing_by.PassesIn planning folder
 -- the folder that a finished run leaves passes
 abbrev pub RunsPass : Mode → Folder → Type 0
 RunsPass mode folder = passing_by.RunsPass planning mode folder
+
+-- after a fresh run what is kept are the new entries, and nothing else
+abbrev pub FreshKeeps : Folder → Type 0
+FreshKeeps folder = runs_by.FreshKeeps planning folder
+
+-- what is told of the states of a folder's stages tells of the next run
+abbrev pub TellsNext : Folder → Type 0
+TellsNext folder = next_by.TellsNext planning folder
 
 -- what is told of the states of a folder's stages
 abbrev pub states_of : Folder → List ℕ

@@ -5,10 +5,13 @@ ghost use Rattle.plan_files.specs.Folder.{Folder};
 ghost use Rattle.plan_files.specs.Others.{AreOutside};
 ghost use Rattle.stage_chain.specs.Ends.{has_failed};
 ghost use Rattle.stage_chain.specs.Hand.{hand_of, is_hand};
+ghost use Rattle.stage_chain.specs.Kept.{KeepsNothing};
 ghost use Rattle.stage_chain.specs.Runs.{AddsNoHandFile, IsOnce, IsOutcome, SameHand, started};
-ghost use Rattle.stage_driver.specs.PlanningChain.{IsFromScratch, IsKeptHonest, IsLeft, IsLeftRight};
+ghost use Rattle.stage_driver.specs.PlanningChain.{FreshKeeps, IsFromScratch, IsKeptHonest, IsLeft};
+ghost use Rattle.stage_driver.specs.PlanningChain.{IsLeftRight};
 ghost use Rattle.stage_driver.specs.PlanningChain.{IsUnfinished, MadeFilesAreRight, RefusesHand};
 ghost use Rattle.stage_driver.specs.PlanningChain.{StopsSafely, Trusts, run_over, writes_of};
+ghost use Rattle.stage_driver.specs.SolvedEnds.{EndsAsSolved};
 
 use crate::planning::Planning;
 use plan_files::Files;
@@ -21,6 +24,7 @@ use std::alloc::Global;
 /// that were made and no others of these stages, and the entry of each of them. Where what is kept
 /// is honest, these are the files that its hand files alone determine. A fresh run first removes
 /// what is kept. Every other file is as before.
+#[tactic(auto, using(crate::proofs::SolvedEnds::ends_as_solved))]
 pub fn run_chain<F: Files, L: Ledger>(
     alloc: Global,
     files: &mut F,
@@ -52,6 +56,14 @@ pub fn run_chain<F: Files, L: Ledger>(
 
     ensures keeps_honest { IfSome (F.contents files.old) (λ folder.
         IsKeptHonest folder → IfSome (F.contents files.new) IsKeptHonest) }
+
+    // A folder without keep files is honest, and after a fresh run there are the new entries alone.
+    ensures empty_keep { (folder : Folder) → KeepsNothing folder → IsKeptHonest folder }
+    ensures fresh_keep { (folder : Folder) → FreshKeeps folder }
+
+    // With no solution a search was given what has none, and spent, what it lists beyond its budget.
+    // A run from scratch ends done where it can.
+    ensures ends { (hand : Folder) → EndsAsSolved hand }
 
     // Wherever the writes that it added are stopped, the next one perhaps in part, that is so.
     ensures stops { IfSome (F.contents files.old) (λ folder.
