@@ -38,7 +38,7 @@ names_or_else test [] others h k = k
 names_or_else test (first ∷ some) others h k = h
 
 -- a refusal that is made in some case alone
-names_if : (test : FileId → Bool) (b : Bool) (one : Refusal) → NamesInput test one → AllName test (cond b (one ∷ []) [])
+pub names_if : (test : FileId → Bool) (b : Bool) (one : Refusal) → NamesInput test one → AllName test (cond b (one ∷ []) [])
 names_if test true one h = (h, tt)
 names_if test false one h = tt
 

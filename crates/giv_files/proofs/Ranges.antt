@@ -70,7 +70,7 @@ in_columns column (column_kind ∷ kinds) (field ∷ fields) same none =
     ] refl none
 
 -- a row without a fault
-row_in_columns : (kinds : List ColumnKind) (row : Row) → row_faults kinds row ≡ [] → InColumns kinds (table_row kinds row).cells
+pub row_in_columns : (kinds : List ColumnKind) (row : Row) → row_faults kinds row ≡ [] → InColumns kinds (table_row kinds row).cells
 unfolding row_whys
 row_in_columns kinds row none =
     elim (eqb (length row.fields) (length kinds)) as (λ b. eqb (length row.fields) (length kinds) ≡ b → cond b (errors (cells_from 1 kinds row.fields)) (why.FieldCount (length row.fields) ∷ []) ≡ [] → InColumns kinds (values (cells_from 1 kinds row.fields))) [
