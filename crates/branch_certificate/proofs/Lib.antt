@@ -5,6 +5,7 @@ mod FirstPlaces
 mod Judging
 mod Leaves
 pub mod ReadIds
+pub mod ReadLines
 pub mod ReadRules
 pub mod ReadSteps
 pub mod ReadTaken

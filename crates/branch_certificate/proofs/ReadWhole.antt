@@ -1,21 +1,14 @@
--- A whole tree that is read: its cells, its rows, and what its nodes name.
+-- A row of a tree that is read, and what is known after it.
 use Rattle.std.proofs.Common.{◌≡◌, ℕ, ◌+◌, ◌<◌, Bool, true, false, cond, List, [], ◌∷◌, ◌++◌}
-use Rattle.std.proofs.Common.{length, map, take, get_or, slice_get, subst, refl, sym, ap, ◌∙◌, Some}
-use Rattle.std.proofs.Common.{None, Err, All}
+use Rattle.std.proofs.Common.{length, take, get_or, slice_get, subst, refl, sym, ap, ◌∙◌, Some}
+use Rattle.std.proofs.Common.{None}
 use Rattle.giv_files.specs.declared.file_id.FileId.TheVariants as file
-use Rattle.giv_files.specs.declared.read_fault.ReadFault.{ReadFault}
-use Rattle.giv_files.specs.declared.read_fault.ReadFault.TheVariants as read_faults
-use Rattle.giv_files.specs.declared.read_fault.RowFault.{RowFault}
 use Rattle.giv_files.specs.declared.refusal.Refusal.TheVariants as refusal
 use Rattle.giv_files.specs.declared.row_why.RowWhy.{RowWhy}
 use Rattle.giv_files.specs.declared.row_why.RowWhy.TheVariants as why
-use Rattle.giv_files.specs.Columns.{tree_columns}
-use Rattle.giv_files.specs.Inputs.{cell_faults, records, broken_whys, table_row_faults}
-use Rattle.giv_files.specs.Reading.{faults, table_of, ReadGives}
+use Rattle.giv_files.specs.Inputs.{records, broken_whys, table_row_faults}
 use Rattle.giv_files.specs.Tables.{TableRow, no_row, row_number}
-use Rattle.giv_files.specs.Writing.{InColumns}
 use Rattle.giv_files.proofs.Inputs.{SoundBefore, row_met, row_refused, records_more}
-use Rattle.giv_files.proofs.Ranges.{table_in_columns}
 use Rattle.branch_certificate.specs.declared.read_so_far.ReadSoFar.{ReadSoFar}
 use Rattle.branch_certificate.specs.declared.row_says.RowSays.{RowSays}
 use Rattle.branch_certificate.specs.declared.tree_row.TreeRow.{TreeRow}
@@ -23,28 +16,6 @@ use Rattle.branch_certificate.specs.ReadRows.{AreRising, IsReadSoFar, IsRefused,
 use Rattle.branch_certificate.specs.ReadRows.{takes_row, with_row}
 use Rattle.branch_certificate.specs.TreeFiles.{NamedIds, tree_input, tree_row, tree_rules}
 use Rattle.branch_certificate.proofs.ReadTaken.{taken}
-
-pub cells_inside : (text : List ℕ) (table : List TableRow) → faults tree_columns text ≡ []
-    → table ≡ table_of tree_columns text → All (λ row. InColumns tree_columns row.cells) table
-cells_inside text table none is =
-    subst (All (λ row. InColumns tree_columns row.cells)) (sym is)
-    (table_in_columns tree_columns text none)
-
-first_mapped : {X Y : Type 0} (f : X → Y) (all : List X) (first : X)
-    → slice_get all 0 ≡ Some first → slice_get (map f all) 0 ≡ Some (f first)
-first_mapped f [] first h = cc
-first_mapped f (x ∷ all) first h = let same : x ≡ first = cc in ap (λ y. Some (f y)) same
-
-pub cell_refused : (text : List ℕ) (fault : ReadFault) (first : RowFault) → fault
-    ≡ read_faults.Row first
-    → ReadGives (faults tree_columns text) (table_of tree_columns text) (Err fault)
-    → slice_get (cell_faults file.Tree tree_columns text) 0
-    ≡ Some (refusal.BadRow file.Tree first.row first.why)
-cell_refused text fault first is h =
-    first_mapped (λ fault. refusal.BadRow file.Tree fault.row fault.why) (faults tree_columns text)
-    first
-    (subst (λ fault. ReadGives (faults tree_columns text) (table_of tree_columns text) (Err fault))
-    is h)
 
 -- ---- one row of a table
 

@@ -1,7 +1,7 @@
 -- Inner words of reading a tree: what a row says, and what is known after some rows.
 use Rattle.std.specs.Prelude.{◌≡◌, ℕ, ℤ, pos, ◌+◌, ◌-◌, ◌^◌, ◌<◌, ◌≤ℤ◌, ◌&&◌, ◌||◌, not, nat_lt}
 use Rattle.std.specs.Prelude.{if◌then◌else◌, Bool, false, true, List, [], ◌∷◌, ◌++◌, length, map}
-use Rattle.std.specs.Prelude.{take, position, slice_get, unsigned_abs, Option, option_map}
+use Rattle.std.specs.Prelude.{take, drop, position, slice_get, unsigned_abs, Option, option_map}
 use Rattle.std.specs.Prelude.{unwrap_or, Some, None, All, ⊤}
 use Rattle.std.specs.List.{list_any}
 use Rattle.std.specs.List.Sorted.{IsStrictlySortedBy}
@@ -11,7 +11,11 @@ use Rattle.giv_files.specs.declared.refusal.Refusal.{Refusal}
 use Rattle.giv_files.specs.declared.refusal.Refusal.TheVariants as refusal
 use Rattle.giv_files.specs.declared.row_why.RowWhy.{RowWhy}
 use Rattle.giv_files.specs.declared.row_why.RowWhy.TheVariants as why
-use Rattle.giv_files.specs.Inputs.{broken_whys}
+use Rattle.giv_files.specs.declared.read_fault.ReadFault.{ReadFault}
+use Rattle.giv_files.specs.declared.read_fault.ReadFault.TheVariants as row
+use Rattle.giv_files.specs.declared.read_fault.RowFault.{RowFault}
+use Rattle.giv_files.specs.Inputs.{broken_whys, numbered, records, row_faults, table_row_faults}
+use Rattle.giv_files.specs.Tables.{TableRow}
 use Rattle.line_cost_model.specs.Multipliers.{AreMultipliers, IsAfter}
 use Rattle.branch_certificate.specs.declared.node.Node.{Node}
 use Rattle.branch_certificate.specs.declared.node.Node.TheVariants as node
@@ -22,7 +26,8 @@ use Rattle.branch_certificate.specs.declared.read_so_far.ReadSoFar.{ReadSoFar}
 use Rattle.branch_certificate.specs.declared.row_says.RowSays.{RowSays}
 use Rattle.branch_certificate.specs.declared.row_says.RowSays.TheVariants as says
 use Rattle.branch_certificate.specs.declared.tree_row.TreeRow.{TreeRow}
-use Rattle.branch_certificate.specs.TreeFiles.{NamedIds, tree_rules, is_multiplier, is_due}
+use Rattle.branch_certificate.specs.TreeFiles.{NamedIds, tree_input, tree_rules, is_multiplier}
+use Rattle.branch_certificate.specs.TreeFiles.{is_due}
 use Rattle.branch_certificate.specs.TreeFiles.{due_after, announced, falls_back, multiplier_in}
 use Rattle.branch_certificate.specs.TreeFiles.{multiplier_rows, node_of, nodes_of}
 use Rattle.branch_certificate.specs.TreeTexts.{CanBeWritten}
@@ -192,3 +197,20 @@ IsInOrder (Some bound) = IsAfter bound.multipliers bound.next
 abbrev pub IsFirst : List Refusal → TreeReadFault → Type 0
 IsFirst all (read.Row first) = slice_get all 0 ≡ Some (refusal.BadRow file.Tree first.row first.why)
 IsFirst all read.NoMemory = ⊤
+
+-- why a tree is not read, where its row is not
+abbrev pub tree_fault : ReadFault → TreeReadFault
+tree_fault (row.Row first) = read.Row first
+tree_fault row.NoMemory = read.NoMemory
+
+-- what is known up to a place of a table: what the rows before it stand for, or the first rule that
+-- one of them breaks
+abbrev pub IsReadUpTo : NamedIds → List TableRow → ℕ → Option RowFault → ReadSoFar → Type 0
+IsReadUpTo ids table i None so_far = record {
+  sound : row_faults file.Tree (tree_rules ids) (records (tree_input ids) (take i table))
+      (numbered (tree_input ids) (drop i table)) ≡ table_row_faults (tree_input ids) table;
+  known : IsReadSoFar ids (records (tree_input ids) (take i table)) so_far;
+}
+IsReadUpTo ids table i (Some first) so_far =
+    slice_get (table_row_faults (tree_input ids) table) 0
+    ≡ Some (refusal.BadRow file.Tree first.row first.why)

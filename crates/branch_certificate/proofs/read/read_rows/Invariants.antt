@@ -1,15 +1,18 @@
--- None of the rows so far breaks a rule, and what is known is known after them.
-use Rattle.std.proofs.Common.{take}
-use Rattle.giv_files.specs.Inputs.{records}
-use Rattle.giv_files.proofs.Inputs.{SoundBefore}
-use Rattle.branch_certificate.specs.ReadRows.{IsReadSoFar}
-use Rattle.branch_certificate.specs.TreeFiles.{tree_input}
+-- The rows that are left make the rest of a table, and what is known is known up to their place.
+use Rattle.std.proofs.Common.{◌≡◌, ℕ, drop, length, map}
+use Rattle.std.specs.List.{flat_map}
+use Rattle.giv_files.specs.Columns.{tree_columns}
+use Rattle.giv_files.specs.Reading.{faults, row_faults, table_of, table_row}
+use Rattle.branch_certificate.specs.ReadRows.{IsReadUpTo}
 use Rattle.branch_certificate.proofs.read.read_rows.Given as goal
 
-abbrev pub invariant-loop-i : goal.invariant-loop-i
-invariant-loop-i l =
-    let input = tree_input l.ids in
-    record {
-      sound : SoundBefore input l.table l.i;
-      known : IsReadSoFar l.ids (records input (take l.i l.table)) l.so_far;
-    }
+abbrev pub invariant-rows : goal.invariant-rows
+invariant-rows l = record {
+  i : ℕ;
+  left : drop i (table_of tree_columns l.bytes) ≡ map (table_row tree_columns) l.rows;
+  cells : flat_map (row_faults tree_columns) l.rows ≡ faults tree_columns l.bytes;
+  up_to : IsReadUpTo l.ids (table_of tree_columns l.bytes) i l.fault l.so_far;
+}
+
+abbrev pub decreases-rows : goal.decreases-rows
+decreases-rows l = length l.rows
