@@ -1,27 +1,25 @@
 -- Changes of sets of times, and what they say of the sets before them.
-use Rattle.std.proofs.Common.{◌≡◌, ◌∙◌, ℕ, ◌+◌, ◌*◌, ◌<◌, List, [], ◌∷◌, ◌++◌, get_or}
+use Rattle.std.proofs.Common.{◌≡◌, ◌∙◌, ℕ, ◌<◌, List, [], ◌∷◌, ◌++◌, get_or}
 use Rattle.std.proofs.Common.{length, reverse, refl, ap, sym, subst, arith, All}
 use Rattle.std.proofs.Math.Seq.{get_or-append_seam}
 use Rattle.std.proofs.lemmas.List.{get_or_append_left, length_push, reverse-append}
 use Rattle.pesp_search.specs.declared.time_sets.Branch.{Branch}
 use Rattle.pesp_search.specs.declared.time_sets.Change.{Change}
 use Rattle.pesp_search.specs.declared.time_sets.Change.TheVariants as change
-use Rattle.pesp_search.specs.Marks.{Marks, Saved, Tracked, saved_by, with_word, words_of}
+use Rattle.pesp_search.specs.Marks.{Marks, Saved, Tracked, saved_by, with_word}
 use Rattle.pesp_search.proofs.MarkBits.{word_again}
 
 pub last_first : {X : Type 0} (xs : List X) (x : X) → reverse (xs ++ x ∷ []) ≡ x ∷ reverse xs
 last_first xs x = reverse-append xs (x ∷ [])
 
-pub saved_replaced : (sets : Marks) (changes : List Change) (event index word other : ℕ)
-    → get_or sets.words (event * words_of sets.period + index) 0 ≡ word
-    → saved_by (with_word sets event index other)
-    (reverse (changes ++ change.Replaced event index word ∷ []))
+pub saved_replaced : (sets : Marks) (changes : List Change) (place word other : ℕ)
+    → word ≡ get_or sets.words place 0
+    → saved_by (with_word sets place other) (reverse (changes ++ change.Replaced place word ∷ []))
     ≡ saved_by sets (reverse changes)
 unfolding saved_by
-saved_replaced sets changes event index word other was =
-    ap (saved_by (with_word sets event index other))
-    (last_first changes (change.Replaced event index word))
-    ∙ ap (λ sets. saved_by sets (reverse changes)) (word_again sets event index word other was)
+saved_replaced sets changes place word other was =
+    ap (saved_by (with_word sets place other)) (last_first changes (change.Replaced place word))
+    ∙ ap (λ sets. saved_by sets (reverse changes)) (word_again sets place word other was)
 
 pub saved_branched : (sets : Marks) (changes : List Change) (branch : Branch)
     → saved_by sets (reverse (changes ++ change.Branched branch ∷ []))
@@ -36,13 +34,12 @@ none_saved sets = refl
 
 -- ---- what is left of the changes behind the last one
 
-pub popped_replaced : (sets now : Marks) (all rest : List Change) (last : Change)
-    (event index word : ℕ)
-    → all ≡ rest ++ last ∷ [] → last ≡ change.Replaced event index word
-    → now ≡ with_word sets event index word
+pub popped_replaced : (sets now : Marks) (all rest : List Change) (last : Change) (place word : ℕ)
+    → all ≡ rest ++ last ∷ [] → last ≡ change.Replaced place word
+    → now ≡ with_word sets place word
     → saved_by now (reverse rest) ≡ saved_by sets (reverse all)
 unfolding saved_by
-popped_replaced sets now all rest last event index word is replaced same =
+popped_replaced sets now all rest last place word is replaced same =
     ap (λ now. saved_by now (reverse rest)) same
     ∙ sym (ap (λ all. saved_by sets (reverse all)) is ∙ ap (saved_by sets) (last_first rest last)
     ∙ ap (λ last. saved_by sets (last ∷ reverse rest)) replaced)
@@ -83,16 +80,16 @@ last_holds P all rest last is holds =
 abbrev pub tracked : Marks → List Saved → Tracked
 tracked sets saved = record { sets = sets; saved = saved }
 
-pub replaced_view : (sets now : Marks) (changes more : List Change) (event index word other : ℕ)
-    → get_or sets.words (event * words_of sets.period + index) 0 ≡ word
-    → more ≡ changes ++ change.Replaced event index word ∷ []
-    → now ≡ with_word sets event index other
+pub replaced_view : (sets now : Marks) (changes more : List Change) (place word other : ℕ)
+    → word ≡ get_or sets.words place 0
+    → more ≡ changes ++ change.Replaced place word ∷ []
+    → now ≡ with_word sets place other
     → tracked now (saved_by now (reverse more))
-    ≡ tracked (with_word sets event index other) (saved_by sets (reverse changes))
-replaced_view sets now changes more event index word other was is same =
+    ≡ tracked (with_word sets place other) (saved_by sets (reverse changes))
+replaced_view sets now changes more place word other was is same =
     (λ i. tracked (same i) (saved_by (same i) (reverse (is i))))
-    ∙ ap (tracked (with_word sets event index other))
-    (saved_replaced sets changes event index word other was)
+    ∙ ap (tracked (with_word sets place other))
+    (saved_replaced sets changes place word other was)
 
 pub branched_view : (sets : Marks) (changes more : List Change) (branch : Branch)
     → more ≡ changes ++ change.Branched branch ∷ []

@@ -17,6 +17,7 @@ mod MarkBits
 mod MarkCounts
 mod NextSets
 mod NextTimes
+mod OneWord
 mod Partners
 mod PinnedResults
 mod Pruned

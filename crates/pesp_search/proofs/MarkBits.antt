@@ -31,7 +31,7 @@ place_low sets event index are inside low =
     more : (event : ℕ) → event < sets.events → suc event ≤ sets.events
     more event inside = omega (arith, inside)
 
-same_event : (width e i event index : ℕ) → i < width → index < width
+pub same_event : (width e i event index : ℕ) → i < width → index < width
     → e * width + i ≡ event * width + index → (e ≡ event) × (i ≡ index)
 same_event width e i event index low small same =
     let own : e ≡ event = sym (div-mul-add e width i low) ∙ ap (λ n. n / width) same
@@ -40,92 +40,49 @@ same_event width e i event index low small same =
 
 -- ---- one word
 
-module _ (sets : Marks) (event index word : ℕ)
-    (there : event * words_of sets.period + index < length sets.words) where
+module _ (sets : Marks) (place word : ℕ) (there : place < length sets.words) where
   abbrev now : Marks
-  now = with_word sets event index word
+  now = with_word sets place word
 
-  pub this_word : (time : ℕ) → time / 64 ≡ index → word_of now event time ≡ word
-  this_word time at =
-      ap (λ index. get_or now.words (event * words_of sets.period + index) 0) at
-      ∙ get_or-set_same sets.words (event * words_of sets.period + index) word 0 there
+  pub this_word : (e t : ℕ) → place_of sets.period e t ≡ place → word_of now e t ≡ word
+  this_word e t at =
+      ap (λ place. get_or now.words place 0) at ∙ get_or-set_same sets.words place word 0 there
 
-  pub other_word : index < words_of sets.period → (e t : ℕ) → t < 64 * words_of sets.period
-      → (e ≡ event → t / 64 ≡ index → ⊥) → word_of now e t ≡ word_of sets e t
-  other_word within e t low other =
-      get_or-set_other sets.words (event * words_of sets.period + index)
-      (place_of sets.period e t) word 0
-      (λ same.
-      let both = same_event (words_of sets.period) e (t / 64) event index (omega (arith, low))
-      within same in
-      other both.0 both.1)
+  pub other_word : (e t : ℕ) → (place_of sets.period e t ≡ place → ⊥)
+      → word_of now e t ≡ word_of sets e t
+  other_word e t apart =
+      get_or-set_other sets.words place (place_of sets.period e t) word 0 apart
 
-pub word_kept : (sets : Marks) (event index word : ℕ) → AreMarks sets → event < sets.events
-    → index < words_of sets.period → IsWord sets.period index word
-    → AreMarks (with_word sets event index word)
-word_kept sets event index word are inside within fit =
-    let there = place_low sets event index are inside within in
+pub word_kept : (sets : Marks) (place word : ℕ) → AreMarks sets
+    → place < sets.events * words_of sets.period → IsWord sets.period sets.events place word
+    → AreMarks (with_word sets place word)
+word_kept sets place word are within fit =
+    let there : place < length sets.words = omega (arith, within, are.each) in
     record {
-      each = length-set sets.words (event * words_of sets.period + index) word ∙ are.each;
+      each = length-set sets.words place word ∙ are.each;
       some = are.some;
       few = are.few;
-      fit = λ k d h. fits there k d (omega (
-        arith,
-        h,
-        length-set sets.words (event * words_of sets.period + index) word,
-      ));
-      clear = λ e t low high few. elim (cases_eq e event) [
-        | inr apart ↦ kept there e t low high few (λ own _. apart own)
-        | inl own ↦ elim (cases_eq (t / 64) index) [
-          | inr apart ↦ kept there e t low high few (λ _ at. apart at)
-          | inl at ↦
-              let bit : t % 64 < 64 = omega arith in
-              let late : sets.period ≤ 64 * index + t % 64 = omega (arith, high, at) in
-              ap (λ e. bit_there (with_word sets event index word) e t) own
-              ∙ ap (λ word. has_bit word (t % 64)) (this_word sets event index word there t at)
-              ∙ fit.1 (t % 64) bit late
-        ]
+      fit = λ k d h. fits there k d (omega (arith, h, length-set sets.words place word));
+      clear = λ e t low high few. elim (cases_eq (place_of sets.period e t) place) [
+        | inl at ↦
+            ap (λ word. has_bit word (t % 64)) (this_word sets place word there e t at)
+            ∙ fit.1 e t low high few at
+        | inr apart ↦
+            ap (λ word. has_bit word (t % 64)) (other_word sets place word there e t apart)
+            ∙ are.clear e t low high few
       ];
     }
   where
-    kept : event * words_of sets.period + index < length sets.words → (e t : ℕ)
-        → e < sets.events → sets.period ≤ t → t < 64 * words_of sets.period
-        → (e ≡ event → t / 64 ≡ index → ⊥)
-        → bit_there (with_word sets event index word) e t ≡ false
-    kept there e t low high few apart =
-        ap (λ word. has_bit word (t % 64))
-        (other_word sets event index word there within e t few apart)
-        ∙ are.clear e t low high few
-
-    fits : event * words_of sets.period + index < length sets.words → (k d : ℕ)
-        → k < length sets.words
-        → get_or (with_word sets event index word).words k d < 2 ^ 64
-    fits there k d h = elim (cases_eq k (event * words_of sets.period + index)) [
+    fits : place < length sets.words → (k d : ℕ) → k < length sets.words
+        → get_or (with_word sets place word).words k d < 2 ^ 64
+    fits there k d h = elim (cases_eq k place) [
       | inl same ↦
-          subst (λ n. n < 2 ^ 64) (sym (ap (λ k. get_or (with_word sets event index word).words k
-          d) same
-          ∙ get_or-set_same sets.words (event * words_of sets.period + index) word d there)) fit.0
+          subst (λ n. n < 2 ^ 64) (sym (ap (λ k. get_or (with_word sets place word).words k d) same
+          ∙ get_or-set_same sets.words place word d there)) fit.0
       | inr other ↦
-          subst (λ n. n < 2 ^ 64) (sym (get_or-set_other sets.words (event * words_of sets.period
-          + index) k word d other))
+          subst (λ n. n < 2 ^ 64) (sym (get_or-set_other sets.words place k word d other))
           (are.fit k d h)
     ]
-
--- as it is written
-pub word_written : (sets : Marks) (event index width word : ℕ) → AreMarks sets
-    → event < sets.events → index < words_of sets.period → IsWord sets.period index word
-    → width ≡ words_of sets.period
-    → AreMarks (record {
-      period = sets.period;
-      events = sets.events;
-      words = slice_set sets.words (event * width + index) word;
-    })
-word_written sets event index width word are inside within fit wide =
-    subst AreMarks (sym (λ i. record {
-      period = sets.period;
-      events = sets.events;
-      words = slice_set sets.words (event * wide i + index) word;
-    })) (word_kept sets event index word are inside within fit)
 
 -- ---- sums
 
@@ -144,13 +101,11 @@ set_twice (word ∷ words) zero first second = refl
 set_twice (word ∷ words) (suc i) first second = ap (λ rest. word ∷ rest) (set_twice words i first
     second)
 
-pub word_again : (sets : Marks) (event index word other : ℕ)
-    → get_or sets.words (event * words_of sets.period + index) 0 ≡ word
-    → with_word (with_word sets event index other) event index word ≡ sets
-word_again sets event index word other was =
-    let place = event * words_of sets.period + index in
+pub word_again : (sets : Marks) (place word other : ℕ) → word ≡ get_or sets.words place 0
+    → with_word (with_word sets place other) place word ≡ sets
+word_again sets place word other was =
     ap (λ words. record { period = sets.period; events = sets.events; words = words })
-    (set_twice sets.words place other word ∙ ap (slice_set sets.words place) (sym was)
+    (set_twice sets.words place other word ∙ ap (slice_set sets.words place) was
     ∙ set-get_or sets.words place 0)
 
 -- ---- the next time

@@ -5,9 +5,8 @@ use Rattle.std.proofs.Common.{refl, ap, sym, subst, arith, IfOk, Result, Ok, Err
 use Rattle.std.proofs.lemmas.Bool.{cases_Bool, cases_eq, cases_lt, cases_order, eq-eqb, le-ltb}
 use Rattle.std.proofs.lemmas.Bool.{lt-ltb, ltb-true, ne_eqb, or_parts}
 use Rattle.pesp_search.specs.Marks.{AreMarks, KeepsBits, Marks, Prunes, Tracked, has_bit, is_left}
-use Rattle.pesp_search.specs.Marks.{marked, marks_left, with_word, word_of, words_of}
-use Rattle.pesp_search.proofs.MarkBits.{other_word, place_low, sum_less, this_word}
-use Rattle.pesp_search.proofs.KeptBits.{word_here}
+use Rattle.pesp_search.specs.Marks.{marked, marks_left, place_of, with_word, word_at, words_of}
+use Rattle.pesp_search.proofs.MarkBits.{other_word, place_low, same_event, sum_less, this_word}
 use Rattle.pesp_search.proofs.WordBits.{and_bit}
 use Rattle.pesp_search.specs.Revising.{Left, stays}
 
@@ -17,13 +16,18 @@ and_assoc : (x y z : Bool) → (x && (y && z)) ≡ ((x && y) && z)
 and_assoc true y z = refl
 and_assoc false y z = refl
 
-module _ (now : Marks) (event index word keep : ℕ) (are : AreMarks now)
-    (inside : event < now.events) (within : index < words_of now.period)
-    (was : (time : ℕ) → time / 64 ≡ index → word_of now event time ≡ word) where
-  abbrev less : Marks
-  less = with_word now event index (bit_and word keep)
+module _ (now : Marks) (event index keep : ℕ) (are : AreMarks now) (inside : event < now.events)
+    (within : index < words_of now.period) where
+  abbrev place : ℕ
+  place = event * words_of now.period + index
 
-  there : event * words_of now.period + index < length now.words
+  abbrev kept : ℕ
+  kept = bit_and (word_at now event index) keep
+
+  abbrev less : Marks
+  less = with_word now place kept
+
+  there : place < length now.words
   there = place_low now event index are inside within
 
   left_elsewhere : (e t : ℕ) → (e ≡ event → t / 64 ≡ index → ⊥)
@@ -31,24 +35,28 @@ module _ (now : Marks) (event index word keep : ℕ) (are : AreMarks now)
   left_elsewhere e t apart = elim (cases_lt t now.period) [
     | inl low ↦
         ap (λ word. nat_lt t now.period && has_bit word (t % 64))
-        (other_word now event index (bit_and word keep) there within e t (omega (arith, low)) apart)
+        (other_word now place kept there e t (λ same.
+        let both = same_event (words_of now.period) e (t / 64) event index (omega (arith, low))
+        within same in
+        apart both.0 both.1))
     | inr high ↦ rw (le-ltb t now.period high) refl
   ]
 
   left_here : (t : ℕ) → t / 64 ≡ index
       → is_left less event t ≡ (is_left now event t && has_bit keep (t % 64))
   left_here t at =
+      let here : place_of now.period event t ≡ place =
+      ap (λ index. event * words_of now.period + index) at in
       ap (λ word. nat_lt t now.period && has_bit word (t % 64))
-      (this_word now event index (bit_and word keep) there t at)
+      (this_word now place kept there event t here)
       ∙ ap (λ b. nat_lt t now.period && b)
-      (and_bit word keep (t % 64)
-      ∙ ap (λ word. has_bit word (t % 64) && has_bit keep (t % 64)) (sym (was t at)))
+      (and_bit (word_at now event index) keep (t % 64)
+      ∙ ap (λ place. has_bit (get_or now.words place 0) (t % 64) && has_bit keep (t % 64)) (sym
+      here))
       ∙ and_assoc (nat_lt t now.period) _ _
 
-  fewer_left : bit_and word keep < word → marks_left less < marks_left now
-  fewer_left small =
-      sum_less now.words (event * words_of now.period + index) (bit_and word keep)
-      (subst (λ old. bit_and word keep < old) (sym (word_here now event index word was)) small)
+  fewer_left : kept < word_at now event index → marks_left less < marks_left now
+  fewer_left small = sum_less now.words place kept small
 
 -- ---- the times up to one
 
@@ -109,8 +117,8 @@ prune_word before now after event index keep changes is inside within so turn = 
     less_here : is ≡ true → marks_left after.sets < marks_left now.sets
     less_here some =
         subst (λ (tracked : Tracked). marks_left tracked.sets < marks_left now.sets) (sym turn.is)
-        (fewer_left now.sets event index turn.word (get_or keep index 0) turn.sound inside within
-        turn.was (turn.fewer some))
+        (fewer_left now.sets event index (get_or keep index 0) turn.sound inside within
+        (turn.fewer some))
 
     no_more : (is ≡ true) ⊎ (is ≡ false) → marks_left after.sets ≤ marks_left now.sets
     no_more (inl some) = let less = less_here some in omega (arith, less)
@@ -135,8 +143,8 @@ prune_word before now after event index keep changes is inside within so turn = 
         ≡ both (is_left before.sets) (stays_below event keep (64 * (index + 1))) e t
     unchanged e t apart same =
         ap (λ (tracked : Tracked). is_left tracked.sets e t) turn.is
-        ∙ left_elsewhere now.sets event index turn.word (get_or keep index 0) turn.sound inside
-        within turn.was e t apart
+        ∙ left_elsewhere now.sets event index (get_or keep index 0) turn.sound inside within e t
+        apart
         ∙ at e t ∙ ap (λ b. is_left before.sets e t && b) same
 
     left : (e t : ℕ) → (e ≡ event) ⊎ (e ≡ event → ⊥)
@@ -153,8 +161,7 @@ prune_word before now after event index keep changes is inside within so turn = 
         let bits : has_bit (get_or keep index 0) (t % 64) ≡ marked keep t =
         sym (ap (λ index. has_bit (get_or keep index 0) (t % 64)) here) in
         rw (own) (ap (λ (tracked : Tracked). is_left tracked.sets event t) turn.is
-        ∙ left_here now.sets event index turn.word (get_or keep index 0) turn.sound inside within
-        turn.was t here
+        ∙ left_here now.sets event index (get_or keep index 0) turn.sound inside within t here
         ∙ (λ i. at event t i && bits i)
         ∙ and_unit (is_left before.sets event t) _ (marked keep t)
         (later event keep (64 * index) event t low)

@@ -1,7 +1,7 @@
 -- What the sets of both events of an activity are after it has revised them.
 use Rattle.std.proofs.Common.{Result, Ok, Err, OnOk}
 use Rattle.std.proofs.Common.{◌≡◌, ◌∙◌, ◌⊎◌, inl, inr, ℕ, ◌/◌, ◌<◌, ◌==◌, Bool, true, false, not}
-use Rattle.std.proofs.Common.{◌&&◌}
+use Rattle.std.proofs.Common.{◌&&◌, ◌-◌}
 use Rattle.std.proofs.Common.{◌||◌}
 use Rattle.std.proofs.Common.{filter, length, refl, ap, sym, subst, arith}
 use Rattle.std.specs.List.{list_any, range_with_len}
@@ -186,6 +186,14 @@ firsts_revised activity before after changes at flags inside so =
           (filter left (range_with_len 0 period))) (touched.untouched activity.from none).1
           ∙ side_passes before after activity.to test changes so t is,
     )
+
+-- the set of another event stays as it was
+pub own_kept : (before after : Tracked) (kept at : ℕ) (test : ℕ → Bool) (changes : Bool)
+    → Prunes before after (kept_test kept test) changes → (at ≡ kept → ⊥)
+    → times_from after.sets at 0 ≡ times_from before.sets at 0
+own_kept before after kept at test changes so apart =
+    λ i. filter (side_untouched before after kept test changes so at (λ own. absurd (apart own)) i)
+    (range_with_len 0 (so.period i - 0))
 
 -- times stay left to all events where some do to this one
 pub side_full : (before after : Tracked) (kept : ℕ) (test : ℕ → Bool) (changes : Bool)

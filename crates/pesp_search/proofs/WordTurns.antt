@@ -12,7 +12,7 @@ use Rattle.pesp_search.specs.Revising.{IsClear, any_below, reaches, turned_to}
 use Rattle.pesp_search.proofs.AnyBelow.{any_one, any_same, joined_below}
 use Rattle.pesp_search.proofs.WordBits.{bit_of_one, or_bit, shl_high, shl_low, zero_bit}
 
-or_false : (x y : Bool) → y ≡ false → (x || y) ≡ x
+pub or_false : (x y : Bool) → y ≡ false → (x || y) ≡ x
 or_false true y is = refl
 or_false false y is = is
 
@@ -157,7 +157,7 @@ module _ (period by index : ℕ) (old all times : List ℕ) (cut : ℕ) (low : i
 
 -- ---- windows
 
-abbrev zeros : List ℕ
+abbrev pub zeros : List ℕ
 zeros = replicate 13 0
 
 pub no_bits : (time : ℕ) → marked zeros time ≡ false

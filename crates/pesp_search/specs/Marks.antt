@@ -59,18 +59,19 @@ word_of sets event time = get_or sets.words (place_of sets.period event time) 0
 abbrev pub is_left : Marks → ℕ → ℕ → Bool
 is_left sets event time = nat_lt time sets.period && has_bit (word_of sets event time) (time % 64)
 
--- the marks where one word of an event is another one
-abbrev pub with_word : Marks → ℕ → ℕ → ℕ → Marks
-with_word sets event index word = record {
+-- the marks where the word at a place is another one
+abbrev pub with_word : Marks → ℕ → ℕ → Marks
+with_word sets place word = record {
   period = sets.period;
   events = sets.events;
-  words = slice_set sets.words (event * words_of sets.period + index) word;
+  words = slice_set sets.words place word;
 }
 
--- no bit of a word is set behind the period
-abbrev pub IsWord : ℕ → ℕ → ℕ → Type 0
-IsWord period index word = (word < 2 ^ 64)
-    × ((bit : ℕ) → bit < 64 → period ≤ 64 * index + bit → has_bit word bit ≡ false)
+-- no bit of a word at a place is set behind the period
+abbrev pub IsWord : ℕ → ℕ → ℕ → ℕ → Type 0
+IsWord period events place word = (word < 2 ^ 64)
+    × ((event time : ℕ) → event < events → period ≤ time → time < 64 * words_of period
+    → place_of period event time ≡ place → has_bit word (time % 64) ≡ false)
 
 -- the times of an event, from one on
 abbrev pub times_from : Marks → ℕ → ℕ → List ℕ
@@ -119,15 +120,15 @@ pub record Tracked : Type 0 where
 -- what changes say of the sets before them, the last change first
 unfoldable pub saved_by : Marks → List Change → List Saved
 saved_by sets [] = []
-saved_by sets (change.Replaced event index word ∷ earlier) =
-    saved_by (with_word sets event index word) earlier
+saved_by sets (change.Replaced place word ∷ earlier) =
+    saved_by (with_word sets place word) earlier
 saved_by sets (change.Branched branch ∷ earlier) =
     record { sets = sets; branch = branch } ∷ saved_by sets earlier
 
--- a change is one of an event and a word that are there
+-- a change is one of a place or an event that is there
 abbrev pub IsChange : ℕ → ℕ → Change → Type 0
-IsChange period events (change.Replaced event index word) =
-    (event < events) × (index < words_of period) × IsWord period index word
+IsChange period events (change.Replaced place word) =
+    (place < events * words_of period) × IsWord period events place word
 IsChange period events (change.Branched branch) = branch.event < events
 
 -- what restoring finds: nothing that was saved, or the last sets that were
@@ -160,18 +161,21 @@ waiting (saved ∷ earlier) = children saved ++ waiting earlier
 abbrev pub marks_left : Marks → ℕ
 marks_left sets = sum sets.words
 
--- Some bits of a word stay, and no others. Where nothing is said to change nothing does, and else
--- fewer bits are left.
+-- the word of an event by its index
+abbrev pub word_at : Marks → ℕ → ℕ → ℕ
+word_at sets event index = get_or sets.words (event * words_of sets.period + index) 0
+
+-- Some bits of a word of an event stay, and no others. Where nothing is said to change nothing does,
+-- and else fewer bits are left.
 pub record KeepsBits (before after : Tracked) (event index keep : ℕ) (changes : Bool) : Type 0 where
-  pub word : ℕ
-  pub was : (time : ℕ) → time / 64 ≡ index → word_of before.sets event time ≡ word
-  pub is : after
-      ≡ record {
-        sets = with_word before.sets event index (bit_and word keep);
-        saved = before.saved;
-      }
+  pub is : after ≡ record {
+    sets = with_word before.sets (event * words_of before.sets.period + index)
+        (bit_and (word_at before.sets event index) keep);
+    saved = before.saved;
+  }
   pub same : changes ≡ false → after ≡ before
-  pub fewer : changes ≡ true → bit_and word keep < word
+  pub fewer : changes ≡ true
+      → bit_and (word_at before.sets event index) keep < word_at before.sets event index
   pub sound : AreMarks before.sets
 
 -- Some times of an event are taken out: of all events those stay for which a test holds. Where

@@ -11,7 +11,7 @@ use Rattle.pesp_model.specs.Timetables.{Problem, keeps}
 use Rattle.pesp_search.specs.Flags.{Flags, has_changed, some_changed, with_flag}
 use Rattle.pesp_search.specs.Listings.{is_empty}
 use Rattle.pesp_search.specs.Marks.{IsSettled, Marks, Saved, Tracked, is_left, marked, marks_left}
-use Rattle.pesp_search.specs.Marks.{sets_of}
+use Rattle.pesp_search.specs.Marks.{sets_of, times_from}
 use Rattle.pesp_search.specs.TimeSets.{reduced}
 
 -- which times are left to which events
@@ -163,6 +163,11 @@ pub record Touches (activity : PespActivity) (before after : Tracked) (flags mor
   pub fewer : (event : ℕ) → has_changed more event ≡ true
       → (has_changed flags event ≡ true) ⊎ (marks_left after.sets < marks_left before.sets)
   pub no_more : marks_left after.sets ≤ marks_left before.sets
+
+-- an activity between two events leaves the set of the event whose set had changed as it was
+abbrev pub KeepsOwn : PespActivity → ℕ → Tracked → Tracked → Type 0
+KeepsOwn activity at before after = (activity.from ≡ activity.to → ⊥)
+    → times_from after.sets at 0 ≡ times_from before.sets at 0
 
 -- it revises them on one side or on both, where one of its events is the one whose set has changed
 abbrev pub RevisesSeconds : PespActivity → ℕ → Tracked → Tracked → Flags → Flags

@@ -1,6 +1,6 @@
 // Marks of the times that are left to events.
 ghost use Rattle.std.specs.Prelude.{◌≡◌, ℕ, ◌<◌, ◌≤◌, ◌==◌, ◌||◌, ◌&&◌, ◌+◌, ◌*◌, ◌/◌, ◌%◌, nat_le};
-ghost use Rattle.std.specs.Prelude.{length, map, IfOk, IfSome};
+ghost use Rattle.std.specs.Prelude.{get_or, length, map, IfOk, IfSome};
 ghost use Rattle.std.specs.List.{range_with_len};
 ghost use Rattle.pesp_search.specs.Listings.{is_empty, times_at_first};
 ghost use Rattle.pesp_search.specs.Marks.{AreMarks, IsNext, IsWord, has_bit, is_left};
@@ -100,15 +100,27 @@ impl TimeMarks {
         self.words[event * self.width() + index]
     }
 
-    /// Replaces the word of some times of an event.
-    pub(crate) fn put_word(&mut self, event: usize, index: usize, word: u64)
-        requires event { event < self.old.events }
-        requires index { index < words_of self.old.period }
-        requires word { IsWord self.old.period index word }
-        ensures put { self.new ≡ with_word self.old event index word }
+    /// The place of a word of an event among the words of all, and that word.
+    pub(crate) fn placed_word(&self, event: usize, index: usize) -> (usize, u64)
+        requires event { event < self.now.events }
+        requires index { index < words_of self.now.period }
+        ensures place { result.0 ≡ event * words_of self.now.period + index }
+        ensures within { result.0 < self.now.events * words_of self.now.period }
+        ensures word { result.1 ≡ get_or self.now.words result.0 0 }
+        ensures sound { AreMarks self.now }
+    {
+        let words = self.words.as_slice();
+        let place = event * self.width() + index;
+        (place, words[place])
+    }
+
+    /// Replaces the word at a place.
+    pub(crate) fn put_word(&mut self, place: usize, word: u64)
+        requires place { place < self.old.events * words_of self.old.period }
+        requires word { IsWord self.old.period self.old.events place word }
+        ensures put { self.new ≡ with_word self.old place word }
         ensures sound { AreMarks self.old }
     {
-        let place = event * words_of(self.period) + index;
         self.words[place] = word;
     }
 

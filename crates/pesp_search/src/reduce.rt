@@ -92,8 +92,9 @@ fn visit(
     ensures each { OnOk result (changed.new.events ≡ changed.old.events) }
 {
     changed.put(event, false);
+    let mut count = sets.sets().count(event);
     for index in indexes {
-        if revise(pesp.activity(*index), event, sets, changed)? {
+        if revise(pesp.activity(*index), event, &mut count, sets, changed)? {
             return Ok(true);
         }
     }

@@ -6,8 +6,8 @@ ghost use Rattle.pesp_model.specs.Timetables.{IsActivity};
 ghost use Rattle.pesp_search.specs.Listings.{is_empty};
 ghost use Rattle.pesp_search.specs.Marks.{AreMarks, Prunes, is_left, marked, times_from};
 ghost use Rattle.pesp_search.specs.Revising.{ahead, behind, first_left, second_left, width_of};
-ghost use Rattle.pesp_search.specs.Revising.{HasEmpty, StaysFull, Revises, RevisesFirsts};
-ghost use Rattle.pesp_search.specs.Revising.{RevisesSeconds};
+ghost use Rattle.pesp_search.specs.Revising.{HasEmpty, KeepsOwn, StaysFull, Revises};
+ghost use Rattle.pesp_search.specs.Revising.{RevisesFirsts, RevisesSeconds};
 ghost use Rattle.pesp_search.specs.Revising.{keeps_firsts, keeps_seconds, noted};
 
 use crate::flags::EventFlags;
@@ -20,66 +20,92 @@ use pesp_model::PespActivity;
 use plan_num::NoMemory;
 
 /// Takes the times that have no partner out of the set of an activity's other event where the set
-/// of one of its events has changed, and sets the flags of the events whose set has changed. Tells
-/// whether some set has no time left for that.
+/// of one of its events has changed, and sets the flags of the events whose set has changed. Keeps
+/// the count of the times that are left to the event whose set had changed. Tells whether some set
+/// has no time left for that.
 pub(crate) fn revise(
     activity: PespActivity,
     at: usize,
+    count: &mut usize,
     sets: &mut TimeSets,
     changed: &mut EventFlags,
 ) -> Result<bool, NoMemory>
     requires activity { IsActivity sets.old.sets.events activity }
+    requires event { at < sets.old.sets.events }
+    requires counted { count.old ≡ length (times_from sets.old.sets at 0) }
     requires each { changed.old.events ≡ sets.old.sets.events }
     ensures revises { OnOk result
         (Revises activity at sets.old sets.new changed.old changed.new) }
     ensures empty { IfOk result (λ is_empty. is_empty ≡ true → HasEmpty sets.new.sets) }
     ensures full { IfOk result (λ is_empty. is_empty ≡ false → StaysFull sets.old sets.new) }
+    ensures counted { OnOk result (count.new ≡ length (times_from sets.new.sets at 0)) }
 {
-    let first = revise_seconds(activity, at, sets, changed)?;
-    let second = revise_firsts(activity, at, sets, changed)?;
+    let first = revise_first(activity, at, *count, sets, changed)?;
+    recount(activity, at, count, sets.sets());
+    let second = revise_second(activity, at, *count, sets, changed)?;
+    recount(activity, at, count, sets.sets());
     Ok(any_of(first, second))
 }
 
+// Counts the times that are left to an event anew where an activity leads from it to itself. Any
+// other activity leaves its set as it was.
+fn recount(activity: PespActivity, at: usize, count: &mut usize, sets: &TimeMarks)
+    requires event { at < sets.now.events }
+    requires same { (activity.from ≡ activity.to → ⊥)
+        → count.old ≡ length (times_from sets.now at 0) }
+    ensures { count.new ≡ length (times_from sets.now at 0) }
+{
+    if activity.from == activity.to {
+        *count = sets.count(at);
+    }
+}
+
 // Does so for the first event.
-fn revise_seconds(
+fn revise_first(
     activity: PespActivity,
     at: usize,
+    count: usize,
     sets: &mut TimeSets,
     changed: &mut EventFlags,
 ) -> Result<bool, NoMemory>
     requires activity { IsActivity sets.old.sets.events activity }
+    requires counted { count ≡ length (times_from sets.old.sets at 0) }
     requires each { changed.old.events ≡ sets.old.sets.events }
     ensures revises { OnOk result
         (RevisesSeconds activity at sets.old sets.new changed.old changed.new) }
     ensures empty { IfOk result (λ is_empty. is_empty ≡ true → HasEmpty sets.new.sets) }
     ensures full { IfOk result (λ is_empty. is_empty ≡ false → StaysFull sets.old sets.new) }
+    ensures own { OnOk result (KeepsOwn activity at sets.old sets.new) }
 {
     if activity.to != at {
         return Ok(false);
     }
-    let is_changed = keep_seconds(activity, sets)?;
+    let is_changed = prune_first(activity, count, sets)?;
     note(changed, activity.from, is_changed);
     Ok(is_emptied(sets.sets(), activity.from, is_changed))
 }
 
 // Does so for the second event.
-fn revise_firsts(
+fn revise_second(
     activity: PespActivity,
     at: usize,
+    count: usize,
     sets: &mut TimeSets,
     changed: &mut EventFlags,
 ) -> Result<bool, NoMemory>
     requires activity { IsActivity sets.old.sets.events activity }
+    requires counted { count ≡ length (times_from sets.old.sets at 0) }
     requires each { changed.old.events ≡ sets.old.sets.events }
     ensures revises { OnOk result
         (RevisesFirsts activity at sets.old sets.new changed.old changed.new) }
     ensures empty { IfOk result (λ is_empty. is_empty ≡ true → HasEmpty sets.new.sets) }
     ensures full { IfOk result (λ is_empty. is_empty ≡ false → StaysFull sets.old sets.new) }
+    ensures own { OnOk result (KeepsOwn activity at sets.old sets.new) }
 {
     if activity.from != at {
         return Ok(false);
     }
-    let is_changed = keep_firsts(activity, sets)?;
+    let is_changed = prune_second(activity, count, sets)?;
     note(changed, activity.to, is_changed);
     Ok(is_emptied(sets.sets(), activity.to, is_changed))
 }
@@ -108,12 +134,13 @@ fn note(changed: &mut EventFlags, event: usize, is_changed: bool)
 
 // Takes the times that have no second one out of the set of an activity's first event, and tells
 // whether there were any.
-fn keep_seconds(activity: PespActivity, sets: &mut TimeSets) -> Result<bool, NoMemory>
-    requires { IsActivity sets.old.sets.events activity }
+fn prune_first(activity: PespActivity, count: usize, sets: &mut TimeSets) -> Result<bool, NoMemory>
+    requires activity { IsActivity sets.old.sets.events activity }
+    requires counted { count ≡ length (times_from sets.old.sets activity.to 0) }
     ensures { IfOk result (Prunes sets.old sets.new
         (keeps_seconds sets.old.sets.period (is_left sets.old.sets) activity)) }
 {
-    if is_crowded(sets.sets(), activity.to, activity) {
+    if is_crowded(sets.sets(), count, activity) {
         return Ok(false);
     }
     let times = with_second(activity, sets.sets());
@@ -122,29 +149,29 @@ fn keep_seconds(activity: PespActivity, sets: &mut TimeSets) -> Result<bool, NoM
 
 // Takes the times that have no first one out of the set of an activity's second event, and tells
 // whether there were any.
-fn keep_firsts(activity: PespActivity, sets: &mut TimeSets) -> Result<bool, NoMemory>
-    requires { IsActivity sets.old.sets.events activity }
+fn prune_second(activity: PespActivity, count: usize, sets: &mut TimeSets) -> Result<bool, NoMemory>
+    requires activity { IsActivity sets.old.sets.events activity }
+    requires counted { count ≡ length (times_from sets.old.sets activity.from 0) }
     ensures { IfOk result (Prunes sets.old sets.new
         (keeps_firsts sets.old.sets.period (is_left sets.old.sets) activity)) }
 {
-    if is_crowded(sets.sets(), activity.from, activity) {
+    if is_crowded(sets.sets(), count, activity) {
         return Ok(false);
     }
     let times = with_first(activity, sets.sets());
     prune(sets, activity.to, &times)
 }
 
-// Whether more times are left to an event than lie outside of each window of an activity, so that
-// every time has a partner among them.
-fn is_crowded(sets: &TimeMarks, event: usize, activity: PespActivity) -> bool
-    requires activity { IsActivity sets.now.events activity }
-    requires event { event < sets.now.events }
-    ensures crowded { result ≡ nat_le (sets.now.period - width_of sets.now.period activity)
-        (length (times_from sets.now event 0)) }
+// Whether more times are left than lie outside of each window of an activity, so that every time
+// has a partner among them.
+fn is_crowded(sets: &TimeMarks, count: usize, activity: PespActivity) -> bool
+    requires { IsActivity sets.now.events activity }
+    ensures crowded { result
+        ≡ nat_le (sets.now.period - width_of sets.now.period activity) count }
     ensures sound { AreMarks sets.now }
 {
     let period = sets.period();
-    period - width_of(activity, period) <= sets.count(event)
+    period - width_of(activity, period) <= count
 }
 
 // The times of the period that are the first one of two that keep an activity.

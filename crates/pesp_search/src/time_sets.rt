@@ -14,11 +14,11 @@ pub(crate) struct Branch {
     pub(crate) from: usize,
 }
 
-/// A change of sets: a word of the set of an event was another one before, or the sets were saved
-/// at a branch.
+/// A change of sets: the word at a place was another one before, or the sets were saved at a
+/// branch.
 #[derive(Clone, Copy, Debug, PartialEq, Eq)]
 pub(crate) enum Change {
-    Replaced(usize, usize, u64),
+    Replaced(usize, u64),
     Branched(Branch),
 }
 
@@ -75,13 +75,13 @@ impl TimeSets {
         requires index { index < words_of self.old.sets.period }
         ensures { IfOk result (KeepsBits self.old self.new event index keep) }
     {
-        let old = self.sets.word(event, index);
+        let (place, old) = self.sets.placed_word(event, index);
         let new = old & keep;
         if new == old {
             return Ok(false);
         }
-        self.changes.push(Change::Replaced(event, index, old))?;
-        self.sets.put_word(event, index, new);
+        self.changes.push(Change::Replaced(place, old))?;
+        self.sets.put_word(place, new);
         Ok(true)
     }
 
@@ -104,7 +104,7 @@ impl TimeSets {
     {
         while let Some(change) = self.changes.pop() {
             match change {
-                Change::Replaced(event, index, word) => self.sets.put_word(event, index, word),
+                Change::Replaced(place, word) => self.sets.put_word(place, word),
                 Change::Branched(branch) => return Some(branch),
             }
         }

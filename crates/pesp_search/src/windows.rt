@@ -1,6 +1,6 @@
 // Windows of a period in which a time is left.
 ghost use Rattle.std.specs.Prelude.{◌≡◌, ℕ, ◌<◌, ◌≤◌, ◌+◌, ◌-◌, ◌*◌, ◌%◌, ◌&&◌, ◌||◌, nat_lt};
-ghost use Rattle.std.specs.Prelude.{length};
+ghost use Rattle.std.specs.Prelude.{◌∷◌, [], length};
 ghost use Rattle.std.specs.Prelude.{true, false};
 ghost use Rattle.pesp_search.specs.Marks.{has_bit, is_left, marked};
 ghost use Rattle.pesp_search.specs.Revising.{IsClear, reaches, turned_to};
@@ -11,6 +11,59 @@ use crate::words::{WORDS, cut, word_from, words_of};
 /// The times of the period behind which a time is left to an event, in the window that opens so
 /// many minutes behind them and is so many minutes wide.
 pub(crate) fn reached(sets: &TimeMarks, event: usize, offset: usize, width: usize) -> [u64; WORDS]
+    requires event { event < sets.now.events }
+    requires offset { offset ≤ sets.now.period }
+    requires width { width < sets.now.period }
+    ensures long { length result ≡ 13 }
+    ensures each { (time : ℕ) → time < sets.now.period → marked result time
+        ≡ reaches sets.now.period (is_left sets.now event) offset width time }
+{
+    if sets.period() <= 64 {
+        reached_in_word(sets, event, offset, width)
+    } else {
+        reached_in_words(sets, event, offset, width)
+    }
+}
+
+// Does so where the times of the period are in one word.
+fn reached_in_word(sets: &TimeMarks, event: usize, offset: usize, width: usize) -> [u64; WORDS]
+    requires event { event < sets.now.events }
+    requires offset { offset ≤ sets.now.period }
+    requires width { width < sets.now.period }
+    requires small { sets.now.period ≤ 64 }
+    ensures long { length result ≡ 13 }
+    ensures each { (time : ℕ) → time < sets.now.period → marked result time
+        ≡ reaches sets.now.period (is_left sets.now event) offset width time }
+{
+    let period = sets.period();
+    let mut times = sets.word(event, 0);
+    let mut span = 1;
+    while span <= width {
+        let by = span.min(width + 1 - span);
+        times |= turned(times, period, by);
+        span += by;
+    }
+    let mut reached = [0; WORDS];
+    reached[0] = turned(times, period, offset);
+    reached
+}
+
+// The times so many minutes before one that has a bit, where those of the period are in one word.
+fn turned(times: u64, period: usize, by: usize) -> u64
+    requires some { 1 ≤ period }
+    requires small { period ≤ 64 }
+    requires by { by ≤ period }
+    requires clear { IsClear period (times ∷ []) }
+    ensures { (time : ℕ) → marked (result ∷ []) time ≡ turned_to period (times ∷ []) by time }
+{
+    if by == 0 || by == period {
+        return times;
+    }
+    cut((times >> by) | (times << (period - by)), period)
+}
+
+// Does so where they are in several words.
+fn reached_in_words(sets: &TimeMarks, event: usize, offset: usize, width: usize) -> [u64; WORDS]
     requires event { event < sets.now.events }
     requires offset { offset ≤ sets.now.period }
     requires width { width < sets.now.period }

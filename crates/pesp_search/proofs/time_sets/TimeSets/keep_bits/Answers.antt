@@ -1,58 +1,53 @@
-use Rattle.std.proofs.Common.{All, ◌<◌, bit_and, false, reverse, subst, sym, true}
+use Rattle.std.proofs.Common.{All, bit_and, false, reverse, subst, sym, true}
 use Rattle.std.proofs.lemmas.List.Elements.{All-push}
 use Rattle.pesp_search.specs.declared.time_sets.Change.TheVariants as change
-use Rattle.pesp_search.specs.Marks.{IsChange, KeepsBits, Marks, Tracked, saved_by, words_of}
+use Rattle.pesp_search.specs.Marks.{IsChange, KeepsBits, Marks, Tracked, saved_by}
 use Rattle.pesp_search.proofs.Changes.{replaced_view, tracked}
-use Rattle.pesp_search.proofs.KeptBits.{all_kept, kept_fits, some_taken, word_fits, word_here}
+use Rattle.pesp_search.proofs.KeptBits.{all_kept, kept_fits, some_taken, word_fits}
 use Rattle.pesp_search.proofs.time_sets.TimeSets.keep_bits.Goals as goal
 
 pub returns-then-new-old : goal.returns-then-new-old
 returns-then-new-old c =
     subst (λ (now : Tracked). KeepsBits now now c.args.event c.args.index c.args.keep false)
     c.self.view_is
-    (all_kept _ c.args.event c.args.index c.word-old.result c.args.keep c.word-old.ensures.sound
-    c.word-old.ensures.value c.if-new-old.true)
+    (all_kept (tracked c.self.inside.sets
+    (saved_by c.self.inside.sets (reverse c.self.inside.changes.items))) c.args.event c.args.index
+    c.placed_word-place.result.0 c.placed_word-place.result.1 c.args.keep c.placed_word-place.ensures.sound
+    c.placed_word-place.ensures.place c.placed_word-place.ensures.word c.if-new-old.true)
 
 pub put_word-requires-clause-word : goal.put_word-requires-clause-word
 put_word-requires-clause-word c =
-    kept_fits c.self.inside.sets.period c.args.index c.word-old.result c.args.keep
-    (word_fits c.self.inside.sets c.args.event c.args.index c.word-old.result
-    c.word-old.ensures.sound
-    (subst (λ (now : Tracked). c.args.event < now.sets.events) (sym c.self.view_is)
-    c.requires.event)
-    (subst (λ (now : Tracked). c.args.index < words_of now.sets.period) (sym c.self.view_is)
-    c.requires.index)
-    c.word-old.type_inv c.word-old.ensures.value)
+    kept_fits c.self.inside.sets.period c.self.inside.sets.events c.placed_word-place.result.0
+    c.placed_word-place.result.1 c.args.keep
+    (word_fits c.self.inside.sets c.placed_word-place.result.0 c.placed_word-place.result.1
+    c.placed_word-place.ensures.sound c.placed_word-place.ensures.within c.placed_word-place.ensures.word)
 
 pub invariant_of-self-2 : goal.invariant_of-self-2
 invariant_of-self-2 c =
     let sets = c.self.inside.sets in
-    let inside = subst (λ (now : Tracked). c.args.event < now.sets.events) (sym c.self.view_is)
-    c.requires.event in
-    let within = subst (λ (now : Tracked). c.args.index < words_of now.sets.period)
-    (sym c.self.view_is) c.requires.index in
     subst (λ (now : Marks). All (IsChange now.period now.events) c.push.new.self.items)
     (sym c.put_word.ensures.put)
     (subst (All (IsChange sets.period sets.events)) (sym c.in_ok-push.ensures.items)
     (All-push (IsChange sets.period sets.events) c.self.inside.changes.items
-    (change.Replaced c.args.event c.args.index c.word-old.result) c.self.invariant (
-      inside,
-      within,
-      word_fits sets c.args.event c.args.index c.word-old.result c.word-old.ensures.sound inside
-          within c.word-old.type_inv c.word-old.ensures.value,
+    (change.Replaced c.placed_word-place.result.0 c.placed_word-place.result.1) c.self.invariant (
+      c.placed_word-place.ensures.within,
+      word_fits sets c.placed_word-place.result.0 c.placed_word-place.result.1 c.placed_word-place.ensures.sound
+          c.placed_word-place.ensures.within c.placed_word-place.ensures.word,
     )))
 
 pub returns : goal.returns
 returns c =
-    let other = bit_and c.word-old.result c.args.keep in
+    let place = c.placed_word-place.result.0 in
+    let old = c.placed_word-place.result.1 in
+    let other = bit_and old c.args.keep in
     subst (λ (now : Tracked). KeepsBits now (tracked c.put_word.new.self
     (saved_by c.put_word.new.self (reverse c.push.new.self.items))) c.args.event c.args.index
     c.args.keep true)
     c.self.view_is
     (some_taken (tracked c.self.inside.sets
-    (saved_by c.self.inside.sets (reverse c.self.inside.changes.items))) _ c.args.event c.args.index c.word-old.result
-    c.args.keep c.word-old.ensures.sound c.word-old.ensures.value c.if-new-old.false
+    (saved_by c.self.inside.sets (reverse c.self.inside.changes.items))) c.args.event c.args.index
+    place old c.args.keep c.placed_word-place.ensures.sound c.placed_word-place.ensures.place
+    c.placed_word-place.ensures.word _ c.if-new-old.false
     (replaced_view c.self.inside.sets c.put_word.new.self c.self.inside.changes.items
-    c.push.new.self.items c.args.event c.args.index c.word-old.result other
-    (word_here c.self.inside.sets c.args.event c.args.index c.word-old.result
-    c.word-old.ensures.value) c.in_ok-push.ensures.items c.put_word.ensures.put))
+    c.push.new.self.items place old other c.placed_word-place.ensures.word c.in_ok-push.ensures.items
+    c.put_word.ensures.put))

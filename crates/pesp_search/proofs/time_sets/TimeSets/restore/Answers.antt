@@ -12,7 +12,7 @@ put_word-requires c =
     c.loop-change.self-inside.sets.events)
     c.loop-change.self-inside.changes.items c.pop.new.self.items c.in-Some.change
     c.in-Some.ensures.items c.loop-change.invariant.changes) in
-    record { event = so.0; index = so.1; word = so.2 }
+    record { place = so.0; word = so.1 }
 
 pub loop-change-preserved : goal.loop-change-preserved
 loop-change-preserved c = record {
@@ -22,8 +22,7 @@ loop-change-preserved c = record {
       ∙ c.loop-change.invariant.events;
   saved = popped_replaced c.loop-change.self-inside.sets c.put_word.new.self
       c.loop-change.self-inside.changes.items c.pop.new.self.items c.in-Some.change
-      c.in-Replaced.event
-      c.in-Replaced.index c.in-Replaced.word c.in-Some.ensures.items c.in-Replaced.is
+      c.in-Replaced.place c.in-Replaced.word c.in-Some.ensures.items c.in-Replaced.is
       c.put_word.ensures.put
       ∙ c.loop-change.invariant.saved;
   changes = subst (λ (now : Marks). All (IsChange now.period now.events) c.pop.new.self.items)

@@ -2,7 +2,7 @@
 use Rattle.std.proofs.Common.{◌≡◌, ◌≤◌, ◌+◌, ◌-◌, length}
 use Rattle.pesp_search.specs.Marks.{is_left}
 use Rattle.pesp_search.proofs.WordTurns.{IsWide}
-use Rattle.pesp_search.proofs.windows.reached.Given as goal
+use Rattle.pesp_search.proofs.windows.reached_in_words.Given as goal
 
 abbrev pub invariant-loop-wide : goal.invariant-loop-wide
 invariant-loop-wide l = record {

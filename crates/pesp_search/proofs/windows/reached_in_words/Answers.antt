@@ -4,7 +4,7 @@ use Rattle.pesp_search.specs.Revising.{turned_to}
 use Rattle.pesp_search.proofs.WordTurns.{clear_at, left_twice, only_turned, wide_begun}
 use Rattle.pesp_search.proofs.WordTurns.{wide_clear, wide_ended}
 use Rattle.pesp_search.proofs.WordTurns.{wide_turn}
-use Rattle.pesp_search.proofs.windows.reached.Goals as goal
+use Rattle.pesp_search.proofs.windows.reached_in_words.Goals as goal
 
 pub loop-wide-init : goal.loop-wide-init
 loop-wide-init c = record {

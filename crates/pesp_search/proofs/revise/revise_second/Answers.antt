@@ -2,24 +2,30 @@ use Rattle.std.proofs.Common.{◌≡◌, false, subst, sym}
 use Rattle.pesp_search.specs.Listings.{is_empty}
 use Rattle.pesp_search.specs.Marks.{Marks, is_left, times_from}
 use Rattle.pesp_search.specs.Revising.{first_left}
-use Rattle.pesp_search.proofs.Revised.{side_full}
+use Rattle.pesp_search.proofs.Revised.{own_kept, side_full}
 use Rattle.pesp_search.specs.Flags.{Flags}
 use Rattle.pesp_search.specs.Revising.{RevisesFirsts}
 use Rattle.pesp_search.proofs.Revised.{firsts_revised}
-use Rattle.pesp_search.proofs.revise.revise_firsts.Goals as goal
+use Rattle.pesp_search.proofs.revise.revise_second.Goals as goal
 
 pub returns-clause-revises : goal.returns-clause-revises
 returns-clause-revises c =
     subst (λ (more : Flags). RevisesFirsts c.args.activity c.args.at c.args.sets.now
-    c.keep_firsts.new.sets c.args.changed.now more) (sym c.note.ensures.noted)
-    (firsts_revised c.args.activity c.args.sets.now c.keep_firsts.new.sets
+    c.prune_second.new.sets c.args.changed.now more) (sym c.note.ensures.noted)
+    (firsts_revised c.args.activity c.args.sets.now c.prune_second.new.sets
     c.in_ok-is_changed.is_changed
     c.args.at c.args.changed.now c.note.ensures.within c.in_ok-is_changed.ensures)
 
 pub returns-clause-full : goal.returns-clause-full
 returns-clause-full c none =
-    side_full c.args.sets.now c.keep_firsts.new.sets c.args.activity.to
+    side_full c.args.sets.now c.prune_second.new.sets c.args.activity.to
     (first_left c.args.sets.now.sets.period (is_left c.args.sets.now.sets) c.args.activity)
     c.in_ok-is_changed.is_changed c.in_ok-is_changed.ensures
     (λ is. subst (λ (sets : Marks). is_empty (times_from sets c.args.activity.to 0) ≡ false)
     c.sets.ensures (c.is_emptied.ensures.some none is))
+
+pub returns-clause-own : goal.returns-clause-own
+returns-clause-own c apart =
+    own_kept c.args.sets.now c.prune_second.new.sets c.args.activity.to c.args.at
+    (first_left c.args.sets.now.sets.period (is_left c.args.sets.now.sets) c.args.activity)
+    c.in_ok-is_changed.is_changed c.in_ok-is_changed.ensures (λ own. absurd (apart (cc)))

@@ -1,9 +1,9 @@
-use Rattle.std.proofs.Common.{◌≡◌, ◌∙◌, ◌<◌, ◌-◌, ℕ, length, nat_le, subst, sym, true}
-use Rattle.pesp_search.specs.Marks.{AreMarks, Marks, is_left, marked, times_from}
+use Rattle.std.proofs.Common.{◌≡◌, ◌∙◌, ◌<◌, ◌-◌, ℕ, nat_le, subst, sym, true}
+use Rattle.pesp_search.specs.Marks.{AreMarks, Marks, is_left, marked}
 use Rattle.pesp_search.specs.Revising.{first_left, width_of}
 use Rattle.pesp_search.proofs.Crowded.{crowded_firsts}
 use Rattle.pesp_search.proofs.Pruned.{prunes_by_bits}
-use Rattle.pesp_search.proofs.revise.keep_firsts.Goals as goal
+use Rattle.pesp_search.proofs.revise.prune_second.Goals as goal
 
 pub returns : goal.returns
 returns c =
@@ -19,8 +19,10 @@ returns c =
 pub returns-then-is_crowded : goal.returns-then-is_crowded
 returns-then-is_crowded c =
     let activity = c.args.activity in
-    crowded_firsts activity c.args.sets.now c.requires (subst AreMarks c.sets.ensures
+    crowded_firsts activity c.args.sets.now c.requires.activity (subst AreMarks c.sets.ensures
     c.is_crowded.ensures.sound)
-    (subst (λ (sets : Marks). nat_le (sets.period - width_of sets.period activity)
-    (length (times_from sets activity.from 0)) ≡ true) c.sets.ensures
-    (sym c.is_crowded.ensures.crowded ∙ c.if-is_crowded.true))
+    (subst (λ (n : ℕ). nat_le (c.args.sets.now.sets.period
+    - width_of c.args.sets.now.sets.period activity) n ≡ true) c.requires.counted
+    (subst (λ (sets : Marks). nat_le (sets.period - width_of sets.period activity) c.args.count
+    ≡ true) c.sets.ensures
+    (sym c.is_crowded.ensures.crowded ∙ c.if-is_crowded.true)))
