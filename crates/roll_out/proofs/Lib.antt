@@ -14,6 +14,7 @@ mod ListedEvents
 mod Lists
 mod Members
 mod Neighbours
+mod NotedWays
 mod NumberedActivities
 mod OneCopy
 mod PlacedEvents

@@ -1,5 +1,5 @@
 -- Inner words: runs with how often they start, and where the copies of their events are.
-use Rattle.std.specs.Prelude.{ℕ, ◌≡◌, ◌+◌, ◌-◌, ◌*◌, ◌/◌, ◌==◌, ◌≤◌, nat_le, if◌then◌else◌, List, [], ◌∷◌, ◌++◌, length, map, filter, get_or, sum_by, All, IfSome}
+use Rattle.std.specs.Prelude.{Bool, slice_set, ◌<◌, ◌&&◌, ◌||◌, ℕ, ◌≡◌, ◌+◌, ◌-◌, ◌*◌, ◌/◌, ◌==◌, ◌≤◌, nat_le, if◌then◌else◌, List, [], ◌∷◌, ◌++◌, length, map, filter, get_or, sum_by, All, IfSome}
 use Rattle.std.specs.Int.{div_ceil}
 use Rattle.std.specs.List.{flat_map, range_with_len, enumerate_from}
 use Rattle.giv_files.specs.Columns.{events_p_columns, activities_p_columns}
@@ -7,6 +7,8 @@ use Rattle.giv_files.specs.Writing.{InColumns}
 use Rattle.event_tables.specs.declared.expanded_activity.ExpandedActivity.{ExpandedActivity}
 use Rattle.event_tables.specs.declared.periodic_activity.PeriodicActivity.{PeriodicActivity}
 use Rattle.event_tables.specs.declared.periodic_event.PeriodicEvent.{PeriodicEvent}
+use Rattle.event_tables.specs.declared.periodic_kind.PeriodicKind.TheVariants as kind
+use Rattle.event_tables.specs.RunRules.{same_kind}
 use Rattle.event_tables.specs.PeriodicFiles.{ArePeriodicEvents, ArePeriodicActivities, ArePeriodicTimes, IsPeriodicActivity}
 use Rattle.event_tables.specs.Cells.{periodic_event_cells, periodic_activity_cells}
 use Rattle.roll_out.specs.declared.copies.Copies.{Copies}
@@ -28,6 +30,28 @@ pub record IsTimed (network : TimedParts) : Type 0 where
 pub record IsBetween (network : TimedParts) (activity : PeriodicActivity) : Type 0 where
   pub sound : IsPeriodicActivity (length network.events) activity
   pub fits : InColumns activities_p_columns (periodic_activity_cells activity)
+
+-- a drive or a wait, and one that leaves the event of an id
+abbrev pub is_way : PeriodicActivity → Bool
+is_way activity = same_kind activity.kind kind.Drive || same_kind activity.kind kind.Wait
+
+abbrev pub leaves : ℕ → PeriodicActivity → Bool
+leaves id activity = is_way activity && activity.from == id
+
+-- of each of so many events the drives and waits that leave it
+pub record AreWays (events : ℕ) (activities : List PeriodicActivity)
+    (rows : List (List PeriodicActivity)) : Type 0 where
+  pub size : length rows ≡ events
+  pub each : (place : ℕ) → place < events
+      → get_or rows place [] ≡ filter (leaves (place + 1)) activities
+
+-- an activity is noted at the event that it leaves if it is a drive or a wait
+abbrev pub NotesWay : PeriodicActivity → List (List PeriodicActivity)
+    → List (List PeriodicActivity) → Type 0
+NotesWay activity old new =
+    new ≡ (if is_way activity
+    then slice_set old (activity.from - 1) (get_or old (activity.from - 1) [] ++ activity ∷ [])
+    else old)
 
 -- a day that ends within a week
 abbrev pub IsDay : Day → Type 0

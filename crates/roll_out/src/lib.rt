@@ -4,6 +4,7 @@
 mod changes;
 mod copies;
 mod day;
+mod event_ways;
 mod files;
 mod network;
 mod plan;

@@ -1,13 +1,15 @@
 // Timetables over periodic events and activities.
-ghost use Rattle.std.specs.Prelude.{◌≡◌, ◌<◌, ◌≤◌, length, All, IfOk};
+ghost use Rattle.std.specs.Prelude.{◌≡◌, ◌<◌, ◌≤◌, filter, length, All, IfOk};
 ghost use Rattle.giv_files.specs.declared.stage.Stage.TheVariants as stages;
 ghost use Rattle.giv_files.specs.Inputs.{UnlessFault};
 ghost use Rattle.giv_files.specs.Settings.{Fits};
+ghost use Rattle.event_tables.specs.Places.{IsOneOf};
 ghost use Rattle.event_tables.specs.RunRules.{leads};
-ghost use Rattle.roll_out.specs.Plans.{IsBetween, IsTimed};
+ghost use Rattle.roll_out.specs.Plans.{IsBetween, IsTimed, leaves};
 ghost use Rattle.roll_out.specs.RolloutStage.{file_faults, network_in};
 ghost use Rattle.roll_out.specs.TimedRuns.{minutes_of, time_at};
 
+use crate::event_ways::EventWays;
 use event_tables::{
     PeriodicActivity, PeriodicEvent, PeriodicTime, periodic_activities, periodic_events,
     periodic_times,
@@ -25,10 +27,12 @@ pub(crate) struct TimedNetwork {
     events: Vec<PeriodicEvent>,
     activities: Vec<PeriodicActivity>,
     times: Vec<PeriodicTime>,
+    ways: EventWays,
 }
 
 impl Model for TimedNetwork {
-    ghost use Rattle.roll_out.specs.Plans.{IsTimed};
+    ghost use Rattle.std.specs.Prelude.{length};
+    ghost use Rattle.roll_out.specs.Plans.{AreWays, IsTimed};
     ghost use Rattle.roll_out.specs.TimedRuns.{TimedParts};
 
     ghost Value = { TimedParts };
@@ -45,7 +49,7 @@ impl Model for TimedNetwork {
       events = network.events.items;
       activities = network.activities.items;
       times = network.times.items;
-    }) };
+    }) × AreWays (length network.events.items) network.activities.items network.ways };
 }
 
 impl TimedNetwork {
@@ -61,11 +65,13 @@ impl TimedNetwork {
         let events = periodic_events(alloc, bundle.input(0))?;
         let activities = periodic_activities(alloc, &events, bundle.input(1))?;
         let times = periodic_times(alloc, FileId::TimesP, period, &events, bundle.input(2))?;
+        let ways = EventWays::new(alloc, events.len(), &activities)?;
         Ok(TimedNetwork {
             period,
             events,
             activities,
             times,
+            ways,
         })
     }
 
@@ -92,6 +98,15 @@ impl TimedNetwork {
         ensures few { length self.now.activities ≤ 200000 }
     {
         &self.activities
+    }
+
+    /// The drives and waits that leave the event of an id.
+    pub(crate) fn ways_from(&self, id: u32) -> &[PeriodicActivity]
+        requires { IsOneOf (length self.now.events) id }
+        ensures ways { result.now ≡ filter (leaves id) self.now.activities }
+        ensures sound { All (IsBetween self.now) self.now.activities }
+    {
+        self.ways.leaving(id)
     }
 
     /// The time of the event of an id, in the period.

@@ -104,7 +104,8 @@ fn timed_events(
     network: &TimedNetwork,
     run: &[PeriodicEvent],
 ) -> Result<Vec<TimedEvent>, NoMemory>
-    requires { length run.now ≤ 4000 }
+    requires few { length run.now ≤ 4000 }
+    requires there { All (λ event. IsOneOf (length network.now.events) event.id) run.now }
     ensures { IfOk result (λ events. events.items ≡ timed_from network.now 0 run.now) }
 {
     let mut events = Vec::new(alloc);
@@ -128,12 +129,13 @@ fn way_on(
     event: &PeriodicEvent,
     behind: &[PeriodicEvent],
 ) -> Option<PeriodicActivity>
+    requires { IsOneOf (length network.now.events) event.now.id }
     ensures way { result ≡ way_on network.now event.now behind.now }
     ensures sound { IfSome result (IsBetween network.now) }
 {
     match behind.first() {
         None => None,
-        Some(next) => first_leading(network.activities(), event, next),
+        Some(next) => first_leading(network.ways_from(event.id), event, next),
     }
 }
 

@@ -1,9 +1,10 @@
 // The rules of runs: where they are broken.
-ghost use Rattle.std.specs.Prelude.{◌≡◌, ◌<◌, ◌≤◌, ◌⊎◌, MatchBool, length, map, IfOk, OnOk, ◌++◌, ◌∷◌, [], if◌then◌else◌};
+ghost use Rattle.std.specs.Prelude.{◌≡◌, ◌<◌, ◌≤◌, ◌⊎◌, MatchBool, length, map, All, IfOk, OnOk, ◌++◌, ◌∷◌, [], if◌then◌else◌};
 ghost use Rattle.std.specs.List.{flat_map};
-ghost use Rattle.event_tables.specs.Places.{AreNumbered};
+ghost use Rattle.event_tables.specs.Places.{AreNumbered, IsOneOf};
 ghost use Rattle.event_tables.specs.RunRules.{breaks, broken_in, is_placed, is_stray, lacks_way, leads, stray_activities, unjoined_in, way_on};
 
+use crate::network::TimedNetwork;
 use crate::run::Run;
 use event_tables::{EventKind, PeriodicActivity, PeriodicEvent, PeriodicKind};
 use plan_num::NoMemory;
@@ -54,31 +55,34 @@ fn add_if(passed: bool, id: u32, ids: &mut Vec<u32>) -> Result<(), NoMemory>
 /// The events that are not joined to the next one of their run by exactly one drive or wait.
 pub(crate) fn unjoined_events(
     alloc: Global,
+    network: &TimedNetwork,
     runs: &[Run],
-    activities: &[PeriodicActivity],
 ) -> Result<Vec<u32>, NoMemory>
+    requires { All (All (λ event. IsOneOf (length network.now.events) event.id)) runs.now }
     ensures { IfOk result (λ ids. ids.items
-        ≡ map (λ event. event.id) (flat_map (unjoined_in activities.now) runs.now)) }
+        ≡ map (λ event. event.id) (flat_map (unjoined_in network.now.activities) runs.now)) }
 {
     let mut ids = Vec::new(alloc);
     for run in runs {
-        add_unjoined(run.events(), activities, &mut ids)?;
+        add_unjoined(network, run.events(), &mut ids)?;
     }
     Ok(ids)
 }
 
 // The ids of the events of a run that are not so are added.
 fn add_unjoined(
+    network: &TimedNetwork,
     run: &[PeriodicEvent],
-    activities: &[PeriodicActivity],
     ids: &mut Vec<u32>,
 ) -> Result<(), NoMemory>
+    requires { All (λ event. IsOneOf (length network.now.events) event.id) run.now }
     ensures { OnOk result (ids.new.items
-        ≡ ids.old.items ++ map (λ event. event.id) (unjoined_in activities.now run.now)) }
+        ≡ ids.old.items ++ map (λ event. event.id) (unjoined_in network.now.activities run.now)) }
 {
     for place in 1..run.len() {
         let event = run[place - 1];
-        add_if(lacks_way(&event, &run[place], activities), event.id, ids)?;
+        let ways = network.ways_from(event.id);
+        add_if(lacks_way(&event, &run[place], ways), event.id, ids)?;
     }
     Ok(())
 }

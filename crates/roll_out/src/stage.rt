@@ -78,7 +78,7 @@ fn check_runs(
     let (events, text) = (network.events(), bundle.input(0));
     let broken = broken_events(alloc, runs)?;
     no_event_at(alloc, text, RowWhy::BrokenRun, &broken)?;
-    let unjoined = unjoined_events(alloc, runs, network.activities())?;
+    let unjoined = unjoined_events(alloc, network, runs)?;
     no_event_at(alloc, text, RowWhy::Unjoined, &unjoined)?;
     let stray = stray_activities(alloc, events, network.activities())?;
     let text = bundle.input(1);

@@ -7,5 +7,5 @@ use Rattle.roll_out.proofs.rules.add_unjoined.Given as goal
 
 abbrev pub invariant-loop-place : goal.invariant-loop-place
 invariant-loop-place l =
-    l.ids.items ≡ l.fn.ids.items ++ ids_where (lacks_way l.activities) (λ pair. pair.0)
+    l.ids.items ≡ l.fn.ids.items ++ ids_where (lacks_way l.network.activities) (λ pair. pair.0)
     (take (l.place - 1) (neighbours l.run))

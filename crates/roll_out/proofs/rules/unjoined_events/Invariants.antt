@@ -8,4 +8,4 @@ use Rattle.roll_out.proofs.rules.unjoined_events.Given as goal
 abbrev pub invariant-loop-run : goal.invariant-loop-run
 invariant-loop-run l =
     l.ids.items ≡ map (λ (event : PeriodicEvent). event.id)
-    (flat_map (unjoined_in l.activities) (take l.run-index l.runs))
+    (flat_map (unjoined_in l.network.activities) (take l.run-index l.runs))

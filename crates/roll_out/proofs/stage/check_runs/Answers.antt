@@ -7,7 +7,7 @@ use Rattle.event_tables.specs.RunRules.{broken_events, broken_in, stray_activiti
 use Rattle.pesp_model.specs.PespTexts.{activities_of, events_of}
 use Rattle.roll_out.proofs.FilesRead.{activities_fine, events_fine}
 use Rattle.roll_out.proofs.RuleRows.{activities_told, activity_id, broken_ids, event_id, event_refused, run_refused, stray_ids, unjoined_ids}
-use Rattle.roll_out.proofs.SoundPlans.{ids_in}
+use Rattle.roll_out.proofs.SoundPlans.{ids_in, runs_there}
 use Rattle.roll_out.proofs.stage.check_runs.Goals as goal
 
 pub no_event_at-requires-clause-read : goal.no_event_at-requires-clause-read
@@ -36,6 +36,11 @@ returns-in_err-no_event_at c =
     are
     (rw c.input-text.ensures at c.in_err-no_event_at.ensures))
 
+pub unjoined_events-requires : goal.unjoined_events-requires
+unjoined_events-requires c =
+    subst (All (All (λ event. IsOneOf (length c.args.network.now.events) event.id)))
+    (sym c.requires.runs) (runs_there c.args.network.now c.events-events.ensures.sound)
+
 pub no_event_at-requires-2-clause-read : goal.no_event_at-requires-2-clause-read
 no_event_at-requires-2-clause-read c =
     rw c.input-text.ensures (events_fine c.args.bundle.now c.requires.read)
@@ -45,8 +50,6 @@ no_event_at-requires-2-clause-there c =
     let events = c.args.network.now.events in
     let activities = c.args.network.now.activities in
     let are = c.deref-2.ensures.value ∙ c.in_ok-unjoined.ensures
-    ∙ ap (λ some. map event_id (flat_map (unjoined_in some) c.args.runs.now))
-    c.activities.ensures.activities
     ∙ ap (λ runs. map event_id (flat_map (unjoined_in activities) runs)) c.requires.runs in
     let same = ap (λ n. length n.events) c.requires.network
     ∙ ap (λ text. length (events_of text)) (sym c.input-text.ensures) in
@@ -62,8 +65,6 @@ returns-in_err-no_event_at-2 c =
     ∙ ap (λ runs. map event_id (flat_map broken_in runs)) c.requires.runs
     ∙ ap (λ n. map event_id (broken_events n.events)) c.requires.network in
     let are = c.deref-2.ensures.value ∙ c.in_ok-unjoined.ensures
-    ∙ ap (λ some. map event_id (flat_map (unjoined_in some) c.args.runs.now))
-    c.activities.ensures.activities
     ∙ ap (λ runs. map event_id (flat_map (unjoined_in c.args.network.now.activities) runs))
     c.requires.runs
     ∙ ap (λ n. map event_id (unjoined_events n.events n.activities)) c.requires.network in
@@ -82,10 +83,10 @@ no_activity_at-requires-clause-there c =
     let events = c.args.network.now.events in
     let activities = c.args.network.now.activities in
     let are = c.deref-3.ensures.value ∙ c.in_ok-stray.ensures
-    ∙ ap (λ some. map activity_id (stray_activities some c.activities-2.result.now))
+    ∙ ap (λ some. map activity_id (stray_activities some c.activities.result.now))
     c.events-events.ensures.events
     ∙ ap (λ some. map activity_id (stray_activities events some))
-    c.activities-2.ensures.activities in
+    c.activities.ensures.activities in
     let same = ap (λ n. length n.activities) c.requires.network
     ∙ ap (λ n. length (activities_of n.events (input_text c.args.bundle.now 1)))
     (sym c.requires.network)
@@ -103,16 +104,14 @@ returns c =
     ∙ ap (λ runs. map event_id (flat_map broken_in runs)) c.requires.runs
     ∙ ap (λ n. map event_id (broken_events n.events)) c.requires.network in
     let second = c.deref-2.ensures.value ∙ c.in_ok-unjoined.ensures
-    ∙ ap (λ some. map event_id (flat_map (unjoined_in some) c.args.runs.now))
-    c.activities.ensures.activities
     ∙ ap (λ runs. map event_id (flat_map (unjoined_in c.args.network.now.activities) runs))
     c.requires.runs
     ∙ ap (λ n. map event_id (unjoined_events n.events n.activities)) c.requires.network in
     let are = c.deref-3.ensures.value ∙ c.in_ok-stray.ensures
-    ∙ ap (λ some. map activity_id (stray_activities some c.activities-2.result.now))
+    ∙ ap (λ some. map activity_id (stray_activities some c.activities.result.now))
     c.events-events.ensures.events
     ∙ ap (λ some. map activity_id (stray_activities c.args.network.now.events some))
-    c.activities-2.ensures.activities
+    c.activities.ensures.activities
     ∙ ap (λ n. map activity_id (stray_activities n.events n.activities)) c.requires.network in
     activities_told c.args.bundle.now c.deref.result.now first c.in_ok-no_event_at.ensures.1
     c.deref-2.result.now second c.in_ok-no_event_at-2.ensures.1 c.deref-3.result.now
