@@ -62,10 +62,21 @@ module _ (number : ℕ) (folder : Folder) (is : folder ≡ demo_folder number) w
       nothing_kept folder (λ at. ap (λ folder. files.get folder (keep_name at)) is ∙ no_keep number at)
       ∙ ap (λ folder. made (hand_of folder)) is
 
-  module _ (left : Option Folder) (written noted : Option (List Write)) (files_before files_now : ℕ) (old new : Option (List ℕ)) (before now : ℕ) where
+  module _ (seen_before seen_after : Seen) where
     abbrev Left : Status → Type 0
-    Left result =
-        Leaves mode.Make folder left written noted files_before files_now old new before now result
+    Left result = Leaves mode.Make folder seen_before seen_after result
+
+    abbrev old : Option (List ℕ)
+    old = seen_before.out
+
+    abbrev new : Option (List ℕ)
+    new = seen_after.out
+
+    abbrev before : ℕ
+    before = seen_before.steps
+
+    abbrev now : ℕ
+    now = seen_after.steps
 
     pub steps_are : now ≡ before + (run_over folder).work → now ≡ before + (demo_run number).work
     steps_are e = e ∙ ap (λ (run : RunParts). before + run.work) run_is

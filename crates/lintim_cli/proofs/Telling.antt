@@ -68,16 +68,13 @@ headline by (Some folder) new before now outcome old out faults_before faults_no
 
 -- ---- what is told and left by the answer
 
-module _ (by : Mode) (folder : Folder) (left : Option Folder) (written noted : Option (List Write)) (files_before files_now : ℕ) (outcome : Outcome) (old out : Option (List ℕ)) (faults_before faults_now before now : ℕ) (status : Status) (told : IsOutcome (run_over (started by folder)) outcome) (ends : status ≡ status_of outcome.end) (finished : Finished by folder left written noted before now) where
-  abbrev AllLeft : Status → Type 0
-  AllLeft result = Leaves by folder left written noted files_before files_now old out before now result
-
+module _ (by : Mode) (folder : Folder) (before after : Seen) (outcome : Outcome) (status : Status) (told : IsOutcome (run_over (started by folder)) outcome) (ends : status ≡ status_of outcome.end) (finished : Finished by folder before after) where
   done : (result : Status)
-      → (result ≡ status) × Whole outcome.report old out faults_before faults_now
-      → (result ≡ status_of (run_over (started by folder)).end) × AllOut by folder old out × Finished by folder left written noted before now
+      → (result ≡ status) × Whole outcome.report before.out after.out before.sink_faults after.sink_faults
+      → (result ≡ status_of (run_over (started by folder)).end) × AllOut by folder before.out after.out × Finished by folder before after
   done result (is, whole) = (
     is ∙ ends ∙ ap status_of told.end,
-    whole.out ∙ ap (λ report. option_map (λ bytes. bytes ++ report) old) told.report,
+    whole.out ∙ ap (λ report. option_map (λ bytes. bytes ++ report) before.out) told.report,
     finished,
   )
 
@@ -88,7 +85,8 @@ module _ (by : Mode) (folder : Folder) (left : Option Folder) (written noted : O
   no_fault end.Spent is = cc
 
   leaves_by : (result : Status)
-      → Reported outcome.report status old out faults_before faults_now result → AllLeft result
+      → Reported outcome.report status before.out after.out before.sink_faults after.sink_faults result
+      → Leaves by folder before after result
   leaves_by Done reported = done Done reported
   leaves_by Usage reported = done Usage reported
   leaves_by BadInput reported = done BadInput reported
@@ -98,24 +96,71 @@ module _ (by : Mode) (folder : Folder) (left : Option Folder) (written noted : O
   leaves_by FileFault reported = absurd (no_fault outcome.end (reported.0 ∙ ends))
   leaves_by NoMemory reported = inr (inr finished)
   leaves_by SinkFault reported =
-      ((reported.out.0, reported.out.1 ∙ ap (λ report. option_map (λ bytes. bytes ++ take reported.out.0 report) old) told.report), finished)
+      ((reported.out.0, reported.out.1 ∙ ap (λ report. option_map (λ bytes. bytes ++ take reported.out.0 report) before.out) told.report), finished)
 
-pub told_leaves : (by : Mode) (contents left : Option Folder) (written noted : Option (List Write))
-    (files_before files_now : ℕ) (outcome : Outcome) (old out : Option (List ℕ))
-    (faults_before faults_now before now : ℕ) (status result : Status)
-    → IfSome contents (λ folder. IsOutcome (run_over (started by folder)) outcome)
-    → IfSome contents (λ folder. IsLeft by folder left written noted)
-    → IfSome contents (λ folder. Trusts by folder → IsLeftRight folder left)
-    → IfSome contents (λ folder. Trusts by folder → IfSome left IsKeptHonest)
-    → IfSome contents (λ folder. IfSome left (λ folder. writes_of folder ≡ []))
-    → IfSome contents (λ folder. now ≡ before + (run_over (started by folder)).work)
+pub told_leaves : (by : Mode) (before after : Seen) (outcome : Outcome) (status result : Status)
+    → IfSome before.contents (λ folder. IsOutcome (run_over (started by folder)) outcome)
+    → IfSome before.contents (λ folder. IsLeft by folder after.contents before.writes after.writes)
+    → IfSome before.contents (λ folder. Trusts by folder → IsLeftRight folder after.contents)
+    → IfSome before.contents (λ folder. Trusts by folder → IfSome after.contents IsKeptHonest)
+    → IfSome before.contents (λ folder. IfSome after.contents (λ folder. writes_of folder ≡ []))
+    → IfSome before.contents (λ folder. after.steps ≡ before.steps + (run_over (started by folder)).work)
     → status ≡ status_of outcome.end
     → (text : List ℕ) → text ≡ outcome.report
-    → Reported text status old out faults_before faults_now result
-    → IfSome contents (λ folder. Leaves by folder left written noted files_before files_now old out before now result)
-told_leaves by None left written noted files_before files_now outcome old out faults_before faults_now before now status result told files right keep again steps ends text same reported =
-    tt
-told_leaves by (Some folder) left written noted files_before files_now outcome old out faults_before faults_now before now status result told files right keep again steps ends text same reported =
-    leaves_by by folder left written noted files_before files_now outcome old out faults_before faults_now before now status told ends
-    (record { files = files; right = right; keep = keep; again = again; steps = steps }) result
-    (subst (λ text. Reported text status old out faults_before faults_now result) same reported)
+    → Reported text status before.out after.out before.sink_faults after.sink_faults result
+    → IfSome before.contents (λ folder. Leaves by folder before after result)
+told_leaves by before after outcome status result told files right keep again steps ends text same reported =
+    by_contents before.contents told files right keep again steps
+  where
+    by_contents : (contents : Option Folder)
+        → IfSome contents (λ folder. IsOutcome (run_over (started by folder)) outcome)
+        → IfSome contents (λ folder. IsLeft by folder after.contents before.writes after.writes)
+        → IfSome contents (λ folder. Trusts by folder → IsLeftRight folder after.contents)
+        → IfSome contents (λ folder. Trusts by folder → IfSome after.contents IsKeptHonest)
+        → IfSome contents (λ folder. IfSome after.contents (λ folder. writes_of folder ≡ []))
+        → IfSome contents (λ folder. after.steps ≡ before.steps + (run_over (started by folder)).work)
+        → IfSome contents (λ folder. Leaves by folder before after result)
+    by_contents None told files right keep again steps = tt
+    by_contents (Some folder) told files right keep again steps =
+        leaves_by by folder before after outcome status told ends
+        (record {
+          files = files;
+          right = right;
+          keep = keep;
+          passes = passes_left by folder after.contents files.folder;
+          fresh = fresh_left by folder after.contents files.folder;
+          again = again;
+          steps = steps;
+        }) result
+        (subst (λ text. Reported text status before.out after.out before.sink_faults after.sink_faults result) same reported)
+
+-- ---- a run that can be done is done
+
+-- done, unless memory was refused or a count of faults rose
+done_by : (read : Folder) (left : Option Folder) (before after : Seen) (result : Status)
+    → (made (hand_of read)).end ≡ end.Done → Headline read left before.out after.out result
+    → (result ≡ FileFault → Rose before.faults after.faults)
+    → (result ≡ SinkFault → Rose before.sink_faults after.sink_faults) → IsDone before after result
+done_by read left before after Done is told file sink = inl refl
+done_by read left before after NoMemory is told file sink = inr (inl refl)
+done_by read left before after FileFault is told file sink = inr (inr (inl (file refl)))
+done_by read left before after SinkFault is told file sink = inr (inr (inr (sink refl)))
+done_by read left before after Usage is told file sink = absurd (let both = told.answer ∙ ap status_of is in cc)
+done_by read left before after BadInput is told file sink = absurd (let both = told.answer ∙ ap status_of is in cc)
+done_by read left before after NoSolution is told file sink = absurd (let both = told.answer ∙ ap status_of is in cc)
+done_by read left before after Spent is told file sink = absurd (let both = told.answer ∙ ap status_of is in cc)
+done_by read left before after Uncertified is told file sink = absurd (let both = told.answer ∙ ap status_of is in cc)
+
+pub is_done : (by : Mode) (left : Option Folder) (before after : Seen) (result : Status)
+    → IfSome before.contents (λ folder. Trusts by folder → Headline folder left before.out after.out result)
+    → (result ≡ FileFault → FileBroke before.faults after.faults before.out after.out before.sink_faults after.sink_faults)
+    → (result ≡ SinkFault → Rose before.sink_faults after.sink_faults)
+    → IfSome before.contents (λ folder. Trusts by folder → CanBeDone (hand_of folder) → IsDone before after result)
+is_done by left before after result headline file sink = by_contents before.contents headline
+  where
+    by_contents : (contents : Option Folder)
+        → IfSome contents (λ folder. Trusts by folder → Headline folder left before.out after.out result)
+        → IfSome contents (λ folder. Trusts by folder → CanBeDone (hand_of folder) → IsDone before after result)
+    by_contents None headline = tt
+    by_contents (Some folder) headline = λ trusts can.
+        done_by folder left before after result ((ends_as_solved (hand_of folder)).done can) (headline trusts) (λ is. (file is).raised.rose) sink

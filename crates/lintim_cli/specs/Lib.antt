@@ -1,3 +1,4 @@
 pub mod Answers
 pub mod Reports
+pub mod Says
 pub mod Top

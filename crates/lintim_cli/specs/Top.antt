@@ -6,20 +6,22 @@ use Rattle.std.specs.Option.{option_map, option_or}
 use Rattle.std.specs.declared.string.String.{String}
 use Rattle.std.specs.declared.alloc.Global.{Global}
 use Rattle.plan_files.specs.declared.write.Write.{Write}
+use Rattle.plan_files.specs.Changes.{folder_after}
 use Rattle.plan_files.specs.Counts.{Raised, Rose}
 use Rattle.plan_files.specs.Folder.{Folder}
 use Rattle.std.specs.FinMap as files
 use Rattle.stage_chain.specs.declared.outcome.ChainFault.TheVariants as faults
 use Rattle.stage_chain.specs.declared.outcome.Mode.{Mode}
 use Rattle.stage_chain.specs.declared.outcome.Mode.TheVariants as mode
+use Rattle.stage_chain.specs.declared.outcome.RunEnd.TheVariants as end
 use Rattle.demo_dataset.specs.Demo.{demo_folder}
 use Rattle.stage_chain.specs.Built.{RunParts}
 use Rattle.stage_chain.specs.Checks.{check_end, check_report}
 use Rattle.stage_chain.specs.Hand.{hand_of}
-use Rattle.stage_chain.specs.Runs.{started, with_files}
+use Rattle.stage_chain.specs.Runs.{kept_part, started, with_files, without_keep}
 use Rattle.stage_chain.specs.States.{states_end}
 use Rattle.stage_driver.specs.Marked.{IsAlwaysMarked}
-use Rattle.stage_driver.specs.PlanningChain.{made, check_of, IsLeftRight, IsKeptHonest, IsLeft}
+use Rattle.stage_driver.specs.PlanningChain.{made, check_of, entries_over, IsLeftRight, IsKeptHonest, IsLeft}
 use Rattle.stage_driver.specs.PlanningChain.{IsUnfinished, Trusts, made_part, run_over, writes_of}
 use Rattle.stage_driver.specs.PlanningChain.{states_of}
 use Rattle.lintim_cli.specs.declared.answers.Status.{Status}
@@ -76,15 +78,40 @@ HasRanges _ = ⊤
 abbrev pub Asks : Command → List (String Global) → Type 0
 Asks command words = command_of words ≡ Some command
 
+-- What an observer sees: the files and the writes that were made, where they are told, and the count of the
+-- faults of files; the bytes that are out, where they are told, and the count of the faults of the sink; the
+-- count of steps.
+pub record Seen : Type 0 where
+  pub contents : Option Folder
+  pub writes : Option (List Write)
+  pub faults : ℕ
+  pub out : Option (List ℕ)
+  pub sink_faults : ℕ
+  pub steps : ℕ
+
+abbrev pub seen : Option Folder → Option (List Write) → ℕ → Option (List ℕ) → ℕ → ℕ → Seen
+seen contents writes faults out sink_faults steps = record {
+  contents = contents;
+  writes = writes;
+  faults = faults;
+  out = out;
+  sink_faults = sink_faults;
+  steps = steps;
+}
+
 -- The folder and the writes are those that a finished run leaves, and the count of steps rose by the
--- work. Where the run trusts what is kept, each stage that was made is right in that folder, and what is
--- kept there is honest. A further run over it writes nothing.
-pub record Finished (by : Mode) (read : Folder) (left : Option Folder) (written noted : Option (List Write)) (before now : ℕ) : Type 0 where
-  pub files : IsLeft by read left written noted
-  pub right : Trusts by read → IsLeftRight read left
-  pub keep : Trusts by read → IfSome left IsKeptHonest
-  pub again : IfSome left (λ folder. writes_of folder ≡ [])
-  pub steps : now ≡ before + (run_over (started by read)).work
+-- work. Where the run trusts what is kept, each stage that was made is right in that folder, what is
+-- kept there is honest, and where all stages were made the folder passes a check. After a fresh run the
+-- new entries alone are kept. A further run over the folder writes nothing.
+pub record Finished (by : Mode) (read : Folder) (before after : Seen) : Type 0 where
+  pub files : IsLeft by read after.contents before.writes after.writes
+  pub right : Trusts by read → IsLeftRight read after.contents
+  pub keep : Trusts by read → IfSome after.contents IsKeptHonest
+  pub passes : Trusts by read → (run_over (started by read)).end ≡ end.Done
+      → IfSome after.contents (λ folder. check_of folder ≡ None)
+  pub fresh : by ≡ mode.Fresh → IfSome after.contents (λ folder. kept_part folder ≡ folder_after (entries_over (without_keep read)) files.empty)
+  pub again : IfSome after.contents (λ folder. writes_of folder ≡ [])
+  pub steps : after.steps ≡ before.steps + (run_over (started by read)).work
 
 -- the report of a run, or a front part of it, is out
 abbrev pub AllOut : Mode → Folder → Option (List ℕ) → Option (List ℕ) → Type 0
@@ -99,18 +126,16 @@ PartOut by read old new =
 -- fault of the sink only a front part of the report is out. After a fault of a file not all writes
 -- were made. Where memory was refused, either not all writes were made, or all of them: a write is
 -- in part only where the count of file faults rose.
-abbrev pub Leaves : Mode → Folder → Option Folder → Option (List Write) → Option (List Write) → ℕ → ℕ
-    → Option (List ℕ) → Option (List ℕ) → ℕ → ℕ → Status → Type 0
-Leaves by read left written noted faults_before faults_now old new before now SinkFault =
-    PartOut by read old new × Finished by read left written noted before now
-Leaves by read left written noted faults_before faults_now old new before now FileFault =
-    IsUnfinished by faults.FileFault read left written noted
-Leaves by read left written noted faults_before faults_now old new before now NoMemory =
-    IsUnfinished by faults.NoMemory read left written noted
-    ⊎ (Rose faults_before faults_now × IsUnfinished by faults.FileFault read left written noted)
-    ⊎ Finished by read left written noted before now
-Leaves by read left written noted faults_before faults_now old new before now result =
-    (result ≡ status_of (run_over (started by read)).end) × AllOut by read old new × Finished by read left written noted before now
+abbrev pub Leaves : Mode → Folder → Seen → Seen → Status → Type 0
+Leaves by read before after SinkFault = PartOut by read before.out after.out × Finished by read before after
+Leaves by read before after FileFault =
+    IsUnfinished by faults.FileFault read after.contents before.writes after.writes
+Leaves by read before after NoMemory =
+    IsUnfinished by faults.NoMemory read after.contents before.writes after.writes
+    ⊎ (Rose before.faults after.faults × IsUnfinished by faults.FileFault read after.contents before.writes after.writes)
+    ⊎ Finished by read before after
+Leaves by read before after result =
+    (result ≡ status_of (run_over (started by read)).end) × AllOut by read before.out after.out × Finished by read before after
 
 -- A run leaves the made files, the report and the answer which the hand files alone determine: those of
 -- a run from scratch. In the folder that is left each stage that was made has its files, which,
@@ -130,6 +155,11 @@ Headline read left old new SinkFault = ⊤
 Headline read left old new FileFault = ⊤
 Headline read left old new NoMemory = ⊤
 Headline read left old new result = AsFromScratch read left old new result
+
+-- done, unless memory was refused or a count of faults rose
+abbrev pub IsDone : Seen → Seen → Status → Type 0
+IsDone before after result = (result ≡ Done) ⊎ (result ≡ NoMemory)
+    ⊎ Rose before.faults after.faults ⊎ Rose before.sink_faults after.sink_faults
 
 -- After a fault of the files their count rose, and the report of it is out, whole or, where the
 -- sink failed too, a front part.

@@ -9,7 +9,7 @@ ghost use Rattle.stage_driver.specs.PlanningChain.{IsKeptHonest, MadeFilesAreRig
 ghost use Rattle.stage_driver.specs.PlanningChain.{Trusts, run_over, writes_of, StopsSafely};
 ghost use Rattle.lintim_cli.specs.declared.command.Command.TheVariants as commands;
 ghost use Rattle.lintim_cli.specs.Answers.{AnswersTo};
-ghost use Rattle.lintim_cli.specs.Top.{FileBroke, Headline, Leaves};
+ghost use Rattle.lintim_cli.specs.Top.{FileBroke, Headline, Leaves, seen};
 
 use crate::answers::Status;
 use crate::report;
@@ -28,9 +28,11 @@ pub(crate) fn run<F: Files, K: Sink, L: Ledger>(
 ) -> Status
     ensures answers { AnswersTo (Some (commands.Run mode)) result }
     ensures leaves { IfSome (F.contents files.old) (λ folder.
-        Leaves mode folder (F.contents files.new) (F.writes files.old) (F.writes files.new)
-        (F.faults files.old) (F.faults files.new)
-        (K.written out.old) (K.written out.new) steps.old steps.new result) }
+        Leaves mode folder
+        (seen (F.contents files.old) (F.writes files.old) (F.faults files.old)
+        (K.written out.old) (K.faults out.old) steps.old)
+        (seen (F.contents files.new) (F.writes files.new) (F.faults files.new)
+        (K.written out.new) (K.faults out.new) steps.new) result) }
     ensures headline { IfSome (F.contents files.old) (λ folder. Trusts mode folder →
         Headline folder (F.contents files.new) (K.written out.old) (K.written out.new) result) }
     ensures keeps_honest { IfSome (F.contents files.old) (λ folder.

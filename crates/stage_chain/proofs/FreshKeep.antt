@@ -1,6 +1,6 @@
 -- After a fresh run what is kept are the new entries, and nothing else.
 use Rattle.std.proofs.Common.{◌≡◌, ℕ, Bool, true, false, cond, ◌||◌, List, [], ◌∷◌, map, None, refl, ap, sym, ◌∙◌}
-use Rattle.std.proofs.Common.{nat_cmp}
+use Rattle.std.proofs.Common.{nat_cmp, subst, Option, Some, IfSome}
 use Rattle.std.specs.Cmp.Lexicographic.{slice_cmp}
 use Rattle.std.specs.Str.{bytes_eq}
 use Rattle.std.specs.FinMap as files
@@ -14,9 +14,11 @@ use Rattle.plan_files.proofs.Writes.{get_written}
 use Rattle.giv_files.specs.declared.stage.Stage.{Stage}
 use Rattle.giv_files.specs.Stages.{all_stages}
 use Rattle.stage_keep.specs.Entries.{keep_name}
+use Rattle.stage_chain.specs.declared.outcome.Mode.{Mode}
+use Rattle.stage_chain.specs.declared.outcome.Mode.TheVariants as mode
 use Rattle.stage_chain.specs.Hand.{hand_of, is_among, keep_names}
 use Rattle.stage_chain.specs.Kept.{made_over, new_entries}
-use Rattle.stage_chain.specs.Runs.{FreshKeeps, after, entries_over, kept_part, without_keep}
+use Rattle.stage_chain.specs.Runs.{FreshKeeps, after, entries_over, kept_part, started, without_keep}
 use Rattle.stage_chain.specs.StageLists.{is_kept_name}
 use Rattle.stage_chain.specs.StageParts.{StageParts}
 use Rattle.stage_chain.specs.Laws.{AreStages}
@@ -69,3 +71,13 @@ module _ (S : StageParts) (laws : AreStages S) (folder : Folder) where
   fresh_keeps = same_folder (kept_part (after S base)) (folder_after (entries_over S base) files.empty) (λ name.
       get_part (λ name. is_among name keep_names) (after S base) name
       ∙ kept_under name (is_among name keep_names) refl)
+
+-- so it is of the folder that a fresh run left
+pub fresh_left : (S : StageParts) (laws : AreStages S) (by : Mode) (read : Folder) (left : Option Folder)
+    → left ≡ Some (after S (started by read)) → by ≡ mode.Fresh
+    → IfSome left (λ folder. kept_part folder ≡ folder_after (entries_over S (without_keep read)) files.empty)
+unfolding FreshKeeps
+fresh_left S laws mode.Make read left is fresh = absurd (cc)
+fresh_left S laws mode.Fresh read left is fresh =
+    subst (λ left. IfSome left (λ folder. kept_part folder ≡ folder_after (entries_over S (without_keep read)) files.empty)) (sym is)
+    (fresh_keeps S laws read)

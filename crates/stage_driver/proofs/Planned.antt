@@ -1,6 +1,7 @@
 -- What holds of the chain of any stages, of the planning stages.
 use Rattle.std.proofs.Common.{◌≡◌, Option, None, Some, IfSome}
 use Rattle.std.specs.FinMap as files
+use Rattle.plan_files.specs.Changes.{folder_after}
 use Rattle.plan_files.specs.Folder.{Folder}
 use Rattle.plan_files.specs.Others.{AreOutside}
 use Rattle.giv_files.specs.declared.stage.Stage.{Stage}
@@ -8,7 +9,9 @@ use Rattle.stage_keep.specs.Entries.{keep_name}
 use Rattle.stage_chain.specs.declared.outcome.Mode.{Mode}
 use Rattle.stage_chain.specs.Hand.{hand_of, is_hand}
 use Rattle.stage_chain.specs.Kept.{KeepsNothing}
-use Rattle.stage_chain.specs.Runs.{IsOnce, after, started, with_files}
+use Rattle.stage_chain.specs.declared.outcome.Mode.TheVariants as mode
+use Rattle.stage_chain.specs.declared.outcome.RunEnd.TheVariants as end
+use Rattle.stage_chain.specs.Runs.{IsOnce, after, kept_part, started, with_files, without_keep}
 use Rattle.stage_chain.proofs.BothModes as both_modes
 use Rattle.stage_chain.proofs.CheckedRuns as checked_runs
 use Rattle.stage_chain.proofs.FreshKeep as fresh_keep
@@ -21,7 +24,7 @@ use Rattle.stage_chain.proofs.Refusing as refusing
 use Rattle.planning_stages.specs.Planning.{planning}
 use Rattle.planning_stages.proofs.Laws.{planning_laws}
 use Rattle.stage_driver.specs.PlanningChain.{FreshKeeps, IsFromScratch, IsKeptHonest, MadeFilesAreRight}
-use Rattle.stage_driver.specs.PlanningChain.{RefusesHand, RunsPass, TellsNext}
+use Rattle.stage_driver.specs.PlanningChain.{RefusesHand, RunsPass, TellsNext, check_of, entries_over}
 use Rattle.stage_driver.specs.PlanningChain.{Trusts, made, made_part, run_over, writes_of}
 
 -- a run over what it may trust makes what is made from scratch
@@ -65,3 +68,15 @@ fresh_keeps = fresh_keep.fresh_keeps planning planning_laws
 
 pub tells_next : (folder : Folder) → TellsNext folder
 tells_next = idle_runs.tells_next planning planning_laws
+
+-- the folder passes a check that a finished run left which made all its stages
+pub passes_left : (by : Mode) (read : Folder) (left : Option Folder) → left ≡ Some (after planning (started by read))
+    → Trusts by read → (run_over (started by read)).end ≡ end.Done
+    → IfSome left (λ folder. check_of folder ≡ None)
+passes_left = checked_runs.passes_left planning planning_laws
+
+-- after a fresh one the new entries alone are kept
+pub fresh_left : (by : Mode) (read : Folder) (left : Option Folder) → left ≡ Some (after planning (started by read))
+    → by ≡ mode.Fresh
+    → IfSome left (λ folder. kept_part folder ≡ folder_after (entries_over (without_keep read)) files.empty)
+fresh_left = fresh_keep.fresh_left planning planning_laws

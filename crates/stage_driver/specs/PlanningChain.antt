@@ -46,6 +46,10 @@ RefusesHand hand = right_by.RefusesHand planning hand
 abbrev pub run_over : Folder → RunParts
 run_over folder = runs_by.run_over planning folder
 
+-- its new entries
+abbrev pub entries_over : Folder → List Write
+entries_over folder = runs_by.entries_over planning folder
+
 -- its writes
 abbrev pub writes_of : Folder → List Write
 writes_of folder = runs_by.writes_of planning folder
