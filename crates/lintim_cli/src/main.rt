@@ -13,7 +13,7 @@ mod top;
 
 pub use answers::Status;
 pub use demo_dataset::demo_files;
-use plan_files::{FolderFiles, StdSink};
+use plan_files::{Failure, FolderFiles, StdSink};
 use plan_num::{NoMemory, Silent, Steps};
 use std::env;
 use std::io::ErrorKind;
@@ -37,15 +37,30 @@ fn words<R: Env + AllocGlobal>(rt: &R) -> Result<Vec<String>, NoMemory> {
     }
 }
 
+// One line on the standard error, for a reader, where the report tells less or is not there. Where
+// that output takes nothing, the exit status says it alone.
+fn explain<R: Eprint>(rt: &R, status: Status, failure: Option<&Failure>) {
+    let _told = match (status, failure) {
+        (Status::FileFault, Some(failure)) => {
+            eprintln!(rt; "lintim: a file could not be read or written: {failure}")
+        }
+        (Status::FileFault, None) => eprintln!(rt; "lintim: a file could not be read or written"),
+        (Status::SinkFault, _) => eprintln!(rt; "lintim: the report could not be written"),
+        (Status::NoMemory, _) => eprintln!(rt; "lintim: out of memory"),
+        _ => Ok(()),
+    };
+}
+
 fn main(rt: HostRuntime) -> ExitCode {
     let alloc = rt.alloc();
-    let Ok(words) = words(&rt) else {
-        return ExitCode::from(Status::NoMemory.number());
-    };
     let mut files = FolderFiles::here(&rt, alloc);
     let mut out = StdSink::new(&rt);
     let mut steps = Steps::new(Silent);
-    let status = lintim(alloc, &words, &mut files, &mut out, &mut steps);
+    let status = match words(&rt) {
+        Ok(words) => lintim(alloc, &words, &mut files, &mut out, &mut steps),
+        Err(NoMemory) => Status::NoMemory,
+    };
+    explain(&rt, status, files.failure());
     ExitCode::from(status.number())
 }
 
