@@ -1,4 +1,5 @@
 pub mod Asking
 pub mod Demos
 mod Forged
+pub mod Steady
 pub mod Telling

@@ -111,6 +111,8 @@ mod stands;
 #[cfg(test)]
 mod status_scripts;
 #[cfg(test)]
+mod steady_tests;
+#[cfg(test)]
 mod word_scripts;
 #[cfg(test)]
 mod worked;
