@@ -1,6 +1,6 @@
 -- The rows of a tree that is written are in the ranges of their columns.
-use Rattle.std.proofs.Common.{◌≤◌, ◌<◌, ℕ, ℤ, pos, zero, suc, ◌≤ℤ◌, arith, List, [], ◌∷◌, length}
-use Rattle.std.proofs.Common.{map, slice_get, refl, option_map, unwrap_or, All}
+use Rattle.std.proofs.Common.{◌≡◌, ◌≤◌, ◌<◌, ℕ, ℤ, pos, zero, suc, ◌≤ℤ◌, arith, List, [], ◌∷◌, length}
+use Rattle.std.proofs.Common.{map, slice_get, refl, subst, option_map, unwrap_or, All, Some}
 use Rattle.std.specs.List.{flat_map}
 use Rattle.std.proofs.lemmas.Int.{ints}
 use Rattle.std.proofs.lemmas.List.Elements.{All-nil, All-cons, All-head, All-tail, All-append}
@@ -18,7 +18,7 @@ use Rattle.branch_certificate.specs.declared.node.Node.TheVariants as node
 use Rattle.branch_certificate.specs.TreeTexts.{CanBeWritten, NamesWhatIs, edge_id, line_id}
 use Rattle.branch_certificate.specs.TreeTexts.{node_rows, side_place}
 use Rattle.branch_certificate.proofs.WriteFew.{few_multipliers}
-use Rattle.branch_certificate.proofs.WriteRows.{cells_row}
+use Rattle.branch_certificate.specs.TreeTexts.{cells_row}
 
 -- the id at a place is one that may be
 id_there : {X : Type 0} (id : X → ℤ) (xs : List X) (i : ℕ) → All (λ x. IsId (id x)) xs
@@ -35,7 +35,7 @@ from_0 : (n : ℕ) → pos 0 ≤ℤ pos n
 from_0 n = omega (arith, ints)
 
 -- four cells in the ranges of their columns
-inside : (kind value multiplier : ℕ) (id : ℤ) → kind < 5 → pos 0 ≤ℤ id → id ≤ℤ pos 1000000000
+pub inside : (kind value multiplier : ℕ) (id : ℤ) → kind < 5 → pos 0 ≤ℤ id → id ≤ℤ pos 1000000000
     → value ≤ 1000000000 → multiplier ≤ 1000000000000000000
     → InColumns tree_columns (cells_row (pos kind) id (pos value) (pos multiplier)).cells
 inside kind value multiplier id known low high few amount = (
@@ -49,6 +49,13 @@ inside kind value multiplier id known low high few amount = (
   ),
 )
 
+-- the row of a bound is in the ranges of its columns
+pub bound_inside : (count : ℕ) → count ≤ 1000000000
+    → InColumns tree_columns (cells_row (pos 2) (pos count) (pos 0) (pos 0)).cells
+bound_inside count few =
+    inside 2 0 0 (pos count) (omega arith) (from_0 count) (up_to count 1000000000 few)
+    (omega arith) (omega arith)
+
 module _ (problem : ProblemParts) (sound : IsProblem problem) where
   pub line_there : (line : ℕ) → line < length problem.lines → IsId (line_id problem line)
   line_there line h = id_there (λ (line : CostedLine). line.id) problem.lines line
@@ -58,7 +65,7 @@ module _ (problem : ProblemParts) (sound : IsProblem problem) where
   edge_there edge h = id_there (λ (edge : BoundedEdge). edge.id) problem.edges edge
       (λ k d l. (sound.edges k d l).id) h
 
-  of_id : (kind value multiplier : ℕ) (id : ℤ) → kind < 5 → IsId id → value ≤ 1000000000
+  pub of_id : (kind value multiplier : ℕ) (id : ℤ) → kind < 5 → IsId id → value ≤ 1000000000
       → multiplier ≤ 1000000000000000000
       → InColumns tree_columns (cells_row (pos kind) id (pos value) (pos multiplier)).cells
   of_id kind value multiplier id known is few amount =
@@ -72,6 +79,24 @@ module _ (problem : ProblemParts) (sound : IsProblem problem) where
       → All (λ row. InColumns tree_columns row.cells) (row ∷ [])
   one_row row h = All-cons (λ (row : TableRow). InColumns tree_columns row.cells) row [] h
       (All-nil (λ (row : TableRow). InColumns tree_columns row.cells))
+
+  -- and so is the row of the multiplier at a place
+  pub multiplier_inside : (multipliers : List Multiplier) (i : ℕ) (r : ℕ × ℤ)
+      → All (λ one. one.edge < length problem.edges) multipliers
+      → All (λ one. IsAmount one.amount) multipliers
+      → option_map (λ at. (at.edge, pos at.amount)) (slice_get multipliers i) ≡ Some r
+      → InColumns tree_columns (cells_row (pos 3) (edge_id problem r.0) (pos 0) r.1).cells
+  multiplier_inside [] i r named amounts e = cc
+  multiplier_inside (one ∷ rest) zero r named amounts e =
+      let same : (one.edge, pos one.amount) ≡ r = cc in
+      subst (λ (r : ℕ × ℤ). InColumns tree_columns
+      (cells_row (pos 3) (edge_id problem r.0) (pos 0) r.1).cells) same
+      (of_id 3 0 one.amount (edge_id problem one.edge) (omega arith)
+      (edge_there one.edge (named 0 one (omega arith))) (omega arith)
+      (amounts 0 one (omega arith)).few)
+  multiplier_inside (one ∷ rest) (suc i) r named amounts e =
+      multiplier_inside rest i r (λ k d h. named (suc k) d (omega arith))
+      (λ k d h. amounts (suc k) d (omega arith)) e
 
   multipliers_inside : (multipliers : List Multiplier)
       → All (λ one. one.edge < length problem.edges) multipliers
@@ -100,9 +125,7 @@ module _ (problem : ProblemParts) (sound : IsProblem problem) where
       (side_few one) (omega arith))
   node_inside (node.Bound multipliers) named can =
       All-cons (λ (row : TableRow). InColumns tree_columns row.cells) _ _
-      (inside 2 0 0 (pos (length multipliers)) (omega arith) (from_0 (length multipliers))
-      (up_to (length multipliers) 1000000000 (few_multipliers problem multipliers sound can named))
-      (omega arith) (omega arith))
+      (bound_inside (length multipliers) (few_multipliers problem multipliers sound can named))
       (multipliers_inside multipliers named can.amounts)
   node_inside node.Point named can =
       one_row _ (inside 4 0 0 (pos 0) (omega arith) (from_0 0) (up_to 0 1000000000 (omega arith))

@@ -1,14 +1,12 @@
 -- The text of a tree, node by node.
-use Rattle.std.proofs.Common.{◌≡◌, ℕ, ◌+◌, ◌≤◌, List, [], ◌∷◌, ◌++◌, length, take, drop, slice_get, get_or}
+use Rattle.std.proofs.Common.{◌≡◌, ℕ, ◌+◌, ◌≤◌, List, [], ◌∷◌, ◌++◌, length, take, slice_get, get_or}
 use Rattle.std.proofs.Common.{Some, All, ap, subst, sym, ◌∙◌, refl, arith, append_assoc}
 use Rattle.std.specs.List.{flat_map}
-use Rattle.std.proofs.Math.Seq.{drop-append_seam}
 use Rattle.std.proofs.lemmas.Grind.{flat_map-append}
-use Rattle.std.proofs.lemmas.List.{length-append, take_all, take_more}
+use Rattle.std.proofs.lemmas.List.{take_all, take_more}
 use Rattle.std.proofs.lemmas.List.Elements.{All-push}
 use Rattle.std.proofs.lemmas.Option.{get_or_from_slice_get, slice_get_within}
 use Rattle.giv_files.specs.Columns.{tree_columns}
-use Rattle.giv_files.specs.Tables.{TableRow}
 use Rattle.giv_files.specs.Writing.{line_text, table_text}
 use Rattle.giv_files.proofs.Headers.{plain_header}
 use Rattle.giv_files.proofs.WrittenBack.{written_back}
@@ -40,23 +38,6 @@ items_more P xs i x all own there =
     subst (All P) (sym (take_more xs i x (slice_get_within xs i x there)
     ∙ ap (λ item. take i xs ++ item ∷ []) (get_or_from_slice_get xs i x x there)))
     (All-push P (take i xs) x all own)
-
--- what stands behind the header
-pub behind_it : (rows : List TableRow)
-    → drop 30 (table_text tree_header tree_columns rows) ≡ flat_map (line_text tree_columns) rows
-unfolding table_text
-behind_it rows =
-    let lines = flat_map (line_text tree_columns) rows in
-    ap (drop 30) (sym (append_assoc tree_header (10 ∷ []) lines))
-    ∙ drop-append_seam (tree_header ++ 10 ∷ []) lines
-
-pub long_text : (rows : List TableRow) (text : List ℕ) → text ≡ table_text tree_header tree_columns rows
-    → 30 ≤ length text
-unfolding table_text
-long_text rows text is =
-    let lines = flat_map (line_text tree_columns) rows in
-    let all = ap length is ∙ length-append tree_header (10 ∷ lines) in
-    omega (arith, all)
 
 -- the lines of all nodes are the text of the tree
 pub all_lines : (problem : ProblemParts) (nodes : List Node) (i : ℕ) → length nodes ≤ i

@@ -3,19 +3,38 @@ use Rattle.std.proofs.Common.{◌≡◌, ℕ, ℤ, pos, zero, suc, ◌+◌, ◌<
 use Rattle.std.proofs.Common.{slice_get, ap, subst, sym, ◌∙◌, append_assoc, append-nil, Some}
 use Rattle.std.proofs.Common.{option_map, All}
 use Rattle.std.specs.List.{flat_map}
+use Rattle.std.proofs.lemmas.Grind.{flat_map-append}
+use Rattle.giv_files.specs.Columns.{tree_columns}
 use Rattle.giv_files.specs.Tables.{TableRow}
+use Rattle.giv_files.specs.Writing.{line_text}
 use Rattle.line_cost_model.specs.declared.multipliers.Multiplier.{Multiplier}
+use Rattle.branch_certificate.specs.TreeTexts.{cells_row}
 
--- a row with these cells
-abbrev pub cells_row : ℤ → ℤ → ℤ → ℤ → TableRow
-cells_row kind id value multiplier =
-    record { number = 0; cells = kind ∷ id ∷ value ∷ multiplier ∷ [] }
+-- the line of a row behind others
+pub lone_line : (bytes new : List ℕ) (made row : TableRow) → made ≡ row
+    → new ≡ bytes ++ line_text tree_columns made
+    → new ≡ bytes ++ flat_map (line_text tree_columns) (row ∷ [])
+lone_line bytes new made row same pushed =
+    pushed ∙ ap (λ row. bytes ++ line_text tree_columns row) same
+    ∙ ap (λ some. bytes ++ some) (sym (append-nil (line_text tree_columns row)))
+
+-- and behind those of other rows
+pub line_behind : (bytes old new : List ℕ) (rows : List TableRow) (made row : TableRow) → made ≡ row
+    → old ≡ bytes ++ flat_map (line_text tree_columns) rows
+    → new ≡ old ++ line_text tree_columns made
+    → new ≡ bytes ++ flat_map (line_text tree_columns) (rows ++ row ∷ [])
+line_behind bytes old new rows made row same are pushed =
+    let line = flat_map (line_text tree_columns) (row ∷ []) in
+    lone_line old new made row same pushed ∙ ap (λ some. some ++ line) are
+    ∙ append_assoc bytes (flat_map (line_text tree_columns) rows) line
+    ∙ ap (λ some. bytes ++ some) (sym (flat_map-append (line_text tree_columns) rows (row ∷ [])))
 
 -- rows with equal cells
-pub same_row : (kind value a id b multiplier : ℤ) → a ≡ id → b ≡ multiplier
-    → cells_row kind a value b ≡ cells_row kind id value multiplier
-same_row kind value a id b multiplier first last =
-    ap (λ x. cells_row kind x value b) first ∙ ap (λ x. cells_row kind id value x) last
+pub same_row : (kind a id b value c multiplier : ℤ) → a ≡ id → b ≡ value → c ≡ multiplier
+    → cells_row kind a b c ≡ cells_row kind id value multiplier
+same_row kind a id b value c multiplier first second third =
+    ap (λ x. cells_row kind x b c) first ∙ ap (λ x. cells_row kind id x c) second
+    ∙ ap (λ x. cells_row kind id value x) third
 
 -- the rows of the first items, with those of one more
 pub rows_more : {X Y : Type 0} (rows : X → List Y) (xs : List X) (i : ℕ) (x : X) (old new : List Y)

@@ -39,7 +39,7 @@ use Rattle.branch_certificate.proofs.ReadRules.{multiplier_says}
 use Rattle.branch_certificate.proofs.ReadSteps.{node_more, bound_more}
 use Rattle.branch_certificate.proofs.ReadSteps.{nodes_none}
 use Rattle.branch_certificate.proofs.WriteFew.{climb_of, few_edges}
-use Rattle.branch_certificate.proofs.WriteRows.{cells_row}
+use Rattle.branch_certificate.specs.TreeTexts.{cells_row}
 use Rattle.branch_certificate.proofs.WriteInside.{line_there, edge_there}
 use Rattle.branch_certificate.proofs.WriteMultipliers.{own_index, keep_both, kept_here}
 use Rattle.branch_certificate.proofs.WriteMultipliers.{multipliers_kept}

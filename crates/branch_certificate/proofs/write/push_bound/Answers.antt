@@ -1,10 +1,16 @@
-use Rattle.std.proofs.Common.{◌∷◌, ◌++◌, [], pos, length, ap, refl, sym, append_assoc, ◌∙◌, arith}
-use Rattle.std.proofs.Common.{w64}
+use Rattle.std.proofs.Common.{◌≤◌, ◌++◌, ◌∷◌, ◌∙◌, List, map, pos, length, ap, refl, subst, sym, arith, take, w64}
+use Rattle.std.specs.List.{flat_map}
 use Rattle.std.proofs.lemmas.Int.{to_z-of_z}
-use Rattle.branch_certificate.specs.TreeTexts.{edge_id, row_with}
-use Rattle.branch_certificate.proofs.ReadIds.{kept_behind}
+use Rattle.std.proofs.lemmas.List.{take_all}
+use Rattle.giv_files.specs.Columns.{tree_columns}
+use Rattle.giv_files.specs.Tables.{TableRow}
+use Rattle.giv_files.specs.Writing.{InColumns, line_text}
+use Rattle.line_cost_model.specs.declared.multipliers.Multiplier.{Multiplier}
+use Rattle.branch_certificate.specs.TreeTexts.{cells_row, edge_id, row_with}
+use Rattle.branch_certificate.proofs.ReadIds.{kept_more}
 use Rattle.branch_certificate.proofs.WriteFew.{few_multipliers}
-use Rattle.branch_certificate.proofs.WriteRows.{cells_row, same_row, edge_there}
+use Rattle.branch_certificate.proofs.WriteInside.{bound_inside, multiplier_inside}
+use Rattle.branch_certificate.proofs.WriteRows.{edge_there, line_behind, lone_line, same_row}
 use Rattle.branch_certificate.proofs.write.push_bound.Goals as goal
 
 pub overflow_cast-len : goal.overflow_cast-len
@@ -13,6 +19,17 @@ overflow_cast-len c =
     c.len.ensures.sound c.requires.names in
     record { sfits = omega (arith, few, c.len.ensures.len) }
 
+pub push_row-requires : goal.push_row-requires
+push_row-requires c =
+    let few = few_multipliers c.args.problem.now c.args.multipliers.now c.requires.sound
+    c.len.ensures.sound c.requires.names in
+    let count = to_z-of_z w64 (pos c.len.result) (record {
+      sfits = omega (arith, few, c.len.ensures.len);
+    }) ∙ ap pos c.len.ensures.len in
+    subst (λ (row : TableRow). InColumns tree_columns row.cells)
+    (sym (same_row (pos 2) _ _ (pos 0) (pos 0) (pos 0) (pos 0) count refl refl))
+    (bound_inside (length c.args.multipliers.now) few)
+
 pub loop-i-init : goal.loop-i-init
 loop-i-init c =
     let few = few_multipliers c.args.problem.now c.args.multipliers.now c.requires.sound
@@ -20,14 +37,26 @@ loop-i-init c =
     let count = to_z-of_z w64 (pos c.len.result) (record {
       sfits = omega (arith, few, c.len.ensures.len);
     }) ∙ ap pos c.len.ensures.len in
-    c.in_ok-push.ensures.ok
-    ∙ ap (λ row. c.args.table.now ++ row ∷ [])
-    (same_row (pos 2) (pos 0) _ _ (pos 0) (pos 0) count refl)
+    lone_line c.args.bytes.now.items c.push_row.new.bytes.items _ _
+    (same_row (pos 2) _ _ (pos 0) (pos 0) (pos 0) (pos 0) count refl refl) c.in_ok-push_row.ensures
 
 pub id_of_edge-requires : goal.id_of_edge-requires
 id_of_edge-requires c =
     edge_there _ c.args.multipliers.now c.loop-i.i c.get-edge.result c.requires.names
     c.get-edge.ensures
+
+pub push_row-requires-in-loop-i : goal.push_row-requires-in-loop-i
+push_row-requires-in-loop-i c =
+    let id = to_z-of_z w64 c.id_of_edge.result (record {
+      sfits = omega (arith, c.id_of_edge.type_inv);
+    }) ∙ c.id_of_edge.ensures in
+    let amount = to_z-of_z w64 c.get-edge.result.1 (record {
+      sfits = omega (arith, c.get-edge.type_inv);
+    }) in
+    subst (λ (row : TableRow). InColumns tree_columns row.cells)
+    (sym (same_row (pos 3) _ _ (pos 0) (pos 0) _ _ id refl amount))
+    (multiplier_inside c.args.problem.now c.requires.sound c.args.multipliers.now c.loop-i.i
+    c.get-edge.result c.requires.names c.len.ensures.sound.amounts c.get-edge.ensures)
 
 pub loop-i-preserved : goal.loop-i-preserved
 loop-i-preserved c =
@@ -40,8 +69,25 @@ loop-i-preserved c =
     let amount = to_z-of_z w64 c.get-edge.result.1 (record {
       sfits = omega (arith, c.get-edge.type_inv);
     }) in
-    kept_behind _ (λ r. cells_row (pos 3) (edge_id problem r.0) (pos 0) r.1) multipliers
-    c.loop-i.i c.get-edge.result (c.args.table.now ++ first ∷ []) _ _ _ c.in_ok-push-2.ensures.ok
-    (same_row (pos 3) (pos 0) _ _ _ _ id amount)
-    (c.loop-i.invariant ∙ sym (append_assoc c.args.table.now (first ∷ []) _)) c.get-edge.ensures
-    ∙ append_assoc c.args.table.now (first ∷ []) _
+    let told = c.get-edge.result in
+    line_behind c.args.bytes.now.items c.loop-i.bytes.items c.push_row-in-loop-i.new.bytes.items
+    (first ∷ map (λ (one : Multiplier). row_with 3 (edge_id problem one.edge) 0 one.amount)
+    (take c.loop-i.i multipliers)) _ (cells_row (pos 3) (edge_id problem told.0) (pos 0) told.1)
+    (same_row (pos 3) _ _ (pos 0) (pos 0) _ _ id refl amount) c.loop-i.invariant
+    c.in_ok-push_row-2.ensures
+    ∙ ap (λ (rows : List TableRow). c.args.bytes.now.items
+    ++ flat_map (line_text tree_columns) (first ∷ rows))
+    (sym (kept_more (λ (one : Multiplier). (one.edge, pos one.amount))
+    (λ r. cells_row (pos 3) (edge_id problem r.0) (pos 0) r.1) multipliers c.loop-i.i
+    c.get-edge.result c.get-edge.ensures))
+
+pub returns-clause-lines : goal.returns-clause-lines
+returns-clause-lines c =
+    let problem = c.args.problem.now in
+    let multipliers = c.args.multipliers.now in
+    let past : length multipliers ≤ c.loop-i.i = omega arith in
+    c.loop-i.invariant
+    ∙ ap (λ (some : List Multiplier). c.args.bytes.now.items ++ flat_map (line_text tree_columns)
+    (row_with 2 (pos (length multipliers)) 0 0
+    ∷ map (λ one. row_with 3 (edge_id problem one.edge) 0 one.amount) some))
+    (take_all c.loop-i.i multipliers past)
