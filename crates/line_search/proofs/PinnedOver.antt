@@ -12,7 +12,7 @@ use Rattle.line_cost_model.specs.Concepts.{IsFeasible}
 use Rattle.line_cost_model.specs.Problems.{ProblemParts}
 use Rattle.line_search.specs.ConceptTables.{concept_rows}
 use Rattle.line_search.specs.GivenProblems.{problem_faults, problem_of}
-use Rattle.line_search.specs.Judged.{Marks, Passes, first_broken}
+use Rattle.line_search.specs.Judged.{Marks, first_broken}
 use Rattle.line_search.specs.RightConcepts.{ConceptFilesAreRight, IsMarked}
 use Rattle.line_search.specs.RightPinned.{ConceptIsRight}
 
@@ -79,14 +79,4 @@ found_right bundle files right = record {
   marked = only_marks (problem_of bundle) right.frequencies right.tree right.marked;
   passes = right.passes;
   accepted = right.accepted;
-}
-
--- a concept that is right passes: it is feasible, and a tree beside it marks it
-pub right_passes : (bundle : BundleParts) (files : List MadeFile)
-    (right : ConceptIsRight bundle files) → Passes (problem_of bundle) right.text right.tree
-right_passes bundle files right = record {
-  frequencies = right.frequencies;
-  reads = right.reads;
-  feasible = right.feasible;
-  marked = right.marked;
 }
