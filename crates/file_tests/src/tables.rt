@@ -234,3 +234,16 @@ fn rows_have_numbers_and_fields(rt: HostRuntime) -> Result<(), Fail> {
     same(&rt, marked.as_str(), "row 1: byte order mark", "");
     Ok(())
 }
+
+// Lines that are longer than those that csv is given.
+#[test]
+fn long_lines_have_fields(rt: HostRuntime) -> Result<(), Fail> {
+    let mut text = vec![in rt.alloc(); b' '; 5_000]?;
+    text.extend_from_slice(b"1; \"2\";;# c\n3; 4\n")?;
+    let fields = fields_told(rt.alloc(), text.as_slice())?;
+    same(&rt, fields.as_str(), "1: 1 2 .2: 3 4.", "");
+    let semicolons = vec![in rt.alloc(); b';'; 5_000]?;
+    let read = told(rt.alloc(), semicolons.as_slice(), &[ANY, ANY])?;
+    same(&rt, read.as_str(), "row 1: 5000 fields", "");
+    Ok(())
+}
