@@ -1,16 +1,16 @@
 -- Flags of events as bits.
 use Rattle.std.proofs.Common.{◌≡◌, ◌∙◌, inl, inr, ℕ, zero, suc, ◌+◌, ◌-◌, ◌*◌, ◌/◌, ◌%◌, ◌^◌, ◌<◌}
 use Rattle.std.proofs.Common.{◌≤◌, ◌==◌}
-use Rattle.std.proofs.Common.{Bool, true, false, not, ◌||◌, max, List, [], ◌∷◌, length, get_or}
+use Rattle.std.proofs.Common.{Bool, true, false, not, ◌||◌, min, List, [], ◌∷◌, length, get_or}
 use Rattle.std.proofs.Common.{slice_set, All}
 use Rattle.std.proofs.Common.{Some, None, refl, ap, sym, subst, arith}
 use Rattle.std.specs.List.{list_any}
 use Rattle.std.proofs.lemmas.Bool.{cases_Bool, cases_eq, cases_lt, eq-eqb, eqb-true, false≢true}
 use Rattle.std.proofs.lemmas.Bool.{ne_eqb, or_parts}
 use Rattle.std.proofs.lemmas.List.{get_or-set_other, get_or-set_same, get_or_past, length-set}
-use Rattle.pesp_search.specs.Flags.{AreFlags, Flags, IsNextFlag, has_changed, some_changed}
+use Rattle.pesp_search.specs.Flags.{AreFlags, Flags, IsLastFlag, has_changed, some_changed}
 use Rattle.pesp_search.specs.Flags.{with_flag}
-use Rattle.pesp_search.specs.Marks.{IsFirstBit, has_bit, marked, with_bit}
+use Rattle.pesp_search.specs.Marks.{IsLastBit, has_bit, marked, with_bit}
 use Rattle.pesp_search.proofs.WordBits.{none_at_zero, with_fits, with_other, with_same, zero_bit}
 
 -- ---- one flag
@@ -157,76 +157,64 @@ some_flag flags are some =
     let place : (64 * found.0 + bit.0) % 64 ≡ bit.0 = (let low = bit.1 in omega (arith, low)) in
     (64 * found.0 + bit.0, (λ i. has_bit (get_or flags.words (index i) 0) (place i)) ∙ bit.2)
 
--- ---- the next flag
+-- ---- the last flag before one
 
-pub next_flag : (flags : Flags) (index from start bit : ℕ) → AreFlags flags
-    → start ≡ max from (64 * index) - 64 * index
-    → ((event : ℕ) → from ≤ event → event < 64 * index → has_changed flags event ≡ false)
-    → IsFirstBit (get_or flags.words index 0) start (Some bit)
-    → IsNextFlag flags from (Some (64 * index + bit))
-next_flag flags index from start bit are begins so first =
-    let own : (64 * index + bit) / 64 ≡ index = (let low = first.1 in omega (arith, low)) in
-    let place : (64 * index + bit) % 64 ≡ bit = (let low = first.1 in omega (arith, low)) in
-    let set : has_changed flags (64 * index + bit) ≡ true =
-    (λ i. has_bit (get_or flags.words (own i) 0) (place i)) ∙ first.2 in (
-      (let low = first.0 in omega (arith, begins, low)),
-      inside (64 * index + bit) set,
-      set,
-      λ event low high. elim (cases_lt event (64 * index)) [
-        | inl before ↦ so event low before
-        | inr after ↦
-            let few : event - 64 * index < 64 = (let small = first.1 in
-            omega (arith, high, after, small)) in
-            let index_is : event / 64 ≡ index = omega (arith, after, few) in
-            let bit_is : event % 64 ≡ event - 64 * index = omega (arith, after, few) in
-            (λ i. has_bit (get_or flags.words (index_is i) 0) (bit_is i))
-            ∙ first.3 (event - 64 * index) (omega (arith, begins, low, after)) (omega (
-              arith,
-              high,
-              after,
-            ))
-      ],
-    )
-  where
-    inside : (event : ℕ) → has_changed flags event ≡ true → event < flags.events
-    inside event set = elim (cases_lt event flags.events) [
-      | inl low ↦ low
-      | inr high ↦ absurd (false≢true (sym (are.clear event high) ∙ set))
-    ]
+-- none is set in the words so far, from the last one on
+abbrev pub NoneFrom : Flags → ℕ → ℕ → Type 0
+NoneFrom flags end index =
+    (event : ℕ) → 64 * index ≤ event → event < end → has_changed flags event ≡ false
 
-pub no_next_flag : (flags : Flags) (index from start : ℕ)
-    → start ≡ max from (64 * index) - 64 * index
-    → ((event : ℕ) → from ≤ event → event < 64 * index → has_changed flags event ≡ false)
-    → IsFirstBit (get_or flags.words index 0) start None
-    → (event : ℕ) → from ≤ event → event < 64 * (index + 1) → has_changed flags event ≡ false
-no_next_flag flags index from start begins so none event low high = elim (cases_lt event (64 *
-    index)) [
-      | inl before ↦ so event low before
-      | inr after ↦
-          let few : event - 64 * index < 64 = omega (arith, high, after) in
-          let index_is : event / 64 ≡ index = omega (arith, after, few) in
-          let bit_is : event % 64 ≡ event - 64 * index = omega (arith, after, few) in
-          (λ i. has_bit (get_or flags.words (index_is i) 0) (bit_is i))
-          ∙ none (event - 64 * index) (omega (arith, begins, low, after)) few
-    ]
-
-pub past_flags : (flags : Flags) (index event : ℕ) → length flags.words ≤ index → 64 * index ≤ event
-    → has_changed flags event ≡ false
-past_flags flags index event all high =
-    ap (λ word. has_bit word (event % 64)) (get_or_past flags.words (event / 64) 0 (omega (
-      arith,
-      all,
-      high,
-    )))
-    ∙ zero_bit (event % 64)
-
-pub none_left : (flags : Flags) (index from event : ℕ) → length flags.words ≤ index
-    → ((event : ℕ) → from ≤ event → event < 64 * index → has_changed flags event ≡ false)
-    → from ≤ event → has_changed flags event ≡ false
-none_left flags index from event all so low = elim (cases_lt event (64 * index)) [
-  | inl before ↦ so event low before
-  | inr behind ↦ past_flags flags index event all behind
+pub none_behind : (flags : Flags) (end index : ℕ) → AreFlags flags
+    → index ≡ (min end flags.events + 63) / 64 → NoneFrom flags end index
+none_behind flags end index are is event high low = elim (cases_lt event flags.events) [
+  | inl within ↦ absurd (omega (arith, high, is, low, within))
+  | inr behind ↦ are.clear event behind
 ]
+
+module _ (flags : Flags) (index end : ℕ) (are : AreFlags flags)
+    (so : NoneFrom flags end (index + 1)) where
+  at : (bit : ℕ) → bit < 64
+      → has_changed flags (64 * index + bit) ≡ has_bit (get_or flags.words index 0) bit
+  at bit small =
+      let own : (64 * index + bit) / 64 ≡ index = omega (arith, small) in
+      let place : (64 * index + bit) % 64 ≡ bit = omega (arith, small) in
+      λ i. has_bit (get_or flags.words (own i) 0) (place i)
+
+  none_above : (bit : ℕ) → ((other : ℕ) → other < 64 → bit ≤ other → other < end - 64 * index
+      → has_bit (get_or flags.words index 0) other ≡ false)
+      → (event : ℕ) → 64 * index + bit ≤ event → event < end → has_changed flags event ≡ false
+  none_above bit none event high low = elim (cases_lt event (64 * (index + 1))) [
+    | inr behind ↦ so event behind low
+    | inl here ↦
+        let place : 64 * index + (event - 64 * index) ≡ event = omega (arith, high) in
+        let small : event - 64 * index < 64 = omega (arith, here, high) in
+        ap (has_changed flags) (sym place) ∙ at (event - 64 * index) small
+        ∙ none (event - 64 * index) small (omega (arith, high)) (omega (arith, high, low))
+  ]
+
+  pub last_flag : (bit : ℕ)
+      → IsLastBit (get_or flags.words index 0) (end - 64 * index) (Some bit)
+      → IsLastFlag flags end (Some (64 * index + bit))
+  last_flag bit last =
+      let set = at bit last.1 ∙ last.2 in (
+        (let low = last.0 in omega (arith, low)),
+        inside (64 * index + bit) set,
+        set,
+        λ event above low. none_above (bit + 1)
+            (λ other small high few. last.3 other small (omega (arith, high)) few) event
+            (omega (arith, above)) low,
+      )
+    where
+      inside : (event : ℕ) → has_changed flags event ≡ true → event < flags.events
+      inside event set = elim (cases_lt event flags.events) [
+        | inl low ↦ low
+        | inr high ↦ absurd (false≢true (sym (are.clear event high) ∙ set))
+      ]
+
+  pub no_last_flag : IsLastBit (get_or flags.words index 0) (end - 64 * index) None
+      → NoneFrom flags end index
+  no_last_flag none event high low =
+      none_above 0 (λ other small _ few. none other small few) event (omega (arith, high)) low
 
 -- ---- flags that are set one after the other
 

@@ -6,7 +6,7 @@ use Rattle.std.proofs.lemmas.Bool.{cases_lt, false≢true}
 use Rattle.std.proofs.lemmas.Option.{get_or_from_slice_get, slice_get_within}
 use Rattle.pesp_model.specs.declared.activity.PespActivity.{PespActivity}
 use Rattle.pesp_model.specs.Timetables.{IsActivity, IsProblem, Problem}
-use Rattle.pesp_search.specs.Flags.{AreFlags, Flags, IsNextFlag, has_changed, some_changed}
+use Rattle.pesp_search.specs.Flags.{AreFlags, Flags, IsLastFlag, has_changed, some_changed}
 use Rattle.pesp_search.specs.Marks.{Tracked, is_left, marks_left}
 use Rattle.pesp_search.specs.Revising.{AllFrom, AreRevised, BoundUnless, Dies, IsReady, IsRevised}
 use Rattle.pesp_search.specs.Revising.{IsWithin}
@@ -15,15 +15,15 @@ use Rattle.pesp_search.specs.Revising.{IsFull, StaysFull}
 use Rattle.pesp_search.proofs.FlagBits.{no_flag, some_flag}
 use Rattle.pesp_search.proofs.Revised.{carried_firsts, carried_seconds}
 
--- what is known behind the events before one: no flag is left at them unless times were taken out
-pub record IsSwept (problem : Problem) (before now : Tracked) (flags : Flags) (from : ℕ) : Type 0
+-- what is known behind the events from one on: no flag is left at them unless times were taken out
+pub record IsSwept (problem : Problem) (before now : Tracked) (flags : Flags) (end : ℕ) : Type 0
   where
     pub propagates : Propagates problem before now
     pub each : flags.events ≡ problem.events
     pub revised : AllFrom problem.activities
         (BoundUnless problem.period (is_left now.sets) (has_changed flags)) 0
     pub fewer : (event : ℕ) → has_changed flags event ≡ true
-        → (from ≤ event) ⊎ (marks_left now.sets < marks_left before.sets)
+        → (event < end) ⊎ (marks_left now.sets < marks_left before.sets)
     pub no_more : marks_left now.sets ≤ marks_left before.sets
     pub full : StaysFull before now
 
@@ -84,25 +84,28 @@ both_propagate problem before now after one two = record {
 
 -- ---- a sweep
 
-pub sweep_begun : (problem : Problem) (sets : Tracked) (flags : Flags)
-    → flags.events ≡ problem.events
+pub sweep_begun : (problem : Problem) (sets : Tracked) (flags : Flags) (end : ℕ) → AreFlags flags
+    → end ≡ flags.events → flags.events ≡ problem.events
     → AllFrom problem.activities (BoundUnless problem.period (is_left sets.sets) (has_changed
     flags)) 0
-    → IsSwept problem sets sets flags 0
-sweep_begun problem sets flags each revised = record {
+    → IsSwept problem sets sets flags end
+sweep_begun problem sets flags end are all each revised = record {
   propagates = none_yet problem sets;
   each = each;
   revised = revised;
-  fewer = λ event _. inl (omega arith);
+  fewer = λ event is. elim (cases_lt event flags.events) [
+    | inl low ↦ inl (omega (arith, low, all))
+    | inr high ↦ absurd (false≢true (sym (are.clear event high) ∙ is))
+  ];
   no_more = omega arith;
   full = λ full. full;
 }
 
-pub sweep_turn : (problem : Problem) (before now after : Tracked) (flags more : Flags) (from event
+pub sweep_turn : (problem : Problem) (before now after : Tracked) (flags more : Flags) (end event
     : ℕ)
-    → IsSwept problem before now flags from → IsNextFlag flags from (Some event)
-    → Visits problem event now after flags more → IsSwept problem before after more (event + 1)
-sweep_turn problem before now after flags more from event so next turn = record {
+    → IsSwept problem before now flags end → IsLastFlag flags end (Some event)
+    → Visits problem event now after flags more → IsSwept problem before after more event
+sweep_turn problem before now after flags more end event so last turn = record {
   propagates = both_propagate problem before now after so.propagates turn.propagates;
   each = turn.each ∙ so.each;
   revised = turn.revised;
@@ -111,38 +114,39 @@ sweep_turn problem before now after flags more from event so next turn = record 
   full = λ was. turn.full (so.full was);
 }
   where
-    later : (other : ℕ) → has_changed flags other ≡ true → (other ≡ event → ⊥) → from ≤ other
-        → event + 1 ≤ other
-    later other is apart low = elim (cases_lt other event) [
-      | inl before ↦ absurd (false≢true (sym (next.3 other low before) ∙ is))
-      | inr behind ↦ omega (arith, behind, apart)
+    earlier : (other : ℕ) → has_changed flags other ≡ true → (other ≡ event → ⊥) → other < end
+        → other < event
+    earlier other is apart low = elim (cases_lt other event) [
+      | inl before ↦ before
+      | inr behind ↦
+          absurd (false≢true (sym (last.3 other (omega (arith, behind, apart)) low) ∙ is))
     ]
 
     old : (other : ℕ) → has_changed flags other ≡ true → (other ≡ event → ⊥)
-        → (from ≤ other) ⊎ (marks_left now.sets < marks_left before.sets)
-        → (event + 1 ≤ other) ⊎ (marks_left after.sets < marks_left before.sets)
-    old other is apart (inl low) = inl (later other is apart low)
+        → (other < end) ⊎ (marks_left now.sets < marks_left before.sets)
+        → (other < event) ⊎ (marks_left after.sets < marks_left before.sets)
+    old other is apart (inl low) = inl (earlier other is apart low)
     old other is apart (inr less) = inr (omega (arith, less, turn.no_more))
 
     fewer : (other : ℕ)
         → ((has_changed flags other ≡ true) × (other ≡ event
         → ⊥)) ⊎ (marks_left after.sets < marks_left now.sets)
-        → (event + 1 ≤ other) ⊎ (marks_left after.sets < marks_left before.sets)
+        → (other < event) ⊎ (marks_left after.sets < marks_left before.sets)
     fewer other (inl was) = old other was.0 was.1 (so.fewer other was.0)
     fewer other (inr less) = inr (omega (arith, less, so.no_more))
 
-pub sweep_died : (problem : Problem) (before now after : Tracked) (flags : Flags) (from : ℕ)
-    → IsSwept problem before now flags from → Dies problem now after → Dies problem before after
-sweep_died problem before now after flags from so dead = record {
+pub sweep_died : (problem : Problem) (before now after : Tracked) (flags : Flags) (end : ℕ)
+    → IsSwept problem before now flags end → Dies problem now after → Dies problem before after
+sweep_died problem before now after flags end so dead = record {
   propagates = both_propagate problem before now after so.propagates dead.propagates;
   empty = dead.empty;
 }
 
-pub sweep_ended : (problem : Problem) (before now : Tracked) (flags : Flags) (from : ℕ)
+pub sweep_ended : (problem : Problem) (before now : Tracked) (flags : Flags) (end : ℕ)
     → AreFlags flags
-    → IsSwept problem before now flags from → IsNextFlag flags from None
+    → IsSwept problem before now flags end → IsLastFlag flags end None
     → Sweeps problem before now flags
-sweep_ended problem before now flags from are so none = record {
+sweep_ended problem before now flags end are so none = record {
   propagates = so.propagates;
   each = so.each;
   revised = so.revised;
@@ -153,7 +157,7 @@ sweep_ended problem before now flags from are so none = record {
 }
   where
     last : (event : ℕ) → has_changed flags event ≡ true
-        → (from ≤ event) ⊎ (marks_left now.sets < marks_left before.sets)
+        → (event < end) ⊎ (marks_left now.sets < marks_left before.sets)
         → marks_left now.sets < marks_left before.sets
     last event is (inr less) = less
     last event is (inl low) = absurd (false≢true (sym (none event low) ∙ is))

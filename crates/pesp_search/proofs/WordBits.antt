@@ -1,12 +1,15 @@
 -- Bits of words, and of lists of words.
-use Rattle.std.proofs.Common.{◌≡◌, ◌∙◌, ◌⊎◌, inl, inr, ℕ, ◌+◌, ◌-◌, ◌*◌, ◌/◌, ◌%◌, ◌^◌, ◌<◌, ◌≤◌}
+use Rattle.std.proofs.Common.{◌≡◌, ◌∙◌, ◌⊎◌, inl, inr, ℕ, suc, ◌+◌, ◌-◌, ◌*◌, ◌/◌, ◌%◌, ◌^◌, ◌<◌, ◌≤◌}
 use Rattle.std.proofs.Common.{◌==◌}
 use Rattle.std.proofs.Common.{if◌then◌else◌, nat_lt, bit_and, bit_or, w64}
 use Rattle.std.proofs.Common.{Bool, true, false, ◌&&◌, ◌||◌, List, get_or}
 use Rattle.std.proofs.Common.{Some, None, refl, ap, sym, subst, arith}
-use Rattle.std.specs.Int.{bit_at, bit_not, trailing_zeros}
+use Rattle.std.specs.Int.{bit_at, bit_not, leading_zeros, trailing_zeros}
 use Rattle.std.proofs.lemmas.Bool.{cases_eq, cases_lt, eq-eqb, eqb-true, ne_eqb}
 use Rattle.std.proofs.lemmas.Bool.{false≢true, lt-ltb, le-ltb}
+use Rattle.std.proofs.lemmas.Bool.{and_parts, ltb-true}
+use Rattle.std.proofs.Math.Nat.{pow-succ'}
+use Rattle.std.proofs.lemmas.Nat.{div-mul-add, leading_top}
 use Rattle.std.proofs.lemmas.Nat.{and_le_l, or_lt, one_shl, pow_below, pow_pos, shr-shr}
 use Rattle.std.proofs.lemmas.Nat.Bits.{bit_at-lt, bit_at-zero, bit_at_above, bit_at_and}
 use Rattle.std.proofs.lemmas.Nat.Bits.{bit_at_cat_high}
@@ -14,7 +17,7 @@ use Rattle.std.proofs.lemmas.Nat.Bits.{bit_at_cat_low, bit_at_clear_other, bit_a
 use Rattle.std.proofs.lemmas.Nat.Bits.{bit_at-pow_other, bit_at-pow_same, bit_at_ones}
 use Rattle.std.proofs.lemmas.Nat.Bits.{bit_at_ones_above, bit_at_or, bit_at_set_other}
 use Rattle.std.proofs.lemmas.Nat.Bits.{bit_at_set_same, bit_at-trailing_zeros}
-use Rattle.pesp_search.specs.Marks.{IsFirstBit, has_bit, marked, one_bit, with_bit}
+use Rattle.pesp_search.specs.Marks.{IsFirstBit, IsLastBit, has_bit, marked, one_bit, with_bit}
 
 -- ---- a bit as a number
 
@@ -199,6 +202,47 @@ first_is word from rest low fits is some small =
       | inl low ↦ low
       | inr high ↦ absurd (false≢true (sym (high_bit word bit fits high) ∙ set))
     ]
+
+-- ---- the last bit before one, of a word that is cut there
+
+module _ (word rest end : ℕ)
+    (is : (bit : ℕ) → bit < 64 → has_bit rest bit ≡ (nat_lt bit end && has_bit word bit)) where
+  before_end : (bit : ℕ) → bit < 64 → bit < end → has_bit word bit ≡ has_bit rest bit
+  before_end bit small low =
+      sym (ap (λ b. b && has_bit word bit) (lt-ltb bit end low)) ∙ sym (is bit small)
+
+  pub no_last : rest ≡ 0 → IsLastBit word end None
+  no_last none bit small low =
+      before_end bit small low ∙ ap (λ w. has_bit w bit) none ∙ zero_bit bit
+
+  pub last_is : (last : ℕ) → (rest ≡ 0 → ⊥) → rest < 2 ^ 64 → last ≡ 63 - leading_zeros w64 rest
+      → IsLastBit word end (Some last)
+  last_is last some fits own =
+      let top = leading_top 64 rest (omega (arith, some)) fits in
+      let same : last ≡ top.0 = (let whole = top.1 in omega (arith, own, whole)) in
+      let small : last < 64 = omega (arith, own) in
+      let set : has_bit rest last ≡ true =
+      ap (has_bit rest) same ∙ set_from rest top.0 (top_bit top.0 top.2 top.3) in
+      let both = and_parts (nat_lt last end) _ (sym (is last small) ∙ set) in (
+        ltb-true last end both.0,
+        small,
+        both.1,
+        λ bit few above low.
+            before_end bit few low
+            ∙ unset_from rest bit (bit_at_above rest (suc top.0) bit top.3 (omega (
+              arith,
+              above,
+              same,
+            ))),
+      )
+    where
+      top_bit : (top : ℕ) → 2 ^ top ≤ rest → rest < 2 ^ suc top → bit_at rest top ≡ 1
+      top_bit top low high =
+          let twice = pow-succ' 2 top in
+          let whole : rest ≡ 1 * 2 ^ top + (rest - 2 ^ top) = omega (arith, low) in
+          let part : rest - 2 ^ top < 2 ^ top = omega (arith, low, high, twice) in
+          ap (λ n. n % 2) (ap (λ n. n / 2 ^ top) whole
+          ∙ div-mul-add 1 (2 ^ top) (rest - 2 ^ top) part)
 
 -- a word that is not 0 has a bit
 pub none_at_zero : (word : ℕ) → word < 2 ^ 64 → (word ≡ 0 → ⊥)

@@ -31,9 +31,9 @@ pub record AreFlags (flags : Flags) : Type 0 where
   pub fit : All (λ word. word < 2 ^ 64) flags.words
   pub clear : (event : ℕ) → flags.events ≤ event → has_changed flags event ≡ false
 
--- the first event from one on whose flag is set, if one is
-abbrev pub IsNextFlag : Flags → ℕ → Option ℕ → Type 0
-IsNextFlag flags from None = (event : ℕ) → from ≤ event → has_changed flags event ≡ false
-IsNextFlag flags from (Some first) = (from ≤ first) × (first < flags.events)
-    × (has_changed flags first ≡ true)
-    × ((event : ℕ) → from ≤ event → event < first → has_changed flags event ≡ false)
+-- the last event before one whose flag is set, if one is
+abbrev pub IsLastFlag : Flags → ℕ → Option ℕ → Type 0
+IsLastFlag flags end None = (event : ℕ) → event < end → has_changed flags event ≡ false
+IsLastFlag flags end (Some last) = (last < end) × (last < flags.events)
+    × (has_changed flags last ≡ true)
+    × ((event : ℕ) → last < event → event < end → has_changed flags event ≡ false)

@@ -36,6 +36,12 @@ IsFirstBit word from None = (bit : ℕ) → from ≤ bit → bit < 64 → has_bi
 IsFirstBit word from (Some first) = (from ≤ first) × (first < 64) × (has_bit word first ≡ true)
     × ((bit : ℕ) → from ≤ bit → bit < first → has_bit word bit ≡ false)
 
+-- the last bit of a word before one that is set, if one is
+abbrev pub IsLastBit : ℕ → ℕ → Option ℕ → Type 0
+IsLastBit word end None = (bit : ℕ) → bit < 64 → bit < end → has_bit word bit ≡ false
+IsLastBit word end (Some last) = (last < end) × (last < 64) × (has_bit word last ≡ true)
+    × ((bit : ℕ) → bit < 64 → last < bit → bit < end → has_bit word bit ≡ false)
+
 -- how many words hold a bit for each time of a period
 abbrev pub words_of : ℕ → ℕ
 words_of period = (period + 63) / 64

@@ -2,10 +2,10 @@
 ghost use Rattle.std.specs.Prelude.{◌≡◌, ℕ, ◌/◌, ◌<◌, ◌≤◌, ◌==◌, not, length, slice_index, true};
 ghost use Rattle.std.specs.Prelude.{false, All, IfOk};
 ghost use Rattle.std.specs.List.{list_any};
-ghost use Rattle.pesp_search.specs.Flags.{AreFlags, IsNextFlag, has_changed, some_changed};
+ghost use Rattle.pesp_search.specs.Flags.{AreFlags, IsLastFlag, has_changed, some_changed};
 ghost use Rattle.pesp_search.specs.Flags.{with_flag};
 
-use crate::words::{first_bit, with_bit};
+use crate::words::{last_bit, with_bit};
 use plan_num::NoMemory;
 use std::alloc::Global;
 use std::marker::Model;
@@ -116,13 +116,15 @@ impl EventFlags {
         some_word(&self.words)
     }
 
-    /// The first event from one on whose flag is set.
-    pub(crate) fn next(&self, from: usize) -> Option<usize>
-        ensures next { IsNextFlag self.now from result }
+    /// The last event before one whose flag is set.
+    pub(crate) fn last(&self, end: usize) -> Option<usize>
+        ensures last { IsLastFlag self.now end result }
         ensures sound { AreFlags self.now }
     {
-        for index in from / 64..self.width() {
-            if let Some(bit) = first_bit(self.word(index), from.max(64 * index) - 64 * index) {
+        let mut index = (end.min(self.events()) + 63) / 64;
+        while index > 0 {
+            index -= 1;
+            if let Some(bit) = last_bit(self.word(index), end - 64 * index) {
                 return Some(64 * index + bit);
             }
         }

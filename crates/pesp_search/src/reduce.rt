@@ -43,8 +43,8 @@ pub(crate) fn reduce(
     Ok(false)
 }
 
-// Revises the sets by the activities at each event that has a flag, which it loses. Stops where no
-// time is left to some event, and tells so.
+// Revises the sets by the activities at each event that has a flag, which it loses, from the last
+// event to the first. Stops where no time is left to some event, and tells so.
 fn sweep(
     pesp: &Pesp,
     links: &Links,
@@ -61,12 +61,12 @@ fn sweep(
         (Sweeps pesp.now sets.old sets.new changed.new)) }
     ensures each { OnOk result (changed.new.events ≡ changed.old.events) }
 {
-    let mut from = 0;
-    while let Some(event) = changed.next(from) {
+    let mut end = changed.events();
+    while let Some(event) = changed.last(end) {
         if visit(pesp, links.at(event), event, sets, changed)? {
             return Ok(true);
         }
-        from = event + 1;
+        end = event;
     }
     Ok(false)
 }

@@ -1,7 +1,7 @@
 // Words of 64 bits.
 ghost use Rattle.std.specs.Prelude.{◌≡◌, ℕ, ◌+◌, ◌*◌, ◌-◌, ◌/◌, ◌%◌, ◌<◌, ◌≤◌, ◌&&◌, ◌||◌};
 ghost use Rattle.std.specs.Prelude.{nat_lt, not, length, if◌then◌else◌};
-ghost use Rattle.pesp_search.specs.Marks.{IsFirstBit, has_bit, marked, with_bit, words_of};
+ghost use Rattle.pesp_search.specs.Marks.{IsFirstBit, IsLastBit, has_bit, marked, with_bit, words_of};
 
 /// How many words hold a set of times that is worked on: up to 12 for the times of a period, and
 /// one behind them in which no bit is set.
@@ -37,6 +37,17 @@ pub(crate) fn first_bit(word: u64, from: usize) -> Option<usize>
         return None;
     }
     Some(from + rest.trailing_zeros() as usize)
+}
+
+/// The last bit of a word before one that is set.
+pub(crate) fn last_bit(word: u64, end: usize) -> Option<usize>
+    ensures { IsLastBit word end result }
+{
+    let rest = cut(word, end);
+    if rest == 0 {
+        return None;
+    }
+    Some(63 - rest.leading_zeros() as usize)
 }
 
 /// The first bits of a word, so many, and none of the others.
