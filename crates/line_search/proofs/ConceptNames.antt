@@ -1,6 +1,6 @@
 -- Which files the stage of line concepts names where it refuses a row.
 use Rattle.std.proofs.Common.{◌≡◌, ℕ, Bool, true, false, cond, List, [], ◌∷◌, ◌++◌, length, nat_le, slice_get}
-use Rattle.std.proofs.Common.{Option, Some, None, Result, Err, subst, sym}
+use Rattle.std.proofs.Common.{Option, Some, None, Result, Err, refl, subst}
 use Rattle.std.specs.Prelude.{ok_or}
 use Rattle.giv_files.specs.declared.file_id.FileId.{FileId}
 use Rattle.giv_files.specs.declared.file_id.FileId.TheVariants as file
