@@ -1,5 +1,5 @@
 -- Flags of events as bits.
-use Rattle.std.proofs.Common.{◌≡◌, ◌∙◌, inl, inr, ℕ, zero, suc, ◌+◌, ◌-◌, ◌*◌, ◌/◌, ◌%◌, ◌^◌, ◌<◌}
+use Rattle.std.proofs.Common.{◌≡◌, ◌∙◌, ◌⊎◌, inl, inr, is_some, Option, ℕ, zero, suc, ◌+◌, ◌-◌, ◌*◌, ◌/◌, ◌%◌, ◌^◌, ◌<◌}
 use Rattle.std.proofs.Common.{◌≤◌, ◌==◌}
 use Rattle.std.proofs.Common.{Bool, true, false, not, ◌||◌, min, List, [], ◌∷◌, length, get_or}
 use Rattle.std.proofs.Common.{slice_set, All}
@@ -8,7 +8,8 @@ use Rattle.std.specs.List.{list_any}
 use Rattle.std.proofs.lemmas.Bool.{cases_Bool, cases_eq, cases_lt, eq-eqb, eqb-true, false≢true}
 use Rattle.std.proofs.lemmas.Bool.{ne_eqb, or_parts}
 use Rattle.std.proofs.lemmas.List.{get_or-set_other, get_or-set_same, get_or_past, length-set}
-use Rattle.pesp_search.specs.Flags.{AreFlags, Flags, IsLastFlag, has_changed, some_changed}
+use Rattle.pesp_search.specs.Flags.{AreFlags, Flags, IsClearOutside, IsLastFlag, has_changed}
+use Rattle.pesp_search.specs.Flags.{some_changed}
 use Rattle.pesp_search.specs.Flags.{with_flag}
 use Rattle.pesp_search.specs.Marks.{IsLastBit, has_bit, marked, with_bit}
 use Rattle.pesp_search.proofs.WordBits.{none_at_zero, with_fits, with_other, with_same, zero_bit}
@@ -111,6 +112,28 @@ none_flagged events words few each zeros = record {
   clear = λ event high. all_zero words zeros event;
 }
 
+pub none_outside : (words : List ℕ) (low high : ℕ) → All (λ word. word ≡ 0) words
+    → IsClearOutside low high words
+none_outside words low high zeros index _ = elim (cases_lt index (length words)) [
+  | inl inside ↦ zeros index 0 inside
+  | inr past ↦ get_or_past words index 0 past
+]
+
+pub outside_written : (words : List ℕ) (low high less more index word : ℕ)
+    → IsClearOutside low high words → less ≤ low → less ≤ index → high ≤ more → index + 1 ≤ more
+    → IsClearOutside less more (slice_set words index word)
+outside_written words low high less more index word so one two three four i (inl below) =
+    get_or-set_other words index i word 0 (λ same. absurd (omega (arith, below, same, two)))
+    ∙ so i (inl (omega (arith, below, one)))
+outside_written words low high less more index word so one two three four i (inr above) =
+    get_or-set_other words index i word 0 (λ same. absurd (omega (arith, above, same, four)))
+    ∙ so i (inr (omega (arith, above, three)))
+
+flag_outside : (flags : Flags) (low high event : ℕ) → IsClearOutside low high flags.words
+    → (event / 64 < low) ⊎ (high ≤ event / 64) → has_changed flags event ≡ false
+flag_outside flags low high event so where_is =
+    ap (λ word. has_bit word (event % 64)) (so (event / 64) where_is) ∙ zero_bit (event % 64)
+
 -- ---- whether some flag is set
 
 word_of_none : (words : List ℕ) → list_any (λ word. not (word == 0)) words ≡ false → (i : ℕ)
@@ -164,12 +187,25 @@ abbrev pub NoneFrom : Flags → ℕ → ℕ → Type 0
 NoneFrom flags end index =
     (event : ℕ) → 64 * index ≤ event → event < end → has_changed flags event ≡ false
 
-pub none_behind : (flags : Flags) (end index : ℕ) → AreFlags flags
-    → index ≡ (min end flags.events + 63) / 64 → NoneFrom flags end index
-none_behind flags end index are is event high low = elim (cases_lt event flags.events) [
-  | inl within ↦ absurd (omega (arith, high, is, low, within))
-  | inr behind ↦ are.clear event behind
-]
+pub none_behind : (flags : Flags) (end low high index : ℕ) → AreFlags flags
+    → IsClearOutside low high flags.words
+    → index ≡ min ((min end flags.events + 63) / 64) high → NoneFrom flags end index
+none_behind flags end low high index are so is event above less =
+    elim (cases_lt (event / 64) high) [
+      | inr past ↦ flag_outside flags low high event so (inr past)
+      | inl inside ↦ elim (cases_lt event flags.events) [
+        | inl within ↦ absurd (omega (arith, above, is, less, within, inside))
+        | inr behind ↦ are.clear event behind
+      ]
+    ]
+
+pub none_before : (flags : Flags) (end low high index : ℕ) → IsClearOutside low high flags.words
+    → index ≤ low → NoneFrom flags end index → IsLastFlag flags end None
+none_before flags end low high index outside few so event less =
+    elim (cases_lt event (64 * index)) [
+      | inr above ↦ so event above less
+      | inl below ↦ flag_outside flags low high event outside (inl (omega (arith, below, few)))
+    ]
 
 module _ (flags : Flags) (index end : ℕ) (are : AreFlags flags)
     (so : NoneFrom flags end (index + 1)) where
@@ -215,6 +251,22 @@ module _ (flags : Flags) (index end : ℕ) (are : AreFlags flags)
       → NoneFrom flags end index
   no_last_flag none event high low =
       none_above 0 (λ other small _ few. none other small few) event (omega (arith, high)) low
+
+pub some_by_last : (flags : Flags) (found : Option ℕ) → AreFlags flags
+    → IsLastFlag flags flags.events found → is_some found ≡ some_changed flags
+some_by_last flags None are none = elim (cases_Bool (some_changed flags)) [
+  | inr is ↦ sym is
+  | inl some ↦
+      let found = some_flag flags are some in
+      elim (cases_lt found.0 flags.events) [
+        | inl low ↦ absurd (false≢true (sym (none found.0 low) ∙ found.1))
+        | inr high ↦ absurd (false≢true (sym (are.clear found.0 high) ∙ found.1))
+      ]
+]
+some_by_last flags (Some last) are so = elim (cases_Bool (some_changed flags)) [
+  | inl is ↦ sym is
+  | inr none ↦ absurd (false≢true (sym (no_flag flags none last) ∙ so.2))
+]
 
 -- ---- flags that are set one after the other
 

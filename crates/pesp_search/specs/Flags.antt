@@ -1,5 +1,5 @@
 -- Inner words: flags of events as the bits of words.
-use Rattle.std.specs.Prelude.{◌≡◌, ℕ, ◌+◌, ◌/◌, ◌%◌, ◌^◌, ◌<◌, ◌≤◌, ◌==◌, Bool, true, false, not}
+use Rattle.std.specs.Prelude.{◌≡◌, ◌⊎◌, ℕ, ◌+◌, ◌/◌, ◌%◌, ◌^◌, ◌<◌, ◌≤◌, ◌==◌, Bool, true, false, not}
 use Rattle.std.specs.Prelude.{List, length, get_or, slice_set, Option, Some, None, All}
 use Rattle.std.specs.List.{list_any}
 use Rattle.pesp_search.specs.Marks.{marked, with_bit}
@@ -30,6 +30,11 @@ pub record AreFlags (flags : Flags) : Type 0 where
   pub each : length flags.words ≡ (flags.events + 63) / 64
   pub fit : All (λ word. word < 2 ^ 64) flags.words
   pub clear : (event : ℕ) → flags.events ≤ event → has_changed flags event ≡ false
+
+-- outside of a range all words are 0
+abbrev pub IsClearOutside : ℕ → ℕ → List ℕ → Type 0
+IsClearOutside low high words =
+    (index : ℕ) → (index < low) ⊎ (high ≤ index) → get_or words index 0 ≡ 0
 
 -- the last event before one whose flag is set, if one is
 abbrev pub IsLastFlag : Flags → ℕ → Option ℕ → Type 0

@@ -1,8 +1,8 @@
 // Flags of events.
-ghost use Rattle.std.specs.Prelude.{◌≡◌, ℕ, ◌/◌, ◌<◌, ◌≤◌, ◌==◌, not, length, slice_index, true};
+ghost use Rattle.std.specs.Prelude.{◌≡◌, ℕ, ◌/◌, ◌<◌, ◌≤◌, ◌==◌, length, slice_index, true};
 ghost use Rattle.std.specs.Prelude.{false, All, IfOk};
-ghost use Rattle.std.specs.List.{list_any};
-ghost use Rattle.pesp_search.specs.Flags.{AreFlags, IsLastFlag, has_changed, some_changed};
+ghost use Rattle.pesp_search.specs.Flags.{AreFlags, IsClearOutside, IsLastFlag, has_changed};
+ghost use Rattle.pesp_search.specs.Flags.{some_changed};
 ghost use Rattle.pesp_search.specs.Flags.{with_flag};
 
 use crate::words::{last_bit, with_bit};
@@ -10,22 +10,25 @@ use plan_num::NoMemory;
 use std::alloc::Global;
 use std::marker::Model;
 
-/// A flag for each event, as the bits of words.
+/// A flag for each event, as the bits of words. Outside of a range of words no flag is set.
 #[derive(Debug, Drop)]
 pub(crate) struct EventFlags {
     events: usize,
     words: Vec<u64>,
+    low: usize,
+    high: usize,
 }
 
 impl Model for EventFlags {
-    ghost use Rattle.pesp_search.specs.Flags.{Flags, AreFlags};
+    ghost use Rattle.pesp_search.specs.Flags.{Flags, AreFlags, IsClearOutside};
 
     ghost Value = { Flags };
 
     ghost view = { λ flags. record { events = flags.events; words = flags.words.items } };
 
     ghost invariant = { λ flags.
-        AreFlags (record { events = flags.events; words = flags.words.items }) };
+        AreFlags (record { events = flags.events; words = flags.words.items })
+        × IsClearOutside flags.low flags.high flags.words.items };
 }
 
 impl EventFlags {
@@ -39,7 +42,12 @@ impl EventFlags {
         for _index in 0..(events + 63) / 64 {
             words.push(0)?;
         }
-        Ok(EventFlags { events, words })
+        Ok(EventFlags {
+            events,
+            words,
+            low: events,
+            high: 0,
+        })
     }
 
     /// Flags of so many events, which are all set.
@@ -72,6 +80,8 @@ impl EventFlags {
         ensures none { (event : ℕ) → has_changed self.new event ≡ false }
     {
         put_zeros(&mut self.words);
+        self.low = self.events;
+        self.high = 0;
     }
 
     /// How many events there are.
@@ -107,13 +117,22 @@ impl EventFlags {
     {
         let index = event / 64;
         self.words[index] = with_bit(self.words[index], event % 64, flag);
+        self.low = self.low.min(index);
+        self.high = self.high.max(index + 1);
     }
 
     /// Whether some flag is set.
     pub(crate) fn has_some(&self) -> bool
         ensures { result ≡ some_changed self.now }
     {
-        some_word(&self.words)
+        self.last(self.events()).is_some()
+    }
+
+    // The first word and the end of those in which flags may be set.
+    fn range(&self) -> (usize, usize)
+        ensures { IsClearOutside result.0 result.1 self.now.words }
+    {
+        (self.low, self.high)
     }
 
     /// The last event before one whose flag is set.
@@ -121,8 +140,9 @@ impl EventFlags {
         ensures last { IsLastFlag self.now end result }
         ensures sound { AreFlags self.now }
     {
-        let mut index = (end.min(self.events()) + 63) / 64;
-        while index > 0 {
+        let (low, high) = self.range();
+        let mut index = ((end.min(self.events()) + 63) / 64).min(high);
+        while index > low {
             index -= 1;
             if let Some(bit) = last_bit(self.word(index), end - 64 * index) {
                 return Some(64 * index + bit);
@@ -140,11 +160,4 @@ fn put_zeros(words: &mut [u64])
     for index in 0..words.len() {
         words[index] = 0;
     }
-}
-
-// Whether some word is not 0.
-fn some_word(words: &[u64]) -> bool
-    ensures { result ≡ list_any (λ word. not (word == 0)) words.now }
-{
-    words.iter().any(|word| *word != 0)
 }

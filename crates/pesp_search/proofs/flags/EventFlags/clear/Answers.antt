@@ -1,16 +1,18 @@
 use Rattle.std.proofs.Common.{◌∙◌, ◌≡◌, All, ap, length, subst, sym}
 use Rattle.std.proofs.lemmas.List.{with_items_is}
-use Rattle.pesp_search.proofs.FlagBits.{all_zero, none_left_over}
+use Rattle.pesp_search.proofs.FlagBits.{all_zero, none_left_over, none_outside}
 use Rattle.pesp_search.proofs.flags.EventFlags.clear.Goals as goal
 
 pub invariant_of-self : goal.invariant_of-self
 invariant_of-self c =
     let size = c.put_zeros.ensures.each ∙ c.deref_mut.ensures.len in
     let are = with_items_is c.self.inside.words c.put_zeros.new.words size in
-    none_left_over (record { events = c.self.inside.events; words = c.self.inside.words.items })
-    _ c.self.invariant (ap length are ∙ c.put_zeros.ensures.each
-    ∙ ap length c.deref_mut.ensures.value)
-    (subst (All (λ word. word ≡ 0)) (sym are) c.put_zeros.ensures.zeros)
+    let zeros = subst (All (λ word. word ≡ 0)) (sym are) c.put_zeros.ensures.zeros in (
+      none_left_over (record { events = c.self.inside.events; words = c.self.inside.words.items })
+          _ c.self.invariant.0 (ap length are ∙ c.put_zeros.ensures.each
+          ∙ ap length c.deref_mut.ensures.value) zeros,
+      none_outside _ c.self.inside.events 0 zeros,
+    )
 
 pub returns-clause-none : goal.returns-clause-none
 returns-clause-none c event =

@@ -1,11 +1,11 @@
-use Rattle.std.proofs.Common.{◌∙◌, ◌==◌, List, ℕ, ap, not}
-use Rattle.std.specs.List.{list_any}
-use Rattle.pesp_search.specs.Flags.{some_changed}
+use Rattle.std.proofs.Common.{◌∙◌, subst}
+use Rattle.pesp_search.specs.Flags.{IsLastFlag}
+use Rattle.pesp_search.proofs.FlagBits.{some_by_last}
 use Rattle.pesp_search.proofs.flags.EventFlags.has_some.Goals as goal
 
 pub returns : goal.returns
-unfolding some_changed
 returns c =
-    c.some_word.ensures
-    ∙ ap (λ (words : List ℕ). list_any (λ word. not (word == 0)) words) c.deref.ensures.value
-    ∙ ap some_changed c.self.view_is
+    c.is_some.ensures
+    ∙ some_by_last c.args.self.now c.last.result c.last.ensures.sound
+    (subst (λ end. IsLastFlag c.args.self.now end c.last.result) c.events.ensures.value
+    c.last.ensures.last)
