@@ -1,5 +1,6 @@
 -- No stage but a search has no solution, or spends a budget.
 use Rattle.std.proofs.Common.{◌≡◌, ◌⊎◌, inl, inr, Bool, true, List, ◌++◌, map, refl, Some, None, Err}
+use Rattle.std.specs.Prelude.{⊤}
 use Rattle.giv_files.specs.declared.file_id.FileId.{FileId}
 use Rattle.giv_files.specs.declared.file_id.FileId.TheVariants as file
 use Rattle.giv_files.specs.declared.refusal.Refusal.{Refusal}
@@ -43,10 +44,10 @@ use Rattle.evaluators.specs.StatisticStage.{periodic_part, statistic_faults, tri
 use Rattle.evaluators.proofs.StatisticMakes.{statistic_stage_names}
 use Rattle.planning_stages.specs.Planning.{stage_model}
 
-abbrev any : FileId → Bool
+abbrev pub any : FileId → Bool
 any file = true
 
-abbrev AnyInputs : List Refusal → Type 0
+abbrev pub AnyInputs : List Refusal → Type 0
 AnyInputs faults = AllName any faults
 
 module _ (bundle : BundleParts) where

@@ -8,7 +8,6 @@ use Rattle.planning_stages.proofs.OneLook.{pinned_period, same_given}
 use Rattle.planning_stages.specs.Verdicts.{bare_verdict}
 use Rattle.planning_stages.specs.Planning.{PlaceModel, place_model, schedule_judged}
 use Rattle.planning_stages.specs.Places.{in_place, is_pinned}
-use Rattle.vehicle_flow.specs.RightSchedules.{ScheduleIsRight}
 use Rattle.vehicle_flow.proofs.PinnedOver.{pinned_over}
 use Rattle.vehicle_flow.proofs.PinnedMakes.{pinned_vehicles_makes, pinned_vehicles_names, pinned_vehicles_right}
 use Rattle.pesp_search.proofs.PinnedLaws.{right_where_same}

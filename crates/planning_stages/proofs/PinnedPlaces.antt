@@ -1,5 +1,5 @@
 -- The stages that run in the places of the planning chain make up a list that can run.
-use Rattle.std.proofs.Common.{◌≡◌, ℤ, Bool, true, false, cond, List, [], ◌∷◌, refl}
+use Rattle.std.proofs.Common.{ℤ, Bool, true, false, cond, List, [], ◌∷◌, refl}
 use Rattle.giv_files.specs.declared.file_id.FileId.{FileId}
 use Rattle.giv_files.specs.declared.file_id.FileId.TheVariants as file
 use Rattle.giv_files.specs.MadeLists.{MakesAs}

@@ -1,9 +1,8 @@
 -- How a search ends that has a solution or none, within its budget or beyond it.
 use Rattle.std.proofs.Common.{◌≡◌, ◌<◌, ◌⊎◌, inl, inr, ⊎_elim, ℕ, Bool, true, false, cond, nat_le, nat_lt, List, [], ◌∷◌}
-use Rattle.std.proofs.Common.{length, take, Option, Some, None, Result, Ok, Err, refl, ap, sym, subst, ◌∙◌, arith}
+use Rattle.std.proofs.Common.{length, take, Option, Some, None, Result, Ok, Err, refl, ap, sym, subst, ◌∙◌, arith, option_map}
 use Rattle.std.specs.Prelude.{ok_or}
-use Rattle.std.proofs.lemmas.Bool.{leb-false, ltb-true}
-use Rattle.giv_files.specs.declared.file_id.FileId.{FileId}
+use Rattle.std.proofs.lemmas.Bool.{leb-false, leb-true, lt-ltb, ltb-true}
 use Rattle.giv_files.specs.declared.made.Made.{Made}
 use Rattle.giv_files.specs.declared.refusal.Refusal.{Refusal}
 use Rattle.giv_files.specs.declared.refusal.Refusal.TheVariants as refusal
@@ -16,7 +15,7 @@ use Rattle.giv_files.specs.Settings.{BundleParts, Fits}
 use Rattle.giv_files.specs.StageCalls.{StageGives}
 use Rattle.giv_files.proofs.Named.{AllName}
 use Rattle.line_cost_model.specs.Problems.{ProblemParts}
-use Rattle.line_search.specs.Budgets.{last_found, result_within, spent_result, whole_result}
+use Rattle.line_search.specs.Budgets.{nodes_in, result_within, spent_result, whole_result}
 use Rattle.line_search.specs.ConceptStage.{after_faults, budget_of, concept_stage, search_made}
 use Rattle.line_search.specs.GivenProblems.{problem_faults, problem_of}
 use Rattle.line_search.specs.Listings.{Entry, best_after, listing}
@@ -33,11 +32,11 @@ use Rattle.pesp_search.proofs.TimetableMakes.{timetable_faults_name}
 use Rattle.pesp_search.proofs.TimetableReads.{is_problem}
 use Rattle.planning_stages.specs.Planning.{stage_model}
 use Rattle.planning_stages.specs.Searches.{CanBeFound, HasNoSolution, IsSpent}
-use Rattle.planning_stages.proofs.InputFaults.{Searches, any, input_refused}
+use Rattle.planning_stages.proofs.InputFaults.{any, input_refused}
 
 -- ---- a stage answers as its function says
 
-as_result : Result Made Refusal → Result Made StageFault
+abbrev as_result : Result Made Refusal → Result Made StageFault
 as_result (Ok made) = Ok made
 as_result (Err reason) = Err (fault.Refused reason)
 

@@ -9,7 +9,7 @@ use Rattle.giv_files.specs.declared.file_id.FileId.TheVariants as file
 use Rattle.giv_files.specs.declared.made.MadeFile.{MadeFile}
 use Rattle.giv_files.specs.MadeLists.{ids_of}
 use Rattle.giv_files.specs.Settings.{BundleParts}
-use Rattle.line_search.specs.RightConcepts.{ConceptFilesAreRight, mark_files}
+use Rattle.line_search.specs.RightConcepts.{mark_files}
 use Rattle.pesp_search.specs.RightTimetables.{TimetableFilesAreRight}
 use Rattle.vehicle_flow.specs.RightVehicles.{VehicleFilesAreRight}
 use Rattle.delay_management.specs.RightDispositions.{DispositionFilesAreRight}
