@@ -1,5 +1,5 @@
 // Sets of times that are revised by an activity.
-ghost use Rattle.std.specs.Prelude.{◌≡◌, ◌-◌, ◌/◌, ◌||◌, ◌<◌, ◌≤◌, ◌≤ℤ◌, ℕ, false, true, nat_le};
+ghost use Rattle.std.specs.Prelude.{◌≡◌, ◌-◌, ◌/◌, ◌<◌, ◌≤◌, ◌≤ℤ◌, ℕ, false, true, nat_le};
 ghost use Rattle.std.specs.Prelude.{pos};
 ghost use Rattle.std.specs.Prelude.{length, IfOk, OnOk};
 ghost use Rattle.pesp_model.specs.Timetables.{IsActivity};

@@ -1,6 +1,6 @@
 // Words of 64 bits.
 ghost use Rattle.std.specs.Prelude.{◌≡◌, ℕ, ◌+◌, ◌*◌, ◌-◌, ◌/◌, ◌%◌, ◌<◌, ◌≤◌, ◌&&◌, ◌||◌};
-ghost use Rattle.std.specs.Prelude.{nat_lt, not, length, if◌then◌else◌};
+ghost use Rattle.std.specs.Prelude.{nat_lt, length, if◌then◌else◌};
 ghost use Rattle.pesp_search.specs.Marks.{IsFirstBit, IsLastBit, has_bit, marked, with_bit, words_of};
 
 /// How many words hold a set of times that is worked on: up to 12 for the times of a period, and
