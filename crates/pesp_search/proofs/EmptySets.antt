@@ -79,7 +79,8 @@ empty_marks some many period events within none =
 pub settled_within : (some many : Marks) (end : ℕ) → some.period ≡ many.period
     → IsWithin (is_left some) (is_left many) → IsSettled many end → IsSettled some end
 settled_within some many end period within so event low =
-    let times : ℕ → List ℕ = λ period. filter (is_left many event) (range_with_len 0 (period - 0)) in
+    let times : ℕ → List ℕ = λ period.
+    filter (is_left many event) (range_with_len 0 (period - 0)) in
     let fewer = fewer_pass (is_left some event) (is_left many event) (within event)
     (range_with_len 0 (some.period - 0)) in
     let same : length (times some.period) ≡ length (times many.period) =

@@ -1,5 +1,6 @@
 -- The sets of events, one after the other.
-use Rattle.std.proofs.Common.{◌≡◌, ◌∙◌, inl, inr, ℕ, position, zero, suc, ◌+◌, ◌-◌, ◌<◌, ◌≤◌, Bool, true, false}
+use Rattle.std.proofs.Common.{◌≡◌, ◌∙◌, inl, inr, ℕ, position, zero, suc, ◌+◌, ◌-◌, ◌<◌, ◌≤◌, Bool}
+use Rattle.std.proofs.Common.{true, false}
 use Rattle.std.proofs.Common.{cond}
 use Rattle.std.proofs.Common.{List, [], ◌∷◌, ◌++◌, map, slice_index_or, Some, None, refl, ap, sym}
 use Rattle.std.proofs.Common.{arith}
@@ -61,7 +62,8 @@ place_behind sets test (suc n) none =
     place_behind sets test n (λ event low. none event (omega (arith, low)))
     ∙ elim (cases_lt n sets.events) [
       | inl low ↦ place_later sets n test low (none n (omega arith))
-      | inr high ↦ no_place sets n test high ∙ sym (no_place sets (n + 1) test (omega (arith, high)))
+      | inr high ↦
+          no_place sets n test high ∙ sym (no_place sets (n + 1) test (omega (arith, high)))
     ]
     ∙ ap (λ n. position_from test n (sets_from sets n)) next
 

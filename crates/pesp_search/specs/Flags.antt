@@ -1,5 +1,6 @@
 -- Inner words: flags of events as the bits of words.
-use Rattle.std.specs.Prelude.{◌≡◌, ◌⊎◌, ℕ, ◌+◌, ◌/◌, ◌%◌, ◌^◌, ◌<◌, ◌≤◌, ◌==◌, Bool, true, false, not}
+use Rattle.std.specs.Prelude.{◌≡◌, ◌⊎◌, ℕ, ◌+◌, ◌/◌, ◌%◌, ◌^◌, ◌<◌, ◌≤◌, ◌==◌, Bool, true, false}
+use Rattle.std.specs.Prelude.{not}
 use Rattle.std.specs.Prelude.{List, length, get_or, slice_set, Option, Some, None, All}
 use Rattle.std.specs.List.{list_any}
 use Rattle.pesp_search.specs.Marks.{marked, with_bit}

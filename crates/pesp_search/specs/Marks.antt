@@ -171,8 +171,8 @@ marks_left sets = sum sets.words
 abbrev pub word_at : Marks → ℕ → ℕ → ℕ
 word_at sets event index = get_or sets.words (event * words_of sets.period + index) 0
 
--- Some bits of a word of an event stay, and no others. Where nothing is said to change nothing does,
--- and else fewer bits are left.
+-- Some bits of a word of an event stay, and no others. Where nothing is said to change nothing
+-- does, and else fewer bits are left.
 pub record KeepsBits (before after : Tracked) (event index keep : ℕ) (changes : Bool) : Type 0 where
   pub is : after ≡ record {
     sets = with_word before.sets (event * words_of before.sets.period + index)

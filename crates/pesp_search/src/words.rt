@@ -1,7 +1,8 @@
 // Words of 64 bits.
 ghost use Rattle.std.specs.Prelude.{◌≡◌, ℕ, ◌+◌, ◌*◌, ◌-◌, ◌/◌, ◌%◌, ◌<◌, ◌≤◌, ◌&&◌, ◌||◌};
 ghost use Rattle.std.specs.Prelude.{nat_lt, length, if◌then◌else◌};
-ghost use Rattle.pesp_search.specs.Marks.{IsFirstBit, IsLastBit, has_bit, marked, with_bit, words_of};
+ghost use Rattle.pesp_search.specs.Marks.{IsFirstBit, IsLastBit, has_bit, marked, with_bit};
+ghost use Rattle.pesp_search.specs.Marks.{words_of};
 
 /// How many words hold a set of times that is worked on: up to 12 for the times of a period, and
 /// one behind them in which no bit is set.

@@ -1,5 +1,6 @@
 // The drives and waits at the events that they leave.
-ghost use Rattle.std.specs.Prelude.{◌≡◌, ◌-◌, ◌≤◌, length, map, slice_get, vec_len, All, IfOk, OnOk, Some};
+ghost use Rattle.std.specs.Prelude.{◌≡◌, ◌-◌, ◌≤◌, length, map, slice_get, vec_len, All, IfOk};
+ghost use Rattle.std.specs.Prelude.{OnOk, Some};
 ghost use Rattle.event_tables.specs.PeriodicFiles.{IsPeriodicActivity};
 ghost use Rattle.event_tables.specs.Places.{IsOneOf};
 ghost use Rattle.roll_out.specs.Plans.{AreWays, NotesWay, is_way};

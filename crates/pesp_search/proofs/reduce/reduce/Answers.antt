@@ -8,7 +8,8 @@ use Rattle.pesp_search.proofs.Sweeping.{when_true}
 use Rattle.pesp_search.proofs.reduce.reduce.Goals as goal
 
 pub loop-sets-init : goal.loop-sets-init
-loop-sets-init c = reducing_begun c.args.pesp.now c.args.sets.now c.args.changed.now c.requires.ready
+loop-sets-init c =
+    reducing_begun c.args.pesp.now c.args.sets.now c.args.changed.now c.requires.ready
 
 pub returns-then-branch-clause-reduces : goal.returns-then-branch-clause-reduces
 returns-then-branch-clause-reduces c =

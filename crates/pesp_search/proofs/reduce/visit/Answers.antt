@@ -24,7 +24,8 @@ returns-then-branch-clause-visits c =
     c.loop-index.index-index
     (get_or c.args.indexes.now c.loop-index.index-index 0) c.activity.result
     c.loop-index.invariant.visited refl c.activity.ensures.place
-    (c.loop-index.invariant.visited.propagates.period ∙ c.requires.period) c.in_ok-revise.ensures.revises
+    (c.loop-index.invariant.visited.propagates.period ∙ c.requires.period)
+    c.in_ok-revise.ensures.revises
     (c.in_ok-revise.ensures.empty c.if-branch.true)
 
 pub loop-index-preserved : goal.loop-index-preserved
@@ -35,7 +36,8 @@ loop-index-preserved c = record {
       c.loop-index.index-index
       (get_or c.args.indexes.now c.loop-index.index-index 0) c.activity.result
       c.loop-index.invariant.visited refl c.activity.ensures.place
-      (c.loop-index.invariant.visited.propagates.period ∙ c.requires.period) c.in_ok-revise.ensures.revises
+      (c.loop-index.invariant.visited.propagates.period ∙ c.requires.period)
+      c.in_ok-revise.ensures.revises
       (c.in_ok-revise.ensures.full c.if-branch.false);
   counted = c.in_ok-revise.ensures.counted;
 }
@@ -43,7 +45,8 @@ loop-index-preserved c = record {
 pub returns-clause-visits : goal.returns-clause-visits
 returns-clause-visits c =
     visit_ended c.args.pesp.now c.args.event c.args.indexes.now c.args.sets.now c.loop-index.sets
-    c.args.changed.now c.loop-index.changed c.loop-index.index-index c.loop-index.invariant.visited (omega
+    c.args.changed.now c.loop-index.changed c.loop-index.index-index c.loop-index.invariant.visited
+    (omega
     arith)
 
 pub returns-then-branch-clause-each : goal.returns-then-branch-clause-each

@@ -1,4 +1,5 @@
-use Rattle.std.proofs.Common.{List, [], ◌∷◌, ◌++◌, ◌-◌, ◌≡◌, map, set, ap, sym, ◌∙◌, arith, cond, get_or, true}
+use Rattle.std.proofs.Common.{List, [], ◌∷◌, ◌++◌, ◌-◌, ◌≡◌, map, set, ap, sym, ◌∙◌, arith, cond}
+use Rattle.std.proofs.Common.{get_or, true}
 use Rattle.std.proofs.Common.{Vec, Global}
 use Rattle.std.proofs.lemmas.List.{map-set, get_or-map}
 use Rattle.event_tables.specs.declared.periodic_activity.PeriodicActivity.{PeriodicActivity}

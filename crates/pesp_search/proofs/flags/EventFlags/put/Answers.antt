@@ -18,7 +18,8 @@ invariant_of-self c =
           (c.index.ensures ∙ get_or_default_zero c.self.inside.words.items (c.args.event / 64)
           c.index.result.now
           (flag_within flags c.args.event c.self.invariant.0 event))),
-      outside_written c.self.inside.words.items c.self.inside.low c.self.inside.high c.min-self-inside.result
+      outside_written c.self.inside.words.items c.self.inside.low c.self.inside.high
+          c.min-self-inside.result
           c.max-self-inside.result (c.args.event / 64) c.with_bit.result c.self.invariant.1
           (omega (arith, c.min-self-inside.ensures)) (omega (arith, c.min-self-inside.ensures))
           (omega (arith, c.max-self-inside.ensures)) (omega (arith, c.max-self-inside.ensures)),

@@ -5,7 +5,10 @@ use Rattle.pesp_search.proofs.marks.TimeMarks.next_left.Goals as goal
 pub returns-in-Some : goal.returns-in-Some
 returns-in-Some c =
     let next = next_found c.args.self.now c.args.event c.loop-index.index c.args.from _
-    c.word-word.result c.word-word.ensures.sound c.requires.event (omega arith) (omega (arith, c.max.ensures))
+    c.word-word.result c.word-word.ensures.sound c.requires.event (omega arith) (omega (
+      arith,
+      c.max.ensures,
+    ))
     c.word-word.ensures.value c.loop-index.invariant c.in-Some.bit c.in-Some.ensures in
     record { next = next; few = (let low = next.0 in omega (arith, low, c.word-word.ensures.sound.few)) }
 

@@ -12,7 +12,8 @@ returns-then-new-old c =
     c.self.view_is
     (all_kept (tracked c.self.inside.sets
     (saved_by c.self.inside.sets (reverse c.self.inside.changes.items))) c.args.event c.args.index
-    c.placed_word-place.result.0 c.placed_word-place.result.1 c.args.keep c.placed_word-place.ensures.sound
+    c.placed_word-place.result.0 c.placed_word-place.result.1 c.args.keep
+    c.placed_word-place.ensures.sound
     c.placed_word-place.ensures.place c.placed_word-place.ensures.word c.if-new-old.true)
 
 pub put_word-requires-clause-word : goal.put_word-requires-clause-word
@@ -20,7 +21,8 @@ put_word-requires-clause-word c =
     kept_fits c.self.inside.sets.period c.self.inside.sets.events c.placed_word-place.result.0
     c.placed_word-place.result.1 c.args.keep
     (word_fits c.self.inside.sets c.placed_word-place.result.0 c.placed_word-place.result.1
-    c.placed_word-place.ensures.sound c.placed_word-place.ensures.within c.placed_word-place.ensures.word)
+    c.placed_word-place.ensures.sound c.placed_word-place.ensures.within
+    c.placed_word-place.ensures.word)
 
 pub invariant_of-self-2 : goal.invariant_of-self-2
 invariant_of-self-2 c =
@@ -31,7 +33,8 @@ invariant_of-self-2 c =
     (All-push (IsChange sets.period sets.events) c.self.inside.changes.items
     (change.Replaced c.placed_word-place.result.0 c.placed_word-place.result.1) c.self.invariant (
       c.placed_word-place.ensures.within,
-      word_fits sets c.placed_word-place.result.0 c.placed_word-place.result.1 c.placed_word-place.ensures.sound
+      word_fits sets c.placed_word-place.result.0 c.placed_word-place.result.1
+          c.placed_word-place.ensures.sound
           c.placed_word-place.ensures.within c.placed_word-place.ensures.word,
     )))
 
@@ -49,5 +52,6 @@ returns c =
     place old c.args.keep c.placed_word-place.ensures.sound c.placed_word-place.ensures.place
     c.placed_word-place.ensures.word _ c.if-new-old.false
     (replaced_view c.self.inside.sets c.put_word.new.self c.self.inside.changes.items
-    c.push.new.self.items place old other c.placed_word-place.ensures.word c.in_ok-push.ensures.items
+    c.push.new.self.items place old other c.placed_word-place.ensures.word
+    c.in_ok-push.ensures.items
     c.put_word.ensures.put))
