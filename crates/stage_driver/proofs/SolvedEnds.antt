@@ -1,5 +1,5 @@
 -- How the chain of the planning stages ends.
-use Rattle.std.proofs.Common.{◌≡◌, ◌≢◌, ℕ, Contains, Option, Some, None, Err, refl, ap, sym, ◌∙◌}
+use Rattle.std.proofs.Common.{◌≡◌, ℕ, Contains, Option, Some, None, Err, refl, ap, sym, ◌∙◌}
 use Rattle.std.proofs.lemmas.List.Elements.{All-contains}
 use Rattle.plan_files.specs.Folder.{Folder}
 use Rattle.giv_files.specs.declared.refusal.Refusal.{Refusal}
@@ -10,7 +10,6 @@ use Rattle.stage_chain.specs.declared.cause.Cause.{Cause}
 use Rattle.stage_chain.specs.declared.cause.Cause.TheVariants as cause
 use Rattle.stage_chain.specs.declared.outcome.RunEnd.TheVariants as end
 use Rattle.stage_chain.specs.Built.{cause_of, made as made_by, trace_of}
-use Rattle.stage_chain.specs.Chain.{handed}
 use Rattle.stage_chain.specs.Reports.{end_of}
 use Rattle.stage_chain.proofs.Endings.{EndsAtRefusals, IsHanded, ends_at_refusals}
 use Rattle.planning_stages.specs.Planning.{planning, stage_model}
