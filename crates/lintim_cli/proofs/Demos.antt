@@ -24,7 +24,7 @@ use Rattle.lintim_cli.specs.declared.answers.Status.TheVariants.{Spent, FileFaul
 use Rattle.lintim_cli.specs.declared.answers.Status.TheVariants.{NoMemory, Uncertified}
 use Rattle.lintim_cli.specs.declared.command.Command.TheVariants as command
 use Rattle.lintim_cli.specs.Answers.{AnswersTo, status_of}
-use Rattle.lintim_cli.specs.Top.{DemoTells, FileBroke, Leaves, demo_run}
+use Rattle.lintim_cli.specs.Top.{DemoTells, FileBroke, Leaves, Seen, demo_run}
 
 -- no file of a demo dataset is one in which a stage keeps what it made
 kept_apart : (number : ℕ) (at : Stage)

@@ -1,3 +1,4 @@
+pub mod AllFolders
 pub mod Asking
 pub mod Demos
 mod Forged

@@ -9,7 +9,7 @@ use Rattle.plan_files.specs.declared.write.Write.{Write}
 use Rattle.plan_files.specs.Changes.{folder_after}
 use Rattle.plan_files.specs.Counts.{Raised, Rose}
 use Rattle.plan_files.specs.Folder.{Folder}
-use Rattle.std.specs.FinMap as files
+use Rattle.std.specs.FinMap as folders
 use Rattle.stage_chain.specs.declared.outcome.ChainFault.TheVariants as faults
 use Rattle.stage_chain.specs.declared.outcome.Mode.{Mode}
 use Rattle.stage_chain.specs.declared.outcome.Mode.TheVariants as mode
@@ -109,7 +109,7 @@ pub record Finished (by : Mode) (read : Folder) (before after : Seen) : Type 0 w
   pub keep : Trusts by read → IfSome after.contents IsKeptHonest
   pub passes : Trusts by read → (run_over (started by read)).end ≡ end.Done
       → IfSome after.contents (λ folder. check_of folder ≡ None)
-  pub fresh : by ≡ mode.Fresh → IfSome after.contents (λ folder. kept_part folder ≡ folder_after (entries_over (without_keep read)) files.empty)
+  pub fresh : by ≡ mode.Fresh → IfSome after.contents (λ folder. kept_part folder ≡ folder_after (entries_over (without_keep read)) folders.empty)
   pub again : IfSome after.contents (λ folder. writes_of folder ≡ [])
   pub steps : after.steps ≡ before.steps + (run_over (started by read)).work
 
@@ -143,7 +143,7 @@ Leaves by read before after result =
 -- tree beside it, and a vehicle schedule with potentials beside it, cost no more than any feasible one.
 -- Where none is pinned, a vehicle schedule there has them.
 pub record AsFromScratch (read : Folder) (left : Option Folder) (old new : Option (List ℕ)) (result : Status) : Type 0 where
-  pub files : IfSome left (λ folder. made_part folder ≡ with_files (made (hand_of read)).files files.empty)
+  pub files : IfSome left (λ folder. made_part folder ≡ with_files (made (hand_of read)).files folders.empty)
   pub report : new ≡ option_map (λ bytes. bytes ++ (made (hand_of read)).report) old
   pub answer : result ≡ status_of (made (hand_of read)).end
   pub right : IsLeftRight read left

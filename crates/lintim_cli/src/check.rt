@@ -2,6 +2,7 @@
 ghost use Rattle.std.specs.Prelude.{◌≡◌, ◌<◌, ◌⊎◌, IfSome, Some};
 ghost use Rattle.plan_files.specs.Counts.{Rose};
 ghost use Rattle.plan_files.specs.Folder.{Folder};
+ghost use Rattle.stage_chain.specs.declared.outcome.Mode.{Mode};
 ghost use Rattle.stage_driver.specs.PlanningChain.{PassesIn, RunsPass};
 ghost use Rattle.lintim_cli.specs.declared.command.Command.TheVariants as commands;
 ghost use Rattle.lintim_cli.specs.Answers.{AnswersTo};

@@ -7,5 +7,5 @@ returns-in-Ok-clause-answers g c =
 
 pub returns-in-Ok-clause-tells : goal.returns-in-Ok-clause-tells
 returns-in-Ok-clause-tells g c =
-    demo_tells c.args.number _ c.in-Ok.ensures.contents _ _ _ _ _ _ _ _ _ c.run.result c.run.ensures.leaves
+    demo_tells c.args.number _ c.in-Ok.ensures.contents _ _ c.run.result c.run.ensures.leaves
     (λ is. no_fault _ _ _ _ (c.run.ensures.file_fault is)) c.run.ensures.no_more_steps
