@@ -214,7 +214,7 @@ module _ (bundle : BundleParts) where
     can_end stage.Timetable own can = (
       (λ none. none.1.none can.0.0 can.0.1),
       (λ spent.
-      let right = listing_right (problem_in bundle) (is_problem bundle own fits spent.0) in
-      absurd (omega (arith, spent.1, can.1, right.short))),
+          let right = listing_right (problem_in bundle) (is_problem bundle own fits spent.0) in
+          absurd (omega (arith, spent.1, can.1, right.short))),
     )
     can_end at own can = ((λ none. none), (λ spent. spent))
