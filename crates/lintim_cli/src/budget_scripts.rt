@@ -117,9 +117,31 @@ worked basis/Pool-Cost.giv
 is other.txt kept
 ";
 
+// Both budgets over the whole dataset.
+const WHOLE: &str = "\
+dataset
+append basis/Config.cnf
+| concept_budget; 8
+run make
+ends 0 27
+begins
+| load: 2 edges
+| cost: 2 lines
+| concept: cost 27, not proved optimal, 8 entries
+append basis/Config.cnf
+| concept_budget; 6
+run fresh
+ends 5 9
+report
+| load: 2 edges
+| cost: 2 lines
+| spent: concept after 6 entries
+made cost
+";
+
 #[test]
 fn a_budget_may_be_spent(rt: HostRuntime) -> Result<(), Fail> {
-    for script in [JUST_ENOUGH, NEVER_SPENT, UNMARKED, NONE_YET] {
+    for script in [JUST_ENOUGH, NEVER_SPENT, UNMARKED, NONE_YET, WHOLE] {
         play(&rt, script)?;
     }
     Ok(())
