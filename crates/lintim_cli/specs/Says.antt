@@ -1,5 +1,5 @@
 -- What each command says, leaves and means, by what an observer sees before and after it.
-use Rattle.std.specs.Prelude.{ℕ, ◌≡◌, ◌≤◌, ◌<◌, ◌+◌, ◌⊎◌, Option, Some, None, IfSome}
+use Rattle.std.specs.Prelude.{◌≡◌, ◌≤◌, ◌<◌, ◌+◌, ◌⊎◌, Option, Some, None, IfSome}
 use Rattle.plan_files.specs.Counts.{Rose}
 use Rattle.plan_files.specs.Folder.{Folder}
 use Rattle.plan_files.specs.Others.{AreOutside}
