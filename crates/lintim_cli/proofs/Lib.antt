@@ -1,5 +1,4 @@
 pub mod AllFolders
-pub mod Asking
 pub mod Demos
 mod Forged
 pub mod Steady
