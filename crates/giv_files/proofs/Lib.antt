@@ -11,6 +11,7 @@ pub mod Lines
 pub mod LongLines
 pub mod Named
 pub mod PlainBytes
+pub mod PlainFields
 pub mod Ranges
 pub mod ReportLines
 pub mod RowFacts

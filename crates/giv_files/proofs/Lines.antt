@@ -2,7 +2,7 @@
 use Rattle.std.proofs.Common.{◌≡◌, ◌≢◌, ℕ, ◌+◌, ◌-◌, ◌<◌, ◌≤◌, List, [], ◌∷◌, length, take, drop}
 use Rattle.std.proofs.Common.{get_or, refl, sym, ◌∙◌, Bool, true, false, cond, eqb, ltb, reverse, All}
 use Rattle.std.proofs.Common.{Option, Some, None, arith, length-take, get_or-take, not, one-add}
-use Rattle.std.specs.List.{find, list_all, take_while, position, position_or_len}
+use Rattle.std.specs.List.{find, list_all, take_while, position, position_or_len, prefix_len}
 use Rattle.std.specs.Option.{MatchOption}
 use Rattle.std.proofs.lemmas.Bool.{ltb-true, ltb-false, eqb-false, eqb-true, false≢true}
 use Rattle.std.proofs.lemmas.List.Sums.{fails_before_first}
@@ -11,17 +11,12 @@ use Rattle.std.proofs.lemmas.List.{take_rest}
 use Rattle.std.proofs.lemmas.List.Folds.{length-prefix_len}
 use Rattle.giv_files.specs.Rows.{is_blank, without_blanks, before_comment, parts_of}
 
--- a field without the blanks round it, by how many there are at its front and at its end
-pub cut_blanks : (field : List ℕ) (before after : ℕ) → before ≡ length (take_while is_blank field)
-    → after ≡ length (take_while is_blank (reverse
-    (take (length field - before) (drop before field))))
-    → take (length (take (length field - before) (drop before field)) - after)
-    (take (length field - before) (drop before field)) ≡ without_blanks field
-cut_blanks field before after e f =
-    let start = e ∙ length-prefix_len is_blank field in
-    let end = f ∙ length-prefix_len is_blank (reverse
-    (take (length field - before) (drop before field))) in
-    rw (end, take_rest field before, start) refl
+-- a field without the blanks round it, by what stands behind those in front
+pub cut_blanks : (field front : List ℕ) (after : ℕ) → front ≡ drop (prefix_len is_blank field) field
+    → after ≡ length (take_while is_blank (reverse front))
+    → take (length front - after) front ≡ without_blanks field
+cut_blanks field front after e f =
+    let end = f ∙ length-prefix_len is_blank (reverse front) in rw (end, e) refl
 
 -- a byte is a line feed
 abbrev is_feed : ℕ → Bool

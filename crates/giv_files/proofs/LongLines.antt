@@ -1,14 +1,14 @@
 -- The pieces of a long line, one after the other.
-use Rattle.std.proofs.Common.{◌≡◌, ◌≢◌, ℕ, zero, suc, ◌+◌, ◌-◌, ◌<◌, ◌≤◌, List, [], ◌∷◌, length, take, drop}
+use Rattle.std.proofs.Common.{◌≡◌, ◌≢◌, ℕ, suc, ◌+◌, ◌-◌, ◌<◌, ◌≤◌, List, [], ◌∷◌, length, take, drop}
 use Rattle.std.proofs.Common.{get_or, refl, ap, sym, ◌∙◌, Bool, true, false, eqb, ltb, arith, filter, All}
-use Rattle.std.proofs.Common.{Option}
+use Rattle.std.proofs.Common.{None, length-take}
 use Rattle.std.specs.List.{position_or_len}
-use Rattle.std.proofs.lemmas.Bool.{ltb-true, ltb-false}
+use Rattle.std.proofs.lemmas.Bool.{le-ltb, ltb-true, ltb-false}
 use Rattle.std.proofs.lemmas.List.{take_rest, take_all}
 use Rattle.std.proofs.lemmas.List.Sums.{length-filter, fails_before_first}
 use Rattle.std.proofs.lemmas.List.Splits.{slice_split_none, slice_split_first, length-slice_split}
-use Rattle.giv_files.specs.Rows.{pieces, cleaned}
-use Rattle.giv_files.specs.Told.{handed, long_line, pieces_of, short_line}
+use Rattle.giv_files.specs.Rows.{before_comment, pieces, cleaned}
+use Rattle.giv_files.specs.Told.{long_line, pieces_of, short_line}
 use Rattle.giv_files.proofs.FieldFacts.{cleaned_spaced}
 
 -- a semicolon
@@ -82,3 +82,16 @@ fields_if line found false e is = rw e (ap cleaned (rw e at is) ∙ cleaned_spac
 pub fields_are : (line : List ℕ) (found : List (List ℕ)) → found ≡ pieces (32 ∷ short_line line)
     → cleaned (pieces_of (long_line line) found) ≡ cleaned (pieces line)
 fields_are line found is = fields_if line found (ltb 4096 (length line)) refl is
+
+-- of a line that is not long nothing is long
+short_if : (line : List ℕ) (t : Bool) → ltb 4096 (length line) ≡ t → None ≡ long_line line
+    → None ≡ long_line (before_comment line)
+unfolding long_line
+short_if line true e none = cc
+short_if line false e none =
+    let less = length-take (position_or_len (λ byte. eqb byte 35) line) line in
+    let short = ltb-false 4096 (length line) e in
+    rw (le-ltb 4096 (length (before_comment line)) (omega (arith, less, short))) refl
+
+pub short_told : (line : List ℕ) → None ≡ long_line line → None ≡ long_line (before_comment line)
+short_told line none = short_if line (ltb 4096 (length line)) refl none

@@ -54,11 +54,16 @@ plain_quiet : (byte : ℕ) → is_plain byte ≡ true → is_quiet byte ≡ true
 plain_quiet byte h = let p = plain_is byte h in rw (p.1, p.2, p.4) refl
 
 -- a text of a cell has no blank round it
+pub cell_ends : (text : List ℕ) → IsCell text → suffix_len is_blank text ≡ 0
+cell_ends text h =
+    suffix_len_is is_blank text (length text) 0 (omega arith) (λ k a b. absurd (omega arith))
+    (λ lt. (plain_is (get_or text (length text - 1) 0)
+    (all_at is_plain text (length text - 1) 0 h.plain (omega arith))).0) ∙ omega arith
+
 pub cell_unblanked : (text : List ℕ) → IsCell text → without_blanks text ≡ text
 cell_unblanked text h =
     let front : prefix_len is_blank text ≡ 0 = prefix_len_is is_blank text 0 0 (omega arith) (λ k lt. absurd (omega arith)) (λ lt. (plain_is (get_or text 0 0) (all_at is_plain text 0 0 h.plain lt)).0) in
-    let back : suffix_len is_blank text ≡ 0 = suffix_len_is is_blank text (length text) 0 (omega arith) (λ k a b. absurd (omega arith)) (λ lt. (plain_is (get_or text (length text - 1) 0) (all_at is_plain text (length text - 1) 0 h.plain (omega arith))).0) ∙ omega arith in
-    rw (front, back) (take_all (length text - 0) text (omega arith))
+    rw (front, cell_ends text h) (take_all (length text - 0) text (omega arith))
 
 -- and no quotes
 quoted_no : (long first last : Bool) → first ≡ false → (long && (first && last)) ≡ false

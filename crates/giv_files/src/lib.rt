@@ -7,6 +7,7 @@ mod column;
 mod columns;
 mod counted;
 mod cross_rule;
+mod digits;
 mod file_id;
 mod find;
 mod input;

@@ -1,8 +1,8 @@
 // Parts of a line, and of its fields.
 ghost use Rattle.std.specs.Prelude.{◌≡◌, ◌≢◌, ◌==◌, ◌<◌, ◌∷◌, All, IfSome, length, position};
-ghost use Rattle.std.specs.Prelude.{not, reverse, take_while};
+ghost use Rattle.std.specs.Prelude.{drop, not, reverse, take_while};
 ghost use Rattle.std.specs.Option.{option_copied};
-ghost use Rattle.std.specs.List.{find, list_all};
+ghost use Rattle.std.specs.List.{find, list_all, prefix_len};
 ghost use Rattle.std.specs.Str.Lines.{strip_carriage_return};
 ghost use Rattle.giv_files.specs.Rows.{is_blank, parts_left, parts_of, without_blanks};
 ghost use Rattle.giv_files.specs.Rows.{without_quotes, before_comment};
@@ -78,8 +78,15 @@ fn first_told(line: &[u8]) -> Option<u8>
 pub(crate) fn without_blanks(field: &[u8]) -> &[u8]
     ensures { result.now ≡ without_blanks field.now }
 {
-    let front = &field[blanks_before(field)..];
+    let front = behind_blanks(field);
     &front[..front.len() - blanks_after(front)]
+}
+
+/// The field without the blanks in front.
+pub(crate) fn behind_blanks(field: &[u8]) -> &[u8]
+    ensures { result.now ≡ drop (prefix_len is_blank field.now) field.now }
+{
+    &field[blanks_before(field)..]
 }
 
 // How many blanks the field begins with.

@@ -1,11 +1,12 @@
 // The cells of a row.
-ghost use Rattle.std.specs.Prelude.{◌≡◌, ◌<◌, ◌≤◌, ◌^◌, length, vec_len};
+ghost use Rattle.std.specs.Prelude.{◌≡◌, ◌+◌, ◌<◌, ◌≤◌, ◌^◌, [], length, slice_index_or, vec_len};
 ghost use Rattle.giv_files.specs.InnerReading.{CellsGive};
-ghost use Rattle.giv_files.specs.Reading.{cells_from};
+ghost use Rattle.giv_files.specs.Reading.{cell_of, cells_from};
 
-use crate::cells::cell_of;
+use crate::cells::{cell_of, in_range};
 use crate::column::ColumnKind;
 use crate::read_fault::{ReadFault, RowFault};
+use crate::row_why::RowWhy;
 use crate::text_row::TextRow;
 
 /// Appends the cells that the fields of a row make, of which there are as many as columns.
@@ -21,7 +22,7 @@ pub(crate) fn push_cells(
         cells.old.items cells.new.items result }
 {
     for (index, kind) in kinds.iter().enumerate() {
-        match cell_of(*kind, index as u32 + 1, row.field(index)) {
+        match cell_in(row, *kind, index) {
             Ok(cell) => cells.push(cell)?,
             Err(why) => {
                 let row = row.number();
@@ -30,4 +31,20 @@ pub(crate) fn push_cells(
         }
     }
     Ok(())
+}
+
+// The cell that a field of a row makes in a column. Most are digits alone.
+#[tactic(auto, unfolding(crate::specs::Reading::cell_of))]
+fn cell_in(row: &TextRow, kind: ColumnKind, index: usize) -> Result<i64, RowWhy>
+    requires there { index < length row.now.fields }
+    requires narrow { index + 1 < 2 ^ 32 }
+    ensures { result ≡ cell_of kind (index + 1) (slice_index_or row.now.fields index []) }
+{
+    let column = index as u32 + 1;
+    if let ColumnKind::Whole { min, max } = kind {
+        if let Some(number) = row.plain_number(index) {
+            return in_range(min, max, column, Some(number));
+        }
+    }
+    cell_of(kind, column, row.field(index))
 }

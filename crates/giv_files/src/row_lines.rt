@@ -1,9 +1,11 @@
 // The lines of a text that have rows.
 ghost use Rattle.std.specs.Prelude.{◌≡◌, ◌≢◌, ◌∷◌, [], All, MatchOption, IfSome};
+ghost use Rattle.std.specs.Option.{option_copied};
 ghost use Rattle.giv_files.specs.Rows.{before_comment, parts_of};
-ghost use Rattle.giv_files.specs.Told.{told_left};
+ghost use Rattle.giv_files.specs.Told.{long_line, told_left};
 
 use crate::line::{before_comment, first_part, has_row, without_return};
+use crate::long_line::long_line;
 use std::marker::Model;
 
 /// A line that has a row, with its number.
@@ -19,6 +21,16 @@ impl<'a> RowLine<'a> {
         ensures { result.now ≡ before_comment self.entry.line.now }
     {
         before_comment(self.line)
+    }
+
+    /// The same, where it is long. A line that is not long is not looked through.
+    pub(crate) fn long(self) -> Option<&'a [u8]>
+        ensures { option_copied result ≡ long_line (before_comment self.entry.line.now) }
+    {
+        match long_line(self.line) {
+            None => None,
+            Some(_) => long_line(self.told()),
+        }
     }
 }
 

@@ -1,14 +1,16 @@
 // A row of a text, with its fields as they are written.
-ghost use Rattle.std.specs.Prelude.{◌≡◌, ◌<◌, ◌≢◌, ◌∷◌, [], List, All, OnOk, length};
+ghost use Rattle.std.specs.Prelude.{◌≡◌, ◌<◌, ◌≢◌, ◌∷◌, [], List, All, IfSome, OnOk, Some, length};
 ghost use Rattle.std.specs.Prelude.{slice_index_or};
 ghost use Rattle.std.specs.Option.{option_copied};
 ghost use Rattle.csv.specs.Records.{fields_of};
+ghost use Rattle.plan_num.specs.Number.{whole_of};
 ghost use Rattle.giv_files.specs.Rows.{cleaned};
-ghost use Rattle.giv_files.specs.Told.{Told, handed, pieces_of, row_told};
+ghost use Rattle.giv_files.specs.Told.{Told, handed, long_line, pieces_of, row_told};
 ghost use Rattle.giv_files.specs.Spaced.{StandsBefore};
 
+use crate::digits::plain_number;
 use crate::line::{without_blanks, without_quotes};
-use crate::long_line::{count_pieces, long_line, piece_at};
+use crate::long_line::{count_pieces, piece_at};
 use crate::pieces::next_pieces;
 use crate::spaced::Spaced;
 use csv::{ByteRecord, Reader};
@@ -74,24 +76,34 @@ impl<'a> TextRow<'a> {
         without_quotes(without_blanks(piece(self.long, &self.pieces, index)))
     }
 
+    /// The whole number of the field at a place, where it has digits alone.
+    pub(crate) fn plain_number(&self, index: usize) -> Option<i64>
+        requires { index < length self.now.fields }
+        ensures { IfSome result
+            (λ number. whole_of (slice_index_or self.now.fields index []) ≡ Some number) }
+    {
+        plain_number(piece(self.long, &self.pieces, index))
+    }
+
     /// Reads the row of the next line, which has this number, and of which this stands before a
-    /// comment.
+    /// comment where that is long.
     pub(crate) fn read(
         &mut self,
         number: u64,
-        line: &'a [u8],
+        long: Option<&'a [u8]>,
         reader: &mut Reader<Spaced<'_>>,
     ) -> Result<(), NoMemory>
         ensures read { (told : Told) (more : List Told)
             → StandsBefore reader.old (handed told ∷ more)
-            → All (λ byte. byte ≢ 10) told.line → told.number ≡ number → told.line ≡ line.now
+            → All (λ byte. byte ≢ 10) told.line → told.number ≡ number
+            → option_copied long.entry ≡ long_line told.line
             → OnOk result (self.new ≡ row_told told) }
         ensures stands { (told : Told) (more : List Told)
             → StandsBefore reader.old (handed told ∷ more)
             → All (λ byte. byte ≢ 10) told.line → StandsBefore reader.new more }
     {
         self.number = number;
-        self.long = long_line(line);
+        self.long = long;
         next_pieces(reader, &mut self.pieces)
     }
 }

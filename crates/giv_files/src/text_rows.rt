@@ -59,7 +59,7 @@ impl<'a> TextRows<'a> {
         match self.lines.next() {
             None => Ok(false),
             Some(line) => {
-                row.read(line.number, line.told(), &mut self.reader)?;
+                row.read(line.number, line.long(), &mut self.reader)?;
                 Ok(true)
             }
         }

@@ -17,7 +17,7 @@ returns-in-Err-clause-gives c =
     } in fault in
     rw c.number-row.ensures (cell_refused c.args.kinds.now c.args.row.now.fields c.loop-index.index
     _ c.in-Err.why _ as_fault c.loop-index-test.true inside
-    (sym (rw c.field.ensures at c.cell_of.ensures) ∙ c.in-Err.is)
+    (sym c.cell_in.ensures ∙ c.in-Err.is)
     c.loop-index.invariant.errors_left)
 
 pub loop-index-preserved : goal.loop-index-preserved
@@ -26,7 +26,7 @@ loop-index-preserved c =
     let pushed : c.push.new.self.items ≡ c.loop-index.cells.items
     ++ c.in-Ok.cell ∷ [] = grind (arith, to_z-of_z) in
     let next = cell_taken c.args.kinds.now c.args.row.now.fields c.loop-index.index _ c.in-Ok.cell _
-    _ _ _ c.loop-index-test.true inside (sym (rw c.field.ensures at c.cell_of.ensures)
+    _ _ _ c.loop-index-test.true inside (sym c.cell_in.ensures
     ∙ c.in-Ok.is) pushed c.loop-index.invariant.errors_left c.loop-index.invariant.cells_left in
     record { grows = omega arith; errors_left = next.0; cells_left = next.1 }
 

@@ -1,4 +1,4 @@
-use Rattle.std.proofs.Common.{◌≡◌, ◌∷◌, ◌∙◌, List, ap, map, refl, sym, subst}
+use Rattle.std.proofs.Common.{◌∷◌, ◌∙◌, ap, map, refl, sym, subst}
 use Rattle.giv_files.specs.Rows.{Row, before_comment}
 use Rattle.giv_files.specs.Told.{Told, handed, row_told}
 use Rattle.giv_files.specs.Spaced.{StandsBefore}
@@ -25,4 +25,4 @@ returns-in_ok-read-in-Some c =
     ∙ ap (λ (row : Row). row ∷ map row_told c.next.new.self)
     (sym (c.in_ok-read-in-Some.ensures.read told (map handed c.next.new.self)
     (subst (λ lines. StandsBefore c.self.inside.reader (map handed lines)) c.in-Some.ensures.next
-    c.self.invariant) c.in-Some.ensures.plain refl (sym c.told.ensures)))
+    c.self.invariant) c.in-Some.ensures.plain refl c.long.ensures))
