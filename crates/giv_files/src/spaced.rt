@@ -54,6 +54,28 @@ impl<'a> Spaced<'a> {
             }
         }
     }
+
+    // Hands out as many lines as there is room for, and returns how many bytes these are.
+    fn fill(&mut self, buffer: &mut [u8]) -> usize
+        ensures bound { result ≤ length buffer.new }
+        ensures given { unread_onto self.old.line (spaced_lines (map handed self.old.lines))
+            ≡ take result buffer.new
+            ++ unread_onto self.new.line (spaced_lines (map handed self.new.lines)) }
+        ensures end { 0 < length buffer.new → result ≡ 0
+            → unread_onto self.new.line (spaced_lines (map handed self.new.lines)) ≡ [] }
+    {
+        let mut filled = 0;
+        'lines: while filled < buffer.len() {
+            self.advance();
+            let (count, line) = hand_out(self.line, &mut buffer[filled..]);
+            self.line = line;
+            if count == 0 {
+                return filled;
+            }
+            filled += count;
+        }
+        filled
+    }
 }
 
 // Copies as many bytes as both have, and returns how many.
@@ -114,9 +136,6 @@ impl Read for Spaced<'_> {
             (spaced_left self.old) (spaced_left self.new) result buffer.new }
         ensures ok { IsOk result }
     {
-        self.advance();
-        let (count, line) = hand_out(self.line, buffer);
-        self.line = line;
-        Ok(count)
+        Ok(self.fill(buffer))
     }
 }
