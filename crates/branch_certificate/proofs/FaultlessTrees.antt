@@ -87,7 +87,7 @@ module _ (ids : NamedIds) (row : TreeRow) where
 
 -- ---- what a row says that is not refused
 
-by_kind : (kind : ℤ) → pos 0 ≤ℤ kind → kind ≤ℤ pos 4 → (Goal : Type 0) → (kind ≡ pos 0 → Goal) → (kind ≡ pos 1 → Goal)
+pub by_kind : (kind : ℤ) → pos 0 ≤ℤ kind → kind ≤ℤ pos 4 → (Goal : Type 0) → (kind ≡ pos 0 → Goal) → (kind ≡ pos 1 → Goal)
     → (kind ≡ pos 2 → Goal) → (kind ≡ pos 3 → Goal) → (kind ≡ pos 4 → Goal) → Goal
 by_kind (pos zero) low high Goal a b c d e = a refl
 by_kind (pos (suc zero)) low high Goal a b c d e = b refl
@@ -170,7 +170,7 @@ module _ (ids : NamedIds) (small : length ids.edges ≤ 2 ^ 63) (row : TreeRow) 
 
 -- ---- all rows
 
-row_cells : (cells : List ℤ) → InColumns tree_columns cells → IsTreeRow (tree_row cells)
+pub row_cells : (cells : List ℤ) → InColumns tree_columns cells → IsTreeRow (tree_row cells)
 row_cells (kind ∷ id ∷ value ∷ multiplier ∷ []) h = record {
   kind = of_word kind h.0;
   id = (h.1.0.0, h.1.0.1);

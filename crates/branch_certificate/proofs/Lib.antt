@@ -11,6 +11,8 @@ pub mod ReadSteps
 pub mod ReadTaken
 pub mod ReadTexts
 pub mod ReadWhole
+pub mod RowsKept
+pub mod RowsOfNodes
 mod Shapes
 pub mod Sound
 mod Tried

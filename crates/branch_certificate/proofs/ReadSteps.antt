@@ -34,7 +34,7 @@ pub one_more : (ids : NamedIds) (before : List TreeRow) (row : TreeRow) (rest : 
     → nodes_of ids ((before ++ row ∷ []) ++ rest) ≡ nodes_of ids (before ++ row ∷ rest)
 one_more ids before row rest = ap (nodes_of ids) (append_assoc before (row ∷ []) rest)
 
-nodes_first : (ids : NamedIds) (row : TreeRow) (rest : List TreeRow)
+pub nodes_first : (ids : NamedIds) (row : TreeRow) (rest : List TreeRow)
     → nodes_of ids (row ∷ rest) ≡ node_of ids row rest ++ nodes_of ids rest
 unfolding nodes_of
 nodes_first ids row rest = refl
@@ -58,12 +58,12 @@ falls_more before last row b is =
     (reverse-append before (last ∷ []))
     ∙ ap (λ b. (b && not (int_lt last.id row.id)) || false) is
 
-inside_first : (row : TreeRow) (rest : List TreeRow) → is_multiplier row ≡ false
+pub inside_first : (row : TreeRow) (rest : List TreeRow) → is_multiplier row ≡ false
     → begins_inside (row ∷ rest) ≡ false
 inside_first row rest is = ap (λ b. b || false) is
 
 -- the multipliers right at the front of rows
-no_multiplier : (rest : List TreeRow) → begins_inside rest ≡ false → multiplier_rows rest ≡ []
+pub no_multiplier : (rest : List TreeRow) → begins_inside rest ≡ false → multiplier_rows rest ≡ []
 no_multiplier [] h = refl
 no_multiplier (row ∷ rest) h =
     ap (λ n. take n (row ∷ rest))
@@ -73,7 +73,7 @@ no_multiplier (row ∷ rest) h =
     alone true e = cc
     alone false e = refl
 
-multiplier_first : (row : TreeRow) (rest : List TreeRow) → is_multiplier row ≡ true
+pub multiplier_first : (row : TreeRow) (rest : List TreeRow) → is_multiplier row ≡ true
     → multiplier_rows (row ∷ rest) ≡ row ∷ multiplier_rows rest
 multiplier_first row rest is =
     ap (λ n. take n (row ∷ rest))

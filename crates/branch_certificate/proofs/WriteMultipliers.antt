@@ -29,7 +29,7 @@ use Rattle.branch_certificate.proofs.WriteFew.{ClimbFrom}
 
 -- ---- the index of an id
 
-id_is : {X : Type 0} (id : X → ℤ) (xs : List X) (i : ℕ) → i < length xs
+pub id_is : {X : Type 0} (id : X → ℤ) (xs : List X) (i : ℕ) → i < length xs
     → unwrap_or (option_map id (slice_get xs i)) (pos 0) ≡ get_or (map id xs) i (pos 0)
 id_is id [] i h = absurd (omega arith)
 id_is id (x ∷ xs) zero h = refl

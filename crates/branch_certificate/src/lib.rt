@@ -6,6 +6,7 @@
 mod check;
 mod check_nodes;
 mod check_shape;
+mod copy;
 mod fault;
 mod first_faults;
 mod node;
@@ -21,6 +22,7 @@ mod tree_row;
 mod write;
 
 pub use check::check_tree;
+pub use copy::copy_tree;
 pub use fault::TreeFault;
 pub use node::Node;
 pub use read::read_tree;

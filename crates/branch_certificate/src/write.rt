@@ -1,5 +1,5 @@
 // Writing a tree.
-ghost use Rattle.std.specs.Prelude.{◌≡◌, ◌<◌, ◌++◌, length, pos, All, IfOk, OnOk};
+ghost use Rattle.std.specs.Prelude.{◌≡◌, ◌<◌, ◌++◌, ◌∷◌, [], length, pos, All, IfOk, OnOk};
 ghost use Rattle.std.specs.List.{flat_map};
 ghost use Rattle.giv_files.specs.Columns.{tree_columns};
 ghost use Rattle.giv_files.specs.Writing.{InColumns, line_text};
@@ -8,7 +8,7 @@ ghost use Rattle.line_cost_model.specs.Problems.{IsProblem};
 ghost use Rattle.branch_certificate.specs.declared.node.Node.TheVariants as node;
 ghost use Rattle.branch_certificate.specs.TreeTexts.{CanBeWritten, IsSmallSplit, NamesWhatIs};
 ghost use Rattle.branch_certificate.specs.TreeTexts.{ReadsBackAs, cells_row, edge_id, line_id};
-ghost use Rattle.branch_certificate.specs.TreeTexts.{node_rows, side_place, tree_text};
+ghost use Rattle.branch_certificate.specs.TreeTexts.{node_rows, side_place, tree_header, tree_text};
 
 use crate::node::Node;
 use crate::tree::Tree;
@@ -27,12 +27,20 @@ pub fn write_tree(alloc: Global, problem: &LineProblem, tree: &Tree) -> Result<T
 {
     // A count tells what always holds of a problem.
     let _ = problem.edge_count();
-    let mut bytes = Vec::from_slice(alloc, b"# kind; id; value; multiplier")?;
-    bytes.push(b'\n')?;
+    let mut bytes = header_line(alloc)?;
     for i in 0..tree.len() {
         push_node(alloc, &mut bytes, problem, tree.node(i))?;
     }
     Ok(Text::from_vec(bytes))
+}
+
+/// The first line of the text of a tree.
+pub(crate) fn header_line(alloc: Global) -> Result<Vec<u8>, NoMemory>
+    ensures { IfOk result (λ bytes. bytes.items ≡ tree_header ++ 10 ∷ []) }
+{
+    let mut bytes = Vec::from_slice(alloc, b"# kind; id; value; multiplier")?;
+    bytes.push(b'\n')?;
+    Ok(bytes)
 }
 
 // The lines of a node go behind others.

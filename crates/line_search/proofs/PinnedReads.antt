@@ -54,7 +54,11 @@ none_ruled : (all : List TreeFault) → option_map rule_of (slice_get all 0) ≡
 none_ruled [] e = refl
 none_ruled (x ∷ all) e = absurd (cc)
 
-no_rule : (problem : ProblemParts) (cost : ℕ) (text : List ℕ)
+pub no_fault : (found : Option ConceptFault) → is_some found ≡ false → found ≡ None
+no_fault None e = refl
+no_fault (Some first) e = cc
+
+pub no_rule : (problem : ProblemParts) (cost : ℕ) (text : List ℕ)
     → tree_rule problem cost (Some text) ≡ None
     → (read_faults problem text ≡ []) × (tree_faults problem (pos cost) (tree_of problem text) ≡ [])
 no_rule problem cost text none = by (has_some (read_faults problem text))

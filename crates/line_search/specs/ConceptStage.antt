@@ -1,6 +1,6 @@
 -- The stage of line concepts: from bounds of frequency and costs of lines to a concept and its mark.
 use Rattle.std.specs.Prelude.{ℕ, pos, ◌+◌, List, [], ◌∷◌, ◌++◌, codes, decimal, Option, Some, None}
-use Rattle.std.specs.Prelude.{Result, Ok, Err}
+use Rattle.std.specs.Prelude.{Result, Ok, Err, Bool, if◌then◌else◌, is_some, option_map}
 use Rattle.plan_num.specs.Print.{fixed_text}
 use Rattle.giv_files.specs.declared.file_id.FileId.TheVariants as file
 use Rattle.giv_files.specs.declared.key.Key.TheVariants as key
@@ -21,15 +21,20 @@ use Rattle.line_search.specs.Listings.{listing}
 abbrev pub budget_of : BundleParts → ℕ
 budget_of bundle = amount bundle.settings key.ConceptBudget
 
--- the file of a tree, where there is one
+-- the file of the text that marks a concept, where there is one, and that of a tree
+abbrev pub mark_files : Option (List ℕ) → List MadeFile
+mark_files None = []
+mark_files (Some text) = record { file = file.Tree; text = text } ∷ []
+
 abbrev pub tree_files : ProblemParts → Option (List Node) → List MadeFile
-tree_files problem None = []
-tree_files problem (Some nodes) = record { file = file.Tree; text = tree_text problem nodes } ∷ []
+tree_files problem tree = mark_files (option_map (tree_text problem) tree)
 
 -- how a report tells of a mark
+abbrev pub mark_word : Bool → List ℕ
+mark_word is_marked = if is_marked then codes "optimal" else codes "not proved optimal"
+
 abbrev pub mark_text : Option (List Node) → List ℕ
-mark_text None = codes "not proved optimal"
-mark_text (Some nodes) = codes "optimal"
+mark_text tree = mark_word (is_some tree)
 
 -- what is made of a concept: its table, the tree that marks it, and the line of the report
 abbrev pub concept_made : ProblemParts → FoundConcept → Made

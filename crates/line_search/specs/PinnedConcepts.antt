@@ -23,7 +23,7 @@ use Rattle.line_cost_model.specs.Concepts.{cost_of, is_feasible}
 use Rattle.line_cost_model.specs.Problems.{ProblemParts}
 use Rattle.branch_certificate.specs.declared.node.Node.{Node}
 use Rattle.branch_certificate.specs.TreeFiles.{tree_of}
-use Rattle.line_search.specs.ConceptStage.{mark_text, tree_files}
+use Rattle.line_search.specs.ConceptStage.{mark_word, tree_files}
 use Rattle.line_search.specs.ConceptTables.{concept_rows, concept_text, frequencies_in}
 use Rattle.line_search.specs.GivenProblems.{problem_faults, problem_of}
 use Rattle.line_search.specs.Judged.{frequencies_of, tree_rule}
@@ -89,14 +89,18 @@ abbrev pub marking_tree : ProblemParts → ℕ → List ℕ → Option (List Nod
 marking_tree problem cost text =
     if is_some (tree_rule problem cost (Some text)) then None else Some (tree_of problem text)
 
+-- the line of the report
+abbrev pub pinned_report : ProblemParts → List ℕ → Bool → List ℕ
+pinned_report problem frequencies is_marked = report_line stage.Concept ((codes "cost "
+    ++ fixed_text (pos (cost_of problem frequencies)))
+    ∷ mark_word is_marked ∷ codes "pinned" ∷ [])
+
 -- what is made of frequencies and a tree: both are written anew
 abbrev pub pinned_made : ProblemParts → List ℕ → Option (List Node) → Made
 pinned_made problem frequencies tree = record {
   files = record { file = file.Concept; text = concept_text problem frequencies } ∷ tree_files
       problem tree;
-  report = report_line stage.Concept ((codes "cost "
-      ++ fixed_text (pos (cost_of problem frequencies)))
-      ∷ mark_text tree ∷ codes "pinned" ∷ []);
+  report = pinned_report problem frequencies (is_some tree);
 }
 
 -- what is made of the texts of a concept and of a tree

@@ -1,10 +1,11 @@
 // What is made of the concept that a search found.
-ghost use Rattle.std.specs.Prelude.{◌≡◌, ◌++◌, ◌∷◌, pos, codes, IfOk, IfSome, OnOk};
+ghost use Rattle.std.specs.Prelude.{◌≡◌, ◌++◌, ◌∷◌, pos, codes, option_map, IfOk, IfSome};
 ghost use Rattle.plan_num.specs.Print.{fixed_text};
 ghost use Rattle.giv_files.specs.declared.file_id.FileId.TheVariants as file;
 ghost use Rattle.giv_files.specs.StageCalls.{StageGives};
 ghost use Rattle.line_cost_model.specs.Concepts.{cost_of};
-ghost use Rattle.line_search.specs.ConceptStage.{concept_made, mark_text, search_made, tree_files};
+ghost use Rattle.branch_certificate.specs.TreeTexts.{tree_text};
+ghost use Rattle.line_search.specs.ConceptStage.{concept_made, mark_files, mark_word, search_made};
 ghost use Rattle.line_search.specs.ConceptTables.{concept_text};
 ghost use Rattle.line_search.specs.Searches.{ArePriced, AreWritten, IsPriced, concept_of};
 ghost use Rattle.line_search.specs.Searches.{result_of, why_none};
@@ -65,32 +66,36 @@ fn concept_made(
     ensures { IfOk result
         (λ made. made ≡ concept_made problem.now (concept_of best.now tree.now entries)) }
 {
-    let files = concept_files(alloc, problem, best, tree)?;
+    let files = concept_files(alloc, problem, best, written_tree(alloc, problem, tree)?)?;
     let report = concept_report(alloc, problem, best, tree, entries)?;
     Ok(Made { files, report })
 }
 
-/// The files of a concept: its table, and the tree that marks it, where there is one.
+/// The files of a concept: its table, and the text that marks it, where there is one.
 pub(crate) fn concept_files(
     alloc: Global,
     problem: &LineProblem,
     concept: &BestConcept,
-    tree: &Option<Tree>,
+    mark: Option<Text>,
 ) -> Result<MadeList, NoMemory>
-    requires priced { IsPriced problem.now concept.now }
-    requires written { IfSome tree.now (AreWritten problem.now) }
+    requires { IsPriced problem.now concept.now }
     ensures { IfOk result (λ files. files
         ≡ record {
           file = file.Concept;
           text = concept_text problem.now concept.now.frequencies.items;
-        } ∷ tree_files problem.now tree.now) }
+        } ∷ mark_files mark) }
 {
     let mut files = MadeList::new(alloc);
     files.push(MadeFile {
         file: FileId::Concept,
         text: concept_text(alloc, problem, concept)?,
     })?;
-    push_tree(alloc, problem, tree, &mut files)?;
+    if let Some(text) = mark {
+        files.push(MadeFile {
+            file: FileId::Tree,
+            text,
+        })?;
+    }
     Ok(files)
 }
 
@@ -111,23 +116,19 @@ fn concept_text(alloc: Global, problem: &LineProblem, best: &BestConcept) -> Res
     )
 }
 
-// The file of the tree that marks a concept, where there is one.
-fn push_tree(
+// The text of the tree that marks a concept, where there is one.
+fn written_tree(
     alloc: Global,
     problem: &LineProblem,
     tree: &Option<Tree>,
-    files: &mut MadeList,
-) -> Result<(), NoMemory>
+) -> Result<Option<Text>, NoMemory>
     requires { IfSome tree.now (AreWritten problem.now) }
-    ensures { OnOk result (files.new ≡ files.old ++ tree_files problem.now tree.now) }
+    ensures { IfOk result (λ text. text ≡ option_map (tree_text problem.now) tree.now) }
 {
-    if let Some(tree) = tree {
-        files.push(MadeFile {
-            file: FileId::Tree,
-            text: write_tree(alloc, problem, tree)?,
-        })?;
+    match tree {
+        Some(tree) => Ok(Some(write_tree(alloc, problem, tree)?)),
+        None => Ok(None),
     }
-    Ok(())
 }
 
 // The line of the report.
@@ -147,7 +148,7 @@ fn concept_report(
         Stage::Concept,
         &[
             cost_text(alloc, problem, best)?,
-            Text::copy(alloc, mark_text(tree))?,
+            Text::copy(alloc, mark_word(tree.is_some()))?,
             count_text(alloc, entries as usize, "entries")?,
         ],
     )
@@ -171,11 +172,12 @@ pub(crate) fn cost_text(
 }
 
 /// How the report tells of a mark.
-pub(crate) fn mark_text(tree: &Option<Tree>) -> &'static [u8]
-    ensures { result.now ≡ mark_text tree.now }
+pub(crate) fn mark_word(is_marked: bool) -> &'static [u8]
+    ensures { result.now ≡ mark_word is_marked }
 {
-    match tree {
-        Some(_) => b"optimal",
-        None => b"not proved optimal",
+    if is_marked {
+        b"optimal"
+    } else {
+        b"not proved optimal"
     }
 }

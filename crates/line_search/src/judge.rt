@@ -7,13 +7,11 @@ ghost use Rattle.giv_files.specs.Writing.{InColumns};
 ghost use Rattle.line_cost_model.specs.Concepts.{cost_of};
 ghost use Rattle.line_search.specs.ConceptTables.{frequencies_in};
 ghost use Rattle.line_search.specs.Judged.{Marks, Passes, first_broken, has_some, tree_rule};
-ghost use Rattle.line_search.specs.PinnedConcepts.{marking_tree};
-ghost use Rattle.line_search.specs.Searches.{AreWritten};
 
 use crate::concept_table::{has_row_count, have_same_cells, rows_of_concept};
 use crate::fault::ConceptFault;
 use crate::frequencies::line_frequencies;
-use branch_certificate::{Tree, TreeReadFault, check_tree, read_tree};
+use branch_certificate::{TreeReadFault, check_tree, read_tree};
 use giv_files::{ReadFault, Table, columns, read_table};
 use line_cost_model::LineProblem;
 use plan_num::NoMemory;
@@ -66,32 +64,8 @@ fn concept_rows(alloc: Global, text: &[u8]) -> Result<Option<Table<4>>, NoMemory
     }
 }
 
-/// The tree of a text, where it is one and certifies what a concept costs.
-pub(crate) fn marking_tree(
-    alloc: Global,
-    problem: &LineProblem,
-    frequencies: &[u32],
-    text: &[u8],
-) -> Result<Option<Tree>, NoMemory>
-    requires each { length frequencies.now ≡ length problem.now.lines }
-    requires few { All (λ frequency. frequency ≤ 1000) frequencies.now }
-    ensures tree { IfOk result (λ tree. tree
-        ≡ marking_tree problem.now (cost_of problem.now frequencies.now) text.now) }
-    ensures written { IfOk result (λ tree. IfSome tree (AreWritten problem.now)) }
-{
-    let tree = match read_tree(alloc, text, problem) {
-        Ok(tree) => tree,
-        Err(TreeReadFault::Row(_)) => return Ok(None),
-        Err(TreeReadFault::NoMemory) => return Err(NoMemory),
-    };
-    match check_tree(alloc, problem, problem.cost(frequencies), &tree)? {
-        Some(_) => Ok(None),
-        None => Ok(Some(tree)),
-    }
-}
-
-// The first rule that the text of a tree breaks which is to certify what a concept costs.
-fn tree_fault(
+/// The first rule that the text of a tree breaks which is to certify what a concept costs.
+pub(crate) fn tree_fault(
     alloc: Global,
     problem: &LineProblem,
     frequencies: &[u32],

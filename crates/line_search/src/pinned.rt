@@ -1,5 +1,5 @@
 // The stage that takes a planner's line concept.
-ghost use Rattle.std.specs.Prelude.{◌≡◌, ◌≤◌, [], length, All, IfOk};
+ghost use Rattle.std.specs.Prelude.{◌≡◌, ◌≤◌, [], length, option_map, All, IfOk};
 ghost use Rattle.giv_files.specs.declared.file_id.FileId.TheVariants as file;
 ghost use Rattle.giv_files.specs.declared.refusal.Refusal.TheVariants as refusal;
 ghost use Rattle.giv_files.specs.declared.stage.Stage.TheVariants as stages;
@@ -12,22 +12,23 @@ ghost use Rattle.line_cost_model.specs.Concepts.{cost_of};
 ghost use Rattle.line_search.specs.ConceptTables.{frequencies_in};
 ghost use Rattle.line_search.specs.Judged.{frequencies_of};
 ghost use Rattle.line_search.specs.PinnedConcepts.{marking_tree, pinned_concept_stage};
-ghost use Rattle.line_search.specs.PinnedConcepts.{pinned_input, pinned_made};
+ghost use Rattle.branch_certificate.specs.TreeTexts.{tree_text};
+ghost use Rattle.line_search.specs.PinnedConcepts.{pinned_input, pinned_made, pinned_report};
 ghost use Rattle.line_search.specs.RightPinned.{ConceptIsRight};
 ghost use Rattle.line_search.specs.Searches.{IsPriced};
 
 use crate::best::BestConcept;
 use crate::concept_table::has_row_count;
 use crate::first_frequencies::test_frequencies;
-use crate::found::{concept_files, cost_text, mark_text};
+use crate::found::{concept_files, cost_text, mark_word};
 use crate::frequencies::line_frequencies;
 use crate::given::read_problem;
-use crate::judge::marking_tree;
+use crate::judge::tree_fault;
 use crate::pool_rows::are_of_pool;
-use branch_certificate::Tree;
+use branch_certificate::copy_tree;
 use giv_files::{
-    Bundle, FileId, Made, Refusal, RowWhy, Stage, StageFault, Table, columns, read_input,
-    report_line,
+    Bundle, FileId, Made, ReadFault, Refusal, RowWhy, Stage, StageFault, Table, columns,
+    read_input, report_line,
 };
 use line_cost_model::LineProblem;
 use plan_num::{Ledger, NoMemory, Steps, Text};
@@ -123,11 +124,34 @@ fn concept_made(
     ensures { IfOk result (λ made. made ≡ pinned_made problem.now frequencies.items
         (marking_tree problem.now (cost_of problem.now frequencies.items) tree.now)) }
 {
-    let tree = marking_tree(alloc, problem, &frequencies, tree)?;
+    let mark = marking_text(alloc, problem, &frequencies, tree)?;
     let concept = BestConcept::priced(problem, frequencies);
-    let files = concept_files(alloc, problem, &concept, &tree)?;
-    let report = concept_report(alloc, problem, &concept, &tree)?;
+    let report = concept_report(alloc, problem, &concept, mark.is_some())?;
+    let files = concept_files(alloc, problem, &concept, mark)?;
     Ok(Made { files, report })
+}
+
+// The text of a tree written anew, where it certifies what a concept costs. The tree is gone before
+// the text is made, which may be large.
+fn marking_text(
+    alloc: Global,
+    problem: &LineProblem,
+    frequencies: &[u32],
+    tree: &[u8],
+) -> Result<Option<Text>, NoMemory>
+    requires each { length frequencies.now ≡ length problem.now.lines }
+    requires few { All (λ frequency. frequency ≤ 1000) frequencies.now }
+    ensures { IfOk result (λ text. text ≡ option_map (tree_text problem.now)
+        (marking_tree problem.now (cost_of problem.now frequencies.now) tree.now)) }
+{
+    if tree_fault(alloc, problem, frequencies, tree)?.is_some() {
+        return Ok(None);
+    }
+    match copy_tree(alloc, tree) {
+        Ok(text) => Ok(Some(text)),
+        Err(ReadFault::Row(_)) => Ok(None),
+        Err(ReadFault::NoMemory) => Err(NoMemory),
+    }
 }
 
 // The line of the report.
@@ -135,18 +159,18 @@ fn concept_report(
     alloc: Global,
     problem: &LineProblem,
     concept: &BestConcept,
-    tree: &Option<Tree>,
+    is_marked: bool,
 ) -> Result<Text, NoMemory>
     requires { IsPriced problem.now concept.now }
-    ensures { IfOk result (λ text. text
-        ≡ (pinned_made problem.now concept.now.frequencies.items tree.now).report) }
+    ensures { IfOk result (λ text. text ≡ pinned_report problem.now
+        concept.now.frequencies.items is_marked) }
 {
     report_line(
         alloc,
         Stage::Concept,
         &[
             cost_text(alloc, problem, concept)?,
-            Text::copy(alloc, mark_text(tree))?,
+            Text::copy(alloc, mark_word(is_marked))?,
             Text::copy(alloc, b"pinned")?,
         ],
     )

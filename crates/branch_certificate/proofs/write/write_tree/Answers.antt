@@ -10,7 +10,7 @@ use Rattle.branch_certificate.proofs.write.write_tree.Goals as goal
 
 pub loop-i-init : goal.loop-i-init
 loop-i-init c = record {
-  lines = c.in_ok-push.ensures.items ∙ ap (λ some. some ++ 10 ∷ []) c.in_ok-bytes.ensures.items;
+  lines = c.in_ok-bytes.ensures;
   written = All-nil CanBeWritten;
 }
 

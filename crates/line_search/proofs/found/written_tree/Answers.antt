@@ -1,7 +1,7 @@
 use Rattle.std.proofs.Common.{IfSome, subst}
 use Rattle.branch_certificate.proofs.WriteLines.{small_splits}
 use Rattle.line_search.specs.Searches.{AreWritten}
-use Rattle.line_search.proofs.found.push_tree.Goals as goal
+use Rattle.line_search.proofs.found.written_tree.Goals as goal
 
 pub write_tree-requires-clause-small : goal.write_tree-requires-clause-small
 write_tree-requires-clause-small c =

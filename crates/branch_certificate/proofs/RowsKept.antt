@@ -1,0 +1,222 @@
+-- A text without a fault as a tree has exactly the rows of that tree, so it is written anew row by
+-- row.
+use Rattle.std.proofs.Common.{◌≡◌, ℕ, ℤ, pos, arith, Bool, true}
+use Rattle.std.proofs.Common.{false, cond, not, List, [], ◌∷◌, ◌++◌, length, map}
+use Rattle.std.proofs.Common.{slice_get, refl}
+use Rattle.std.proofs.Common.{ap, sym, ◌∙◌, Some, All, append-nil, append_assoc}
+use Rattle.std.specs.List.{AllByRecursion, flat_map}
+use Rattle.std.proofs.lemmas.Bool.{ltb-false, ltb-true, not-false}
+use Rattle.std.proofs.lemmas.Bool.Decides.{Decides-int_eq}
+use Rattle.std.proofs.lemmas.Grind.{flat_map-append}
+use Rattle.std.proofs.lemmas.List.Elements.{All-head, All-tail}
+use Rattle.giv_files.specs.declared.file_id.FileId.TheVariants as file
+use Rattle.giv_files.specs.declared.row_why.RowWhy.TheVariants as why
+use Rattle.giv_files.specs.Columns.{tree_columns}
+use Rattle.giv_files.specs.Inputs.{numbered, records, row_faults}
+use Rattle.giv_files.specs.declared.read_fault.RowFault.{RowFault}
+use Rattle.giv_files.specs.Reading.{faults, table_of, table_row}
+use Rattle.giv_files.specs.Rows.{Row}
+use Rattle.giv_files.specs.Tables.{TableRow}
+use Rattle.giv_files.specs.Writing.{InColumns, line_text, table_text}
+use Rattle.giv_files.proofs.Accepted.{KeepRules}
+use Rattle.giv_files.proofs.Inputs.{parts_sound, table_sound, whole_rule_sound}
+use Rattle.giv_files.proofs.Ranges.{table_in_columns, unmapped}
+use Rattle.line_cost_model.specs.Problems.{ProblemParts}
+use Rattle.branch_certificate.specs.declared.tree_row.TreeRow.{TreeRow}
+use Rattle.branch_certificate.specs.ReadRows.{IsTreeRow}
+use Rattle.branch_certificate.specs.TreeFiles.{NamedIds, due_after}
+use Rattle.branch_certificate.specs.TreeFiles.{ids_of, is_due}
+use Rattle.branch_certificate.specs.TreeFiles.{is_multiplier}
+use Rattle.branch_certificate.specs.TreeFiles.{multiplier_rows, node_of, nodes_of, read_faults}
+use Rattle.branch_certificate.specs.TreeFiles.{tree_input, tree_of, tree_row, tree_rules}
+use Rattle.branch_certificate.specs.TreeTexts.{node_rows}
+use Rattle.branch_certificate.specs.TreeTexts.{tree_header, tree_text}
+use Rattle.branch_certificate.proofs.FaultlessTrees.{row_cells}
+use Rattle.branch_certificate.proofs.ReadSteps.{due_more, inside_first, multiplier_first}
+use Rattle.branch_certificate.proofs.ReadSteps.{no_multiplier, nodes_first, nodes_none}
+use Rattle.branch_certificate.proofs.RowsOfNodes.{multipliers_written, node_written, none_broken}
+use Rattle.branch_certificate.proofs.RowsOfNodes.{whole_row, written}
+
+module _ (problem : ProblemParts) where
+  abbrev ids : NamedIds
+  ids = ids_of problem
+
+  -- rows that keep the rules: those of multipliers at their front are as many as are due, and all
+  -- others are the rows of their nodes
+  record AreWritten (before rows : List TreeRow) : Type 0 where
+    due : length (multiplier_rows rows) ≡ due_after before
+    same : map (written problem) rows
+        ≡ map (written problem) (multiplier_rows rows) ++ flat_map (node_rows problem) (nodes_of ids rows)
+
+  module _ (row : TreeRow) (rows before : List TreeRow) (cells : IsTreeRow row)
+      (all_cells : AllByRecursion IsTreeRow rows) (keep : KeepRules (tree_rules ids) before (row ∷ rows))
+      (next : AreWritten (before ++ row ∷ []) rows) where
+    abbrev behind : List TableRow
+    behind = flat_map (node_rows problem) (nodes_of ids rows)
+
+    parted : flat_map (node_rows problem) (nodes_of ids (row ∷ rows))
+        ≡ flat_map (node_rows problem) (node_of ids row rows) ++ behind
+    parted = ap (flat_map (node_rows problem)) (nodes_first ids row rows)
+        ∙ flat_map-append (node_rows problem) (node_of ids row rows) (nodes_of ids rows)
+
+    placed : (b : Bool) → is_multiplier row ≡ b
+        → cond b (not (is_due before)) (is_due before) ≡ false
+    placed b is =
+        ap (λ b. cond b (not (is_due before)) (is_due before)) (sym is)
+        ∙ (none_broken (tree_rules ids) before row keep.0).1.1.0
+
+    one_written : (b : Bool) → is_multiplier row ≡ b → AreWritten before (row ∷ rows)
+    one_written true is =
+        let kind : row.kind ≡ pos 3 = (Decides-int_eq row.kind (pos 3)).0 is in
+        let some = ltb-true 0 (due_after before) (not-false (is_due before) (placed true is)) in
+        let first = multiplier_first row rows is in
+        record {
+          due = ap length first
+              ∙ omega (arith, some, next.due, due_more before row true is);
+          same = ap (λ all. written problem row ∷ all) next.same
+              ∙ ap (λ some. map (written problem) some ++ behind) (sym first)
+              ∙ ap (λ all. map (written problem) (multiplier_rows (row ∷ rows)) ++ all)
+              (sym (parted
+              ∙ ap (λ kind. flat_map (node_rows problem)
+              (node_of ids (record row { kind = kind }) rows) ++ behind) kind));
+        }
+    one_written false other =
+        let none = no_multiplier (row ∷ rows) (inside_first row rows other) in
+        let few = ltb-false 0 (due_after before) (placed false other) in
+        record {
+          due = ap length none ∙ omega (arith, few);
+          same = ap (λ all. written problem row ∷ all) next.same
+              ∙ ap (λ all. all ++ behind) (sym (node_written problem row (whole_row problem row cells before keep.0)
+              rows other (next.due ∙ due_more before row false other)
+              (multipliers_written problem rows all_cells (before ++ row ∷ []) keep.1)))
+              ∙ sym parted
+              ∙ ap (λ some. map (written problem) some ++ flat_map (node_rows problem) (nodes_of ids (row ∷ rows)))
+              (sym none);
+        }
+
+  rows_written : (rows : List TreeRow) → AllByRecursion IsTreeRow rows → (before : List TreeRow)
+      → KeepRules (tree_rules ids) before rows → due_after (before ++ rows) ≡ 0
+      → AreWritten before rows
+  rows_written [] cells before keep ends = record {
+    due = sym ends ∙ ap due_after (append-nil before);
+    same = sym (ap (flat_map (node_rows problem)) (nodes_none ids));
+  }
+  rows_written (row ∷ rows) cells before keep ends =
+      one_written row rows before cells.0 cells.1 keep
+      (rows_written rows cells.1 (before ++ row ∷ []) keep.1
+      (ap due_after (append_assoc before (row ∷ []) rows) ∙ ends)) (is_multiplier row) refl
+
+  -- ---- texts
+
+  none_here : {X Y : Type 0} (f : X → Y) (xs : List X) (ys : List Y) → map f xs ++ ys ≡ []
+      → (xs ≡ []) × (ys ≡ [])
+  none_here f [] ys e = (refl, e)
+  none_here f (x ∷ xs) ys e = cc
+
+  rules_kept : (table : List TableRow) (before : List TreeRow)
+      → row_faults file.Tree (tree_rules ids) before (numbered (tree_input ids) table) ≡ []
+      → KeepRules (tree_rules ids) before (records (tree_input ids) table)
+  unfolding row_faults
+  rules_kept [] before none = tt
+  rules_kept (row ∷ table) before none =
+      let both = none_here _ _ _ none in
+      (both.0, rules_kept table (before ++ tree_row row.cells ∷ []) both.1)
+
+  abbrev IsInside : TableRow → Type 0
+  IsInside row = InColumns tree_columns row.cells
+
+  cells_kept : (table : List TableRow) → All IsInside table
+      → AllByRecursion IsTreeRow (records (tree_input ids) table)
+  cells_kept [] each = tt
+  cells_kept (row ∷ table) each = (
+    row_cells row.cells (All-head IsInside row table each),
+    cells_kept table (All-tail IsInside row table each),
+  )
+
+  one_line : (cells : List ℤ) → InColumns tree_columns cells
+      → line_text tree_columns (record { number = 0; cells = cells })
+      ≡ line_text tree_columns (written problem (tree_row cells))
+  one_line (kind ∷ id ∷ value ∷ multiplier ∷ []) h = refl
+  one_line [] h = elim h [ ]
+  one_line (a ∷ []) h = elim h.1 [ ]
+  one_line (a ∷ b ∷ []) h = elim h.1.1 [ ]
+  one_line (a ∷ b ∷ c ∷ []) h = elim h.1.1.1 [ ]
+  one_line (a ∷ b ∷ c ∷ d ∷ e ∷ rest) h = elim h.1.1.1.1 [ ]
+
+  lines_written : (table : List TableRow) → All IsInside table
+      → flat_map (line_text tree_columns) table
+      ≡ flat_map (line_text tree_columns) (map (written problem) (records (tree_input ids) table))
+  lines_written [] each = refl
+  lines_written (row ∷ table) each =
+      ap (λ line. line ++ flat_map (line_text tree_columns) table)
+      (one_line row.cells (All-head IsInside row table each))
+      ∙ ap (λ lines. line_text tree_columns (written problem (tree_row row.cells)) ++ lines)
+      (lines_written table (All-tail IsInside row table each))
+
+  -- a text without a fault has the lines of its tree
+  pub tree_kept : (text : List ℕ) → read_faults problem text ≡ []
+      → table_text tree_header tree_columns (table_of tree_columns text)
+      ≡ tree_text problem (tree_of problem text)
+  unfolding read_faults tree_of tree_text table_text
+  tree_kept text none =
+      let input = tree_input ids in
+      let table = table_of tree_columns text in
+      let parts = parts_sound input text none in
+      let sound = table_sound input table parts.1 in
+      let ends = (whole_rule_sound input table is_due why.OrderGap [] sound.2).0 in
+      let each = table_in_columns tree_columns text (unmapped _ _ parts.0) in
+      let few = ltb-false 0 (due_after (records input table)) ends in
+      let all = rows_written (records input table) (cells_kept table each) []
+      (rules_kept table [] sound.1) (omega (arith, few)) in
+      ap (λ lines. tree_header ++ 10 ∷ lines) (lines_written table each
+      ∙ ap (flat_map (line_text tree_columns)) (all.same
+      ∙ ap (λ some. map (written problem) some ++ flat_map (node_rows problem)
+      (nodes_of ids (records input table)))
+      (nothing (multiplier_rows (records input table)) all.due)))
+    where
+      nothing : (rows : List TreeRow) → length rows ≡ 0 → rows ≡ []
+      nothing [] e = refl
+      nothing (first ∷ rows) e = cc
+
+-- ---- the lines of a text
+
+-- the lines of no row, before those of all
+pub lines_first : (bytes : List ℕ) (rows table : List TableRow) → bytes ≡ tree_header ++ 10 ∷ []
+    → rows ≡ table
+    → bytes ++ flat_map (line_text tree_columns) rows ≡ table_text tree_header tree_columns table
+unfolding table_text
+lines_first bytes rows table is same =
+    ap (λ bytes. bytes ++ flat_map (line_text tree_columns) rows) is
+    ∙ append_assoc tree_header (10 ∷ []) (flat_map (line_text tree_columns) rows)
+    ∙ ap (λ rows. tree_header ++ 10 ∷ flat_map (line_text tree_columns) rows) same
+
+-- those of one row more, before those that are left
+pub lines_next : (old new text : List ℕ) (cells : List ℤ) (row : Row) (left rows : List Row)
+    → new ≡ old ++ line_text tree_columns (record { number = 0; cells = cells })
+    → cells ≡ (table_row tree_columns row).cells → left ≡ row ∷ rows
+    → old ++ flat_map (line_text tree_columns) (map (table_row tree_columns) left) ≡ text
+    → new ++ flat_map (line_text tree_columns) (map (table_row tree_columns) rows) ≡ text
+lines_next old new text cells row left rows pushed same next whole =
+    let behind = flat_map (line_text tree_columns) (map (table_row tree_columns) rows) in
+    ap (λ bytes. bytes ++ behind) (pushed
+    ∙ ap (λ cells. old ++ line_text tree_columns (record { number = 0; cells = cells })) same)
+    ∙ append_assoc old (line_text tree_columns (table_row tree_columns row)) behind
+    ∙ ap (λ left. old ++ flat_map (line_text tree_columns) (map (table_row tree_columns) left))
+    (sym next) ∙ whole
+
+-- ---- a text that is copied
+
+module _ (problem : ProblemParts) (text : List ℕ) (fine : read_faults problem text ≡ []) where
+  -- no cell of it is at fault
+  pub never_refused : (first : RowFault) → slice_get (faults tree_columns text) 0 ≡ Some first → ⊥
+  unfolding read_faults
+  never_refused first refused =
+      let none = unmapped _ _ (parts_sound (tree_input (ids_of problem)) text fine).0 in
+      let never : slice_get [] 0 ≡ Some first = ap (λ all. slice_get all 0) (sym none) ∙ refused in
+      cc
+
+  -- and the copy is the text of its tree
+  pub copied : (made : List ℕ)
+      → made ≡ table_text tree_header tree_columns (table_of tree_columns text)
+      → made ≡ tree_text problem (tree_of problem text)
+  copied made is = is ∙ tree_kept problem text fine

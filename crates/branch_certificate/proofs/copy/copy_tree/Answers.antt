@@ -1,0 +1,74 @@
+use Rattle.std.proofs.Common.{◌≡◌, ◌∷◌, ◌++◌, ◌∙◌, [], List, ap, map, subst, sym, append-nil, slice_index_or}
+use Rattle.std.specs.List.{flat_map}
+use Rattle.std.proofs.lemmas.Result.{err_from_is_err_and}
+use Rattle.giv_files.specs.Columns.{tree_columns}
+use Rattle.giv_files.specs.Reading.{row_faults, table_of, table_row}
+use Rattle.giv_files.specs.Tables.{TableRow, no_row}
+use Rattle.giv_files.specs.Writing.{InColumns, line_text}
+use Rattle.giv_files.proofs.Ranges.{row_in_columns}
+use Rattle.giv_files.proofs.RowsLeft.{mark_first, no_mark, row_ends, table_is}
+use Rattle.branch_certificate.proofs.RowsKept.{lines_first, lines_next}
+use Rattle.branch_certificate.proofs.copy.copy_tree.Goals as goal
+
+pub returns-in_err-rows : goal.returns-in_err-rows
+returns-in_err-rows c =
+    let p = err_from_is_err_and c.from_residual-in_err-rows.result
+    c.from_residual-in_err-rows.ensures.1 in
+    rw (p.1, p.2, c.in_err-rows.ensures.1) (mark_first tree_columns c.args.bytes.now
+    c.in_err-rows.ensures.0)
+
+pub rows-init : goal.rows-init
+rows-init c = record {
+  cells = ap (flat_map (row_faults tree_columns)) c.in_ok-rows.ensures.1
+      ∙ no_mark tree_columns c.args.bytes.now c.in_ok-rows.ensures.0;
+  whole = lines_first c.in_ok-lines.lines.items _ (table_of tree_columns c.args.bytes.now)
+      c.in_ok-lines.ensures (ap (map (table_row tree_columns)) c.in_ok-rows.ensures.1
+      ∙ table_is tree_columns c.args.bytes.now);
+}
+
+pub returns-in_err-read_row : goal.returns-in_err-read_row
+returns-in_err-read_row c =
+    let next = rw c.if-branch.true at c.in_ok-next_row.ensures in
+    let p = err_from_is_err_and c.from_residual-in_err-read_row.result
+    c.from_residual-in_err-read_row.ensures.1 in
+    rw (p.1, p.2) (row_ends tree_columns c.next_row.new.row c.next_row.new.self _ c.clear.new.self
+    c.read_row.new.self (table_of tree_columns c.args.bytes.now) _
+    (rw next at c.rows.invariant.cells) c.in_err-read_row.ensures)
+
+pub push_line-requires : goal.push_line-requires
+push_line-requires c =
+    let one : c.read_row.new.self ≡ table_row tree_columns c.next_row.new.row ∷ [] =
+    c.in_ok-read_row.ensures.1
+    ∙ ap (λ (rows : List TableRow). rows ++ table_row tree_columns c.next_row.new.row ∷ [])
+    c.clear.ensures in
+    subst (InColumns tree_columns) (sym (c.row-in-rows.ensures
+    ∙ ap (λ (rows : List TableRow). (slice_index_or rows 0 no_row).cells) one))
+    (row_in_columns tree_columns c.next_row.new.row c.in_ok-read_row.ensures.0)
+
+pub rows-preserved : goal.rows-preserved
+rows-preserved c =
+    let next = rw c.if-branch.true at c.in_ok-next_row.ensures in
+    let one : c.read_row.new.self ≡ table_row tree_columns c.next_row.new.row ∷ [] =
+    c.in_ok-read_row.ensures.1
+    ∙ ap (λ (rows : List TableRow). rows ++ table_row tree_columns c.next_row.new.row ∷ [])
+    c.clear.ensures in
+    let cells = rw next at c.rows.invariant.cells in
+    record {
+      cells = ap (λ faults. faults ++ flat_map (row_faults tree_columns) c.next_row.new.self)
+          (sym c.in_ok-read_row.ensures.0) ∙ cells;
+      whole = lines_next c.rows.lines.items c.push_line.new.bytes.items _ c.row-in-rows.result.now
+          c.next_row.new.row c.rows.rows c.next_row.new.self c.in_ok-push_line.ensures
+          (c.row-in-rows.ensures
+          ∙ ap (λ (rows : List TableRow). (slice_index_or rows 0 no_row).cells) one)
+          next c.rows.invariant.whole;
+    }
+
+pub returns : goal.returns
+returns c =
+    let none = rw c.if-branch.false at c.in_ok-next_row.ensures in (
+      sym c.rows.invariant.cells ∙ ap (flat_map (row_faults tree_columns)) none,
+      c.from_vec.ensures ∙ sym (append-nil c.rows.lines.items)
+          ∙ ap (λ rows. c.rows.lines.items
+          ++ flat_map (line_text tree_columns) (map (table_row tree_columns) rows)) (sym none)
+          ∙ c.rows.invariant.whole,
+    )

@@ -1,0 +1,24 @@
+// Writing the text of a tree anew.
+ghost use Rattle.branch_certificate.specs.TreeTexts.{CopyGives};
+
+use crate::write::header_line;
+use giv_files::{ReadFault, Table, TextRow, TextRows, columns, push_line};
+use plan_num::Text;
+use std::alloc::Global;
+
+/// The text of a tree written anew, as `write_tree` writes the tree that it is, or its first row
+/// with a cell at fault. It goes row by row, with no tree and no table of it.
+pub fn copy_tree(alloc: Global, bytes: &[u8]) -> Result<Text, ReadFault>
+    ensures { CopyGives bytes.now result }
+{
+    let mut lines = header_line(alloc)?;
+    let mut rows = TextRows::new(alloc, bytes)?;
+    let mut row = TextRow::new(alloc);
+    let mut table = Table::new(alloc);
+    'rows: while rows.next_row(&mut row)? {
+        table.clear();
+        table.read_row(&row, &columns!(Tree))?;
+        push_line(alloc, &mut lines, table.row(0), &columns!(Tree))?;
+    }
+    Ok(Text::from_vec(lines))
+}
