@@ -17,9 +17,9 @@ use giv_files::{FileId, Made, MadeFile, MadeList, Stage};
 use plan_num::{NoMemory, Text};
 use std::alloc::Global;
 
-/// The entry of a stage that the bytes are, and None exactly where they are none: where they are a
+/// The entry of a stage that the bytes are, whose settings and inputs stand there, and None exactly where they are none: where they are a
 /// front part of one, or one with more bytes behind it, too.
-pub fn read_keep(alloc: Global, stage: Stage, bytes: &[u8]) -> Result<Option<Entry>, NoMemory>
+pub fn read_keep(alloc: Global, stage: Stage, bytes: &[u8]) -> Result<Option<Entry<'_>>, NoMemory>
     ensures read { IfOk result (λ found. found ≡ read_entry stage bytes.now) }
     ensures exact { IfOk result (ReadsEntry stage bytes.now) }
     ensures front { IfOk result (λ found. (entry : EntryParts) (more : List ℕ)
@@ -30,7 +30,7 @@ pub fn read_keep(alloc: Global, stage: Stage, bytes: &[u8]) -> Result<Option<Ent
 }
 
 // The entry of a stage that the bytes are, where they are one.
-fn read_entry(alloc: Global, stage: Stage, bytes: &[u8]) -> Result<Option<Entry>, NoMemory>
+fn read_entry(alloc: Global, stage: Stage, bytes: &[u8]) -> Result<Option<Entry<'_>>, NoMemory>
     ensures { IfOk result (λ found. found ≡ read_entry stage bytes.now) }
 {
     match entry_with(alloc, stage, stage.makes(), bytes)? {
@@ -40,7 +40,7 @@ fn read_entry(alloc: Global, stage: Stage, bytes: &[u8]) -> Result<Option<Entry>
 }
 
 // The entry that the bytes are, where a file is left out that may be.
-fn shorter_entry(alloc: Global, stage: Stage, bytes: &[u8]) -> Result<Option<Entry>, NoMemory>
+fn shorter_entry(alloc: Global, stage: Stage, bytes: &[u8]) -> Result<Option<Entry<'_>>, NoMemory>
     ensures { IfOk result (λ found. found
         ≡ slice_get (filter_map (entry_with stage bytes.now) (drop 1 (made_lists stage))) 0) }
 {
@@ -53,12 +53,12 @@ fn shorter_entry(alloc: Global, stage: Stage, bytes: &[u8]) -> Result<Option<Ent
 }
 
 // The entry that the bytes are, where its made files are these.
-fn entry_with(
+fn entry_with<'a>(
     alloc: Global,
     stage: Stage,
     files: &[FileId],
-    bytes: &[u8],
-) -> Result<Option<Entry>, NoMemory>
+    bytes: &'a [u8],
+) -> Result<Option<Entry<'a>>, NoMemory>
     ensures { IfOk result (λ found. found ≡ entry_with stage bytes.now files.now) }
 {
     let line = first_line(alloc, stage)?;
@@ -106,33 +106,21 @@ fn if_ended<'a>(texts: Vec<&'a [u8]>, rest: &[u8]) -> Option<Vec<&'a [u8]>>
 }
 
 // The entry of these texts.
-fn entry_of(
+fn entry_of<'a>(
     alloc: Global,
     stage: Stage,
     files: &[FileId],
-    texts: &[&[u8]],
-) -> Result<Entry, NoMemory>
+    texts: &[&'a [u8]],
+) -> Result<Entry<'a>, NoMemory>
     requires { length texts.now ≡ 2 + length (stage_inputs stage) + length files.now }
     ensures { IfOk result (λ entry. entry
         ≡ entry_of stage files.now (map (λ text. text.now) texts.now)) }
 {
     let (given, behind) = texts[1..].split_at(stage.inputs().len());
-    let settings = Text::copy(alloc, texts[0])?;
     let report = Text::copy(alloc, behind[files.len()])?;
-    let inputs = copies(alloc, given)?;
+    let inputs = Vec::from_slice(alloc, given)?;
     let files = made_files(alloc, files, behind)?;
-    Ok(Entry::new(settings, inputs, Made { files, report }))
-}
-
-// Copies of texts.
-fn copies(alloc: Global, texts: &[&[u8]]) -> Result<Vec<Text>, NoMemory>
-    ensures { IfOk result (λ found. found.items ≡ map (λ text. text.now) texts.now) }
-{
-    let mut found = Vec::new(alloc);
-    for text in texts {
-        found.push(Text::copy(alloc, *text)?)?;
-    }
-    Ok(found)
+    Ok(Entry::new(texts[0], inputs, Made { files, report }))
 }
 
 // Files with the texts that stand first among these.

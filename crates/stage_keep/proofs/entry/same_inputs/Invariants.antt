@@ -1,5 +1,5 @@
 -- What is left of both lists of texts is the same where all of them are.
-use Rattle.std.proofs.Common.{◌≡◌, drop, length}
+use Rattle.std.proofs.Common.{◌≡◌, drop, length, map}
 use Rattle.std.specs.Cmp.Lexicographic.{pointwise}
 use Rattle.std.specs.Str.{bytes_eq}
 use Rattle.stage_keep.proofs.entry.same_inputs.Given as goal
@@ -7,6 +7,7 @@ use Rattle.stage_keep.proofs.entry.same_inputs.Given as goal
 abbrev pub invariant-loop-index : goal.invariant-loop-index
 invariant-loop-index l = record {
   each : length l.inputs ≡ length l.bundle.inputs;
-  left : pointwise bytes_eq (drop l.index l.inputs) (drop l.index l.bundle.inputs)
-      ≡ pointwise bytes_eq l.inputs l.bundle.inputs;
+  left : pointwise bytes_eq (map (λ text. text.now) (drop l.index l.inputs))
+      (drop l.index l.bundle.inputs)
+      ≡ pointwise bytes_eq (map (λ text. text.now) l.inputs) l.bundle.inputs;
 }

@@ -18,8 +18,8 @@ returns c =
     ∙ ap (λ k. drop k (take (length texts - 1) (drop 1 texts))) size in
     c.new.ensures
     ∙ entry_by_parts c.args.stage files (map (λ text. text.now) texts) _ _ _ _
-    (c.in_ok-settings.ensures ∙ first_text (λ text. text.now) texts n (length files) (record { ref_ptr = (0, 0); now = [] }) c.requires)
-    (c.in_ok-inputs.ensures
+    (first_text (λ text. text.now) texts n (length files) (record { ref_ptr = (0, 0); now = [] }) c.requires)
+    (ap (map (λ text. text.now)) c.in_ok-inputs.ensures.items
     ∙ front_texts (λ text. text.now) texts n (length files) (record { ref_ptr = (0, 0); now = [] }) c.requires _ front)
     (c.in_ok-files.ensures
     ∙ ap (λ (l : List (List ℕ)). map made_file (zip files l))
