@@ -25,7 +25,7 @@ use Rattle.pesp_search.specs.Searches.{listed_on}
 use Rattle.pesp_search.specs.TimeSets.{left_to, reduced}
 use Rattle.pesp_search.specs.TimeSets.{reduced as all_reduced}
 use Rattle.pesp_search.proofs.EmptySets.{settled_within, with_time_full}
-use Rattle.pesp_search.proofs.Revised.{carried_firsts, carried_seconds}
+use Rattle.pesp_search.proofs.Revised.{carried_second, carried_first}
 use Rattle.pesp_search.proofs.Turns.{first_turn, listed, no_turn, none_behind, turns_append}
 use Rattle.pesp_search.proofs.Turns.{turns_map, unless_one}
 use Rattle.pesp_search.proofs.Unrolled.{unrolls}
@@ -175,10 +175,10 @@ module _ (problem : Problem) (before reduced : Tracked) (so : Reduces problem be
             ∙ with_time_full (sets_of child.branched) event child.one parts.1;
         revised = λ i activity at low.
             let is = parts.0 i activity at low in (
-              carried_seconds problem.period (is_left child.branched) (is_left next.sets)
+              carried_first problem.period (is_left child.branched) (is_left next.sets)
                   (λ _. false) (has_changed flags) activity child.within untouched (λ _.
                   is.seconds),
-              carried_firsts problem.period (is_left child.branched) (is_left next.sets)
+              carried_second problem.period (is_left child.branched) (is_left next.sets)
                   (λ _. false) (has_changed flags) activity child.within untouched (λ _. is.firsts),
             );
         saved = subst (AreRevised problem) (sym child.now) (

@@ -13,7 +13,7 @@ use Rattle.pesp_search.specs.Revising.{IsWithin}
 use Rattle.pesp_search.specs.Revising.{Left, Propagates, RevisedUnless, Sweeps, Visits, is_free}
 use Rattle.pesp_search.specs.Revising.{IsFull, StaysFull}
 use Rattle.pesp_search.proofs.FlagBits.{no_flag, some_flag}
-use Rattle.pesp_search.proofs.Revised.{carried_firsts, carried_seconds}
+use Rattle.pesp_search.proofs.Revised.{carried_second, carried_first}
 
 -- what is known behind the events from one on: no flag is left at them unless times were taken out
 pub record IsSwept (problem : Problem) (before now : Tracked) (flags : Flags) (end : ℕ) : Type 0
@@ -56,8 +56,8 @@ pub carried : (period : ℕ) (old new : Left) (flags more : ℕ → Bool) (other
     → ((event : ℕ) → more event ≡ false → (flags event ≡ false) × (new event ≡ old event))
     → RevisedUnless period old flags other → RevisedUnless period new more other
 carried period old new flags more other within untouched so = (
-  carried_seconds period old new flags more other within untouched so.0,
-  carried_firsts period old new flags more other within untouched so.1,
+  carried_first period old new flags more other within untouched so.0,
+  carried_second period old new flags more other within untouched so.1,
 )
 
 -- ---- smaller and smaller sets

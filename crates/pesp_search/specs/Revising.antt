@@ -70,12 +70,12 @@ first_left period left activity time =
 
 -- the times without a second one are taken out of the set of an activity's first event, and those
 -- without a first one of that of its second event
-abbrev pub keeps_seconds : ℕ → Left → PespActivity → Left
-keeps_seconds period left activity event time =
+abbrev pub keeps_first : ℕ → Left → PespActivity → Left
+keeps_first period left activity event time =
     not (event == activity.from) || second_left period left activity time
 
-abbrev pub keeps_firsts : ℕ → Left → PespActivity → Left
-keeps_firsts period left activity event time =
+abbrev pub keeps_second : ℕ → Left → PespActivity → Left
+keeps_second period left activity event time =
     not (event == activity.to) || first_left period left activity time
 
 -- no time of either event of an activity is without a partner
@@ -104,19 +104,19 @@ noted flags event is_changed = if is_changed then with_flag flags event true els
 
 -- the times of an activity's first event have their second ones unless the set of its second event
 -- has changed, and the other way round
-abbrev pub SecondsUnless : ℕ → Left → (ℕ → Bool) → PespActivity → Type 0
-SecondsUnless period left changed activity =
+abbrev pub FirstUnless : ℕ → Left → (ℕ → Bool) → PespActivity → Type 0
+FirstUnless period left changed activity =
     changed activity.to ≡ false → (time : ℕ) → left activity.from time ≡ true
     → second_left period left activity time ≡ true
 
-abbrev pub FirstsUnless : ℕ → Left → (ℕ → Bool) → PespActivity → Type 0
-FirstsUnless period left changed activity =
+abbrev pub SecondUnless : ℕ → Left → (ℕ → Bool) → PespActivity → Type 0
+SecondUnless period left changed activity =
     changed activity.from ≡ false → (time : ℕ) → left activity.to time ≡ true
     → first_left period left activity time ≡ true
 
 abbrev pub RevisedUnless : ℕ → Left → (ℕ → Bool) → PespActivity → Type 0
 RevisedUnless period left changed activity =
-    SecondsUnless period left changed activity × FirstsUnless period left changed activity
+    FirstUnless period left changed activity × SecondUnless period left changed activity
 
 -- the same of all activities from an index on
 abbrev pub AllFrom : List PespActivity → (PespActivity → Type 0) → ℕ → Type 0
@@ -170,19 +170,19 @@ KeepsOwn activity at before after = (activity.from ≡ activity.to → ⊥)
     → times_from after.sets at 0 ≡ times_from before.sets at 0
 
 -- it revises them on one side or on both, where one of its events is the one whose set has changed
-abbrev pub RevisesSeconds : PespActivity → ℕ → Tracked → Tracked → Flags → Flags
+abbrev pub RevisesFirst : PespActivity → ℕ → Tracked → Tracked → Flags → Flags
     → Type 0
-RevisesSeconds activity at before after flags more =
+RevisesFirst activity at before after flags more =
     Touches activity before after flags more
-    × (SecondsUnless before.sets.period (is_left before.sets) (either at flags) activity
-    → SecondsUnless before.sets.period (is_left after.sets) (has_changed more) activity)
+    × (FirstUnless before.sets.period (is_left before.sets) (either at flags) activity
+    → FirstUnless before.sets.period (is_left after.sets) (has_changed more) activity)
 
-abbrev pub RevisesFirsts : PespActivity → ℕ → Tracked → Tracked → Flags → Flags
+abbrev pub RevisesSecond : PespActivity → ℕ → Tracked → Tracked → Flags → Flags
     → Type 0
-RevisesFirsts activity at before after flags more =
+RevisesSecond activity at before after flags more =
     Touches activity before after flags more
-    × (FirstsUnless before.sets.period (is_left before.sets) (either at flags) activity
-    → FirstsUnless before.sets.period (is_left after.sets) (has_changed more) activity)
+    × (SecondUnless before.sets.period (is_left before.sets) (either at flags) activity
+    → SecondUnless before.sets.period (is_left after.sets) (has_changed more) activity)
 
 abbrev pub Revises : PespActivity → ℕ → Tracked → Tracked → Flags → Flags → Type 0
 Revises activity at before after flags more =

@@ -36,13 +36,6 @@ out_last test xs x is =
 
 -- ---- one activity more
 
-pub ways_begun : (events : ℕ) (rows : List (List PeriodicActivity)) → length rows ≡ events
-    → All (λ row. row ≡ []) rows → AreWays events [] rows
-ways_begun events rows size empty = record {
-  size = size;
-  each = λ place low. empty place [] (omega (arith, low, size));
-}
-
 module _ (events : ℕ) (some : List PeriodicActivity) (activity : PeriodicActivity)
     (old new : List (List PeriodicActivity)) (so : AreWays events some old)
     (there : IsOneOf events activity.from) (noted : NotesWay activity old new) where

@@ -4,15 +4,15 @@ use Rattle.pesp_search.specs.Marks.{Marks, is_left, times_from}
 use Rattle.pesp_search.specs.Revising.{first_left}
 use Rattle.pesp_search.proofs.Revised.{own_kept, side_full}
 use Rattle.pesp_search.specs.Flags.{Flags}
-use Rattle.pesp_search.specs.Revising.{RevisesFirsts}
-use Rattle.pesp_search.proofs.Revised.{firsts_revised}
+use Rattle.pesp_search.specs.Revising.{RevisesSecond}
+use Rattle.pesp_search.proofs.Revised.{second_revised}
 use Rattle.pesp_search.proofs.revise.revise_second.Goals as goal
 
 pub returns-clause-revises : goal.returns-clause-revises
 returns-clause-revises c =
-    subst (λ (more : Flags). RevisesFirsts c.args.activity c.args.at c.args.sets.now
+    subst (λ (more : Flags). RevisesSecond c.args.activity c.args.at c.args.sets.now
     c.prune_second.new.sets c.args.changed.now more) (sym c.note.ensures.noted)
-    (firsts_revised c.args.activity c.args.sets.now c.prune_second.new.sets
+    (second_revised c.args.activity c.args.sets.now c.prune_second.new.sets
     c.in_ok-is_changed.is_changed
     c.args.at c.args.changed.now c.note.ensures.within c.in_ok-is_changed.ensures)
 
