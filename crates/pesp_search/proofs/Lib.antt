@@ -6,7 +6,7 @@ mod EmptySets
 mod Entries
 mod Families
 mod FirstMarks
-mod FirstWords
+mod FullMarks
 mod FlagBits
 mod FoundTimes
 mod JudgedTimes

@@ -1,5 +1,5 @@
 -- What the sets of both events of an activity are after it has revised them.
-use Rattle.std.proofs.Common.{◌≡◌, ◌∙◌, ◌⊎◌, inl, inr, ℕ, ◌/◌, ◌<◌, ◌==◌, Bool, true, false, not}
+use Rattle.std.proofs.Common.{◌≡◌, ◌∙◌, ◌⊎◌, inl, inr, ℕ, ◌<◌, ◌==◌, Bool, true, false, not}
 use Rattle.std.proofs.Common.{◌&&◌, ◌-◌}
 use Rattle.std.proofs.Common.{◌||◌}
 use Rattle.std.proofs.Common.{filter, length, refl, ap, sym, subst, arith}
@@ -14,10 +14,11 @@ use Rattle.pesp_search.proofs.EmptySets.{pruned_full}
 use Rattle.pesp_search.specs.Revising.{SecondUnless, IsRevised, IsWithin, Left, Revises}
 use Rattle.pesp_search.specs.Revising.{RevisesSecond, RevisesFirst, FirstUnless, StaysFull}
 use Rattle.pesp_search.specs.Revising.{Touches}
-use Rattle.pesp_search.specs.Flags.{Flags, has_changed, with_flag}
+use Rattle.pesp_search.specs.Flags.{Flags, has_changed}
 use Rattle.pesp_search.specs.Revising.{either, first_left}
 use Rattle.pesp_search.specs.Revising.{keeps_second, keeps_first, noted, second_left}
-use Rattle.pesp_search.proofs.FlagBits.{other_flag, this_flag}
+use Rattle.std.proofs.lemmas.Grind.{get_or-set_at}
+use Rattle.std.proofs.lemmas.List.{get_or-set_other, length-set}
 use Rattle.pesp_search.proofs.Partners.{holds_in_range, range_holds}
 
 -- ---- partners among more times
@@ -64,20 +65,19 @@ module _ (kept : ℕ) (test : ℕ → Bool) where
 -- ---- flags
 
 events_noted : (flags : Flags) (event : ℕ) (is : Bool)
-    → (noted flags event is).events ≡ flags.events
-events_noted flags event true = refl
+    → length (noted flags event is) ≡ length flags
+events_noted flags event true = length-set flags event true
 events_noted flags event false = refl
 
-not_noted : (flags : Flags) (event : ℕ) (is : Bool) (e : ℕ) → event / 64 < length flags.words
+not_noted : (flags : Flags) (event : ℕ) (is : Bool) (e : ℕ) → event < length flags
     → has_changed (noted flags event is) e ≡ false
     → (has_changed flags e ≡ false) × (e ≡ event → is ≡ false)
-not_noted flags event false e within none = (none, λ _. refl)
-not_noted flags event true e within none = elim (cases_eq e event) [
+not_noted flags event false e inside none = (none, λ _. refl)
+not_noted flags event true e inside none = elim (cases_eq e event) [
   | inl same ↦
-      absurd (false≢true (sym none ∙ ap (has_changed (with_flag flags event true)) same
-      ∙ this_flag flags event true within))
+      absurd (false≢true (sym none ∙ get_or-set_at flags event e true false same inside))
   | inr other ↦ (
-    sym (other_flag flags event true within e other) ∙ none,
+    sym (get_or-set_other flags event e true false other) ∙ none,
     λ same. absurd (other same),
   )
 ]
@@ -126,7 +126,7 @@ module _ (before after : Tracked) (kept : ℕ) (test : ℕ → Bool) (changes : 
 
 module _ (activity : PespActivity) (before after : Tracked) (kept : ℕ) (test : ℕ
     → Bool) (changes : Bool)
-    (flags : Flags) (inside : kept / 64 < length flags.words)
+    (flags : Flags) (inside : kept < length flags)
     (so : Prunes before after (kept_test kept test) changes)
     (holds : (left : Left) → IsRevised before.sets.period left activity
     → IsWithin left (is_left before.sets) → (t : ℕ) → left kept t ≡ true → test t ≡ true) where
@@ -152,7 +152,7 @@ module _ (activity : PespActivity) (before after : Tracked) (kept : ℕ) (test :
       fewer_marks event (inr is) = inr (so.fewer is)
 
 pub first_revised : (activity : PespActivity) (before after : Tracked) (changes : Bool)
-    (at : ℕ) (flags : Flags) → activity.from / 64 < length flags.words
+    (at : ℕ) (flags : Flags) → activity.from < length flags
     → Prunes before after (keeps_first before.sets.period (is_left before.sets) activity) changes
     → RevisesFirst activity at before after flags (noted flags activity.from changes)
 first_revised activity before after changes at flags inside so =
@@ -170,7 +170,7 @@ first_revised activity before after changes at flags inside so =
     )
 
 pub second_revised : (activity : PespActivity) (before after : Tracked) (changes : Bool)
-    (at : ℕ) (flags : Flags) → activity.to / 64 < length flags.words
+    (at : ℕ) (flags : Flags) → activity.to < length flags
     → Prunes before after (keeps_second before.sets.period (is_left before.sets) activity) changes
     → RevisesSecond activity at before after flags (noted flags activity.to changes)
 second_revised activity before after changes at flags inside so =

@@ -33,7 +33,7 @@ pub(crate) fn revise(
     requires activity { IsActivity sets.old.sets.events activity }
     requires event { at < sets.old.sets.events }
     requires counted { count.old ≡ length (times_from sets.old.sets at 0) }
-    requires each { changed.old.events ≡ sets.old.sets.events }
+    requires each { length changed.old ≡ sets.old.sets.events }
     ensures revises { OnOk result
         (Revises activity at sets.old sets.new changed.old changed.new) }
     ensures empty { IfOk result (λ is_empty. is_empty ≡ true → HasEmpty sets.new.sets) }
@@ -70,7 +70,7 @@ fn revise_first(
 ) -> Result<bool, NoMemory>
     requires activity { IsActivity sets.old.sets.events activity }
     requires counted { count ≡ length (times_from sets.old.sets at 0) }
-    requires each { changed.old.events ≡ sets.old.sets.events }
+    requires each { length changed.old ≡ sets.old.sets.events }
     ensures revises { OnOk result
         (RevisesFirst activity at sets.old sets.new changed.old changed.new) }
     ensures empty { IfOk result (λ is_empty. is_empty ≡ true → HasEmpty sets.new.sets) }
@@ -95,7 +95,7 @@ fn revise_second(
 ) -> Result<bool, NoMemory>
     requires activity { IsActivity sets.old.sets.events activity }
     requires counted { count ≡ length (times_from sets.old.sets at 0) }
-    requires each { changed.old.events ≡ sets.old.sets.events }
+    requires each { length changed.old ≡ sets.old.sets.events }
     ensures revises { OnOk result
         (RevisesSecond activity at sets.old sets.new changed.old changed.new) }
     ensures empty { IfOk result (λ is_empty. is_empty ≡ true → HasEmpty sets.new.sets) }
@@ -122,11 +122,9 @@ fn is_emptied(sets: &TimeMarks, event: usize, is_changed: bool) -> bool
 
 // Sets the flag of an event if its set has changed.
 fn note(changed: &mut EventFlags, event: usize, is_changed: bool)
-    requires { event < changed.old.events }
-    ensures noted { changed.new ≡ noted changed.old event is_changed }
-    ensures within { event / 64 < length changed.old.words }
+    requires { event < length changed.old }
+    ensures { changed.new ≡ noted changed.old event is_changed }
 {
-    let _ = changed.events();
     if is_changed {
         changed.put(event, true);
     }
