@@ -1,6 +1,6 @@
 -- The drives and waits at the events that they leave, noted one after the other.
 use Rattle.std.proofs.Common.{◌≡◌, ◌∙◌, inl, inr, ℕ, ◌+◌, ◌-◌, ◌<◌, ◌==◌, ◌&&◌, ◌||◌, not, Bool}
-use Rattle.std.proofs.Common.{true, false, cond, List, [], ◌∷◌, ◌++◌, All, Some, filter, find}
+use Rattle.std.proofs.Common.{true, false, cond, List, [], ◌∷◌, ◌++◌, Some, filter, find}
 use Rattle.std.proofs.Common.{get_or, length, slice_get}
 use Rattle.std.proofs.Common.{slice_set, refl, ap, sym, arith}
 use Rattle.std.proofs.lemmas.Bool.{and_parts, cases_Bool, cases_eq, eq-eqb, false≢true, ne_eqb}
