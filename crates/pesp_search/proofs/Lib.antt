@@ -1,7 +1,6 @@
 mod AnyBelow
 mod Changes
 mod Crowded
-mod EmptyMarks
 mod EmptySets
 mod Entries
 mod Families

@@ -228,13 +228,6 @@ module _ (word rest end : ℕ)
           ap (λ n. n % 2) (ap (λ n. n / 2 ^ top) whole
           ∙ div-mul-add 1 (2 ^ top) (rest - 2 ^ top) part)
 
--- a word that is not 0 has a bit
-pub none_at_zero : (word : ℕ) → word < 2 ^ 64 → (word ≡ 0 → ⊥)
-    → (bit : ℕ) × (bit < 64) × (has_bit word bit ≡ true)
-none_at_zero word fits some =
-    let lowest = bit_at-trailing_zeros w64 word (omega (arith, some)) fits in
-    (trailing_zeros w64 word, lowest.0, set_from word (trailing_zeros w64 word) lowest.1)
-
 -- ---- the bits from a place on
 
 or_false : (x y : Bool) → y ≡ false → (x || y) ≡ x

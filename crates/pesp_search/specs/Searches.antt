@@ -1,6 +1,7 @@
 -- Inner words: a search between two entries, and what its call gives. A reader of the contracts of
 -- this crate needs none of them.
-use Rattle.std.specs.Prelude.{◌≡◌, ◌⊎◌, ℕ, ◌+◌, false, List, [], ◌∷◌, Option, Some, None, Vec, Result}
+use Rattle.std.specs.Prelude.{◌≡◌, ◌⊎◌, ℕ, ◌+◌, false, List, [], ◌∷◌, Option, Some, None, Vec}
+use Rattle.std.specs.Prelude.{Result}
 use Rattle.std.specs.Prelude.{Ok, Err}
 use Rattle.std.specs.Prelude.{⊤}
 use Rattle.std.specs.Global.{Global}
@@ -12,7 +13,8 @@ use Rattle.pesp_model.specs.Timetables.{Problem}
 use Rattle.pesp_search.specs.declared.search.Entry.{Entry}
 use Rattle.pesp_search.specs.declared.search.Entry.TheVariants as entries
 use Rattle.pesp_search.specs.declared.search.FoundTimes.{FoundTimes}
-use Rattle.pesp_search.specs.Listings.{Listing, TimesFound, entry, first_sets, in_turn, is_empty, listing}
+use Rattle.pesp_search.specs.Listings.{Listing, TimesFound, entry, first_sets, in_turn, is_empty}
+use Rattle.pesp_search.specs.Listings.{listing}
 use Rattle.pesp_search.specs.Listings.{listing_of}
 use Rattle.pesp_search.specs.Listings.{one_more}
 use Rattle.pesp_search.specs.Listings.{unless_found, with_time}

@@ -1,5 +1,6 @@
 // Flags of events.
-ghost use Rattle.std.specs.Prelude.{◌≡◌, ◌⊎◌, ℕ, ◌+◌, ◌*◌, ◌/◌, ◌<◌, ◌≤◌, ◌==◌, length, true, false};
+ghost use Rattle.std.specs.Prelude.{◌≡◌, ◌⊎◌, ℕ, ◌+◌, ◌*◌, ◌/◌, ◌<◌, ◌≤◌, ◌==◌, length, true};
+ghost use Rattle.std.specs.Prelude.{false};
 ghost use Rattle.std.specs.Prelude.{slice_set, All, IfOk};
 ghost use Rattle.pesp_search.specs.Flags.{IsLastFlag, has_changed, some_changed};
 ghost use Rattle.pesp_search.specs.Marks.{has_bit};

@@ -150,12 +150,7 @@ impl TimeMarks {
         requires event { event < self.now.events }
         ensures { result ≡ is_empty (times_from self.now event 0) }
     {
-        for index in 0..self.width() {
-            if self.word(event, index) != 0 {
-                return false;
-            }
-        }
-        true
+        self.next_left(event, 0).is_none()
     }
 
     /// How many times are left to an event.

@@ -15,10 +15,10 @@ use pesp_model::Pesp;
 use plan_num::NoMemory;
 
 /// Takes times out of the sets of events until each time that is left has its partners on all
-/// activities, or no time is left to some event. The activities at an event are revised, and
-/// again, where its set has changed; flags say which have at first. This is arc consistency, by AC-3
-/// with a worklist of events in the place of one of activities. Tells whether no time is left to
-/// some event.
+/// activities, or no time is left to some event. The activities at an event are revised, and again,
+/// where its set has changed; flags say which have at first. This is arc consistency, by AC-3 with
+/// a worklist of events in the place of one of activities. Tells whether no time is left to some
+/// event.
 pub(crate) fn reduce(
     pesp: &Pesp,
     links: &Links,
