@@ -2,25 +2,32 @@
 use Rattle.std.proofs.Common.{◌≡◌, ◌∙◌, inl, inr, ℕ, zero, suc, ◌+◌, ◌-◌, ◌<◌, ◌≤◌, Bool, true}
 use Rattle.std.proofs.Common.{false, ◌||◌}
 use Rattle.std.proofs.Common.{refl, ap, sym, arith}
-use Rattle.std.proofs.lemmas.Bool.{cases_Bool, cases_eq, cases_lt, false≢true, or_parts}
-use Rattle.pesp_search.specs.Revising.{any_below}
-
-or_true_left : (x y : Bool) → x ≡ true → (x || y) ≡ true
-or_true_left true y is = refl
-or_true_left false y is = absurd (false≢true is)
-
-or_true_right : (x y : Bool) → y ≡ true → (x || y) ≡ true
-or_true_right true y is = refl
-or_true_right false y is = is
+use Rattle.std.proofs.lemmas.Bool.{cases_Bool, cases_eq, cases_lt, false≢true, or_left, or_parts, or_right}
+use Rattle.pesp_search.specs.Marks.{any_below}
 
 -- one that passes
 pub passes_below : (test : ℕ → Bool) (n k : ℕ) → k < n → test k ≡ true → any_below test n ≡ true
 unfolding any_below
 passes_below test zero k low is = absurd (omega (arith, low))
 passes_below test (suc n) k low is = elim (cases_eq k n) [
-  | inl same ↦ or_true_right (any_below test n) _ (ap test (sym same) ∙ is)
-  | inr other ↦ or_true_left _ (test n) (passes_below test n k (omega (arith, low, other)) is)
+  | inl same ↦ or_right (any_below test n) _ (ap test (sym same) ∙ is)
+  | inr other ↦ or_left _ (test n) (passes_below test n k (omega (arith, low, other)) is)
 ]
+
+pub some_below : (test : ℕ → Bool) (n : ℕ) → any_below test n ≡ true
+    → (k : ℕ) × (k < n) × (test k ≡ true)
+unfolding any_below
+some_below test zero some = absurd (false≢true some)
+some_below test (suc n) some = elim (cases_Bool (test n)) [
+  | inl is ↦ (n, omega arith, is)
+  | inr not ↦
+      let rest = some_below test n (sym (or_none (any_below test n) (test n) not) ∙ some) in
+      (rest.0, (let low = rest.1 in omega (arith, low)), rest.2)
+]
+  where
+    or_none : (x y : Bool) → y ≡ false → (x || y) ≡ x
+    or_none true y is = refl
+    or_none false y is = is
 
 -- none does
 pub none_below : (test : ℕ → Bool) (n k : ℕ) → any_below test n ≡ false → k < n → test k ≡ false
@@ -51,10 +58,10 @@ joined_below test n by few = elim (cases_Bool (any_below test (n + by))) [
       ∙ sym none
   | inl some ↦
       elim (cases_Bool (any_below test n)) [
-        | inl first ↦ or_true_left _ _ first ∙ sym some
+        | inl first ↦ or_left _ _ first ∙ sym some
         | inr not_first ↦
             elim (cases_Bool (any_below (λ k. test (by + k)) n)) [
-              | inl later ↦ or_true_right (any_below test n) _ later ∙ sym some
+              | inl later ↦ or_right (any_below test n) _ later ∙ sym some
               | inr not_later ↦
                   absurd (false≢true (sym (fails_below test (n + by) (λ k low. neither not_first
                   not_later k low)) ∙ some))

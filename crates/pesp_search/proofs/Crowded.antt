@@ -7,8 +7,8 @@ use Rattle.std.proofs.lemmas.Bool.{and_parts, cases_Bool, false≢true, le-leb, 
 use Rattle.pesp_model.specs.declared.activity.PespActivity.{PespActivity}
 use Rattle.pesp_model.specs.Timetables.{IsActivity}
 use Rattle.pesp_search.specs.Marks.{AreMarks, Prunes, Tracked, is_left, times_from}
-use Rattle.pesp_search.specs.Revising.{IsRevised, Left, ahead, behind, is_free, keeps_firsts}
-use Rattle.pesp_search.specs.Revising.{keeps_seconds, width_of}
+use Rattle.pesp_search.specs.Revising.{IsRevised, Left, ahead, behind, is_free, keeps_second}
+use Rattle.pesp_search.specs.Revising.{keeps_first, width_of}
 use Rattle.pesp_search.proofs.Partners.{first_reached, second_reached}
 use Rattle.pesp_search.proofs.WindowSums.{crowded}
 
@@ -66,9 +66,9 @@ module _ (activity : PespActivity) (before : Tracked)
   ]
 
   pub crowded_seconds : IsCrowded activity.to
-      → Prunes before before (keeps_seconds period (is_left before.sets) activity) false
+      → Prunes before before (keeps_first period (is_left before.sets) activity) false
   crowded_seconds so =
-      prunes_none before (keeps_seconds period (is_left before.sets) activity)
+      prunes_none before (keeps_first period (is_left before.sets) activity)
       (λ event time left. own event _
       (second_reached period are.some before.sets.events activity is (is_left before.sets) time
       (low event time left)
@@ -77,9 +77,9 @@ module _ (activity : PespActivity) (before : Tracked)
       activity.from)
 
   pub crowded_firsts : IsCrowded activity.from
-      → Prunes before before (keeps_firsts period (is_left before.sets) activity) false
+      → Prunes before before (keeps_second period (is_left before.sets) activity) false
   crowded_firsts so =
-      prunes_none before (keeps_firsts period (is_left before.sets) activity)
+      prunes_none before (keeps_second period (is_left before.sets) activity)
       (λ event time left. own event _
       (first_reached period are.some before.sets.events activity is (is_left before.sets) time
       (low event time left)

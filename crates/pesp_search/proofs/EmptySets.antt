@@ -1,9 +1,10 @@
 -- Sets of times of which one is empty.
 use Rattle.std.proofs.Common.{◌≡◌, ◌∙◌, inl, inr, ℕ, zero, suc, ◌+◌, ◌<◌, ◌≤◌, ◌||◌, Bool, true}
-use Rattle.std.proofs.Common.{false}
+use Rattle.std.proofs.Common.{false, ◌&&◌}
 use Rattle.std.proofs.Common.{List, [], ◌∷◌, length, map, filter, ap, sym, arith}
 use Rattle.std.proofs.Common.{◌⊎◌, ◌-◌, if◌then◌else◌, refl, slice_set, subst}
 use Rattle.std.specs.List.{list_any, range_with_len}
+use Rattle.std.proofs.lemmas.Bool.{and_from, and_parts}
 use Rattle.std.proofs.lemmas.Bool.{cases_Bool, cases_eq, eq-eqb, eqb-true, false≢true, ne_eqb}
 use Rattle.std.proofs.lemmas.Bool.{le-ltb, ltb-false, or_left}
 use Rattle.std.proofs.lemmas.Bool.{or_parts, or_right}
@@ -11,31 +12,19 @@ use Rattle.pesp_search.specs.Listings.{is_empty, times_at_first, with_time}
 use Rattle.pesp_search.specs.Marks.{IsSettled, Marks, Prunes, Tracked, family, is_left, sets_of}
 use Rattle.pesp_search.specs.Marks.{times_from}
 use Rattle.pesp_search.specs.Revising.{HasEmpty, IsFull, IsWithin, Left, StaysFull}
-use Rattle.pesp_search.proofs.Families.{sets_family}
-use Rattle.pesp_search.proofs.Partners.{kept_first, left_out}
+use Rattle.pesp_search.proofs.Families.{filter_twice, sets_family}
+use Rattle.pesp_search.proofs.Partners.{same_tests}
+use Rattle.pesp_search.proofs.ShrinkingSets.{filter_short}
 
 -- fewer times pass where each that passes the one test passes the other
 fewer_pass : (test other : ℕ → Bool) → ((x : ℕ) → test x ≡ true → other x ≡ true) → (xs : List ℕ)
     → length (filter test xs) ≤ length (filter other xs)
-fewer_pass test other more [] = omega arith
-fewer_pass test other more (x ∷ xs) =
-    let rest = fewer_pass test other more xs in
-    elim (cases_Bool (test x)) [
-      | inl is ↦
-          let first = ap length (kept_first test test x xs is) in
-          let second = ap length (kept_first other other x xs (more x is)) in
-          omega (arith, rest, first, second)
-      | inr is ↦
-          let first = ap length (left_out test test x xs is) in
-          elim (cases_Bool (other x)) [
-            | inl kept ↦
-                let second = ap length (kept_first other other x xs kept) in
-                omega (arith, rest, first, second)
-            | inr gone ↦
-                let second = ap length (left_out other other x xs gone) in
-                omega (arith, rest, first, second)
-          ]
-    ]
+fewer_pass test other more xs =
+    let short = filter_short test (filter other xs) in
+    let twice = ap length (filter_twice other test xs) in
+    let same = ap (λ test. length (filter test xs)) (λ i x. same_tests (other x && test x) (test x)
+    (λ is. (and_parts (other x) _ is).1) (λ is. and_from (other x) _ (more x is) is) i) in
+    omega (arith, short, twice, same)
 
 none_more : (few many : List ℕ) → length few ≤ length many → is_empty many ≡ true
     → is_empty few ≡ true

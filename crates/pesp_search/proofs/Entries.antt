@@ -3,7 +3,7 @@ use Rattle.pesp_search.specs.Marks.{IsChildOf, IsSettled, Saved, is_left}
 use Rattle.std.proofs.Common.{◌==◌}
 use Rattle.std.proofs.Common.{inl, inr}
 use Rattle.std.proofs.Common.{◌≡◌, ◌∙◌, ℕ, ◌+◌, ◌<◌, ◌≤◌, true, false, if◌then◌else◌}
-use Rattle.std.proofs.Common.{List, [], ◌∷◌, ◌++◌, map, position, Option, Some, None, is_some, Vec}
+use Rattle.std.proofs.Common.{List, [], ◌∷◌, ◌++◌, length, map, position, Option, Some, None, is_some, Vec}
 use Rattle.std.proofs.Common.{Global}
 use Rattle.std.proofs.Common.{Err, refl, ap, sym, subst, arith}
 use Rattle.std.specs.List.{list_any}
@@ -20,12 +20,12 @@ use Rattle.pesp_search.specs.Listings.{whole_result, with_time}
 use Rattle.pesp_search.specs.Marks.{IsNextChild, Marks, Tracked, sets_of, times_from, waiting}
 use Rattle.pesp_search.specs.Flags.{Flags, has_changed}
 use Rattle.pesp_search.specs.Revising.{AllFrom, AreRevised, IsReady, IsRevised, Reduces, Stands}
-use Rattle.pesp_search.specs.Searches.{Branches, IsSearched, SavesOnce, behind, entry_here}
+use Rattle.pesp_search.specs.Searches.{AreFirst, Branches, IsSearched, SavesOnce, behind, entry_here}
 use Rattle.pesp_search.specs.Searches.{listed_on}
 use Rattle.pesp_search.specs.TimeSets.{left_to, reduced}
 use Rattle.pesp_search.specs.TimeSets.{reduced as all_reduced}
 use Rattle.pesp_search.proofs.EmptySets.{settled_within, with_time_full}
-use Rattle.pesp_search.proofs.Revised.{carried_firsts, carried_seconds}
+use Rattle.pesp_search.proofs.Revised.{carried_second, carried_first}
 use Rattle.pesp_search.proofs.Turns.{first_turn, listed, no_turn, none_behind, turns_append}
 use Rattle.pesp_search.proofs.Turns.{turns_map, unless_one}
 use Rattle.pesp_search.proofs.Unrolled.{unrolls}
@@ -163,7 +163,7 @@ module _ (problem : Problem) (before reduced : Tracked) (so : Reduces problem be
 
   -- and the sets of a child are ready where its event has a flag
   child_ready : (after next : Tracked) (event : ℕ) (flags : Flags)
-      → AreRevised problem after.saved → IsChildOf after next event → flags.events ≡ problem.events
+      → AreRevised problem after.saved → IsChildOf after next event → length flags ≡ problem.events
       → ((other : ℕ) → has_changed flags other ≡ (other == event))
       → IsReady problem next flags
   child_ready after next event flags was child each are =
@@ -175,10 +175,10 @@ module _ (problem : Problem) (before reduced : Tracked) (so : Reduces problem be
             ∙ with_time_full (sets_of child.branched) event child.one parts.1;
         revised = λ i activity at low.
             let is = parts.0 i activity at low in (
-              carried_seconds problem.period (is_left child.branched) (is_left next.sets)
+              carried_first problem.period (is_left child.branched) (is_left next.sets)
                   (λ _. false) (has_changed flags) activity child.within untouched (λ _.
                   is.seconds),
-              carried_firsts problem.period (is_left child.branched) (is_left next.sets)
+              carried_second problem.period (is_left child.branched) (is_left next.sets)
                   (λ _. false) (has_changed flags) activity child.within untouched (λ _. is.firsts),
             );
         saved = subst (AreRevised problem) (sym child.now) (
@@ -201,7 +201,7 @@ module _ (problem : Problem) (before reduced : Tracked) (so : Reduces problem be
 
   pub entry_next : (after : Tracked) (next : Tracked) (event : ℕ) (flags : Flags)
       → Branches reduced after None → IsNextChild after next (Some event)
-      → AreRevised problem before.saved → flags.events ≡ problem.events
+      → AreRevised problem before.saved → length flags ≡ problem.events
       → ((other : ℕ) → has_changed flags other ≡ (other == event))
       → (listed_on problem before ≡ one_more (listed_on problem next))
       × (next.sets.period ≡ before.sets.period)
@@ -221,17 +221,14 @@ module _ (problem : Problem) (before reduced : Tracked) (so : Reduces problem be
 
 -- ---- the first entry, and one more
 
-pub search_begun : (problem : Problem) (sets : Marks) (tracked : Tracked)
-    → tracked ≡ record { sets = sets; saved = [] } → sets.period ≡ problem.period
-    → sets.events ≡ problem.events → sets_of sets ≡ first_sets problem
-    → IsSearched problem tracked 0
+pub search_begun : (problem : Problem) (sets : Tracked) → AreFirst problem sets
+    → IsSearched problem sets 0
 unfolding listing waiting
-search_begun problem sets tracked same period events first = record {
-  period = ap (λ (tracked : Tracked). tracked.sets.period) same ∙ period;
-  events = ap (λ (tracked : Tracked). tracked.sets.events) same ∙ events;
-  listed = sym (behind_none (listed_on problem tracked)
-      ∙ ap (listed_on problem) same
-      ∙ ap (λ sets. in_turn (listing_of problem) (sets ∷ [])) first
+search_begun problem sets are = record {
+  period = are.period;
+  events = are.events;
+  listed = sym (behind_none (listed_on problem sets)
+      ∙ (λ i. in_turn (listing_of problem) (are.first i ∷ waiting (are.saved i)))
       ∙ first_turn (listing_of problem) (first_sets problem) []
       ∙ ap (unless_found (listing_of problem (first_sets problem))) (no_turn (listing_of problem))
       ∙ none_behind (listing_of problem (first_sets problem)));

@@ -1,17 +1,18 @@
 -- The marks at first, and marks of which one time of an event is left.
-use Rattle.std.proofs.Common.{◌≡◌, ◌∙◌, inl, inr, ℕ, zero, suc, ◌+◌, ◌*◌, ◌<◌, ◌≤◌, ◌==◌}
+use Rattle.std.proofs.Common.{◌≡◌, ◌∙◌, inl, inr, ℕ, zero, suc, ◌+◌, ◌<◌, ◌≤◌, ◌==◌}
 use Rattle.std.proofs.Common.{Bool, true, false, not, ◌&&◌, ◌||◌, if◌then◌else◌, List, [], ◌∷◌}
-use Rattle.std.proofs.Common.{map, filter, slice_set}
+use Rattle.std.proofs.Common.{map, filter}
 use Rattle.std.proofs.Common.{refl, ap, sym, arith, Ok}
 use Rattle.std.specs.List.{range_with_len}
-use Rattle.std.proofs.lemmas.Bool.{and_from, and_parts, cases_eq, eq-eqb, ne_eqb}
+use Rattle.std.proofs.lemmas.Bool.{and_from, and_parts, and_right, cases_eq, eq-eqb, ne_eqb}
 use Rattle.pesp_search.specs.Listings.{times_at_first, with_time}
 use Rattle.pesp_search.specs.Marks.{KeepsTime, Marks, Prunes, Tracked, family, is_left, marked}
-use Rattle.pesp_search.specs.Marks.{sets_of, words_of}
+use Rattle.pesp_search.specs.Marks.{sets_of}
 use Rattle.pesp_search.specs.Revising.{Left, stays}
+use Rattle.pesp_search.specs.Searches.{AreFirst}
+use Rattle.pesp_model.specs.Timetables.{Problem}
 use Rattle.pesp_search.proofs.Families.{same_filter, sets_family}
-use Rattle.pesp_search.proofs.Partners.{kept_first, left_out, same_on_range}
-use Rattle.pesp_search.proofs.FirstWords.{AreFirst, left_first, left_later}
+use Rattle.pesp_search.proofs.Partners.{kept_first, left_out, same_on_range, set_on_range}
 use Rattle.pesp_search.proofs.Pruned.{kept_by, prunes_by_bits}
 
 -- ---- filters of a range
@@ -51,63 +52,7 @@ filter_one test one from (suc n) low high is others = elim (cases_eq from one) [
       ∙ filter_one test one (from + 1) n (omega (arith, low, other)) (omega (arith, high)) is others
 ]
 
--- ---- the sets at first
-
-module _ (period events : ℕ) (some : 1 ≤ period) (few : period ≤ 720) (words : List ℕ)
-    (are : AreFirst period words (events * words_of period)) where
-  abbrev sets : Marks
-  sets = record { period = period; events = events; words = words }
-
-  -- only time 0 is left to the first event
-  only_zero : (event : ℕ) → event ≡ 0 → event < events
-      → filter (is_left sets event) (range_with_len 0 period) ≡ 0 ∷ []
-  only_zero event first within =
-      same_filter (is_left sets event) (λ time. time == 0) 0 period (λ time _ small.
-      left_first period events some few words are event time within (omega (arith, small)) first)
-      ∙ filter_one (λ time. time == 0) 0 0 period (omega arith) (omega (arith, some)) refl
-      (λ time other. ne_eqb time 0 other)
-
-  -- and all times to every other one
-  every_time : (event : ℕ) → 1 ≤ event → event < events
-      → filter (is_left sets event) (range_with_len 0 period) ≡ range_with_len 0 period
-  every_time event later within =
-      filter_all (is_left sets event) 0 period (λ time _ small.
-      left_later period events some few words are event time within (omega (arith, small)) later)
-
-  times_are : (event : ℕ) → event < events
-      → filter (is_left sets event) (range_with_len 0 period) ≡ times_at_first period event
-  times_are event within = elim (cases_eq event 0) [
-    | inl first ↦
-        only_zero event first within
-        ∙ sym (ap (λ b. if b then 0 ∷ [] else range_with_len 0 period) (eq-eqb event 0 first))
-    | inr other ↦
-        every_time event (omega (arith, other)) within
-        ∙ sym (ap (λ b. if b then 0 ∷ [] else range_with_len 0 period) (ne_eqb event 0 other))
-  ]
-
-  pub first_sets_are : sets_of sets ≡ map (times_at_first period) (range_with_len 0 events)
-  first_sets_are =
-      sets_family sets
-      ∙ same_on_range (λ event. filter (is_left sets event) (range_with_len 0 period))
-      (times_at_first period) 0 events (λ event _ high. times_are event (omega (arith, high)))
-
 -- ---- one time of an event
-
-set_on_range : {X : Type 0} (set other : ℕ → X) (one : X) (from n i event : ℕ)
-    → from + i ≡ event → i < n
-    → other event ≡ one → ((x : ℕ) → (x ≡ event → ⊥) → other x ≡ set x)
-    → map other (range_with_len from n) ≡ slice_set (map set (range_with_len from n)) i one
-set_on_range set other one from zero i event at low is others = absurd (omega (arith, low))
-set_on_range set other one from (suc n) zero event at low is others =
-    let own : from ≡ event = omega (arith, at) in
-    λ k. (ap other own ∙ is) k
-    ∷ same_on_range other set (from + 1) n
-    (λ x above _. others x (λ same. absurd (omega (arith, same, own, above)))) k
-set_on_range set other one from (suc n) (suc i) event at low is others =
-    let apart : (from ≡ event → ⊥) = λ own. omega (arith, own, at) in
-    λ k. others from apart k
-    ∷ set_on_range set other one (from + 1) n i event (omega (arith, at)) (omega (arith, low)) is
-    others k
 
 module _ (before after : Tracked) (event time : ℕ) (within : event < before.sets.events)
     (small : time < before.sets.period) (left : is_left before.sets event time ≡ true) where
@@ -142,10 +87,6 @@ module _ (before after : Tracked) (event time : ℕ) (within : event < before.se
       and_all true y is = is
       and_all false y is = refl
 
-      and_none : (x y : Bool) → y ≡ false → (x && y) ≡ false
-      and_none true y is = is
-      and_none false y is = refl
-
       here : (t : ℕ) → kept_by event one event t ≡ (t == time)
       here t = ap (λ b. not b || (t == time)) (eq-eqb event event refl)
 
@@ -155,7 +96,7 @@ module _ (before after : Tracked) (event time : ℕ) (within : event < before.se
         small,
       ))
           (and_from _ _ left (here time ∙ eq-eqb time time refl))
-          (λ t other. and_none (is_left before.sets event t) _ (here t ∙ ne_eqb t time other))
+          (λ t other. and_right (is_left before.sets event t) _ (here t ∙ ne_eqb t time other))
 
       others : (e : ℕ) → (e ≡ event → ⊥)
           → filter (after_left e) (range_with_len 0 before.sets.period)
@@ -170,3 +111,63 @@ module _ (before after : Tracked) (event time : ℕ) (within : event < before.se
   keeps_time keep changes is so =
       kept changes (prunes_by_bits {E = ℕ} before after event one keep (Ok changes) (λ other _. is
       other) so)
+
+-- ---- the sets at first
+
+-- all times are left to each event
+abbrev all_sets : ℕ → ℕ → List (List ℕ)
+all_sets period events = map (λ _. range_with_len 0 period) (range_with_len 0 events)
+
+all_are : (marks : Marks)
+    → ((event time : ℕ) → event < marks.events → time < marks.period
+    → is_left marks event time ≡ true)
+    → sets_of marks ≡ all_sets marks.period marks.events
+all_are marks all =
+    sets_family marks
+    ∙ same_on_range (λ event. filter (is_left marks event) (range_with_len 0 marks.period))
+    (λ _. range_with_len 0 marks.period) 0 marks.events
+    (λ event _ high. filter_all (is_left marks event) 0 marks.period
+    (λ time _ low. all event time (omega (arith, high)) (omega (arith, low))))
+
+-- and then time 0 alone to the first one
+one_first : (period events : ℕ) → 0 < events
+    → with_time (all_sets period events) 0 0 ≡ map (times_at_first period) (range_with_len 0 events)
+one_first period events some =
+    sym (set_on_range (λ _. range_with_len 0 period) (times_at_first period) (0 ∷ []) 0 events 0 0
+    (omega arith) some refl
+    (λ event other. ap (λ b. if b then 0 ∷ [] else range_with_len 0 period) (ne_eqb event 0 other)))
+
+module _ (problem : Problem) (marks : Marks) (before : Tracked)
+    (is : before ≡ record { sets = marks; saved = [] }) (period : marks.period ≡ problem.period)
+    (events : marks.events ≡ problem.events)
+    (all : (event time : ℕ) → event < marks.events → time < marks.period
+    → is_left marks event time ≡ true) where
+  same_period : before.sets.period ≡ problem.period
+  same_period = ap (λ (now : Tracked). now.sets.period) is ∙ period
+
+  same_events : before.sets.events ≡ problem.events
+  same_events = ap (λ (now : Tracked). now.sets.events) is ∙ events
+
+  sets_are : sets_of before.sets ≡ all_sets problem.period problem.events
+  sets_are =
+      ap (λ (now : Tracked). sets_of now.sets) is ∙ all_are marks all
+      ∙ (λ i. all_sets (period i) (events i))
+
+  pub first_of_none : problem.events ≡ 0 → AreFirst problem before
+  first_of_none none = record {
+    period = same_period;
+    events = same_events;
+    saved = ap (λ (now : Tracked). now.saved) is;
+    first = sets_are ∙ ap (all_sets problem.period) none
+        ∙ sym (ap (λ n. map (times_at_first problem.period) (range_with_len 0 n)) none);
+  }
+
+  pub first_of_some : (after : Tracked) → 0 < problem.events → KeepsTime before after 0 0
+      → AreFirst problem after
+  first_of_some after some kept = record {
+    period = kept.period ∙ same_period;
+    events = kept.events ∙ same_events;
+    saved = kept.saved ∙ ap (λ (now : Tracked). now.saved) is;
+    first = kept.sets ∙ ap (λ sets. with_time sets 0 0) sets_are
+        ∙ one_first problem.period problem.events some;
+  }

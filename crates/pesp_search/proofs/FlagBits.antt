@@ -1,97 +1,106 @@
--- Flags of events as bits.
-use Rattle.std.proofs.Common.{◌≡◌, ◌∙◌, ◌⊎◌, inl, inr, is_some, Option, ℕ, zero, suc, ◌+◌, ◌-◌, ◌*◌}
-use Rattle.std.proofs.Common.{◌/◌, ◌%◌, ◌^◌, ◌<◌}
-use Rattle.std.proofs.Common.{◌≤◌, ◌==◌}
-use Rattle.std.proofs.Common.{Bool, true, false, not, ◌||◌, min, List, [], ◌∷◌, length, get_or}
-use Rattle.std.proofs.Common.{slice_set, All}
-use Rattle.std.proofs.Common.{Some, None, refl, ap, sym, subst, arith}
-use Rattle.std.specs.List.{list_any}
-use Rattle.std.proofs.lemmas.Bool.{cases_Bool, cases_eq, cases_lt, eq-eqb, eqb-true, false≢true}
-use Rattle.std.proofs.lemmas.Bool.{ne_eqb, or_parts}
-use Rattle.std.proofs.lemmas.List.{get_or-set_other, get_or-set_same, get_or_past, length-set}
-use Rattle.pesp_search.specs.Flags.{AreFlags, Flags, IsClearOutside, IsLastFlag, has_changed}
+-- Flags of events as the bits of words.
+use Rattle.std.proofs.Common.{◌≡◌, ◌∙◌, ◌⊎◌, inl, inr, is_some, Option, ℕ, ◌+◌, ◌-◌, ◌*◌, ◌/◌, ◌%◌, ◌<◌}
+use Rattle.std.proofs.Common.{◌≤◌, ◌==◌, Bool, true, false, min, List, length, get_or, slice_set}
+use Rattle.std.proofs.Common.{All, Some, None, refl, ap, sym, arith}
+use Rattle.std.proofs.lemmas.Bool.{cases_eq, cases_lt, eq-eqb, ne_eqb}
+use Rattle.std.proofs.lemmas.Grind.{get_or-set_at, get_or_default_zero}
+use Rattle.std.proofs.lemmas.List.{get_or-set_other, get_or_past}
+use Rattle.std.proofs.lemmas.List.FromFn.{get_or-map-range_with_len, length-map-range_with_len}
+use Rattle.pesp_search.specs.Flags.{Flags, IsClearOutside, IsLastFlag, flags_of, has_changed}
 use Rattle.pesp_search.specs.Flags.{some_changed}
-use Rattle.pesp_search.specs.Flags.{with_flag}
 use Rattle.pesp_search.specs.Marks.{IsLastBit, has_bit, marked, with_bit}
-use Rattle.pesp_search.proofs.WordBits.{none_at_zero, with_fits, with_other, with_same, zero_bit}
+use Rattle.pesp_search.proofs.AnyBelow.{fails_below, passes_below}
+use Rattle.pesp_search.proofs.Partners.{set_on_range}
+use Rattle.pesp_search.proofs.WordBits.{with_other, with_same, zero_bit}
+
+-- ---- the flags of words
+
+pub size_is : (words : List ℕ) (events : ℕ) (flags : Flags) → flags_of words events ≡ flags
+    → events ≡ length flags
+size_is words events flags is =
+    sym (length-map-range_with_len (marked words) 0 events) ∙ ap length is
+
+pub flag_at : (words : List ℕ) (events event : ℕ) → event < events
+    → has_changed (flags_of words events) event ≡ marked words event
+flag_at words events event low =
+    get_or-map-range_with_len (marked words) 0 events event event false low (omega arith)
+
+pub flag_unset : (words : List ℕ) (events event : ℕ) → marked words event ≡ false
+    → has_changed (flags_of words events) event ≡ false
+flag_unset words events event none = elim (cases_lt event events) [
+  | inl low ↦ flag_at words events event low ∙ none
+  | inr high ↦
+      let size = length-map-range_with_len (marked words) 0 events in
+      get_or_past (flags_of words events) event false (omega (arith, high, size))
+]
+
+pub flags_in : (words : List ℕ) (events : ℕ) (flags : Flags) → flags_of words events ≡ flags
+    → length words ≡ (events + 63) / 64 → (index bit word : ℕ) → word ≡ get_or words index word
+    → bit < 64 → 64 * index + bit < length flags
+    → has_bit word bit ≡ has_changed flags (64 * index + bit)
+flags_in words events flags view size index bit word is small inside =
+    let low : 64 * index + bit < events = omega (arith, inside, size_is words events flags view) in
+    let own : index ≡ (64 * index + bit) / 64 = omega (arith, small) in
+    let place : bit ≡ (64 * index + bit) % 64 = omega (arith, small) in
+    ap (λ word. has_bit word bit)
+    (is ∙ get_or_default_zero words index word (omega (arith, low, size)))
+    ∙ (λ i. has_bit (get_or words (own i) 0) (place i))
+    ∙ sym (flag_at words events (64 * index + bit) low)
+    ∙ ap (λ (flags : Flags). has_changed flags (64 * index + bit)) view
 
 -- ---- one flag
 
-module _ (flags : Flags) (event : ℕ) (flag : Bool) (there : event / 64 < length flags.words) where
-  abbrev now : Flags
-  now = with_flag flags event flag
+-- a word is read, and written with another bit
+module _ (words : List ℕ) (events : ℕ) (flags : Flags) (view : flags_of words events ≡ flags)
+    (size : length words ≡ (events + 63) / 64) (event : ℕ) (inside : event < length flags)
+    (flag : Bool) (old new : ℕ) (was : old ≡ get_or words (event / 64) old)
+    (is : new ≡ with_bit old (event % 64) flag) where
+  abbrev now : List ℕ
+  now = slice_set words (event / 64) new
 
-  word_here : get_or now.words (event / 64) 0
-      ≡ with_bit (get_or flags.words (event / 64) 0) (event % 64) flag
-  word_here = get_or-set_same flags.words (event / 64)
-      (with_bit (get_or flags.words (event / 64) 0) (event % 64) flag) 0 there
+  low : event < events
+  low = omega (arith, inside, size_is words events flags view)
 
-  pub this_flag : has_changed now event ≡ flag
-  this_flag =
-      ap (λ word. has_bit word (event % 64)) word_here
-      ∙ with_same (get_or flags.words (event / 64) 0) (event % 64) flag (omega arith)
+  there : event / 64 < length words
+  there = omega (arith, low, size)
 
-  pub other_flag : (other : ℕ) → (other ≡ event → ⊥)
-      → has_changed now other ≡ has_changed flags other
-  other_flag other apart = elim (cases_eq (other / 64) (event / 64)) [
+  same_word : (other : ℕ) → other / 64 ≡ event / 64
+      → marked now other ≡ has_bit (with_bit old (event % 64) flag) (other % 64)
+  same_word other index =
+      ap (λ word. has_bit word (other % 64))
+      (get_or-set_at words (event / 64) (other / 64) new 0 index there ∙ is)
+
+  this_bit : marked now event ≡ flag
+  this_bit = same_word event refl ∙ with_same old (event % 64) flag (omega arith)
+
+  other_bit : (other : ℕ) → (other ≡ event → ⊥) → marked now other ≡ marked words other
+  other_bit other apart = elim (cases_eq (other / 64) (event / 64)) [
     | inr index ↦
         ap (λ word. has_bit word (other % 64))
-        (get_or-set_other flags.words (event / 64) (other / 64)
-        (with_bit (get_or flags.words (event / 64) 0) (event % 64) flag) 0 index)
+        (get_or-set_other words (event / 64) (other / 64) new 0 index)
     | inl index ↦
         let bits : (other % 64 ≡ event % 64 → ⊥) = λ equal. apart (omega (arith, equal, index)) in
-        let first : other % 64 < 64 = omega arith in
-        let second : event % 64 < 64 = omega arith in
-        ap (λ i. has_bit (get_or now.words i 0) (other % 64)) index
-        ∙ ap (λ word. has_bit word (other % 64)) word_here
-        ∙ with_other (get_or flags.words (event / 64) 0) (event % 64) (other % 64) flag second
-        first bits
-        ∙ ap (λ i. has_bit (get_or flags.words i 0) (other % 64)) (sym index)
+        same_word other index
+        ∙ with_other old (event % 64) (other % 64) flag (omega arith) (omega arith) bits
+        ∙ ap (λ word. has_bit word (other % 64)) (was
+        ∙ get_or_default_zero words (event / 64) old there
+        ∙ ap (λ i. get_or words i 0) (sym index))
   ]
 
-pub flag_within : (flags : Flags) (event : ℕ) → AreFlags flags → event < flags.events
-    → event / 64 < length flags.words
-flag_within flags event are low = omega (arith, are.each, low)
+  pub flag_put : flags_of now events ≡ slice_set flags event flag
+  flag_put =
+      set_on_range (marked words) (marked now) flag 0 events event event (omega arith) low this_bit
+      other_bit
+      ∙ ap (λ (flags : Flags). slice_set flags event flag) view
 
-pub flags_written : (flags : Flags) (event word : ℕ) (flag : Bool) → AreFlags flags
-    → event < flags.events
-    → word ≡ with_bit (get_or flags.words (event / 64) 0) (event % 64) flag
-    → AreFlags (record { events = flags.events; words = slice_set flags.words (event / 64) word })
-flags_written flags event word flag are low new =
-    let there = flag_within flags event are low in
-    subst AreFlags (sym (λ i. record {
-      events = flags.events;
-      words = slice_set flags.words (event / 64) (new i);
-    })) (record {
-      few = are.few;
-      each = length-set flags.words (event / 64) _ ∙ are.each;
-      fit = λ k d h. fits there k d (omega (
-        arith,
-        h,
-        length-set flags.words (event / 64)
-            (with_bit (get_or flags.words (event / 64) 0) (event % 64) flag),
-      ));
-      clear = λ other high.
-          other_flag flags event flag there other (λ same. absurd (omega (arith, same, low, high)))
-          ∙ are.clear other high;
-    })
-  where
-    fits : event / 64 < length flags.words → (k d : ℕ) → k < length flags.words
-        → get_or (with_flag flags event flag).words k d < 2 ^ 64
-    fits there k d h = elim (cases_eq k (event / 64)) [
-      | inl same ↦
-          let word = get_or flags.words (event / 64) 0 in
-          let new = with_bit word (event % 64) flag in
-          let fit : word < 2 ^ 64 = are.fit (event / 64) 0 there in
-          let bit : event % 64 < 64 = omega arith in
-          subst (λ n. n < 2 ^ 64) (sym (ap (λ k. get_or (with_flag flags event flag).words k d) same
-          ∙ get_or-set_same flags.words (event / 64) new d there))
-          (with_fits word (event % 64) flag fit bit)
-      | inr other ↦
-          subst (λ n. n < 2 ^ 64) (sym (get_or-set_other flags.words (event / 64) k
-          (with_bit (get_or flags.words (event / 64) 0) (event % 64) flag) d other))
-          (are.fit k d h)
-    ]
+  pub outside_put : (low high less more : ℕ) → IsClearOutside low high words → less ≤ low
+      → less ≤ event / 64 → high ≤ more → event / 64 + 1 ≤ more → IsClearOutside less more now
+  outside_put low high less more so one two three four other (inl below) =
+      other_bit other (λ same. absurd (omega (arith, below, same, two)))
+      ∙ so other (inl (omega (arith, below, one)))
+  outside_put low high less more so one two three four other (inr above) =
+      other_bit other (λ same. absurd (omega (arith, above, same, four)))
+      ∙ so other (inr (omega (arith, above, three)))
 
 -- ---- none
 
@@ -104,83 +113,6 @@ all_zero words zeros event = elim (cases_lt (event / 64) (length words)) [
       ∙ zero_bit (event % 64)
 ]
 
-pub none_flagged : (events : ℕ) (words : List ℕ) → events ≤ 4000 → length words ≡ (events + 63) / 64
-    → All (λ word. word ≡ 0) words → AreFlags (record { events = events; words = words })
-none_flagged events words few each zeros = record {
-  few = few;
-  each = each;
-  fit = λ k d h. subst (λ n. n < 2 ^ 64) (sym (zeros k d h)) (omega arith);
-  clear = λ event high. all_zero words zeros event;
-}
-
-pub none_outside : (words : List ℕ) (low high : ℕ) → All (λ word. word ≡ 0) words
-    → IsClearOutside low high words
-none_outside words low high zeros index _ = elim (cases_lt index (length words)) [
-  | inl inside ↦ zeros index 0 inside
-  | inr past ↦ get_or_past words index 0 past
-]
-
-pub outside_written : (words : List ℕ) (low high less more index word : ℕ)
-    → IsClearOutside low high words → less ≤ low → less ≤ index → high ≤ more → index + 1 ≤ more
-    → IsClearOutside less more (slice_set words index word)
-outside_written words low high less more index word so one two three four i (inl below) =
-    get_or-set_other words index i word 0 (λ same. absurd (omega (arith, below, same, two)))
-    ∙ so i (inl (omega (arith, below, one)))
-outside_written words low high less more index word so one two three four i (inr above) =
-    get_or-set_other words index i word 0 (λ same. absurd (omega (arith, above, same, four)))
-    ∙ so i (inr (omega (arith, above, three)))
-
-flag_outside : (flags : Flags) (low high event : ℕ) → IsClearOutside low high flags.words
-    → (event / 64 < low) ⊎ (high ≤ event / 64) → has_changed flags event ≡ false
-flag_outside flags low high event so where_is =
-    ap (λ word. has_bit word (event % 64)) (so (event / 64) where_is) ∙ zero_bit (event % 64)
-
--- ---- whether some flag is set
-
-word_of_none : (words : List ℕ) → list_any (λ word. not (word == 0)) words ≡ false → (i : ℕ)
-    → get_or words i 0 ≡ 0
-word_of_none [] none i = refl
-word_of_none (word ∷ words) none zero =
-    let first = (or_parts (not (word == 0)) _ none).0 in
-    elim (cases_Bool (word == 0)) [
-      | inl is ↦ eqb-true word 0 is
-      | inr other ↦ absurd (false≢true (sym first ∙ ap not other))
-    ]
-word_of_none (word ∷ words) none (suc i) = word_of_none words (or_parts (not (word == 0)) _
-    none).1 i
-
-pub no_flag : (flags : Flags) → some_changed flags ≡ false → (event : ℕ)
-    → has_changed flags event ≡ false
-unfolding some_changed
-no_flag flags none event =
-    ap (λ word. has_bit word (event % 64)) (word_of_none flags.words none (event / 64))
-    ∙ zero_bit (event % 64)
-
--- a word that is not 0
-pub some_word : (words : List ℕ) → list_any (λ word. not (word == 0)) words ≡ true
-    → (i : ℕ) × (i < length words) × (get_or words i 0 ≡ 0 → ⊥)
-some_word [] some = absurd (false≢true some)
-some_word (word ∷ words) some = elim (cases_eq word 0) [
-  | inr other ↦ (0, omega arith, other)
-  | inl none ↦
-      let rest : list_any (λ word. not (word == 0)) words ≡ true =
-      sym (ap (λ b. not b || list_any (λ word. not (word == 0)) words) (eq-eqb word 0 none))
-      ∙ some in
-      let found = some_word words rest in
-      (suc found.0, (let low = found.1 in omega (arith, low)), found.2)
-]
-
-pub some_flag : (flags : Flags) → AreFlags flags → some_changed flags ≡ true
-    → (event : ℕ) × (has_changed flags event ≡ true)
-unfolding some_changed
-some_flag flags are some =
-    let found = some_word flags.words some in
-    let word = get_or flags.words found.0 0 in
-    let bit = none_at_zero word (are.fit found.0 0 found.1) found.2 in
-    let index : (64 * found.0 + bit.0) / 64 ≡ found.0 = (let low = bit.1 in omega (arith, low)) in
-    let place : (64 * found.0 + bit.0) % 64 ≡ bit.0 = (let low = bit.1 in omega (arith, low)) in
-    (64 * found.0 + bit.0, (λ i. has_bit (get_or flags.words (index i) 0) (place i)) ∙ bit.2)
-
 -- ---- the last flag before one
 
 -- none is set in the words so far, from the last one on
@@ -188,120 +120,78 @@ abbrev pub NoneFrom : Flags → ℕ → ℕ → Type 0
 NoneFrom flags end index =
     (event : ℕ) → 64 * index ≤ event → event < end → has_changed flags event ≡ false
 
-pub none_behind : (flags : Flags) (end low high index : ℕ) → AreFlags flags
-    → IsClearOutside low high flags.words
-    → index ≡ min ((min end flags.events + 63) / 64) high → NoneFrom flags end index
-none_behind flags end low high index are so is event above less =
-    elim (cases_lt (event / 64) high) [
-      | inr past ↦ flag_outside flags low high event so (inr past)
-      | inl inside ↦ elim (cases_lt event flags.events) [
-        | inl within ↦ absurd (omega (arith, above, is, less, within, inside))
-        | inr behind ↦ are.clear event behind
-      ]
-    ]
+module _ (flags : Flags) (end low high index : ℕ)
+    (clear : (event : ℕ) → (event / 64 < low) ⊎ (high ≤ event / 64)
+    → has_changed flags event ≡ false) where
+  pub none_behind : index ≡ min ((end + 63) / 64) high → NoneFrom flags end index
+  none_behind is event above less = elim (cases_lt (event / 64) high) [
+    | inr past ↦ clear event (inr past)
+    | inl inside ↦ absurd (omega (arith, above, is, less, inside))
+  ]
 
-pub none_before : (flags : Flags) (end low high index : ℕ) → IsClearOutside low high flags.words
-    → index ≤ low → NoneFrom flags end index → IsLastFlag flags end None
-none_before flags end low high index outside few so event less =
-    elim (cases_lt event (64 * index)) [
-      | inr above ↦ so event above less
-      | inl below ↦ flag_outside flags low high event outside (inl (omega (arith, below, few)))
-    ]
+  pub none_before : index ≤ low → NoneFrom flags end index → IsLastFlag flags end None
+  none_before few so event less = elim (cases_lt event (64 * index)) [
+    | inr above ↦ so event above less
+    | inl below ↦ clear event (inl (omega (arith, below, few)))
+  ]
 
-module _ (flags : Flags) (index end : ℕ) (are : AreFlags flags)
+module _ (flags : Flags) (index end word : ℕ) (within : end ≤ length flags)
+    (at : (bit : ℕ) → bit < 64 → 64 * index + bit < length flags
+    → has_bit word bit ≡ has_changed flags (64 * index + bit))
     (so : NoneFrom flags end (index + 1)) where
-  at : (bit : ℕ) → bit < 64
-      → has_changed flags (64 * index + bit) ≡ has_bit (get_or flags.words index 0) bit
-  at bit small =
-      let own : (64 * index + bit) / 64 ≡ index = omega (arith, small) in
-      let place : (64 * index + bit) % 64 ≡ bit = omega (arith, small) in
-      λ i. has_bit (get_or flags.words (own i) 0) (place i)
-
   none_above : (bit : ℕ) → ((other : ℕ) → other < 64 → bit ≤ other → other < end - 64 * index
-      → has_bit (get_or flags.words index 0) other ≡ false)
+      → has_bit word other ≡ false)
       → (event : ℕ) → 64 * index + bit ≤ event → event < end → has_changed flags event ≡ false
   none_above bit none event high low = elim (cases_lt event (64 * (index + 1))) [
     | inr behind ↦ so event behind low
     | inl here ↦
         let place : 64 * index + (event - 64 * index) ≡ event = omega (arith, high) in
         let small : event - 64 * index < 64 = omega (arith, here, high) in
-        ap (has_changed flags) (sym place) ∙ at (event - 64 * index) small
+        ap (has_changed flags) (sym place)
+        ∙ sym (at (event - 64 * index) small (omega (arith, place, low, within)))
         ∙ none (event - 64 * index) small (omega (arith, high)) (omega (arith, high, low))
   ]
 
-  pub last_flag : (bit : ℕ)
-      → IsLastBit (get_or flags.words index 0) (end - 64 * index) (Some bit)
+  pub last_flag : (bit : ℕ) → IsLastBit word (end - 64 * index) (Some bit)
       → IsLastFlag flags end (Some (64 * index + bit))
   last_flag bit last =
-      let set = at bit last.1 ∙ last.2 in (
-        (let low = last.0 in omega (arith, low)),
-        inside (64 * index + bit) set,
-        set,
-        λ event above low. none_above (bit + 1)
+      let low : 64 * index + bit < end = (let low = last.0 in omega (arith, low)) in (
+        low,
+        sym (at bit last.1 (omega (arith, low, within))) ∙ last.2,
+        λ event above less. none_above (bit + 1)
             (λ other small high few. last.3 other small (omega (arith, high)) few) event
-            (omega (arith, above)) low,
+            (omega (arith, above)) less,
       )
-    where
-      inside : (event : ℕ) → has_changed flags event ≡ true → event < flags.events
-      inside event set = elim (cases_lt event flags.events) [
-        | inl low ↦ low
-        | inr high ↦ absurd (false≢true (sym (are.clear event high) ∙ set))
-      ]
 
-  pub no_last_flag : IsLastBit (get_or flags.words index 0) (end - 64 * index) None
-      → NoneFrom flags end index
-  no_last_flag none event high low =
-      none_above 0 (λ other small _ few. none other small few) event (omega (arith, high)) low
-
-pub some_by_last : (flags : Flags) (found : Option ℕ) → AreFlags flags
-    → IsLastFlag flags flags.events found → is_some found ≡ some_changed flags
-some_by_last flags None are none = elim (cases_Bool (some_changed flags)) [
-  | inr is ↦ sym is
-  | inl some ↦
-      let found = some_flag flags are some in
-      elim (cases_lt found.0 flags.events) [
-        | inl low ↦ absurd (false≢true (sym (none found.0 low) ∙ found.1))
-        | inr high ↦ absurd (false≢true (sym (are.clear found.0 high) ∙ found.1))
-      ]
-]
-some_by_last flags (Some last) are so = elim (cases_Bool (some_changed flags)) [
-  | inl is ↦ sym is
-  | inr none ↦ absurd (false≢true (sym (no_flag flags none last) ∙ so.2))
-]
+pub some_by_last : (flags : Flags) (end : ℕ) (found : Option ℕ) → end ≡ length flags
+    → IsLastFlag flags end found → is_some found ≡ some_changed flags
+some_by_last flags end None all none =
+    sym (fails_below (has_changed flags) (length flags) (λ event low. none event (omega (
+      arith,
+      low,
+      all,
+    ))))
+some_by_last flags end (Some last) all so =
+    sym (passes_below (has_changed flags) (length flags) last
+    (let low = so.0 in omega (arith, low, all)) so.1)
 
 -- ---- flags that are set one after the other
 
-pub one_set : (flags after : Flags) (event : ℕ) → event / 64 < length flags.words
-    → after ≡ with_flag flags event true → ((other : ℕ) → has_changed flags other ≡ false)
-    → (other : ℕ)
-    → has_changed after other ≡ (other == event)
-one_set flags after event there is none other =
-    ap (λ flags. has_changed flags other) is
-    ∙ elim (cases_eq other event) [
-      | inl same ↦
-          ap (has_changed (with_flag flags event true)) same ∙ this_flag flags event true there
-          ∙ sym (eq-eqb other event same)
-      | inr apart ↦
-          other_flag flags event true there other apart ∙ none other
-          ∙ sym (ne_eqb other event apart)
-    ]
+pub one_set : (flags : Flags) (event : ℕ) → event < length flags
+    → ((other : ℕ) → has_changed flags other ≡ false) → (other : ℕ)
+    → has_changed (slice_set flags event true) other ≡ (other == event)
+one_set flags event inside none other = elim (cases_eq other event) [
+  | inl same ↦ get_or-set_at flags event other true false same inside
+      ∙ sym (eq-eqb other event same)
+  | inr apart ↦ get_or-set_other flags event other true false apart ∙ none other
+      ∙ sym (ne_eqb other event apart)
+]
 
--- where no flag is left
-pub none_left_over : (flags : Flags) (words : List ℕ) → AreFlags flags
-    → length words ≡ length flags.words → All (λ word. word ≡ 0) words
-    → AreFlags (record { events = flags.events; words = words })
-none_left_over flags words are each zeros =
-    none_flagged flags.events words are.few (each ∙ are.each) zeros
-
-pub one_more_set : (flags after : Flags) (event : ℕ) → event / 64 < length flags.words
-    → after ≡ with_flag flags event true
+pub one_more_set : (flags : Flags) (event : ℕ) → event < length flags
     → ((other : ℕ) → other < event → has_changed flags other ≡ true) → (other : ℕ)
-    → other < event + 1 → has_changed after other ≡ true
-one_more_set flags after event there is so other low =
-    ap (λ flags. has_changed flags other) is
-    ∙ elim (cases_eq other event) [
-      | inl same ↦ ap (has_changed (with_flag flags event true)) same
-          ∙ this_flag flags event true there
-      | inr apart ↦ other_flag flags event true there other apart
-          ∙ so other (omega (arith, low, apart))
-    ]
+    → other < event + 1 → has_changed (slice_set flags event true) other ≡ true
+one_more_set flags event inside so other low = elim (cases_eq other event) [
+  | inl same ↦ get_or-set_at flags event other true false same inside
+  | inr apart ↦ get_or-set_other flags event other true false apart
+      ∙ so other (omega (arith, low, apart))
+]

@@ -3,7 +3,7 @@ use Rattle.std.proofs.Common.{◌≡◌, ◌∙◌, ℕ, zero, suc, ◌+◌, ◌
 use Rattle.std.proofs.Common.{not, ◌&&◌, ◌||◌, List, [], ◌∷◌, get_or, length, position, All}
 use Rattle.std.proofs.Common.{filter, slice_index_or, Option, Some, None, is_some, refl, ap, sym, subst, arith}
 use Rattle.std.specs.List.{AllByRecursion, list_all, list_any}
-use Rattle.std.proofs.lemmas.Bool.{and_parts, eq-eqb, eqb-true, ltb-true, ltb-false, or_right}
+use Rattle.std.proofs.lemmas.Bool.{and_parts, eq-eqb, eqb-true, ltb-true, ltb-false, or_parts, or_right}
 use Rattle.std.proofs.lemmas.List.{get_or_default, length-map, length-set}
 use Rattle.std.proofs.lemmas.List.Sums.{AllPass-from_list_all}
 use Rattle.pesp_model.specs.declared.activity.PespActivity.{PespActivity}
@@ -64,10 +64,6 @@ set_below period (set ∷ sets) zero inside each = each.0
 set_below period (set ∷ sets) (suc event) inside each =
     set_below period sets event (omega (arith, inside)) each.1
 
-none_of : (a b : Bool) → (a || b) ≡ false → (a ≡ false) × (b ≡ false)
-none_of true b is = absurd (cc)
-none_of false b is = (refl, is)
-
 alone : (b : Bool) → (b || false) ≡ true → b ≡ true
 alone true is = refl
 alone false is = absurd (cc)
@@ -114,9 +110,9 @@ module _ (sets : List (List ℕ)) (few : All (λ set. has_several set ≡ false)
       none_at : (test : List ℕ → Bool) (sets : List (List ℕ)) (event : ℕ) → event < length sets
           → list_any test sets ≡ false → test (left_to sets event) ≡ false
       none_at test [] event inside none = absurd (omega (arith, inside))
-      none_at test (set ∷ sets) zero inside none = (none_of (test set) (list_any test sets) none).0
+      none_at test (set ∷ sets) zero inside none = (or_parts (test set) (list_any test sets) none).0
       none_at test (set ∷ sets) (suc event) inside none =
-          none_at test sets event (omega (arith, inside)) (none_of (test set) (list_any test sets) none).1
+          none_at test sets event (omega (arith, inside)) (or_parts (test set) (list_any test sets) none).1
 
   first_below : (period event : ℕ) → event < length sets → AreBelow period sets
       → time_of (first_times sets) event < period

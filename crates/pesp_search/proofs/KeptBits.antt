@@ -1,5 +1,5 @@
 -- Words of which some bits stay.
-use Rattle.std.proofs.Common.{◌≡◌, ◌∙◌, ℕ, ◌+◌, ◌*◌, ◌%◌, ◌^◌, ◌<◌, bit_and, true, false, ◌&&◌}
+use Rattle.std.proofs.Common.{◌≡◌, ◌∙◌, ℕ, ◌+◌, ◌*◌, ◌%◌, ◌<◌, bit_and, true, false, ◌&&◌}
 use Rattle.std.proofs.Common.{get_or, slice_set, refl, ap, subst, sym, arith}
 use Rattle.std.proofs.lemmas.Bool.{false≢true}
 use Rattle.std.proofs.lemmas.List.{set-get_or}
@@ -9,23 +9,16 @@ use Rattle.pesp_search.specs.Marks.{word_at, words_of}
 use Rattle.pesp_search.proofs.WordBits.{and_bit}
 
 pub word_fits : (sets : Marks) (place word : ℕ) → AreMarks sets
-    → place < sets.events * words_of sets.period
     → word ≡ get_or sets.words place 0 → IsWord sets.period sets.events place word
-word_fits sets place word are within was = (
-  subst (λ word. word < 2 ^ 64) (sym was) (are.fit place 0 (omega (arith, within, are.each))),
-  λ event time low high few at.
-      ap (λ word. has_bit word (time % 64)) (was ∙ ap (λ place. get_or sets.words place 0) (sym at))
-      ∙ are.clear event time low high few,
-)
+word_fits sets place word are was event time low high few at =
+    ap (λ word. has_bit word (time % 64)) (was ∙ ap (λ place. get_or sets.words place 0) (sym at))
+    ∙ are.clear event time low high few
 
 pub kept_fits : (period events place word keep : ℕ) → IsWord period events place word
     → IsWord period events place (bit_and word keep)
-kept_fits period events place word keep fit = (
-  (let less = and_le_l word keep in let few = fit.0 in omega (arith, less, few)),
-  λ event time low high few at.
-      and_bit word keep (time % 64)
-      ∙ ap (λ b. b && has_bit keep (time % 64)) (fit.1 event time low high few at),
-)
+kept_fits period events place word keep fit event time low high few at =
+    and_bit word keep (time % 64)
+    ∙ ap (λ b. b && has_bit keep (time % 64)) (fit event time low high few at)
 
 module _ (before : Tracked) (event index place word keep : ℕ) (are : AreMarks before.sets)
     (at : place ≡ event * words_of before.sets.period + index)

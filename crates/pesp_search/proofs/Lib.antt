@@ -1,12 +1,11 @@
 mod AnyBelow
 mod Changes
 mod Crowded
-mod EmptyMarks
 mod EmptySets
 mod Entries
 mod Families
 mod FirstMarks
-mod FirstWords
+mod FullMarks
 mod FlagBits
 mod FoundTimes
 mod JudgedTimes

@@ -1,13 +1,13 @@
 -- Marks of times as bits, and one word that is replaced.
-use Rattle.std.proofs.Common.{◌≡◌, ◌∙◌, inl, inr, ℕ, zero, suc, ◌+◌, ◌-◌, ◌*◌, ◌/◌, ◌%◌, ◌^◌, ◌<◌}
+use Rattle.std.proofs.Common.{◌≡◌, ◌∙◌, inl, inr, ℕ, zero, suc, ◌+◌, ◌-◌, ◌*◌, ◌/◌, ◌%◌, ◌<◌}
 use Rattle.std.proofs.Common.{◌≤◌}
-use Rattle.std.proofs.Common.{nat_lt, Bool, true, false, ◌&&◌, List, [], ◌∷◌, length, get_or}
+use Rattle.std.proofs.Common.{nat_lt, Bool, true, false, List, length, get_or}
 use Rattle.std.proofs.Common.{slice_set, sum}
-use Rattle.std.proofs.Common.{max, Some, None, refl, ap, sym, subst, arith}
+use Rattle.std.proofs.Common.{max, Some, None, ap, sym, arith}
 use Rattle.std.proofs.Math.Nat.{mul-le-mul_right}
-use Rattle.std.proofs.lemmas.Bool.{and_from, cases_eq, cases_lt, false≢true, lt-ltb}
+use Rattle.std.proofs.lemmas.Bool.{and_from, and_right, cases_eq, cases_lt, false≢true, lt-ltb}
 use Rattle.std.proofs.lemmas.List.{get_or-set_other, get_or-set_same, get_or_past, length-set}
-use Rattle.std.proofs.lemmas.List.{set-get_or}
+use Rattle.std.proofs.lemmas.List.{set-get_or, set-set}
 use Rattle.std.proofs.lemmas.List.Sums.{sum_by-set}
 use Rattle.std.proofs.lemmas.Nat.{div-mul-add}
 use Rattle.pesp_search.specs.Marks.{AreMarks, IsFirstBit, IsNext, IsWord, Marks, has_bit, is_left}
@@ -62,27 +62,15 @@ word_kept sets place word are within fit =
       each = length-set sets.words place word ∙ are.each;
       some = are.some;
       few = are.few;
-      fit = λ k d h. fits there k d (omega (arith, h, length-set sets.words place word));
       clear = λ e t low high few. elim (cases_eq (place_of sets.period e t) place) [
         | inl at ↦
             ap (λ word. has_bit word (t % 64)) (this_word sets place word there e t at)
-            ∙ fit.1 e t low high few at
+            ∙ fit e t low high few at
         | inr apart ↦
             ap (λ word. has_bit word (t % 64)) (other_word sets place word there e t apart)
             ∙ are.clear e t low high few
       ];
     }
-  where
-    fits : place < length sets.words → (k d : ℕ) → k < length sets.words
-        → get_or (with_word sets place word).words k d < 2 ^ 64
-    fits there k d h = elim (cases_eq k place) [
-      | inl same ↦
-          subst (λ n. n < 2 ^ 64) (sym (ap (λ k. get_or (with_word sets place word).words k d) same
-          ∙ get_or-set_same sets.words place word d there)) fit.0
-      | inr other ↦
-          subst (λ n. n < 2 ^ 64) (sym (get_or-set_other sets.words place k word d other))
-          (are.fit k d h)
-    ]
 
 -- ---- sums
 
@@ -94,18 +82,11 @@ sum_less words i word less = elim (cases_lt i (length words)) [
 ]
 
 -- a word that was replaced and put back
-set_twice : (words : List ℕ) (i first second : ℕ)
-    → slice_set (slice_set words i first) i second ≡ slice_set words i second
-set_twice [] i first second = refl
-set_twice (word ∷ words) zero first second = refl
-set_twice (word ∷ words) (suc i) first second = ap (λ rest. word ∷ rest) (set_twice words i first
-    second)
-
 pub word_again : (sets : Marks) (place word other : ℕ) → word ≡ get_or sets.words place 0
     → with_word (with_word sets place other) place word ≡ sets
 word_again sets place word other was =
     ap (λ words. record { period = sets.period; events = sets.events; words = words })
-    (set_twice sets.words place other word ∙ ap (slice_set sets.words place) was
+    (set-set sets.words place other word ∙ ap (slice_set sets.words place) was
     ∙ set-get_or sets.words place 0)
 
 -- ---- the next time
@@ -135,10 +116,6 @@ abbrev pub NoneLeft : Marks → ℕ → ℕ → ℕ → Type 0
 NoneLeft sets event from end =
     (time : ℕ) → from ≤ time → time < end → is_left sets event time ≡ false
 
-and_none : (x y : Bool) → y ≡ false → (x && y) ≡ false
-and_none true y is = is
-and_none false y is = refl
-
 module _ (sets : Marks) (event index from start word : ℕ) (are : AreMarks sets)
     (inside : event < sets.events) (within : index < words_of sets.period)
     (begins : start ≡ max from (64 * index) - 64 * index)
@@ -158,7 +135,7 @@ module _ (sets : Marks) (event index from start word : ℕ) (are : AreMarks sets
     | inr after ↦
         let place : 64 * index + (time - 64 * index) ≡ time = omega (arith, after) in
         let small : time - 64 * index < end = omega (arith, high, after) in
-        and_none (nat_lt time sets.period) _ (ap (bit_there sets event) (sym place)
+        and_right (nat_lt time sets.period) _ (ap (bit_there sets event) (sym place)
         ∙ sym (at (time - 64 * index) (omega (arith, small, few)))
         ∙ none (time - 64 * index) (omega (arith, begins, low, after)) small)
   ]

@@ -1,9 +1,11 @@
 -- The times that are left to an event, one after the other.
 use Rattle.std.proofs.Common.{◌≡◌, ◌∙◌, ℕ, suc, ◌+◌, ◌-◌, ◌<◌, ◌≤◌, Bool, true, false, List, []}
 use Rattle.std.proofs.Common.{◌∷◌}
-use Rattle.std.proofs.Common.{cond, filter, ap, arith}
+use Rattle.std.proofs.Common.{cond, filter, is_some, length, not, Option, Some, None, ap, arith, sym}
 use Rattle.std.specs.List.{range_with_len}
-use Rattle.pesp_search.specs.Marks.{Marks, is_left, times_from}
+use Rattle.std.proofs.lemmas.Bool.{false≢true, ne_eqb}
+use Rattle.pesp_search.specs.Listings.{is_empty}
+use Rattle.pesp_search.specs.Marks.{IsNext, Marks, is_left, times_from}
 
 range_more : (from end : ℕ) → from < end
     → range_with_len from (end - from) ≡ from ∷ range_with_len (from + 1) (end - (from + 1))
@@ -41,3 +43,14 @@ pub no_more : (sets : Marks) (event time : ℕ) → sets.period ≤ time
     → times_from sets event time ≡ []
 no_more sets event time none =
     ap (filter (is_left sets event)) (range_none time sets.period none)
+
+-- no time is left where there is no first one
+pub empty_by_next : (sets : Marks) (event : ℕ) (found : Option ℕ) (none_is : Bool)
+    → is_some found ≡ not none_is → IsNext sets event 0 found
+    → none_is ≡ is_empty (times_from sets event 0)
+empty_by_next sets event None true is none = sym (ap is_empty none)
+empty_by_next sets event None false is none = absurd (false≢true is)
+empty_by_next sets event (Some time) true is next = absurd (false≢true (sym is))
+empty_by_next sets event (Some time) false is next =
+    sym (ap is_empty next.2 ∙ ne_eqb (length (time ∷ times_from sets event (time + 1))) 0
+    (λ none. absurd (omega (arith, none))))

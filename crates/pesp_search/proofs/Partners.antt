@@ -2,17 +2,19 @@
 use Rattle.std.proofs.Common.{◌≡◌, ◌∙◌, inl, inr, ℕ, zero, suc, ℤ, pos, negsuc, ◌+◌, ◌-◌, ◌*◌, ◌/◌}
 use Rattle.std.proofs.Common.{◌%◌, ◌<◌, ◌≤◌, ◌≤ℤ◌, ◌-ℤ◌, min}
 use Rattle.std.proofs.Common.{Bool, true, false, cond, List, [], ◌∷◌, map, filter, Decides, refl}
-use Rattle.std.proofs.Common.{ap, sym, arith, unsigned_abs}
-use Rattle.std.specs.List.{list_any, range_with_len}
+use Rattle.std.proofs.Common.{ap, sym, arith, slice_set, unsigned_abs}
+use Rattle.std.specs.List.{list_all, list_any, range_with_len}
 use Rattle.std.proofs.Math.Nat.{add-mod-mod, mod-add-mod, mod-add-div', add-mul-mod_self_right}
 use Rattle.std.proofs.Math.Nat.{add-mod_right, mod-eq_of_lt, mod-lt}
-use Rattle.std.proofs.lemmas.Bool.{cases_Bool, cases_eq, or_cases, or_left, or_right, false≢true}
+use Rattle.std.proofs.lemmas.Bool.{and_parts, cases_Bool, cases_eq, false≢true, or_cases, or_left}
+use Rattle.std.proofs.lemmas.Bool.{or_right}
 use Rattle.std.proofs.lemmas.Int.{ints}
 use Rattle.std.proofs.lemmas.List.Elements.{All-cons, All-nil}
 use Rattle.pesp_model.specs.declared.activity.PespActivity.{PespActivity}
 use Rattle.pesp_model.specs.Timetables.{IsActivity, IsKept, keeps}
 use Rattle.pesp_model.proofs.Keeping.{test_tells}
-use Rattle.pesp_search.specs.Revising.{ahead, any_below, behind, first_left, reaches, second_left}
+use Rattle.pesp_search.specs.Revising.{ahead, behind, first_left, reaches, second_left}
+use Rattle.pesp_search.proofs.AnyBelow.{passes_below, some_below}
 use Rattle.pesp_search.specs.Revising.{width_of}
 
 -- ---- tests that hold somewhere
@@ -21,26 +23,6 @@ pub same_tests : (b c : Bool) → (b ≡ true → c ≡ true) → (c ≡ true �
 same_tests true c to from = sym (to refl)
 same_tests false true to from = absurd (false≢true (from refl))
 same_tests false false to from = refl
-
-module _ (test : ℕ → Bool) where
-  pub below_holds : (n k : ℕ) → k < n → test k ≡ true → any_below test n ≡ true
-  unfolding any_below
-  below_holds zero k h is = absurd (omega (arith, h))
-  below_holds (suc n) k h is =
-      elim (cases_eq k n) [
-        | inl same ↦ or_right (any_below test n) (test n) (ap test (sym same) ∙ is)
-        | inr other ↦ or_left (any_below test n) (test n) (below_holds n k (omega (arith, h, other)) is)
-      ]
-
-  pub holds_below : (n : ℕ) → any_below test n ≡ true → (k : ℕ) × (k < n) × (test k ≡ true)
-  unfolding any_below
-  holds_below zero is = absurd (false≢true is)
-  holds_below (suc n) is =
-      elim (or_cases (any_below test n) (test n) is) [
-        | inl some ↦ let found = holds_below n some in
-            (found.0, omega (arith, found.1), found.2)
-        | inr last ↦ (n, omega arith, last)
-      ]
 
 module _ (left test : ℕ → Bool) where
   pub kept_first : (x : ℕ) (xs : List ℕ) → left x ≡ true → filter left (x ∷ xs) ≡ x ∷ filter left xs
@@ -83,6 +65,26 @@ module _ (left test : ℕ → Bool) where
           → (x : ℕ) × (from ≤ x) × (x < from + suc n) × (left x ≡ true) × (test x ≡ true)
       later found = (found.0, omega (arith, found.1), omega (arith, found.2), found.3, found.4)
 
+  -- each that is left passes
+  pub all_in_range : (from n x : ℕ) → from ≤ x → x < from + n
+      → list_all test (filter left (range_with_len from n)) ≡ true → left x ≡ true → test x ≡ true
+  all_in_range from zero x low high all is = absurd (omega (arith, low, high))
+  all_in_range from (suc n) x low high all is = elim (cases_eq from x) [
+    | inl same ↦
+        ap test (sym same) ∙ (and_parts (test from) _
+        (sym (ap (list_all test) (kept_first from _ (ap left same ∙ is))) ∙ all)).0
+    | inr other ↦
+        all_in_range (from + 1) n x (omega (arith, low, other)) (omega (arith, high))
+        (rest (left from) all) is
+  ]
+    where
+      xs : List ℕ
+      xs = filter left (range_with_len (from + 1) n)
+
+      rest : (b : Bool) → list_all test (cond b (from ∷ xs) xs) ≡ true → list_all test xs ≡ true
+      rest true all = (and_parts (test from) _ all).1
+      rest false all = all
+
 -- tests that agree on a range
 pub same_on_range : {X : Type 0} (test other : ℕ → X) (from n : ℕ)
     → ((x : ℕ) → from ≤ x → x < from + n → test x ≡ other x)
@@ -91,6 +93,22 @@ same_on_range test other from zero same = refl
 same_on_range test other from (suc n) same = λ i.
     same from (omega arith) (omega arith) i
     ∷ same_on_range test other (from + 1) n (λ x low high. same x (omega (arith, low)) (omega (arith, high))) i
+
+pub set_on_range : {X : Type 0} (set other : ℕ → X) (one : X) (from n i event : ℕ)
+    → from + i ≡ event → i < n
+    → other event ≡ one → ((x : ℕ) → (x ≡ event → ⊥) → other x ≡ set x)
+    → map other (range_with_len from n) ≡ slice_set (map set (range_with_len from n)) i one
+set_on_range set other one from zero i event at low is others = absurd (omega (arith, low))
+set_on_range set other one from (suc n) zero event at low is others =
+    let own : from ≡ event = omega (arith, at) in
+    λ k. (ap other own ∙ is) k
+    ∷ same_on_range other set (from + 1) n
+    (λ x above _. others x (λ same. absurd (omega (arith, same, own, above)))) k
+set_on_range set other one from (suc n) (suc i) event at low is others =
+    let apart : (from ≡ event → ⊥) = λ own. omega (arith, own, at) in
+    λ k. others from apart k
+    ∷ set_on_range set other one (from + 1) n i event (omega (arith, at)) (omega (arith, low)) is
+    others k
 
 -- ---- windows on plain numbers
 
@@ -233,14 +251,14 @@ module _ (period : ℕ) (some : 1 ≤ period) (events : ℕ) (activity : PespAct
           let enough = low_of kept.minutes kept.enough in
           let few = around_width period l u some order (kept.minutes - l)
           (omega (arith, enough, high_of kept.minutes kept.short)) in
-          below_holds _ _ ((kept.minutes - l) % period) (omega (arith, few, width_is))
+          passes_below _ _ ((kept.minutes - l) % period) (omega (arith, few, width_is))
           (ap (left activity.to) (second_at period l u some order time kept.minutes enough ∙ kept.leads)
           ∙ found.3)
 
       from : reaches period (left activity.to) (ahead period activity) (width_of period activity) time ≡ true
           → second_left period left activity time ≡ true
       from holds =
-          let found = holds_below _ _ holds in
+          let found = some_below _ _ holds in
           let k = found.0 in
           let other = (time + ahead period activity + k) % period in
           let within : other < period = mod-lt (time + ahead period activity + k) (omega (arith, some)) in
@@ -279,7 +297,7 @@ module _ (period : ℕ) (some : 1 ≤ period) (events : ℕ) (activity : PespAct
           let enough = low_of kept.minutes kept.enough in
           let short = high_of kept.minutes kept.short in
           let at = first_at period l u some order found.0 time kept.minutes within enough short kept.leads in
-          below_holds _ _ (width period l u some order - (kept.minutes - l) % period)
+          passes_below _ _ (width period l u some order - (kept.minutes - l) % period)
           (omega (arith, width_is))
           (ap (λ back. left activity.from ((time + back
           + (width period l u some order - (kept.minutes - l) % period)) % period)) behind_is
@@ -288,7 +306,7 @@ module _ (period : ℕ) (some : 1 ≤ period) (events : ℕ) (activity : PespAct
       from : reaches period (left activity.from) (behind period activity) (width_of period activity) time ≡ true
           → first_left period left activity time ≡ true
       from holds =
-          let found = holds_below _ _ holds in
+          let found = some_below _ _ holds in
           let k = found.0 in
           let other = (time + behind period activity + k) % period in
           let within : other < period = mod-lt (time + behind period activity + k) (omega (arith, some)) in

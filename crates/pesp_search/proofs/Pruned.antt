@@ -4,7 +4,7 @@ use Rattle.std.proofs.Common.{nat_lt}
 use Rattle.std.proofs.Common.{bit_and, Bool, true, false, not, ◌&&◌, ◌||◌, List, get_or, length}
 use Rattle.std.proofs.Common.{refl, ap, sym, subst, arith, IfOk, Result, Ok, Err}
 use Rattle.std.proofs.lemmas.Bool.{cases_Bool, cases_eq, cases_lt, cases_order, eq-eqb, le-ltb}
-use Rattle.std.proofs.lemmas.Bool.{lt-ltb, ltb-true, ne_eqb, or_parts}
+use Rattle.std.proofs.lemmas.Bool.{lt-ltb, ltb-true, ne_eqb, or_cases, or_parts, or_right}
 use Rattle.pesp_search.specs.Marks.{AreMarks, KeepsBits, Marks, Prunes, Tracked, has_bit, is_left}
 use Rattle.pesp_search.specs.Marks.{marked, marks_left, place_of, with_word, word_at, words_of}
 use Rattle.pesp_search.proofs.MarkBits.{other_word, place_low, same_event, sum_less, this_word}
@@ -68,10 +68,6 @@ stays_below kept keep end event time =
 abbrev both : Left → Left → Left
 both left keeps event time = left event time && keeps event time
 
-or_end : (x y : Bool) → y ≡ true → (x || y) ≡ true
-or_end true y is = refl
-or_end false y is = is
-
 -- another event
 elsewhere : (kept : ℕ) (keep : List ℕ) (end e t : ℕ) → (e ≡ kept → ⊥)
     → stays_below kept keep end e t ≡ true
@@ -81,7 +77,7 @@ elsewhere kept keep end e t other =
 -- a time that is not reached
 later : (kept : ℕ) (keep : List ℕ) (end e t : ℕ) → end ≤ t → stays_below kept keep end e t ≡ true
 later kept keep end e t late =
-    or_end (not (e == kept)) _ (ap (λ b. not b || marked keep t) (le-ltb t end late))
+    or_right (not (e == kept)) _ (ap (λ b. not b || marked keep t) (le-ltb t end late))
 
 -- one that is
 reached_here : (keep : List ℕ) (end e t : ℕ) → t < end
@@ -96,10 +92,6 @@ and_unit : (x y z : Bool) → y ≡ true → ((x && y) && z) ≡ (x && z)
 and_unit true y z is = ap (λ y. y && z) is
 and_unit false y z is = refl
 
-or_either : (x y : Bool) → (x || y) ≡ true → (x ≡ true) ⊎ (y ≡ true)
-or_either true y is = inl refl
-or_either false y is = inr is
-
 pub prune_word : (before now after : Tracked) (event index : ℕ) (keep : List ℕ)
     (changes is : Bool) → event < now.sets.events → index < words_of now.sets.period
     → Prunes before now (stays_below event keep (64 * index)) changes
@@ -111,7 +103,7 @@ prune_word before now after event index keep changes is inside within so turn = 
   saved = ap (λ (tracked : Tracked). tracked.saved) turn.is ∙ so.saved;
   left = λ i e t. left e t (cases_eq e event) (cases_order (t / 64) index) i;
   same = λ none. let parts = or_parts changes is none in turn.same parts.1 ∙ so.same parts.0;
-  fewer = λ some. fewer (or_either changes is some);
+  fewer = λ some. fewer (or_cases changes is some);
   no_more = let one = no_more (cases_Bool is) in omega (arith, one, so.no_more);
 }
   where

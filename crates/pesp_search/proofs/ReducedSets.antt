@@ -1,11 +1,12 @@
 -- Rounds and any other way to take out times without a partner leave the same sets.
-use Rattle.std.proofs.Common.{◌≡◌, ◌∙◌, inl, inr, ℕ, zero, suc, ◌<◌, ◌≤◌, ◌==◌, nat_eq, nat_lt}
+use Rattle.std.proofs.Common.{◌≡◌, ◌∙◌, inl, inr, ℕ, zero, suc, ◌<◌, ◌==◌, nat_lt}
 use Rattle.std.proofs.Common.{Bool, true, false, not, ◌&&◌, ◌||◌}
-use Rattle.std.proofs.Common.{List, [], ◌∷◌, get_or, pos, slice_get, Some, All, refl, ap, sym}
+use Rattle.std.proofs.Common.{List, [], ◌∷◌, filter, get_or, pos, slice_get, Some, All, refl, ap, sym}
 use Rattle.std.proofs.Common.{subst, arith}
-use Rattle.std.specs.List.{list_all, list_any}
+use Rattle.std.specs.List.{list_all, list_any, range_with_len}
+use Rattle.std.proofs.lemmas.List.FromFn.{length-map-range_with_len}
 use Rattle.std.proofs.lemmas.Bool.{and_from, and_parts, cases_Bool, cases_eq, eq-eqb, ne_eqb}
-use Rattle.std.proofs.lemmas.Bool.{eqb-true, eqb-false, lt-ltb, ltb-true}
+use Rattle.std.proofs.lemmas.Bool.{lt-ltb, ltb-true}
 use Rattle.std.proofs.lemmas.List.Elements.{All-from_get_or}
 use Rattle.std.proofs.lemmas.Option.{none-some, slice_get-get_or}
 use Rattle.pesp_model.specs.declared.activity.PespActivity.{PespActivity}
@@ -15,13 +16,14 @@ use Rattle.pesp_search.specs.Marks.{AreMarks, Tracked, family, is_left, sets_of}
 use Rattle.pesp_search.specs.Revising.{AllFrom, HasEmpty, IsRevised, IsWithin, Left, Propagates}
 use Rattle.pesp_search.specs.Revising.{Reduces}
 use Rattle.pesp_search.specs.Revising.{first_left, is_free, second_left}
-use Rattle.pesp_search.specs.TimeSets.{has_partner, has_partners, reduced, round, rounds}
+use Rattle.pesp_search.specs.TimeSets.{has_partner, has_partners, left_to, reduced, round}
 use Rattle.pesp_search.specs.TimeSets.{times_left}
 use Rattle.pesp_search.proofs.Crowded.{free_revised}
 use Rattle.pesp_search.proofs.EmptySets.{empty_within, some_left}
-use Rattle.pesp_search.proofs.Families.{all_times, both_of, fewer_times, left_to_family}
+use Rattle.pesp_search.proofs.Families.{both_of, left_to_family}
 use Rattle.pesp_search.proofs.Families.{round_family, same_family, sets_family}
-use Rattle.pesp_search.proofs.Partners.{holds_in_range, range_holds, same_tests}
+use Rattle.pesp_search.proofs.Partners.{all_in_range, holds_in_range, range_holds, same_tests}
+use Rattle.pesp_search.proofs.ShrinkingSets.{reduced_length, reduced_partnered, rounds_leave}
 use Rattle.pesp_search.proofs.Revised.{firsts_more, seconds_more}
 use Rattle.pesp_search.proofs.Sweeping.{held}
 
@@ -162,120 +164,55 @@ module _ (problem : Problem) (sound : IsProblem problem) where
 
   -- ---- rounds
 
-  rounds_none : (left : List (List ℕ)) → rounds 0 problem left ≡ left
-  unfolding rounds
-  rounds_none left = refl
+  -- sets are a family inside of the first one, and have all that is inside of it and revised
+  abbrev IsLeft : Left → List (List ℕ) → Type 0
+  IsLeft first left = (now : Left) × (left ≡ sets now) × IsWithin now first
+      × ((last : Left) → AllFrom problem.activities (IsRevised period last) 0
+      → IsWithin last first → IsWithin last now)
 
-  rounds_stop : (n : ℕ) (left : List (List ℕ))
-      → nat_eq (times_left (round problem left)) (times_left left) ≡ true
-      → rounds (suc n) problem left ≡ left
-  unfolding rounds
-  rounds_stop n left is =
-      ap (λ b. elim b as (λ _. List (List ℕ)) [
-        | true ↦ left
-        | false ↦ rounds n problem (round problem left)
-      ]) is
+  round_left : (first : Left) (left : List (List ℕ)) → IsLeft first left
+      → IsLeft first (round problem left)
+  round_left first left so = (
+    both_of so.0 (partners so.0),
+    ap (round problem) so.1 ∙ round_family period problem events so.0,
+    λ e t is. so.2 e t (and_parts (so.0 e t) _ is).0,
+    λ last revised low e t is. and_from (so.0 e t) _ (so.3 last revised low e t is)
+        (held_partners last so.0 revised (so.3 last revised low) e t is),
+  )
 
-  rounds_on : (n : ℕ) (left : List (List ℕ))
-      → nat_eq (times_left (round problem left)) (times_left left) ≡ false
-      → rounds (suc n) problem left ≡ rounds n problem (round problem left)
-  unfolding rounds
-  rounds_on n left is =
-      ap (λ b. elim b as (λ _. List (List ℕ)) [
-        | true ↦ left
-        | false ↦ rounds n problem (round problem left)
-      ]) is
+  -- so are the reduced sets
+  reduced_left : (first : Left) → IsLeft first (reduced problem (sets first))
+  unfolding reduced
+  reduced_left first =
+      rounds_leave problem (IsLeft first) (round_left first) (times_left (sets first)) (sets first)
+      (first, refl, λ e t is. is, λ _ _ low. low)
 
-  module _ (first last : Left)
-      (revised : AllFrom problem.activities (IsRevised period last) 0)
-      (keeps_all : (left : Left) → All (IsRevised period left) problem.activities
-      → IsWithin left first → IsWithin left last) where
-    -- where no round takes a time out of more sets, they are these
-    stopped : (left : Left) → IsWithin last left → IsWithin left first
-        → times_left (sets left) ≤ times_left (round problem (sets left)) → sets left ≡ sets last
-    stopped left low high as_many =
-        let stable = all_times period events left (partners left)
-        (subst (λ next. times_left (sets left) ≤ times_left next) (round_family period problem
-        events left) as_many) in
-        let inner = keeps_all (inside left) (stable_revised left stable)
-        (λ e t is. high e t (inside_parts left e t is).2) in
-        same_family period events left last (λ e t within small.
-        same_tests (left e t) (last e t)
-        (λ is. inner e t (inside_from left e t within small is)) (low e t))
+  -- and all activities are revised in them
+  all_revised_in : (first : Left)
+      → All (IsRevised period (inside (reduced_left first).0)) problem.activities
+  all_revised_in first =
+      let left = reduced problem (sets first) in
+      let so = reduced_left first in
+      let size = reduced_length problem (sets first) in
+      let many = length-map-range_with_len (λ e. filter (first e) (range_with_len 0 period)) 0
+      events in
+      stable_revised so.0 (λ e t within small. all_in_range (so.0 e) (partners so.0 e) 0 period t
+      (omega arith) (omega (arith, small))
+      (ap (list_all (partners so.0 e)) (sym (left_to_family period events so.0 e within))
+      ∙ sym (ap (λ left. list_all (has_partners problem left e) (left_to left e)) so.1)
+      ∙ reduced_partnered problem (sets first) e (omega (arith, within, size, many))))
 
-    -- a round keeps them inside
-    kept_low : (left : Left) → IsWithin last left → IsWithin last (both_of left (partners left))
-    kept_low left low e t is =
-        and_from (left e t) _ (low e t is) (held_partners last left revised low e t is)
-
-    kept_high : (left : Left) → IsWithin left first → IsWithin (both_of left (partners left)) first
-    kept_high left high e t is = high e t (and_parts (left e t) _ is).0
-
-    all_rounds : (n : ℕ) (left : Left) → times_left (sets left) ≤ n → IsWithin last left
-        → IsWithin left first → rounds n problem (sets left) ≡ sets last
-    all_rounds zero left few low high =
-        rounds_none (sets left) ∙ stopped left low high (omega (arith, few))
-    all_rounds (suc n) left few low high =
-        let next = round_family period problem events left in
-        elim (cases_Bool (nat_eq (times_left (round problem (sets left))) (times_left (sets
-        left)))) [
-          | inl same ↦
-              rounds_stop n (sets left) same
-              ∙ stopped left low high (omega (arith, eqb-true _ _ same))
-          | inr other ↦
-              let apart = eqb-false _ _ other in
-              let fewer = fewer_times period events left (partners left) in
-              let less = ap times_left next in
-              rounds_on n (sets left) other ∙ ap (rounds n problem) next
-              ∙ all_rounds n (both_of left (partners left))
-              (omega (arith, few, fewer, less, apart)) (kept_low left low) (kept_high left high)
-        ]
-
-    pub family_reduced : IsWithin last first → reduced problem (sets first) ≡ sets last
-    unfolding reduced
-    family_reduced low =
-        all_rounds (times_left (sets first)) first (omega arith) low (λ e t is. is)
-
-  -- ---- sets in which none is left to some event
-
-  stable_of : (left : Left) → times_left (sets left) ≤ times_left (round problem (sets left))
-      → All (IsRevised period (inside left)) problem.activities
-  stable_of left as_many = stable_revised left (all_times period events left (partners left)
-      (subst (λ next. times_left (sets left) ≤ times_left next) (round_family period problem
-      events left) as_many))
-
-  -- what rounds leave are sets in which all activities are revised
-  rounds_family : (n : ℕ) (left : Left) → times_left (sets left) ≤ n
-      → (last : Left) × (rounds n problem (sets left) ≡ sets last) × IsWithin last left
-      × All (IsRevised period (inside last)) problem.activities
-  rounds_family zero left few =
-      (left, rounds_none (sets left), λ e t is. is, stable_of left (omega (arith, few)))
-  rounds_family (suc n) left few =
-      let next = round_family period problem events left in
-      elim (cases_Bool (nat_eq (times_left (round problem (sets left))) (times_left (sets left)))) [
-        | inl same ↦ (
-          left,
-          rounds_stop n (sets left) same,
-          λ e t is. is,
-          stable_of left (omega (arith, eqb-true _ _ same)),
-        )
-        | inr other ↦
-            let apart = eqb-false _ _ other in
-            let fewer = fewer_times period events left (partners left) in
-            let less = ap times_left next in
-            let rest = rounds_family n (both_of left (partners left)) (omega (
-              arith,
-              few,
-              fewer,
-              less,
-              apart,
-            )) in (
-              rest.0,
-              rounds_on n (sets left) other ∙ ap (rounds n problem) next ∙ rest.1,
-              λ e t is. (and_parts (left e t) _ (rest.2 e t is)).0,
-              rest.3,
-            )
-      ]
+  pub family_reduced : (first last : Left) → AllFrom problem.activities (IsRevised period last) 0
+      → ((left : Left) → All (IsRevised period left) problem.activities
+      → IsWithin left first → IsWithin left last)
+      → IsWithin last first → reduced problem (sets first) ≡ sets last
+  family_reduced first last revised keeps_all low =
+      let so = reduced_left first in
+      so.1 ∙ same_family period events so.0 last (λ e t within small.
+      same_tests (so.0 e t) (last e t)
+      (λ is. keeps_all (inside so.0) (all_revised_in first)
+      (λ e t is. so.2 e t (inside_parts so.0 e t is).2) e t (inside_from so.0 e t within small is))
+      (so.3 last revised low e t))
 
   -- ---- marks
 
@@ -299,11 +236,9 @@ module _ (problem : Problem) (sound : IsProblem problem) where
     -- where some event has no time left, it has none in the reduced sets
     none_reduced : HasEmpty after.sets
         → list_any is_empty (reduced problem (sets_of before.sets)) ≡ true
-    unfolding reduced
     none_reduced empty =
-        let found = rounds_family (times_left (sets (is_left before.sets))) (is_left before.sets)
-        (omega arith) in
-        let inner = so.keeps (inside found.0) found.3
+        let found = reduced_left (is_left before.sets) in
+        let inner = so.keeps (inside found.0) (all_revised_in (is_left before.sets))
         (λ e t is. found.2 e t (inside_parts found.0 e t is).2) in
         let same = same_family period events found.0 (inside found.0) (λ e t within small.
         same_tests (found.0 e t) (inside found.0 e t)

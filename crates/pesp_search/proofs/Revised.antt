@@ -1,6 +1,5 @@
 -- What the sets of both events of an activity are after it has revised them.
-use Rattle.std.proofs.Common.{Result, Ok, Err, OnOk}
-use Rattle.std.proofs.Common.{◌≡◌, ◌∙◌, ◌⊎◌, inl, inr, ℕ, ◌/◌, ◌<◌, ◌==◌, Bool, true, false, not}
+use Rattle.std.proofs.Common.{◌≡◌, ◌∙◌, ◌⊎◌, inl, inr, ℕ, ◌<◌, ◌==◌, Bool, true, false, not}
 use Rattle.std.proofs.Common.{◌&&◌, ◌-◌}
 use Rattle.std.proofs.Common.{◌||◌}
 use Rattle.std.proofs.Common.{filter, length, refl, ap, sym, subst, arith}
@@ -12,13 +11,14 @@ use Rattle.pesp_model.specs.Timetables.{keeps}
 use Rattle.pesp_search.specs.Listings.{is_empty}
 use Rattle.pesp_search.specs.Marks.{Prunes, Tracked, is_left, marks_left, times_from}
 use Rattle.pesp_search.proofs.EmptySets.{pruned_full}
-use Rattle.pesp_search.specs.Revising.{FirstsUnless, IsRevised, IsWithin, Left, Revises}
-use Rattle.pesp_search.specs.Revising.{RevisesFirsts, RevisesSeconds, SecondsUnless, StaysFull}
+use Rattle.pesp_search.specs.Revising.{SecondUnless, IsRevised, IsWithin, Left, Revises}
+use Rattle.pesp_search.specs.Revising.{RevisesSecond, RevisesFirst, FirstUnless, StaysFull}
 use Rattle.pesp_search.specs.Revising.{Touches}
-use Rattle.pesp_search.specs.Flags.{Flags, has_changed, with_flag}
+use Rattle.pesp_search.specs.Flags.{Flags, has_changed}
 use Rattle.pesp_search.specs.Revising.{either, first_left}
-use Rattle.pesp_search.specs.Revising.{keeps_firsts, keeps_seconds, noted, second_left}
-use Rattle.pesp_search.proofs.FlagBits.{other_flag, this_flag}
+use Rattle.pesp_search.specs.Revising.{keeps_second, keeps_first, noted, second_left}
+use Rattle.std.proofs.lemmas.Grind.{get_or-set_at}
+use Rattle.std.proofs.lemmas.List.{get_or-set_other, length-set}
 use Rattle.pesp_search.proofs.Partners.{holds_in_range, range_holds}
 
 -- ---- partners among more times
@@ -65,20 +65,19 @@ module _ (kept : ℕ) (test : ℕ → Bool) where
 -- ---- flags
 
 events_noted : (flags : Flags) (event : ℕ) (is : Bool)
-    → (noted flags event is).events ≡ flags.events
-events_noted flags event true = refl
+    → length (noted flags event is) ≡ length flags
+events_noted flags event true = length-set flags event true
 events_noted flags event false = refl
 
-not_noted : (flags : Flags) (event : ℕ) (is : Bool) (e : ℕ) → event / 64 < length flags.words
+not_noted : (flags : Flags) (event : ℕ) (is : Bool) (e : ℕ) → event < length flags
     → has_changed (noted flags event is) e ≡ false
     → (has_changed flags e ≡ false) × (e ≡ event → is ≡ false)
-not_noted flags event false e within none = (none, λ _. refl)
-not_noted flags event true e within none = elim (cases_eq e event) [
+not_noted flags event false e inside none = (none, λ _. refl)
+not_noted flags event true e inside none = elim (cases_eq e event) [
   | inl same ↦
-      absurd (false≢true (sym none ∙ ap (has_changed (with_flag flags event true)) same
-      ∙ this_flag flags event true within))
+      absurd (false≢true (sym none ∙ get_or-set_at flags event e true false same inside))
   | inr other ↦ (
-    sym (other_flag flags event true within e other) ∙ none,
+    sym (get_or-set_other flags event e true false other) ∙ none,
     λ same. absurd (other same),
   )
 ]
@@ -127,7 +126,7 @@ module _ (before after : Tracked) (kept : ℕ) (test : ℕ → Bool) (changes : 
 
 module _ (activity : PespActivity) (before after : Tracked) (kept : ℕ) (test : ℕ
     → Bool) (changes : Bool)
-    (flags : Flags) (inside : kept / 64 < length flags.words)
+    (flags : Flags) (inside : kept < length flags)
     (so : Prunes before after (kept_test kept test) changes)
     (holds : (left : Left) → IsRevised before.sets.period left activity
     → IsWithin left (is_left before.sets) → (t : ℕ) → left kept t ≡ true → test t ≡ true) where
@@ -152,11 +151,11 @@ module _ (activity : PespActivity) (before after : Tracked) (kept : ℕ) (test :
       fewer_marks event (inl was) = inl was
       fewer_marks event (inr is) = inr (so.fewer is)
 
-pub seconds_revised : (activity : PespActivity) (before after : Tracked) (changes : Bool)
-    (at : ℕ) (flags : Flags) → activity.from / 64 < length flags.words
-    → Prunes before after (keeps_seconds before.sets.period (is_left before.sets) activity) changes
-    → RevisesSeconds activity at before after flags (noted flags activity.from changes)
-seconds_revised activity before after changes at flags inside so =
+pub first_revised : (activity : PespActivity) (before after : Tracked) (changes : Bool)
+    (at : ℕ) (flags : Flags) → activity.from < length flags
+    → Prunes before after (keeps_first before.sets.period (is_left before.sets) activity) changes
+    → RevisesFirst activity at before after flags (noted flags activity.from changes)
+first_revised activity before after changes at flags inside so =
     let period = before.sets.period in
     let test = second_left period (is_left before.sets) activity in
     let touched = side_touches activity before after activity.from test changes flags inside so
@@ -170,11 +169,11 @@ seconds_revised activity before after changes at flags inside so =
           ∙ side_passes before after activity.from test changes so t is,
     )
 
-pub firsts_revised : (activity : PespActivity) (before after : Tracked) (changes : Bool)
-    (at : ℕ) (flags : Flags) → activity.to / 64 < length flags.words
-    → Prunes before after (keeps_firsts before.sets.period (is_left before.sets) activity) changes
-    → RevisesFirsts activity at before after flags (noted flags activity.to changes)
-firsts_revised activity before after changes at flags inside so =
+pub second_revised : (activity : PespActivity) (before after : Tracked) (changes : Bool)
+    (at : ℕ) (flags : Flags) → activity.to < length flags
+    → Prunes before after (keeps_second before.sets.period (is_left before.sets) activity) changes
+    → RevisesSecond activity at before after flags (noted flags activity.to changes)
+second_revised activity before after changes at flags inside so =
     let period = before.sets.period in
     let test = first_left period (is_left before.sets) activity in
     let touched = side_touches activity before after activity.to test changes flags inside so
@@ -206,22 +205,22 @@ side_full before after kept test changes so some =
     some
 
 -- what is revised stays so where the set of the other event has not changed
-pub carried_seconds : (period : ℕ) (first last : Left) (flags more : ℕ
+pub carried_first : (period : ℕ) (first last : Left) (flags more : ℕ
     → Bool) (other : PespActivity)
     → IsWithin last first
     → ((event : ℕ) → more event ≡ false → (flags event ≡ false) × (last event ≡ first event))
-    → SecondsUnless period first flags other → SecondsUnless period last more other
-carried_seconds period first last flags more other within untouched so none t is =
+    → FirstUnless period first flags other → FirstUnless period last more other
+carried_first period first last flags more other within untouched so none t is =
     let to = untouched other.to none in
     ap (λ (left : ℕ → Bool). list_any (keeps period other t) (filter left (range_with_len 0
     period))) to.1
     ∙ so to.0 t (within other.from t is)
 
-pub carried_firsts : (period : ℕ) (first last : Left) (flags more : ℕ → Bool) (other : PespActivity)
+pub carried_second : (period : ℕ) (first last : Left) (flags more : ℕ → Bool) (other : PespActivity)
     → IsWithin last first
     → ((event : ℕ) → more event ≡ false → (flags event ≡ false) × (last event ≡ first event))
-    → FirstsUnless period first flags other → FirstsUnless period last more other
-carried_firsts period first last flags more other within untouched so none t is =
+    → SecondUnless period first flags other → SecondUnless period last more other
+carried_second period first last flags more other within untouched so none t is =
     let from = untouched other.from none in
     ap (λ (left : ℕ → Bool). list_any (λ first. keeps period other first t)
     (filter left (range_with_len 0 period))) from.1
@@ -229,8 +228,8 @@ carried_firsts period first last flags more other within untouched so none t is 
 
 -- one side behind the other
 module _ (activity : PespActivity) (at : ℕ) (start middle end : Tracked)
-    (flags some more : Flags) (one : RevisesSeconds activity at start middle flags some)
-    (two : RevisesFirsts activity at middle end some more) where
+    (flags some more : Flags) (one : RevisesFirst activity at start middle flags some)
+    (two : RevisesSecond activity at middle end some more) where
   fewer_both : (event : ℕ) → (has_changed some event ≡ true) ⊎ (marks_left end.sets < marks_left
       middle.sets)
       → (has_changed flags event ≡ true) ⊎ (marks_left end.sets < marks_left start.sets)
@@ -259,18 +258,18 @@ module _ (activity : PespActivity) (at : ℕ) (start middle end : Tracked)
     no_more = omega (arith, one.0.no_more, two.0.no_more);
   }
 
-  last_here : FirstsUnless start.sets.period (is_left middle.sets) (either at some) activity
-      → FirstsUnless start.sets.period (is_left end.sets) (has_changed more) activity
-  last_here = subst (λ period. FirstsUnless period (is_left middle.sets) (either at some) activity
-      → FirstsUnless period (is_left end.sets) (has_changed more) activity) one.0.period two.1
+  last_here : SecondUnless start.sets.period (is_left middle.sets) (either at some) activity
+      → SecondUnless start.sets.period (is_left end.sets) (has_changed more) activity
+  last_here = subst (λ period. SecondUnless period (is_left middle.sets) (either at some) activity
+      → SecondUnless period (is_left end.sets) (has_changed more) activity) one.0.period two.1
 
   pub both_revised : Revises activity at start end flags more
   both_revised = (
     both_touched,
     λ so. (
-      carried_seconds start.sets.period (is_left middle.sets) (is_left end.sets) (has_changed some)
+      carried_first start.sets.period (is_left middle.sets) (is_left end.sets) (has_changed some)
           (has_changed more) activity two.0.within two.0.untouched (one.1 so.0),
-      last_here (carried_firsts start.sets.period (is_left start.sets) (is_left middle.sets)
+      last_here (carried_second start.sets.period (is_left start.sets) (is_left middle.sets)
           (either at flags) (either at some) activity one.0.within
           (λ event none.
           let parts = or_parts (event == at) _ none in
@@ -278,12 +277,3 @@ module _ (activity : PespActivity) (at : ℕ) (start middle end : Tracked)
           (or_from (event == at) _ parts.0 same.0, same.1)) so.1),
     ),
   )
-
-pub then_revised : {X E : Type 0} (activity : PespActivity) (at : ℕ)
-    (start middle end : Tracked) (flags some more : Flags) (result : Result X E)
-    → RevisesSeconds activity at start middle flags some
-    → OnOk result (RevisesFirsts activity at middle end some more)
-    → OnOk result (Revises activity at start end flags more)
-then_revised activity at start middle end flags some more (Ok value) one two =
-    both_revised activity at start middle end flags some more one two
-then_revised activity at start middle end flags some more (Err why) one two = tt

@@ -1,14 +1,13 @@
 -- The rows of times, one after the other.
-use Rattle.std.proofs.Common.{◌≡◌, ◌∙◌, ℕ, ◌+◌, ◌<◌, ◌≤◌, ◌&&◌, Bool, List, [], ◌∷◌, ◌++◌, drop, get_or, length}
-use Rattle.std.proofs.Common.{map, take, true, ap, arith}
-use Rattle.std.specs.List.{enumerate_from, list_all}
-use Rattle.std.proofs.lemmas.List.{drop_all, drop_more, get_or-map, length-map, take_all, take_more}
+use Rattle.std.proofs.Common.{◌≡◌, ◌∙◌, ℕ, ◌+◌, ◌<◌, ◌≤◌, List, [], ◌∷◌, ◌++◌, get_or, length}
+use Rattle.std.proofs.Common.{map, take, ap, arith}
+use Rattle.std.specs.List.{enumerate_from}
+use Rattle.std.proofs.lemmas.List.{get_or-map, length-map, take_all, take_more}
 use Rattle.std.proofs.lemmas.List.FromFn.{get_or-enumerate_from, length-enumerate_from}
 use Rattle.giv_files.specs.Tables.{TableRow, no_row}
 use Rattle.event_tables.specs.declared.periodic_time.PeriodicTime.{PeriodicTime}
 use Rattle.event_tables.specs.Cells.{number_in, periodic_time}
 use Rattle.event_tables.specs.RowsOfTables.{records_by}
-use Rattle.pesp_search.specs.Judged.{is_time_of}
 use Rattle.pesp_search.specs.TimetableStage.{time_rows}
 
 no_time : PeriodicTime
@@ -55,22 +54,3 @@ module _ (table : List TableRow) (i : ℕ) where
       (omega (arith, inside, length-map table (λ row. periodic_time row.cells)))
       ∙ ap (λ (row : PeriodicTime). row.time)
       (get_or-map (λ (row : TableRow). periodic_time row.cells) table i no_row no_time inside))
-
-  pub times_whole : length table ≤ i → take i times_in ≡ times_in
-  times_whole past = take_all i times_in (omega (arith, past, times_size))
-
-  module _ (period : ℕ) where
-    -- the rows from one on are in order
-    abbrev order_from : ℕ → Bool
-    order_from i = list_all (is_time_of period) (enumerate_from (i + 1) (records_by periodic_time (drop i table)))
-
-    pub order_more : i < length table
-        → order_from i ≡ (is_time_of period (i + 1, periodic_time (get_or table i no_row).cells) && order_from (i + 1))
-    order_more inside =
-        ap (λ rows. list_all (is_time_of period) (enumerate_from (i + 1) (records_by periodic_time rows)))
-        (drop_more table i no_row inside)
-
-    pub order_end : length table ≤ i → order_from i ≡ true
-    order_end past =
-        ap (λ rows. list_all (is_time_of period) (enumerate_from (i + 1) (records_by periodic_time rows)))
-        (drop_all i table past)

@@ -102,7 +102,7 @@ module _ (problem : Problem) where
     rounded_length n (set ∷ left) = ap suc (rounded_length (n + 1) left)
 
   -- what a round leaves as it is, rounds do
-  rounds_leave : (P : List (List ℕ) → Type 0) → ((sets : List (List ℕ)) → P sets → P (round problem sets))
+  pub rounds_leave : (P : List (List ℕ) → Type 0) → ((sets : List (List ℕ)) → P sets → P (round problem sets))
       → (more : ℕ) (sets : List (List ℕ)) → P sets → P (rounds more problem sets)
   unfolding rounds
   rounds_leave P one zero sets h = h

@@ -1,25 +1,27 @@
 -- Sweeps over the events whose sets have changed, and what they leave.
 use Rattle.std.proofs.Common.{◌≡◌, ◌∙◌, ◌⊎◌, inl, inr, ℕ, ◌+◌, ◌<◌, ◌≤◌, Bool, true}
-use Rattle.std.proofs.Common.{false, List, []}
-use Rattle.std.proofs.Common.{MatchBool, cond, slice_get, Some, None, All, refl, sym, subst, arith}
+use Rattle.std.proofs.Common.{false, List, [], length}
+use Rattle.std.proofs.Common.{cond, slice_get, Some, None, All, refl, sym, subst, arith}
 use Rattle.std.proofs.lemmas.Bool.{cases_lt, false≢true}
+use Rattle.std.proofs.lemmas.List.{get_or_past}
 use Rattle.std.proofs.lemmas.Option.{get_or_from_slice_get, slice_get_within}
 use Rattle.pesp_model.specs.declared.activity.PespActivity.{PespActivity}
 use Rattle.pesp_model.specs.Timetables.{IsActivity, IsProblem, Problem}
-use Rattle.pesp_search.specs.Flags.{AreFlags, Flags, IsLastFlag, has_changed, some_changed}
+use Rattle.pesp_search.specs.Flags.{Flags, IsLastFlag, has_changed, some_changed}
 use Rattle.pesp_search.specs.Marks.{Tracked, is_left, marks_left}
 use Rattle.pesp_search.specs.Revising.{AllFrom, AreRevised, BoundUnless, Dies, IsReady, IsRevised}
 use Rattle.pesp_search.specs.Revising.{IsWithin}
 use Rattle.pesp_search.specs.Revising.{Left, Propagates, RevisedUnless, Sweeps, Visits, is_free}
 use Rattle.pesp_search.specs.Revising.{IsFull, StaysFull}
-use Rattle.pesp_search.proofs.FlagBits.{no_flag, some_flag}
-use Rattle.pesp_search.proofs.Revised.{carried_firsts, carried_seconds}
+use Rattle.pesp_search.proofs.AnyBelow.{none_below, some_below}
+use Rattle.pesp_search.proofs.Revised.{carried_second, carried_first}
 
 -- what is known behind the events from one on: no flag is left at them unless times were taken out
 pub record IsSwept (problem : Problem) (before now : Tracked) (flags : Flags) (end : ℕ) : Type 0
   where
     pub propagates : Propagates problem before now
-    pub each : flags.events ≡ problem.events
+    pub each : length flags ≡ problem.events
+    pub within : end ≤ problem.events
     pub revised : AllFrom problem.activities
         (BoundUnless problem.period (is_left now.sets) (has_changed flags)) 0
     pub fewer : (event : ℕ) → has_changed flags event ≡ true
@@ -30,18 +32,10 @@ pub record IsSwept (problem : Problem) (before now : Tracked) (flags : Flags) (e
 -- what is known between two sweeps
 pub record IsReducing (problem : Problem) (before now : Tracked) (flags : Flags) : Type 0 where
   pub propagates : Propagates problem before now
-  pub each : flags.events ≡ problem.events
+  pub each : length flags ≡ problem.events
   pub revised : AllFrom problem.activities
       (BoundUnless problem.period (is_left now.sets) (has_changed flags)) 0
   pub full : StaysFull before now
-
-pub when_true : (P Q : Type 0) (is : Bool) → is ≡ true → MatchBool is P Q → P
-when_true P Q true so told = told
-when_true P Q false so told = absurd (false≢true so)
-
-pub when_false : (P Q : Type 0) (is : Bool) → is ≡ false → MatchBool is P Q → Q
-when_false P Q true so told = absurd (false≢true (sym so))
-when_false P Q false so told = told
 
 -- ---- activities at an index
 
@@ -56,8 +50,8 @@ pub carried : (period : ℕ) (old new : Left) (flags more : ℕ → Bool) (other
     → ((event : ℕ) → more event ≡ false → (flags event ≡ false) × (new event ≡ old event))
     → RevisedUnless period old flags other → RevisedUnless period new more other
 carried period old new flags more other within untouched so = (
-  carried_seconds period old new flags more other within untouched so.0,
-  carried_firsts period old new flags more other within untouched so.1,
+  carried_first period old new flags more other within untouched so.0,
+  carried_second period old new flags more other within untouched so.1,
 )
 
 -- ---- smaller and smaller sets
@@ -84,18 +78,19 @@ both_propagate problem before now after one two = record {
 
 -- ---- a sweep
 
-pub sweep_begun : (problem : Problem) (sets : Tracked) (flags : Flags) (end : ℕ) → AreFlags flags
-    → end ≡ flags.events → flags.events ≡ problem.events
+pub sweep_begun : (problem : Problem) (sets : Tracked) (flags : Flags) (end : ℕ)
+    → end ≡ length flags → length flags ≡ problem.events
     → AllFrom problem.activities (BoundUnless problem.period (is_left sets.sets) (has_changed
     flags)) 0
     → IsSwept problem sets sets flags end
-sweep_begun problem sets flags end are all each revised = record {
+sweep_begun problem sets flags end all each revised = record {
   propagates = none_yet problem sets;
   each = each;
   revised = revised;
-  fewer = λ event is. elim (cases_lt event flags.events) [
+  within = omega (arith, all, each);
+  fewer = λ event is. elim (cases_lt event (length flags)) [
     | inl low ↦ inl (omega (arith, low, all))
-    | inr high ↦ absurd (false≢true (sym (are.clear event high) ∙ is))
+    | inr high ↦ absurd (false≢true (sym (get_or_past flags event false high) ∙ is))
   ];
   no_more = omega arith;
   full = λ full. full;
@@ -108,6 +103,7 @@ pub sweep_turn : (problem : Problem) (before now after : Tracked) (flags more : 
 sweep_turn problem before now after flags more end event so last turn = record {
   propagates = both_propagate problem before now after so.propagates turn.propagates;
   each = turn.each ∙ so.each;
+  within = (let low = last.0 in omega (arith, low, so.within));
   revised = turn.revised;
   fewer = λ other is. fewer other (turn.fewer other is);
   no_more = omega (arith, turn.no_more, so.no_more);
@@ -119,7 +115,7 @@ sweep_turn problem before now after flags more end event so last turn = record {
     earlier other is apart low = elim (cases_lt other event) [
       | inl before ↦ before
       | inr behind ↦
-          absurd (false≢true (sym (last.3 other (omega (arith, behind, apart)) low) ∙ is))
+          absurd (false≢true (sym (last.2 other (omega (arith, behind, apart)) low) ∙ is))
     ]
 
     old : (other : ℕ) → has_changed flags other ≡ true → (other ≡ event → ⊥)
@@ -143,15 +139,14 @@ sweep_died problem before now after flags end so dead = record {
 }
 
 pub sweep_ended : (problem : Problem) (before now : Tracked) (flags : Flags) (end : ℕ)
-    → AreFlags flags
     → IsSwept problem before now flags end → IsLastFlag flags end None
     → Sweeps problem before now flags
-sweep_ended problem before now flags end are so none = record {
+sweep_ended problem before now flags end so none = record {
   propagates = so.propagates;
   each = so.each;
   revised = so.revised;
-  fewer = λ some. let found = some_flag flags are some in
-      last found.0 found.1 (so.fewer found.0 found.1);
+  fewer = λ some. let found = some_below (has_changed flags) (length flags) some in
+      last found.0 found.2 (so.fewer found.0 found.2);
   no_more = so.no_more;
   full = so.full;
 }
@@ -175,7 +170,7 @@ reducing_begun problem sets flags ready = record {
 
 -- flags that are all set make sets ready
 pub all_ready : (problem : Problem) (sets : Tracked) (flags : Flags) → IsProblem problem
-    → flags.events ≡ problem.events
+    → length flags ≡ problem.events
     → ((event : ℕ) → event < problem.events → has_changed flags event ≡ true) → sets.saved ≡ []
     → IsFull sets.sets → IsReady problem sets flags
 all_ready problem sets flags sound each all none full = record {
@@ -204,11 +199,16 @@ abbrev pub to_be_done : Tracked → Flags → ℕ
 to_be_done sets flags = marks_left sets.sets + cond (some_changed flags) 1 0
 
 -- at the end all activities are revised that are not free
-pub all_bound : (problem : Problem) (before now : Tracked) (flags : Flags)
+pub all_bound : (problem : Problem) (before now : Tracked) (flags : Flags) → IsProblem problem
     → IsReducing problem before now flags → some_changed flags ≡ false
     → AllFrom problem.activities (λ activity. is_free problem.period activity ≡ false
     → IsRevised problem.period (is_left now.sets) activity) 0
-all_bound problem before now flags so none i activity at low bound = record {
-  seconds = (so.revised i activity at low bound).0 (no_flag flags none activity.to);
-  firsts = (so.revised i activity at low bound).1 (no_flag flags none activity.from);
-}
+all_bound problem before now flags sound so none i activity at low bound =
+    let is = held (IsActivity problem.events) problem.activities i activity sound.sound at in
+    record {
+      seconds = (so.revised i activity at low bound).0
+          (none_below (has_changed flags) (length flags) activity.to none (omega (arith, is.to, so.each)));
+      firsts = (so.revised i activity at low bound).1
+          (none_below (has_changed flags) (length flags) activity.from none
+          (omega (arith, is.from, so.each)));
+    }

@@ -1,6 +1,6 @@
 -- Which files the stage of timetables makes, and which it names where it refuses a row.
 use Rattle.std.proofs.Common.{◌≡◌, ℕ, Bool, true, false, cond, nat_lt, List, [], ◌∷◌, Option, Some, None, Result}
-use Rattle.std.proofs.Common.{Ok, Err, ap, lit<, subst, sym}
+use Rattle.std.proofs.Common.{Ok, Err, ap, lit<, subst}
 use Rattle.giv_files.specs.declared.file_id.FileId.{FileId}
 use Rattle.giv_files.specs.declared.file_id.FileId.TheVariants as file
 use Rattle.giv_files.specs.declared.made.Made.{Made}

@@ -1,19 +1,19 @@
 -- The activities at an event, one after the other, and what they leave.
 use Rattle.std.proofs.Common.{◌≡◌, ◌∙◌, ◌⊎◌, inl, inr, ℕ, ◌+◌, ◌<◌, ◌≤◌, ◌==◌, true, false, List}
-use Rattle.std.proofs.Common.{length, get_or}
-use Rattle.std.proofs.Common.{slice_get, Some, Contains, refl, ap, sym, subst, arith}
+use Rattle.std.proofs.Common.{length, get_or, slice_set}
+use Rattle.std.proofs.Common.{slice_get, Some, Contains, ap, sym, subst, arith}
 use Rattle.std.proofs.lemmas.Bool.{cases_eq, eq-eqb, false≢true, or_from, or_parts}
 use Rattle.std.proofs.lemmas.Grind.{get_or_default_zero}
 use Rattle.std.proofs.lemmas.Option.{same_Some}
 use Rattle.pesp_model.specs.declared.activity.PespActivity.{PespActivity}
 use Rattle.pesp_model.specs.Timetables.{Problem}
-use Rattle.pesp_search.specs.Flags.{AreFlags, Flags, has_changed, with_flag}
+use Rattle.pesp_search.specs.Flags.{Flags, has_changed}
 use Rattle.pesp_search.specs.Marks.{Tracked, is_left, marks_left}
 use Rattle.pesp_search.specs.Revising.{AllFrom, AreLinksAt, BoundUnless, Dies, HasEmpty}
 use Rattle.pesp_search.specs.Revising.{IsRevised, Propagates}
 use Rattle.pesp_search.specs.Revising.{RevisedUnless, Revises, Visits, either, is_free}
 use Rattle.pesp_search.specs.Revising.{StaysFull}
-use Rattle.pesp_search.proofs.FlagBits.{flag_within, other_flag, this_flag}
+use Rattle.std.proofs.lemmas.List.{get_or-set_other, get_or-set_same, length-set}
 use Rattle.pesp_search.proofs.Sweeping.{carried, held, none_yet}
 
 -- an index is among those from a place on
@@ -25,7 +25,7 @@ Awaits indexes from index =
 pub record IsVisited (problem : Problem) (event : ℕ) (indexes : List ℕ) (before now : Tracked)
     (old flags : Flags) (from : ℕ) : Type 0 where
   pub propagates : Propagates problem before now
-  pub each : flags.events ≡ old.events
+  pub each : length flags ≡ length old
   pub done : (index : ℕ) (activity : PespActivity)
       → slice_get problem.activities index ≡ Some activity
       → is_free problem.period activity ≡ false → Awaits indexes from index
@@ -53,17 +53,17 @@ awaited indexes index there = (
 
 -- the event has lost its flag
 module _ (problem : Problem) (event : ℕ) (indexes : List ℕ) (sets : Tracked) (old : Flags)
-    (are : AreFlags old) (inside : event < old.events) (links : AreLinksAt problem event indexes)
+    (inside : event < length old) (links : AreLinksAt problem event indexes)
     (revised : AllFrom problem.activities
     (BoundUnless problem.period (is_left sets.sets) (has_changed old)) 0) where
   abbrev left_out : Flags
-  left_out = with_flag old event false
+  left_out = slice_set old event false
 
   there : (other : ℕ) → (other ≡ event → ⊥) → has_changed left_out other ≡ has_changed old other
-  there = other_flag old event false (flag_within old event are inside)
+  there other = get_or-set_other old event other false false
 
   gone : has_changed left_out event ≡ false
-  gone = this_flag old event false (flag_within old event are inside)
+  gone = get_or-set_same old event false false inside
 
   unset : (other : ℕ) → (other ≡ event → ⊥) → has_changed left_out other ≡ false
       → has_changed old other ≡ false
@@ -105,7 +105,7 @@ module _ (problem : Problem) (event : ℕ) (indexes : List ℕ) (sets : Tracked)
   pub visit_begun : IsVisited problem event indexes sets sets old left_out 0
   visit_begun = record {
     propagates = none_yet problem sets;
-    each = refl;
+    each = length-set old event false;
     done = begun_done;
     rest = begun_rest;
     fewer = λ other is. elim (cases_eq other event) [

@@ -5,8 +5,9 @@ use Rattle.std.proofs.Common.{Bool, true, false, not, ◌||◌, ◌∷◌, filte
 use Rattle.std.proofs.Common.{refl, ap, sym, arith}
 use Rattle.std.specs.List.{range_with_len}
 use Rattle.std.proofs.Math.Nat.{add-mod_left, mod-add-mod, mod-eq_of_lt, mod-lt}
-use Rattle.std.proofs.lemmas.Bool.{cases_Bool, eq-eqb, ne_eqb}
-use Rattle.pesp_search.specs.Revising.{any_below, count_below, reaches}
+use Rattle.std.proofs.lemmas.Bool.{cases_Bool, eq-eqb, ne_eqb, or_right}
+use Rattle.pesp_search.specs.Revising.{count_below, reaches}
+use Rattle.pesp_search.specs.Marks.{any_below}
 
 -- ---- sums
 
@@ -52,10 +53,6 @@ module _ (test : ℕ → Bool) (start : ℕ) where
         | inr is ↦ let same = count_same test (start + n) is in omega (arith, so, same)
       ])
 
-  or_end : (x y : Bool) → y ≡ true → (x || y) ≡ true
-  or_end true y is = refl
-  or_end false y is = is
-
   or_none : (x y : Bool) → y ≡ false → x ≡ (x || y)
   or_none true y is = refl
   or_none false y is = sym is
@@ -72,7 +69,7 @@ module _ (test : ℕ → Bool) (start : ℕ) where
             let more = count_more test (start + n) is in
             ap not (ne_eqb (count_below test (start + n + 1)) (count_below test start)
             (λ same. absurd (omega (arith, so, more, same))))
-            ∙ sym (or_end (any_below (λ k. test (start + k)) n) _ is)
+            ∙ sym (or_right (any_below (λ k. test (start + k)) n) _ is)
         | inr is ↦
             ap (λ n. not (n == count_below test start)) (count_same test (start + n) is)
             ∙ differs n ∙ or_none (any_below (λ k. test (start + k)) n) _ is

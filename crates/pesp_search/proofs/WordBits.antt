@@ -4,14 +4,14 @@ use Rattle.std.proofs.Common.{◌≤◌}
 use Rattle.std.proofs.Common.{◌==◌}
 use Rattle.std.proofs.Common.{if◌then◌else◌, nat_lt, bit_and, bit_or, w64}
 use Rattle.std.proofs.Common.{Bool, true, false, ◌&&◌, ◌||◌, List, get_or}
-use Rattle.std.proofs.Common.{Some, None, refl, ap, sym, subst, arith}
-use Rattle.std.specs.Int.{bit_at, bit_not, leading_zeros, trailing_zeros}
+use Rattle.std.proofs.Common.{Some, None, refl, ap, sym, arith}
+use Rattle.std.specs.Int.{bit_at, leading_zeros, trailing_zeros}
 use Rattle.std.proofs.lemmas.Bool.{cases_eq, cases_lt, eq-eqb, eqb-true, ne_eqb}
 use Rattle.std.proofs.lemmas.Bool.{false≢true, lt-ltb, le-ltb}
 use Rattle.std.proofs.lemmas.Bool.{and_parts, ltb-true}
 use Rattle.std.proofs.Math.Nat.{pow-succ'}
 use Rattle.std.proofs.lemmas.Nat.{div-mul-add, leading_top}
-use Rattle.std.proofs.lemmas.Nat.{and_le_l, or_lt, one_shl, pow_below, pow_pos, shr-shr}
+use Rattle.std.proofs.lemmas.Nat.{one_shl, pow_pos, shr-shr}
 use Rattle.std.proofs.lemmas.Nat.Bits.{bit_at-lt, bit_at-zero, bit_at_above, bit_at_and}
 use Rattle.std.proofs.lemmas.Nat.Bits.{bit_at_cat_high}
 use Rattle.std.proofs.lemmas.Nat.Bits.{bit_at_cat_low, bit_at_clear_other, bit_at_clear_same}
@@ -135,13 +135,6 @@ bit_of_one k bit low =
       | inr other ↦ unset_from (2 ^ k) bit (bit_at-pow_other k bit other) ∙ sym (ne_eqb bit k other)
     ]
 
-pub first_of_one : (bit : ℕ) → has_bit 1 bit ≡ (bit == 0)
-first_of_one bit = elim (cases_eq bit 0) [
-  | inl same ↦
-      set_from 1 bit (ap (bit_at 1) same ∙ bit_at-pow_same 0) ∙ sym (eq-eqb bit 0 same)
-  | inr other ↦ unset_from 1 bit (bit_at-pow_other 0 bit other) ∙ sym (ne_eqb bit 0 other)
-]
-
 pub all_bits : (bit : ℕ) → bit < 64 → has_bit (2 ^ 64 - 1) bit ≡ true
 all_bits bit low = set_from (2 ^ 64 - 1) bit (bit_at_ones 64 bit low)
 
@@ -159,16 +152,6 @@ with_other word bit other true low small apart =
     same_bit _ other word other (bit_at_set_other w64 word bit low other apart)
 with_other word bit other false low small apart =
     same_bit _ other word other (bit_at_clear_other w64 word bit low other small apart)
-
-pub with_fits : (word bit : ℕ) (is : Bool) → word < 2 ^ 64 → bit < 64
-    → with_bit word bit is < 2 ^ 64
-unfolding with_bit
-with_fits word bit true fits low =
-    let small : one_bit bit < 2 ^ 64 = subst (λ n. n < 2 ^ 64) (sym (one_shl bit 64 low))
-    (pow_below bit 64 low) in
-    or_lt 64 word (one_bit bit) fits small
-with_fits word bit false fits low =
-    let less = and_le_l word (bit_not w64 (one_bit bit)) in omega (arith, less, fits)
 
 -- ---- the first bit from one on
 
@@ -244,13 +227,6 @@ module _ (word rest end : ℕ)
           let part : rest - 2 ^ top < 2 ^ top = omega (arith, low, high, twice) in
           ap (λ n. n % 2) (ap (λ n. n / 2 ^ top) whole
           ∙ div-mul-add 1 (2 ^ top) (rest - 2 ^ top) part)
-
--- a word that is not 0 has a bit
-pub none_at_zero : (word : ℕ) → word < 2 ^ 64 → (word ≡ 0 → ⊥)
-    → (bit : ℕ) × (bit < 64) × (has_bit word bit ≡ true)
-none_at_zero word fits some =
-    let lowest = bit_at-trailing_zeros w64 word (omega (arith, some)) fits in
-    (trailing_zeros w64 word, lowest.0, set_from word (trailing_zeros w64 word) lowest.1)
 
 -- ---- the bits from a place on
 

@@ -8,7 +8,8 @@ use Rattle.std.proofs.Math.Nat.{add-mod_left, mod-add-mod, mod-eq_of_lt, mod-lt}
 use Rattle.std.proofs.lemmas.Bool.{cases_eq, cases_lt, eq-eqb, lt-ltb, le-ltb, ne_eqb}
 use Rattle.std.proofs.lemmas.List.{get_or-set_other, get_or-set_same, get_or-replicate, get_or_past}
 use Rattle.pesp_search.specs.Marks.{Marks, has_bit, is_left, marked, one_bit, words_of}
-use Rattle.pesp_search.specs.Revising.{IsClear, any_below, reaches, turned_to}
+use Rattle.pesp_search.specs.Revising.{IsClear, reaches, turned_to}
+use Rattle.pesp_search.specs.Marks.{any_below}
 use Rattle.pesp_search.proofs.AnyBelow.{any_one, any_same, joined_below}
 use Rattle.pesp_search.proofs.WordBits.{bit_of_one, or_bit, shl_high, shl_low, zero_bit}
 

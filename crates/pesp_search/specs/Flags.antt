@@ -1,45 +1,31 @@
--- Inner words: flags of events as the bits of words.
-use Rattle.std.specs.Prelude.{◌≡◌, ◌⊎◌, ℕ, ◌+◌, ◌/◌, ◌%◌, ◌^◌, ◌<◌, ◌≤◌, ◌==◌, Bool, true, false}
-use Rattle.std.specs.Prelude.{not}
-use Rattle.std.specs.Prelude.{List, length, get_or, slice_set, Option, Some, None, All}
-use Rattle.std.specs.List.{list_any}
-use Rattle.pesp_search.specs.Marks.{marked, with_bit}
+-- Inner words: flags of events.
+use Rattle.std.specs.Prelude.{◌≡◌, ◌⊎◌, ℕ, ◌/◌, ◌<◌, ◌≤◌, Bool, true, false, List, length, map}
+use Rattle.std.specs.Prelude.{get_or, Option, Some, None}
+use Rattle.std.specs.List.{range_with_len}
+use Rattle.pesp_search.specs.Marks.{any_below, marked}
 
--- words with a bit for each of so many events
-pub record Flags : Type 0 where
-  pub events : ℕ
-  pub words : List ℕ
+-- a flag for each event
+abbrev pub Flags : Type 0
+Flags = List Bool
 
 -- whether the set of an event has changed, and whether that of some event has
 abbrev pub has_changed : Flags → ℕ → Bool
-has_changed flags event = marked flags.words event
+has_changed flags event = get_or flags event false
 
-unfoldable pub some_changed : Flags → Bool
-some_changed flags = list_any (λ word. not (word == 0)) flags.words
+abbrev pub some_changed : Flags → Bool
+some_changed flags = any_below (has_changed flags) (length flags)
 
--- the flags where that of one event is another one
-abbrev pub with_flag : Flags → ℕ → Bool → Flags
-with_flag flags event flag = record {
-  events = flags.events;
-  words = slice_set flags.words (event / 64)
-      (with_bit (get_or flags.words (event / 64) 0) (event % 64) flag);
-}
+-- the flags of so many events by the bits of words
+abbrev pub flags_of : List ℕ → ℕ → Flags
+flags_of words events = map (marked words) (range_with_len 0 events)
 
--- there are words for each event, and no flag is set behind the last one
-pub record AreFlags (flags : Flags) : Type 0 where
-  pub few : flags.events ≤ 4000
-  pub each : length flags.words ≡ (flags.events + 63) / 64
-  pub fit : All (λ word. word < 2 ^ 64) flags.words
-  pub clear : (event : ℕ) → flags.events ≤ event → has_changed flags event ≡ false
-
--- outside of a range all words are 0
+-- no bit is set outside of a range of words
 abbrev pub IsClearOutside : ℕ → ℕ → List ℕ → Type 0
 IsClearOutside low high words =
-    (index : ℕ) → (index < low) ⊎ (high ≤ index) → get_or words index 0 ≡ 0
+    (place : ℕ) → (place / 64 < low) ⊎ (high ≤ place / 64) → marked words place ≡ false
 
 -- the last event before one whose flag is set, if one is
 abbrev pub IsLastFlag : Flags → ℕ → Option ℕ → Type 0
 IsLastFlag flags end None = (event : ℕ) → event < end → has_changed flags event ≡ false
-IsLastFlag flags end (Some last) = (last < end) × (last < flags.events)
-    × (has_changed flags last ≡ true)
+IsLastFlag flags end (Some last) = (last < end) × (has_changed flags last ≡ true)
     × ((event : ℕ) → last < event → event < end → has_changed flags event ≡ false)

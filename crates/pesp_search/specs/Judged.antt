@@ -1,5 +1,6 @@
 -- The rules of a timetable from any hand, in the order in which they are looked for.
-use Rattle.std.specs.Prelude.{ℕ, ◌&&◌, ◌==◌, nat_lt, nat_eq, not, is_some, if◌then◌else◌, Bool, List, [], ◌∷◌, ◌++◌, length, map, slice_get, Option}
+use Rattle.std.specs.Prelude.{ℕ, ◌&&◌, ◌==◌, nat_lt, nat_eq, not, is_some, if◌then◌else◌, Bool}
+use Rattle.std.specs.Prelude.{List, [], ◌∷◌, ◌++◌, length, map, slice_get, Option}
 use Rattle.std.specs.List.{list_all, enumerate_from}
 use Rattle.giv_files.specs.Columns.{times_p_columns}
 use Rattle.giv_files.specs.Reading.{faults, table_of}
@@ -41,8 +42,8 @@ broken_rows problem rows =
     broken_where (not (are_in_order problem rows)) fault.Events
     ++ broken_where (is_some (first_broken problem (map (λ row. row.time) rows))) fault.Tension
 
--- the rules that a text breaks as a timetable of a problem, in order: it is no table, or else those that its
--- rows break
+-- the rules that a text breaks as a timetable of a problem, in order: it is no table, or else those
+-- that its rows break
 abbrev pub broken_rules : Problem → List ℕ → List TimetableFault
 broken_rules problem text =
     broken_where (not (is_table text)) fault.Row ++ broken_rows problem (rows_in text)
@@ -51,7 +52,8 @@ broken_rules problem text =
 unfoldable pub first_broken_rule : Problem → List ℕ → Option TimetableFault
 first_broken_rule problem text = slice_get (broken_rules problem text) 0
 
--- a timetable passes: its text is a table of one time for each event in order, and these are a timetable
+-- a timetable passes: its text is a table of one time for each event in order, and these are a
+-- timetable
 pub record Passes (problem : Problem) (text : List ℕ) : Type 0 where
   pub times : List ℕ
   pub reads : ReadsAs times_p_columns periodic_time (time_rows times) text

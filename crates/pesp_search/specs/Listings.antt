@@ -1,6 +1,8 @@
 -- The listing of entries up to the first timetable that is found.
-use Rattle.std.specs.Prelude.{ℕ, zero, suc, ◌≤◌, ◌+◌, ◌^◌, ◌==◌, nat_lt, min, is_some, Bool, true, false, if◌then◌else◌}
-use Rattle.std.specs.Prelude.{List, [], ◌∷◌, length, map, filter, position, sum, slice_index_or, slice_set}
+use Rattle.std.specs.Prelude.{ℕ, zero, suc, ◌≤◌, ◌+◌, ◌^◌, ◌==◌, nat_lt, min, is_some, Bool, true}
+use Rattle.std.specs.Prelude.{false, if◌then◌else◌}
+use Rattle.std.specs.Prelude.{List, [], ◌∷◌, length, map, filter, position, sum, slice_index_or}
+use Rattle.std.specs.Prelude.{slice_set}
 use Rattle.std.specs.Prelude.{Option, Some, None, Result, Ok, Err}
 use Rattle.std.specs.List.{list_any, range_with_len}
 use Rattle.giv_files.specs.declared.refusal.Refusal.{Refusal}
@@ -45,8 +47,8 @@ in_turn visit (first ∷ more) = unless_found (visit first) (in_turn visit more)
 abbrev pub first_times : List (List ℕ) → List ℕ
 first_times sets = map (λ times. slice_index_or times 0 0) sets
 
--- what one entry lists, by the event that has several times: it is found without one, and else branches, one
--- child for each of its times
+-- what one entry lists, by the event that has several times: it is found without one, and else
+-- branches, one child for each of its times
 abbrev pub branches : List (List ℕ) → (ℕ → ℕ → Listing) → Option ℕ → Listing
 branches sets visit None = record { entries = 1; found = Some (first_times sets) }
 branches sets visit (Some event) = one_more (in_turn (visit event) (left_to sets event))
@@ -74,7 +76,8 @@ listing_from (suc more) problem sets =
 abbrev pub listing_of : Problem → List (List ℕ) → Listing
 listing_of problem sets = listing_from (several_in sets + 1) problem sets
 
--- the times that are left to an event at first: time 0 to the first one, and all times to every other one
+-- the times that are left to an event at first: time 0 to the first one, and all times to every
+-- other one
 abbrev pub times_at_first : ℕ → ℕ → List ℕ
 times_at_first period event = if event == 0 then 0 ∷ [] else range_with_len 0 period
 
@@ -117,10 +120,11 @@ Tells problem (Some times) = IsTimetable problem times
 
 -- the number of entries that no listing exceeds: a power of the period for each number of events
 abbrev pub most_entries : Problem → ℕ
-most_entries problem = sum (map (λ events. problem.period ^ events) (range_with_len 0 (problem.events + 1)))
+most_entries problem =
+    sum (map (λ events. problem.period ^ events) (range_with_len 0 (problem.events + 1)))
 
--- a listing is right: what it finds is a timetable, it finds nothing only where there is none, and it is never
--- longer than that
+-- a listing is right: what it finds is a timetable, it finds nothing only where there is none, and
+-- it is never longer than that
 pub record ListingIsRight (problem : Problem) : Type 0 where
   pub tells : Tells problem (listing problem).found
   pub short : (listing problem).entries ≤ most_entries problem

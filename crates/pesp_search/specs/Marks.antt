@@ -1,8 +1,9 @@
 -- Inner words: marks of the times that are left to events, and sets of times that are changed and
 -- restored.
-use Rattle.std.specs.Prelude.{◌≡◌, ℕ, ◌+◌, ◌*◌, ◌-◌, ◌/◌, ◌%◌, ◌^◌, ◌<◌, ◌≤◌, ◌==◌, nat_lt, nat_le}
+use Rattle.std.specs.Prelude.{◌≡◌, ℕ, zero, suc, ◌+◌, ◌*◌, ◌-◌, ◌/◌, ◌%◌, ◌^◌, ◌<◌, ◌≤◌, ◌==◌}
+use Rattle.std.specs.Prelude.{nat_lt}
 use Rattle.std.specs.Prelude.{Bool, true, false, ◌&&◌, ◌||◌, if◌then◌else◌, bit_and, bit_or}
-use Rattle.std.specs.Prelude.{List, [], ◌∷◌, ◌++◌, length, map, filter, get_or, slice_set, sum, All}
+use Rattle.std.specs.Prelude.{List, [], ◌∷◌, ◌++◌, length, map, filter, get_or, slice_set, sum}
 use Rattle.std.specs.Prelude.{Option, Some, None}
 use Rattle.std.specs.Int.{bit_at, bit_not, w64}
 use Rattle.std.specs.List.{range_with_len}
@@ -10,6 +11,11 @@ use Rattle.pesp_search.specs.declared.time_sets.Branch.{Branch}
 use Rattle.pesp_search.specs.declared.time_sets.Change.{Change}
 use Rattle.pesp_search.specs.declared.time_sets.Change.TheVariants as change
 use Rattle.pesp_search.specs.Listings.{has_several, with_time}
+
+-- a test holds for a number below another one
+unfoldable pub any_below : (ℕ → Bool) → ℕ → Bool
+any_below test zero = false
+any_below test (suc n) = any_below test n || test n
 
 -- ---- words of 64 bits
 
@@ -75,9 +81,9 @@ with_word sets place word = record {
 
 -- no bit of a word at a place is set behind the period
 abbrev pub IsWord : ℕ → ℕ → ℕ → ℕ → Type 0
-IsWord period events place word = (word < 2 ^ 64)
-    × ((event time : ℕ) → event < events → period ≤ time → time < 64 * words_of period
-    → place_of period event time ≡ place → has_bit word (time % 64) ≡ false)
+IsWord period events place word =
+    (event time : ℕ) → event < events → period ≤ time → time < 64 * words_of period
+    → place_of period event time ≡ place → has_bit word (time % 64) ≡ false
 
 -- the times of an event, from one on
 abbrev pub times_from : Marks → ℕ → ℕ → List ℕ
@@ -102,15 +108,8 @@ pub record AreMarks (sets : Marks) : Type 0 where
   pub each : length sets.words ≡ sets.events * words_of sets.period
   pub some : 1 ≤ sets.period
   pub few : sets.period ≤ 720
-  pub fit : All (λ word. word < 2 ^ 64) sets.words
   pub clear : (event time : ℕ) → event < sets.events → sets.period ≤ time
       → time < 64 * words_of sets.period → has_bit (word_of sets event time) (time % 64) ≡ false
-
--- the bit of a word at first: time 0 is left to the first event, and all times to every other one
-abbrev pub first_bit_at : ℕ → ℕ → ℕ → Bool
-first_bit_at period place bit =
-    let time = 64 * (place % words_of period) + bit in
-    nat_lt time period && (time == 0 || nat_le (words_of period) place)
 
 -- sets that were left where they branched, and the event and the time from which its children are
 -- still to be visited

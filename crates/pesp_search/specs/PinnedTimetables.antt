@@ -20,7 +20,8 @@ use Rattle.pesp_search.specs.TimetableStage.{period_in, problem_in, timetable_fa
 -- the file of the times
 abbrev pub pinned_input : BundleParts → Input PeriodicTime
 pinned_input bundle =
-    periodic_time_input file.PinnedTimes (period_in bundle) (periodic_event_ids (events_of (input_text bundle 0)))
+    periodic_time_input file.PinnedTimes (period_in bundle)
+    (periodic_event_ids (events_of (input_text bundle 0)))
 
 -- times, where some activity is not in its bounds
 abbrev pub tension_faults : BundleParts → List ℕ → List Refusal
@@ -39,7 +40,8 @@ pinned_timetable_faults bundle =
 abbrev pub times_kept : List ℕ → Made
 times_kept times = record {
   files = record { file = file.TimesP; text = times_text times } ∷ [];
-  report = report_line stage.Timetable (count_text (length times) (codes "events") ∷ codes "pinned" ∷ []);
+  report = report_line stage.Timetable
+      (count_text (length times) (codes "events") ∷ codes "pinned" ∷ []);
 }
 
 -- the stage

@@ -8,9 +8,10 @@ use Rattle.std.specs.Prelude.{slice_set, Some, All, unsigned_abs, ◌-ℤ◌}
 use Rattle.std.specs.List.{list_any, range_with_len}
 use Rattle.pesp_model.specs.declared.activity.PespActivity.{PespActivity}
 use Rattle.pesp_model.specs.Timetables.{Problem, keeps}
-use Rattle.pesp_search.specs.Flags.{Flags, has_changed, some_changed, with_flag}
+use Rattle.pesp_search.specs.Flags.{Flags, has_changed, some_changed}
 use Rattle.pesp_search.specs.Listings.{is_empty}
-use Rattle.pesp_search.specs.Marks.{IsSettled, Marks, Saved, Tracked, is_left, marked, marks_left}
+use Rattle.pesp_search.specs.Marks.{IsSettled, Marks, Saved, Tracked, any_below, is_left, marked}
+use Rattle.pesp_search.specs.Marks.{marks_left}
 use Rattle.pesp_search.specs.Marks.{sets_of, times_from}
 use Rattle.pesp_search.specs.TimeSets.{reduced}
 
@@ -21,11 +22,6 @@ Left = ℕ → ℕ → Bool
 -- the times of one event that have a bit stay, and those of all others
 abbrev pub stays : ℕ → List ℕ → Left
 stays kept keep event time = not (event == kept) || marked keep time
-
--- a test holds for a number below another one
-unfoldable pub any_below : (ℕ → Bool) → ℕ → Bool
-any_below test zero = false
-any_below test (suc n) = any_below test n || test n
 
 -- the number of those below a number for which it holds
 unfoldable pub count_below : (ℕ → Bool) → ℕ → ℕ
@@ -70,12 +66,12 @@ first_left period left activity time =
 
 -- the times without a second one are taken out of the set of an activity's first event, and those
 -- without a first one of that of its second event
-abbrev pub keeps_seconds : ℕ → Left → PespActivity → Left
-keeps_seconds period left activity event time =
+abbrev pub keeps_first : ℕ → Left → PespActivity → Left
+keeps_first period left activity event time =
     not (event == activity.from) || second_left period left activity time
 
-abbrev pub keeps_firsts : ℕ → Left → PespActivity → Left
-keeps_firsts period left activity event time =
+abbrev pub keeps_second : ℕ → Left → PespActivity → Left
+keeps_second period left activity event time =
     not (event == activity.to) || first_left period left activity time
 
 -- no time of either event of an activity is without a partner
@@ -100,23 +96,23 @@ pub record Propagates (problem : Problem) (before after : Tracked) : Type 0 wher
 
 -- the flags where that of an event is set if its set has changed
 abbrev pub noted : Flags → ℕ → Bool → Flags
-noted flags event is_changed = if is_changed then with_flag flags event true else flags
+noted flags event is_changed = if is_changed then slice_set flags event true else flags
 
 -- the times of an activity's first event have their second ones unless the set of its second event
 -- has changed, and the other way round
-abbrev pub SecondsUnless : ℕ → Left → (ℕ → Bool) → PespActivity → Type 0
-SecondsUnless period left changed activity =
+abbrev pub FirstUnless : ℕ → Left → (ℕ → Bool) → PespActivity → Type 0
+FirstUnless period left changed activity =
     changed activity.to ≡ false → (time : ℕ) → left activity.from time ≡ true
     → second_left period left activity time ≡ true
 
-abbrev pub FirstsUnless : ℕ → Left → (ℕ → Bool) → PespActivity → Type 0
-FirstsUnless period left changed activity =
+abbrev pub SecondUnless : ℕ → Left → (ℕ → Bool) → PespActivity → Type 0
+SecondUnless period left changed activity =
     changed activity.from ≡ false → (time : ℕ) → left activity.to time ≡ true
     → first_left period left activity time ≡ true
 
 abbrev pub RevisedUnless : ℕ → Left → (ℕ → Bool) → PespActivity → Type 0
 RevisedUnless period left changed activity =
-    SecondsUnless period left changed activity × FirstsUnless period left changed activity
+    FirstUnless period left changed activity × SecondUnless period left changed activity
 
 -- the same of all activities from an index on
 abbrev pub AllFrom : List PespActivity → (PespActivity → Type 0) → ℕ → Type 0
@@ -157,7 +153,7 @@ pub record Touches (activity : PespActivity) (before after : Tracked) (flags mor
   pub within : IsWithin (is_left after.sets) (is_left before.sets)
   pub keeps : (left : Left) → IsRevised before.sets.period left activity
       → IsWithin left (is_left before.sets) → IsWithin left (is_left after.sets)
-  pub each : more.events ≡ flags.events
+  pub each : length more ≡ length flags
   pub untouched : (event : ℕ) → has_changed more event ≡ false
       → (has_changed flags event ≡ false) × (is_left after.sets event ≡ is_left before.sets event)
   pub fewer : (event : ℕ) → has_changed more event ≡ true
@@ -170,19 +166,19 @@ KeepsOwn activity at before after = (activity.from ≡ activity.to → ⊥)
     → times_from after.sets at 0 ≡ times_from before.sets at 0
 
 -- it revises them on one side or on both, where one of its events is the one whose set has changed
-abbrev pub RevisesSeconds : PespActivity → ℕ → Tracked → Tracked → Flags → Flags
+abbrev pub RevisesFirst : PespActivity → ℕ → Tracked → Tracked → Flags → Flags
     → Type 0
-RevisesSeconds activity at before after flags more =
+RevisesFirst activity at before after flags more =
     Touches activity before after flags more
-    × (SecondsUnless before.sets.period (is_left before.sets) (either at flags) activity
-    → SecondsUnless before.sets.period (is_left after.sets) (has_changed more) activity)
+    × (FirstUnless before.sets.period (is_left before.sets) (either at flags) activity
+    → FirstUnless before.sets.period (is_left after.sets) (has_changed more) activity)
 
-abbrev pub RevisesFirsts : PespActivity → ℕ → Tracked → Tracked → Flags → Flags
+abbrev pub RevisesSecond : PespActivity → ℕ → Tracked → Tracked → Flags → Flags
     → Type 0
-RevisesFirsts activity at before after flags more =
+RevisesSecond activity at before after flags more =
     Touches activity before after flags more
-    × (FirstsUnless before.sets.period (is_left before.sets) (either at flags) activity
-    → FirstsUnless before.sets.period (is_left after.sets) (has_changed more) activity)
+    × (SecondUnless before.sets.period (is_left before.sets) (either at flags) activity
+    → SecondUnless before.sets.period (is_left after.sets) (has_changed more) activity)
 
 abbrev pub Revises : PespActivity → ℕ → Tracked → Tracked → Flags → Flags → Type 0
 Revises activity at before after flags more =
@@ -195,7 +191,7 @@ Revises activity at before after flags more =
 pub record Visits (problem : Problem) (event : ℕ) (before after : Tracked) (flags more : Flags)
     : Type 0 where
   pub propagates : Propagates problem before after
-  pub each : more.events ≡ flags.events
+  pub each : length more ≡ length flags
   pub revised : AllFrom problem.activities
       (BoundUnless problem.period (is_left after.sets) (has_changed more)) 0
   pub fewer : (other : ℕ) → has_changed more other ≡ true
@@ -213,7 +209,7 @@ pub record Dies (problem : Problem) (before after : Tracked) : Type 0 where
 -- they did
 pub record Sweeps (problem : Problem) (before after : Tracked) (changed : Flags) : Type 0 where
   pub propagates : Propagates problem before after
-  pub each : changed.events ≡ problem.events
+  pub each : length changed ≡ problem.events
   pub revised : AllFrom problem.activities
       (BoundUnless problem.period (is_left after.sets) (has_changed changed)) 0
   pub fewer : some_changed changed ≡ true → marks_left after.sets < marks_left before.sets
@@ -281,7 +277,7 @@ AreRevised problem (saved ∷ earlier) =
 -- sets are ready for an entry: activities are revised unless the set of one of their events is
 -- said to have changed, times are left to all events, and so it is in all saved sets
 pub record IsReady (problem : Problem) (sets : Tracked) (flags : Flags) : Type 0 where
-  pub each : flags.events ≡ problem.events
+  pub each : length flags ≡ problem.events
   pub revised : AllFrom problem.activities
       (RevisedUnless problem.period (is_left sets.sets) (has_changed flags)) 0
   pub full : IsFull sets.sets

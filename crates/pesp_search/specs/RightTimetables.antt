@@ -17,15 +17,16 @@ use Rattle.pesp_model.specs.PespTexts.{events_of}
 use Rattle.pesp_model.specs.Timetables.{IsTimetable}
 use Rattle.pesp_search.specs.Judged.{first_broken_rule}
 use Rattle.pesp_search.specs.Listings.{listing, most_entries}
-use Rattle.pesp_search.specs.TimetableStage.{budget_in, period_in, problem_in, time_rows, timetable_faults}
+use Rattle.pesp_search.specs.TimetableStage.{budget_in, period_in, problem_in, time_rows}
+use Rattle.pesp_search.specs.TimetableStage.{timetable_faults}
 
 -- the ids of the events of a bundle
 abbrev pub event_ids : BundleParts → List ℕ
 event_ids bundle = periodic_event_ids (events_of (input_text bundle 0))
 
--- The files that are made are right: the inputs have no fault, and there is one file. Read again, it has one
--- time for each event in order, which are a timetable of the problem of the inputs; it breaks no rule of a
--- timetable from any hand, and has no fault by the rules of its kind.
+-- The files that are made are right: the inputs have no fault, and there is one file. Read again,
+-- it has one time for each event in order, which are a timetable of the problem of the inputs; it
+-- breaks no rule of a timetable from any hand, and has no fault by the rules of its kind.
 pub record TimetableFilesAreRight (bundle : BundleParts) (files : List MadeFile) : Type 0 where
   pub inputs : timetable_faults bundle ≡ []
   pub times : List ℕ

@@ -1,6 +1,7 @@
 -- Inner words: a search between two entries, and what its call gives. A reader of the contracts of
 -- this crate needs none of them.
-use Rattle.std.specs.Prelude.{◌≡◌, ◌⊎◌, ℕ, ◌+◌, false, List, ◌∷◌, Option, Some, None, Vec, Result}
+use Rattle.std.specs.Prelude.{◌≡◌, ◌⊎◌, ℕ, ◌+◌, false, List, [], ◌∷◌, Option, Some, None, Vec}
+use Rattle.std.specs.Prelude.{Result}
 use Rattle.std.specs.Prelude.{Ok, Err}
 use Rattle.std.specs.Prelude.{⊤}
 use Rattle.std.specs.Global.{Global}
@@ -12,7 +13,8 @@ use Rattle.pesp_model.specs.Timetables.{Problem}
 use Rattle.pesp_search.specs.declared.search.Entry.{Entry}
 use Rattle.pesp_search.specs.declared.search.Entry.TheVariants as entries
 use Rattle.pesp_search.specs.declared.search.FoundTimes.{FoundTimes}
-use Rattle.pesp_search.specs.Listings.{Listing, TimesFound, entry, in_turn, is_empty, listing}
+use Rattle.pesp_search.specs.Listings.{Listing, TimesFound, entry, first_sets, in_turn, is_empty}
+use Rattle.pesp_search.specs.Listings.{listing}
 use Rattle.pesp_search.specs.Listings.{listing_of}
 use Rattle.pesp_search.specs.Listings.{one_more}
 use Rattle.pesp_search.specs.Listings.{unless_found, with_time}
@@ -70,6 +72,13 @@ TakesEntry problem before after changed (entries.Next event) =
     × (after.sets.events ≡ before.sets.events)
     × IsReady problem after changed
     × IsSettled after.sets event
+
+-- the sets before the first entry
+pub record AreFirst (problem : Problem) (sets : Tracked) : Type 0 where
+  pub period : sets.sets.period ≡ problem.period
+  pub events : sets.sets.events ≡ problem.events
+  pub saved : sets.saved ≡ []
+  pub first : sets_of sets.sets ≡ first_sets problem
 
 -- a search behind some entries, each of which took a step
 pub record IsSearched (problem : Problem) (sets : Tracked) (count : ℕ) : Type 0 where

@@ -1,5 +1,6 @@
 -- The times that are left to events, and what rounds take from them.
-use Rattle.std.specs.Prelude.{ℕ, zero, suc, ◌≡◌, ◌==◌, nat_eq, Bool, true, false, not, ◌&&◌, ◌||◌, List, [], length, map, filter, slice_index_or, sum, Contains, All}
+use Rattle.std.specs.Prelude.{ℕ, zero, suc, ◌≡◌, ◌==◌, nat_eq, Bool, true, false, not, ◌&&◌, ◌||◌}
+use Rattle.std.specs.Prelude.{List, [], length, map, filter, slice_index_or, sum, Contains, All}
 use Rattle.std.specs.List.{list_any, list_all, enumerate_from, AllZip}
 use Rattle.pesp_model.specs.declared.activity.PespActivity.{PespActivity}
 use Rattle.pesp_model.specs.Timetables.{Problem, keeps, IsTimetable}
@@ -8,9 +9,11 @@ use Rattle.pesp_model.specs.Timetables.{Problem, keeps, IsTimetable}
 abbrev pub left_to : List (List ℕ) → ℕ → List ℕ
 left_to sets event = slice_index_or sets event []
 
--- a time is the first or the second one of two that keep an activity, where the other is left to its event
+-- a time is the first or the second one of two that keep an activity, where the other is left to
+-- its event
 abbrev pub has_second : ℕ → List (List ℕ) → ℕ → PespActivity → Bool
-has_second period sets time activity = list_any (keeps period activity time) (left_to sets activity.to)
+has_second period sets time activity =
+    list_any (keeps period activity time) (left_to sets activity.to)
 
 abbrev pub has_first : ℕ → List (List ℕ) → ℕ → PespActivity → Bool
 has_first period sets time activity =
@@ -29,7 +32,8 @@ has_partners problem sets event time =
 
 -- a round: every time without a partner on some activity is removed at once
 abbrev pub round : Problem → List (List ℕ) → List (List ℕ)
-round problem sets = map (λ at. filter (has_partners problem sets at.0) at.1) (enumerate_from 0 sets)
+round problem sets =
+    map (λ at. filter (has_partners problem sets at.0) at.1) (enumerate_from 0 sets)
 
 -- how many times are left to all events
 abbrev pub times_left : List (List ℕ) → ℕ
@@ -45,8 +49,8 @@ rounds (suc more) problem sets =
       | false ↦ rounds more problem next
     ]
 
--- the reduced sets: each round but the last removes a time, so rounds end when as many were made as there
--- were times
+-- the reduced sets: each round but the last removes a time, so rounds end when as many were made as
+-- there were times
 unfoldable pub reduced : Problem → List (List ℕ) → List (List ℕ)
 reduced problem sets = rounds (times_left sets) problem sets
 
@@ -54,12 +58,14 @@ reduced problem sets = rounds (times_left sets) problem sets
 
 -- each event has only times that it had
 abbrev pub AreWithin : List (List ℕ) → List (List ℕ) → Type 0
-AreWithin sets others = AllZip (λ times before. All (λ time. Contains before time) times) sets others
+AreWithin sets others =
+    AllZip (λ times before. All (λ time. Contains before time) times) sets others
 
 -- no time is without a partner
 abbrev pub ArePartnered : Problem → List (List ℕ) → Type 0
 ArePartnered problem sets =
-    (event time : ℕ) → Contains (left_to sets event) time → has_partners problem sets event time ≡ true
+    (event time : ℕ) → Contains (left_to sets event) time
+    → has_partners problem sets event time ≡ true
 
 -- the reduced sets are the greatest ones in which no time is without a partner
 pub record AreGreatest (problem : Problem) (before sets : List (List ℕ)) : Type 0 where

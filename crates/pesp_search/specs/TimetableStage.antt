@@ -1,5 +1,6 @@
 -- The stage that makes a timetable.
-use Rattle.std.specs.Prelude.{ℕ, ◌+◌, List, [], ◌∷◌, ◌++◌, length, map, codes, decimal, Result, Ok, Err}
+use Rattle.std.specs.Prelude.{ℕ, ◌+◌, List, [], ◌∷◌, ◌++◌, length, map, codes, decimal, Result, Ok}
+use Rattle.std.specs.Prelude.{Err}
 use Rattle.std.specs.List.{enumerate_from}
 use Rattle.giv_files.specs.declared.file_id.FileId.TheVariants as file
 use Rattle.giv_files.specs.declared.key.Key.TheVariants as key
@@ -58,14 +59,15 @@ abbrev pub after_faults : List Refusal → Result Made Refusal → Result Made R
 after_faults [] outcome = outcome
 after_faults (first ∷ more) outcome = Err first
 
--- the stage: from settings and input texts to what is made, or the first fault, or why the search found no
--- timetable
+-- the stage: from settings and input texts to what is made, or the first fault, or why the search
+-- found no timetable
 unfoldable pub timetable_stage : BundleParts → Result Made Refusal
 timetable_stage bundle =
     after_faults (timetable_faults bundle)
     (search_made (result_within (budget_in bundle) (listing (problem_in bundle))))
 
--- how many steps it takes: one, and where the inputs have no fault one for each entry that is listed
+-- how many steps it takes: one, and where the inputs have no fault one for each entry that is
+-- listed
 abbrev pub work_after : List Refusal → ℕ → ℕ
 work_after [] entries = 1 + entries
 work_after (first ∷ more) entries = 1

@@ -25,8 +25,8 @@ pub(crate) fn next_child(sets: &mut TimeSets) -> Result<Option<usize>, NoMemory>
     Ok(None)
 }
 
-// Leaves one of its times to an event.
-fn keep_time(sets: &mut TimeSets, event: usize, time: usize) -> Result<(), NoMemory>
+/// Leaves one of its times to an event.
+pub(crate) fn keep_time(sets: &mut TimeSets, event: usize, time: usize) -> Result<(), NoMemory>
     requires event { event < sets.old.sets.events }
     requires time { time < sets.old.sets.period }
     requires left { is_left sets.old.sets event time ≡ true }

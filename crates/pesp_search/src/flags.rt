@@ -1,9 +1,9 @@
 // Flags of events.
-ghost use Rattle.std.specs.Prelude.{◌≡◌, ℕ, ◌/◌, ◌<◌, ◌≤◌, ◌==◌, length, slice_index, true};
-ghost use Rattle.std.specs.Prelude.{false, All, IfOk};
-ghost use Rattle.pesp_search.specs.Flags.{AreFlags, IsClearOutside, IsLastFlag, has_changed};
-ghost use Rattle.pesp_search.specs.Flags.{some_changed};
-ghost use Rattle.pesp_search.specs.Flags.{with_flag};
+ghost use Rattle.std.specs.Prelude.{◌≡◌, ◌⊎◌, ℕ, ◌+◌, ◌*◌, ◌/◌, ◌<◌, ◌≤◌, ◌==◌, length, true};
+ghost use Rattle.std.specs.Prelude.{false};
+ghost use Rattle.std.specs.Prelude.{slice_set, All, IfOk};
+ghost use Rattle.pesp_search.specs.Flags.{IsLastFlag, has_changed, some_changed};
+ghost use Rattle.pesp_search.specs.Marks.{has_bit};
 
 use crate::words::{last_bit, with_bit};
 use plan_num::NoMemory;
@@ -11,6 +11,7 @@ use std::alloc::Global;
 use std::marker::Model;
 
 /// A flag for each event, as the bits of words. Outside of a range of words no flag is set.
+/// Contracts see it as a list of flags.
 #[derive(Debug, Drop)]
 pub(crate) struct EventFlags {
     events: usize,
@@ -20,14 +21,15 @@ pub(crate) struct EventFlags {
 }
 
 impl Model for EventFlags {
-    ghost use Rattle.pesp_search.specs.Flags.{Flags, AreFlags, IsClearOutside};
+    ghost use Rattle.std.specs.Prelude.{◌≡◌, ◌+◌, ◌/◌, ◌≤◌, length};
+    ghost use Rattle.pesp_search.specs.Flags.{Flags, IsClearOutside, flags_of};
 
     ghost Value = { Flags };
 
-    ghost view = { λ flags. record { events = flags.events; words = flags.words.items } };
+    ghost view = { λ flags. flags_of flags.words.items flags.events };
 
-    ghost invariant = { λ flags.
-        AreFlags (record { events = flags.events; words = flags.words.items })
+    ghost invariant = { λ flags. (flags.events ≤ 4000)
+        × (length flags.words.items ≡ (flags.events + 63) / 64)
         × IsClearOutside flags.low flags.high flags.words.items };
 }
 
@@ -35,7 +37,7 @@ impl EventFlags {
     /// Flags of so many events, of which none is set.
     pub(crate) fn none(alloc: Global, events: usize) -> Result<EventFlags, NoMemory>
         requires { events ≤ 4000 }
-        ensures events { IfOk result (λ flags. flags.events ≡ events) }
+        ensures events { IfOk result (λ flags. length flags ≡ events) }
         ensures none { IfOk result (λ flags. (event : ℕ) → has_changed flags event ≡ false) }
     {
         let mut words = Vec::new(alloc);
@@ -53,7 +55,7 @@ impl EventFlags {
     /// Flags of so many events, which are all set.
     pub(crate) fn all(alloc: Global, events: usize) -> Result<EventFlags, NoMemory>
         requires { events ≤ 4000 }
-        ensures events { IfOk result (λ flags. flags.events ≡ events) }
+        ensures events { IfOk result (λ flags. length flags ≡ events) }
         ensures all { IfOk result
             (λ flags. (event : ℕ) → event < events → has_changed flags event ≡ true) }
     {
@@ -66,8 +68,8 @@ impl EventFlags {
 
     /// Sets the flag of one event alone.
     pub(crate) fn set_alone(&mut self, event: usize)
-        requires { event < self.old.events }
-        ensures events { self.new.events ≡ self.old.events }
+        requires { event < length self.old }
+        ensures events { length self.new ≡ length self.old }
         ensures alone { (other : ℕ) → has_changed self.new other ≡ (other == event) }
     {
         self.clear();
@@ -76,7 +78,7 @@ impl EventFlags {
 
     // Takes all flags away.
     fn clear(&mut self)
-        ensures events { self.new.events ≡ self.old.events }
+        ensures events { length self.new ≡ length self.old }
         ensures none { (event : ℕ) → has_changed self.new event ≡ false }
     {
         put_zeros(&mut self.words);
@@ -86,34 +88,25 @@ impl EventFlags {
 
     /// How many events there are.
     pub(crate) fn events(&self) -> usize
-        ensures value { result ≡ self.now.events }
-        ensures sound { AreFlags self.now }
+        ensures value { result ≡ length self.now }
+        ensures few { length self.now ≤ 4000 }
     {
         self.events
     }
 
-    // How many words there are.
-    fn width(&self) -> usize
-        ensures value { result ≡ length self.now.words }
-        ensures sound { AreFlags self.now }
-    {
-        self.words.len()
-    }
-
-    // The word of some events.
+    // The word of the flags of some events.
     fn word(&self, index: usize) -> u64
-        requires { index < length self.now.words }
-        ensures { result ≡ slice_index self.now.words index }
+        requires { index < (length self.now + 63) / 64 }
+        ensures { (bit : ℕ) → bit < 64 → 64 * index + bit < length self.now
+            → has_bit result bit ≡ has_changed self.now (64 * index + bit) }
     {
         self.words[index]
     }
 
     /// Sets the flag of an event or takes it away.
     pub(crate) fn put(&mut self, event: usize, flag: bool)
-        requires { event < self.old.events }
-        ensures flag { self.new ≡ with_flag self.old event flag }
-        ensures within { event / 64 < length self.old.words }
-        ensures sound { AreFlags self.old }
+        requires { event < length self.old }
+        ensures { self.new ≡ slice_set self.old event flag }
     {
         let index = event / 64;
         self.words[index] = with_bit(self.words[index], event % 64, flag);
@@ -130,18 +123,20 @@ impl EventFlags {
 
     // The first word and the end of those in which flags may be set.
     fn range(&self) -> (usize, usize)
-        ensures { IsClearOutside result.0 result.1 self.now.words }
+        ensures clear { (event : ℕ) → (event / 64 < result.0) ⊎ (result.1 ≤ event / 64)
+            → has_changed self.now event ≡ false }
+        ensures few { length self.now ≤ 4000 }
     {
         (self.low, self.high)
     }
 
     /// The last event before one whose flag is set.
     pub(crate) fn last(&self, end: usize) -> Option<usize>
-        ensures last { IsLastFlag self.now end result }
-        ensures sound { AreFlags self.now }
+        requires { end ≤ length self.now }
+        ensures { IsLastFlag self.now end result }
     {
         let (low, high) = self.range();
-        let mut index = ((end.min(self.events()) + 63) / 64).min(high);
+        let mut index = ((end + 63) / 64).min(high);
         while index > low {
             index -= 1;
             if let Some(bit) = last_bit(self.word(index), end - 64 * index) {

@@ -1,5 +1,6 @@
 // The rules of a timetable from any hand, in their order.
-ghost use Rattle.std.specs.Prelude.{◌≡◌, ◌+◌, ◌<◌, ◌≤◌, ◌==◌, ◌&&◌, length, map, slice_get, slice_index_or};
+ghost use Rattle.std.specs.Prelude.{◌≡◌, ◌+◌, ◌<◌, ◌≤◌, ◌==◌, ◌&&◌, length, map, slice_get};
+ghost use Rattle.std.specs.Prelude.{slice_index_or};
 ghost use Rattle.std.specs.Prelude.{if◌then◌else◌, None, Some, All, IfOk, IfSome};
 ghost use Rattle.giv_files.specs.Columns.{times_p_columns};
 ghost use Rattle.giv_files.specs.Reading.{faults, table_of};

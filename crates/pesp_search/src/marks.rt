@@ -1,12 +1,9 @@
 // Marks of the times that are left to events.
-ghost use Rattle.std.specs.Prelude.{◌≡◌, ℕ, ◌<◌, ◌≤◌, ◌==◌, ◌||◌, ◌&&◌, ◌+◌, ◌*◌, ◌/◌, ◌%◌, nat_le};
-ghost use Rattle.std.specs.Prelude.{get_or, length, map, IfOk, IfSome};
-ghost use Rattle.std.specs.List.{range_with_len};
-ghost use Rattle.pesp_search.specs.Listings.{is_empty, times_at_first};
+ghost use Rattle.std.specs.Prelude.{◌≡◌, ℕ, ◌<◌, ◌≤◌, ◌+◌, ◌*◌, ◌/◌, ◌%◌, true};
+ghost use Rattle.std.specs.Prelude.{get_or, length, nat_lt, IfOk, IfSome};
+ghost use Rattle.pesp_search.specs.Listings.{is_empty};
 ghost use Rattle.pesp_search.specs.Marks.{AreMarks, IsNext, IsWord, has_bit, is_left};
-ghost use Rattle.pesp_search.specs.Marks.{marked};
-ghost use Rattle.pesp_search.specs.Marks.{first_bit_at, sets_of, times_from, with_word, word_of};
-ghost use Rattle.pesp_search.specs.Marks.{words_of};
+ghost use Rattle.pesp_search.specs.Marks.{marked, times_from, with_word, word_of, words_of};
 
 use crate::words::{WORDS, cut, first_bit, words_of};
 use plan_num::NoMemory;
@@ -41,23 +38,19 @@ impl Model for TimeMarks {
 }
 
 impl TimeMarks {
-    /// Time 0 is left to the first event, and all times of the period to every other one.
-    pub(crate) fn at_first(
-        alloc: Global,
-        period: usize,
-        events: usize,
-    ) -> Result<TimeMarks, NoMemory>
+    /// All times of the period are left to each event.
+    pub(crate) fn all(alloc: Global, period: usize, events: usize) -> Result<TimeMarks, NoMemory>
         requires some { 1 ≤ period }
         requires few { period ≤ 720 }
         requires few_events { events ≤ 4000 }
         ensures period { IfOk result (λ sets. sets.period ≡ period) }
         ensures events { IfOk result (λ sets. sets.events ≡ events) }
-        ensures first { IfOk result
-            (λ sets. sets_of sets ≡ map (times_at_first period) (range_with_len 0 events)) }
+        ensures all { IfOk result (λ sets. (event time : ℕ) → event < events → time < period
+            → is_left sets event time ≡ true) }
     {
         let mut words = Vec::new(alloc);
         for place in 0..events * words_of(period) {
-            words.push(first_word(place, period))?;
+            words.push(full_word(place, period))?;
         }
         Ok(TimeMarks {
             period,
@@ -157,12 +150,7 @@ impl TimeMarks {
         requires event { event < self.now.events }
         ensures { result ≡ is_empty (times_from self.now event 0) }
     {
-        for index in 0..self.width() {
-            if self.word(event, index) != 0 {
-                return false;
-            }
-        }
-        true
+        self.next_left(event, 0).is_none()
     }
 
     /// How many times are left to an event.
@@ -178,17 +166,12 @@ impl TimeMarks {
     }
 }
 
-// The word at a place at first.
-fn first_word(place: usize, period: usize) -> u64
+// The word at a place where all times of the period are left.
+fn full_word(place: usize, period: usize) -> u64
     requires some { 1 ≤ period }
     requires few { period ≤ 720 }
-    ensures { (bit : ℕ) → bit < 64 → has_bit result bit ≡ first_bit_at period place bit }
+    ensures { (bit : ℕ) → bit < 64
+        → has_bit result bit ≡ nat_lt (64 * (place % words_of period) + bit) period }
 {
-    let width = words_of(period);
-    let times = period - 64 * (place % width);
-    if place < width {
-        if place == 0 { 1 } else { 0 }
-    } else {
-        cut(u64::MAX, times)
-    }
+    cut(u64::MAX, period - 64 * (place % words_of(period)))
 }

@@ -15,9 +15,10 @@ use pesp_model::Pesp;
 use plan_num::NoMemory;
 
 /// Takes times out of the sets of events until each time that is left has its partners on all
-/// activities, or no time is left to some event. The activities at an event are revised, and
-/// again, where its set has changed; flags say which have at first. Tells whether no time is left
-/// to some event.
+/// activities, or no time is left to some event. The activities at an event are revised, and again,
+/// where its set has changed; flags say which have at first. This is arc consistency, by AC-3 with
+/// a worklist of events in the place of one of activities. Tells whether no time is left to some
+/// event.
 pub(crate) fn reduce(
     pesp: &Pesp,
     links: &Links,
@@ -28,7 +29,7 @@ pub(crate) fn reduce(
     requires events { sets.old.sets.events ≡ pesp.now.events }
     requires links { AreLinks pesp.now (length pesp.now.activities) links.now }
     requires ready { IsReady pesp.now sets.old changed.old }
-    ensures each { OnOk result (changed.new.events ≡ changed.old.events) }
+    ensures each { OnOk result (length changed.new ≡ length changed.old) }
     ensures reduces { OnOk result (Reduces pesp.now sets.old sets.new) }
     ensures empty { IfOk result
         (λ has_empty. has_empty ≡ list_any is_empty (sets_of sets.new.sets)) }
@@ -54,12 +55,12 @@ fn sweep(
     requires period { sets.old.sets.period ≡ pesp.now.period }
     requires events { sets.old.sets.events ≡ pesp.now.events }
     requires links { AreLinks pesp.now (length pesp.now.activities) links.now }
-    requires each { changed.old.events ≡ pesp.now.events }
+    requires each { length changed.old ≡ pesp.now.events }
     requires revised { AllFrom pesp.now.activities
         (BoundUnless pesp.now.period (is_left sets.old.sets) (has_changed changed.old)) 0 }
     ensures sweeps { IfOk result (λ is_dead. MatchBool is_dead (Dies pesp.now sets.old sets.new)
         (Sweeps pesp.now sets.old sets.new changed.new)) }
-    ensures each { OnOk result (changed.new.events ≡ changed.old.events) }
+    ensures each { OnOk result (length changed.new ≡ length changed.old) }
 {
     let mut end = changed.events();
     while let Some(event) = changed.last(end) {
@@ -84,12 +85,12 @@ fn visit(
     requires events { sets.old.sets.events ≡ pesp.now.events }
     requires event { event < pesp.now.events }
     requires links { AreLinksAt pesp.now event indexes.now }
-    requires each { changed.old.events ≡ pesp.now.events }
+    requires each { length changed.old ≡ pesp.now.events }
     requires revised { AllFrom pesp.now.activities
         (BoundUnless pesp.now.period (is_left sets.old.sets) (has_changed changed.old)) 0 }
     ensures visits { IfOk result (λ is_dead. MatchBool is_dead (Dies pesp.now sets.old sets.new)
         (Visits pesp.now event sets.old sets.new changed.old changed.new)) }
-    ensures each { OnOk result (changed.new.events ≡ changed.old.events) }
+    ensures each { OnOk result (length changed.new ≡ length changed.old) }
 {
     changed.put(event, false);
     let mut count = sets.sets().count(event);

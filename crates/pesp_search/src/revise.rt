@@ -7,8 +7,8 @@ ghost use Rattle.pesp_search.specs.Listings.{is_empty};
 ghost use Rattle.pesp_search.specs.Marks.{AreMarks, Prunes, is_left, marked, times_from};
 ghost use Rattle.pesp_search.specs.Revising.{ahead, behind, first_left, second_left, width_of};
 ghost use Rattle.pesp_search.specs.Revising.{HasEmpty, KeepsOwn, StaysFull, Revises};
-ghost use Rattle.pesp_search.specs.Revising.{RevisesFirsts, RevisesSeconds};
-ghost use Rattle.pesp_search.specs.Revising.{keeps_firsts, keeps_seconds, noted};
+ghost use Rattle.pesp_search.specs.Revising.{RevisesSecond, RevisesFirst};
+ghost use Rattle.pesp_search.specs.Revising.{keeps_second, keeps_first, noted};
 
 use crate::flags::EventFlags;
 use crate::marks::TimeMarks;
@@ -33,7 +33,7 @@ pub(crate) fn revise(
     requires activity { IsActivity sets.old.sets.events activity }
     requires event { at < sets.old.sets.events }
     requires counted { count.old ≡ length (times_from sets.old.sets at 0) }
-    requires each { changed.old.events ≡ sets.old.sets.events }
+    requires each { length changed.old ≡ sets.old.sets.events }
     ensures revises { OnOk result
         (Revises activity at sets.old sets.new changed.old changed.new) }
     ensures empty { IfOk result (λ is_empty. is_empty ≡ true → HasEmpty sets.new.sets) }
@@ -70,9 +70,9 @@ fn revise_first(
 ) -> Result<bool, NoMemory>
     requires activity { IsActivity sets.old.sets.events activity }
     requires counted { count ≡ length (times_from sets.old.sets at 0) }
-    requires each { changed.old.events ≡ sets.old.sets.events }
+    requires each { length changed.old ≡ sets.old.sets.events }
     ensures revises { OnOk result
-        (RevisesSeconds activity at sets.old sets.new changed.old changed.new) }
+        (RevisesFirst activity at sets.old sets.new changed.old changed.new) }
     ensures empty { IfOk result (λ is_empty. is_empty ≡ true → HasEmpty sets.new.sets) }
     ensures full { IfOk result (λ is_empty. is_empty ≡ false → StaysFull sets.old sets.new) }
     ensures own { OnOk result (KeepsOwn activity at sets.old sets.new) }
@@ -95,9 +95,9 @@ fn revise_second(
 ) -> Result<bool, NoMemory>
     requires activity { IsActivity sets.old.sets.events activity }
     requires counted { count ≡ length (times_from sets.old.sets at 0) }
-    requires each { changed.old.events ≡ sets.old.sets.events }
+    requires each { length changed.old ≡ sets.old.sets.events }
     ensures revises { OnOk result
-        (RevisesFirsts activity at sets.old sets.new changed.old changed.new) }
+        (RevisesSecond activity at sets.old sets.new changed.old changed.new) }
     ensures empty { IfOk result (λ is_empty. is_empty ≡ true → HasEmpty sets.new.sets) }
     ensures full { IfOk result (λ is_empty. is_empty ≡ false → StaysFull sets.old sets.new) }
     ensures own { OnOk result (KeepsOwn activity at sets.old sets.new) }
@@ -122,11 +122,9 @@ fn is_emptied(sets: &TimeMarks, event: usize, is_changed: bool) -> bool
 
 // Sets the flag of an event if its set has changed.
 fn note(changed: &mut EventFlags, event: usize, is_changed: bool)
-    requires { event < changed.old.events }
-    ensures noted { changed.new ≡ noted changed.old event is_changed }
-    ensures within { event / 64 < length changed.old.words }
+    requires { event < length changed.old }
+    ensures { changed.new ≡ noted changed.old event is_changed }
 {
-    let _ = changed.events();
     if is_changed {
         changed.put(event, true);
     }
@@ -138,7 +136,7 @@ fn prune_first(activity: PespActivity, count: usize, sets: &mut TimeSets) -> Res
     requires activity { IsActivity sets.old.sets.events activity }
     requires counted { count ≡ length (times_from sets.old.sets activity.to 0) }
     ensures { IfOk result (Prunes sets.old sets.new
-        (keeps_seconds sets.old.sets.period (is_left sets.old.sets) activity)) }
+        (keeps_first sets.old.sets.period (is_left sets.old.sets) activity)) }
 {
     if is_crowded(sets.sets(), count, activity) {
         return Ok(false);
@@ -153,7 +151,7 @@ fn prune_second(activity: PespActivity, count: usize, sets: &mut TimeSets) -> Re
     requires activity { IsActivity sets.old.sets.events activity }
     requires counted { count ≡ length (times_from sets.old.sets activity.from 0) }
     ensures { IfOk result (Prunes sets.old sets.new
-        (keeps_firsts sets.old.sets.period (is_left sets.old.sets) activity)) }
+        (keeps_second sets.old.sets.period (is_left sets.old.sets) activity)) }
 {
     if is_crowded(sets.sets(), count, activity) {
         return Ok(false);

@@ -1,13 +1,13 @@
 // The search of a timetable within a budget of entries.
-ghost use Rattle.std.specs.Prelude.{◌≡◌, [], length, IfOk};
+ghost use Rattle.std.specs.Prelude.{◌≡◌, length, IfOk};
 ghost use Rattle.giv_files.specs.StageCalls.{TakesSteps};
 ghost use Rattle.std.specs.List.{list_any};
 ghost use Rattle.pesp_search.specs.Listings.{entries_listed, is_empty, listing, result_within};
 ghost use Rattle.pesp_search.specs.Marks.{IsSettled, sets_of};
-ghost use Rattle.pesp_search.specs.Revising.{AreLinks, IsFull, IsReady};
-ghost use Rattle.pesp_search.specs.Searches.{Branches, IsSearched, SearchGives, TakesEntry};
+ghost use Rattle.pesp_search.specs.Revising.{AreLinks, IsReady};
+ghost use Rattle.pesp_search.specs.Searches.{AreFirst, Branches, SearchGives, TakesEntry};
 
-use crate::children::next_child;
+use crate::children::{keep_time, next_child};
 use crate::flags::EventFlags;
 use crate::links::Links;
 use crate::marks::TimeMarks;
@@ -67,15 +67,18 @@ pub(crate) fn search_times<L: Ledger>(
     Err(StageFault::Refused(Refusal::Spent { entries: budget }))
 }
 
-// The sets before the first entry.
+// The sets before the first entry: time 0 is left to the first event, and all times to the others.
 fn first_sets(alloc: Global, pesp: &Pesp, period: u32) -> Result<TimeSets, NoMemory>
     requires { pesp.now.period ≡ period }
-    ensures searched { IfOk result (λ sets. IsSearched pesp.now sets 0) }
-    ensures saved { IfOk result (λ sets. sets.saved ≡ []) }
-    ensures full { IfOk result (λ sets. IsFull sets.sets) }
+    ensures { IfOk result (AreFirst pesp.now) }
 {
-    let marks = TimeMarks::at_first(alloc, period as usize, pesp.event_count())?;
-    Ok(TimeSets::new(alloc, marks))
+    let marks = TimeMarks::all(alloc, period as usize, pesp.event_count())?;
+    let mut sets = TimeSets::new(alloc, marks);
+    if pesp.event_count() == 0 {
+        return Ok(sets);
+    }
+    keep_time(&mut sets, 0, 0)?;
+    Ok(sets)
 }
 
 // Takes an entry. No event before one has several times.

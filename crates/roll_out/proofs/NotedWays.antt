@@ -1,6 +1,6 @@
 -- The drives and waits at the events that they leave, noted one after the other.
 use Rattle.std.proofs.Common.{◌≡◌, ◌∙◌, inl, inr, ℕ, ◌+◌, ◌-◌, ◌<◌, ◌==◌, ◌&&◌, ◌||◌, not, Bool}
-use Rattle.std.proofs.Common.{true, false, cond, List, [], ◌∷◌, ◌++◌, All, Some, filter, find}
+use Rattle.std.proofs.Common.{true, false, cond, List, [], ◌∷◌, ◌++◌, Some, filter, find}
 use Rattle.std.proofs.Common.{get_or, length, slice_get}
 use Rattle.std.proofs.Common.{slice_set, refl, ap, sym, arith}
 use Rattle.std.proofs.lemmas.Bool.{and_parts, cases_Bool, cases_eq, eq-eqb, false≢true, ne_eqb}
@@ -35,13 +35,6 @@ out_last test xs x is =
     ∙ append-nil (filter test xs)
 
 -- ---- one activity more
-
-pub ways_begun : (events : ℕ) (rows : List (List PeriodicActivity)) → length rows ≡ events
-    → All (λ row. row ≡ []) rows → AreWays events [] rows
-ways_begun events rows size empty = record {
-  size = size;
-  each = λ place low. empty place [] (omega (arith, low, size));
-}
 
 module _ (events : ℕ) (some : List PeriodicActivity) (activity : PeriodicActivity)
     (old new : List (List PeriodicActivity)) (so : AreWays events some old)

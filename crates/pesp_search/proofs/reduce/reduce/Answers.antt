@@ -3,8 +3,7 @@ use Rattle.pesp_search.specs.Marks.{AreMarks}
 use Rattle.pesp_search.specs.Revising.{Dies, Sweeps}
 use Rattle.pesp_search.proofs.ReducedSets.{bound_stands, dead_stands}
 use Rattle.pesp_search.proofs.Sweeping.{all_bound, both_propagate, reducing_begun, reducing_turn}
-use Rattle.pesp_search.proofs.Sweeping.{when_false}
-use Rattle.pesp_search.proofs.Sweeping.{when_true}
+use Rattle.std.proofs.lemmas.Bool.{MatchBool-at_false, MatchBool-at_true}
 use Rattle.pesp_search.proofs.reduce.reduce.Goals as goal
 
 pub loop-sets-init : goal.loop-sets-init
@@ -13,9 +12,9 @@ loop-sets-init c =
 
 pub returns-then-branch-clause-reduces : goal.returns-then-branch-clause-reduces
 returns-then-branch-clause-reduces c =
-    let dead = when_true (Dies c.args.pesp.now c.loop-sets.sets c.sweep.new.sets)
+    let dead = MatchBool-at_true (Dies c.args.pesp.now c.loop-sets.sets c.sweep.new.sets)
     (Sweeps c.args.pesp.now c.loop-sets.sets c.sweep.new.sets c.sweep.new.changed)
-    c.in_ok-sweep.field-0 c.if-branch.true c.in_ok-sweep.ensures.sweeps in
+    c.if-branch.true c.in_ok-sweep.ensures.sweeps in
     dead_stands c.args.pesp.now c.event_count.ensures.problem c.args.sets.now c.sweep.new.sets
     c.requires.period c.requires.events
     (both_propagate c.args.pesp.now c.args.sets.now c.loop-sets.sets c.sweep.new.sets
@@ -25,9 +24,9 @@ pub loop-sets-preserved : goal.loop-sets-preserved
 loop-sets-preserved c =
     reducing_turn c.args.pesp.now c.args.sets.now c.loop-sets.sets c.sweep.new.sets
     c.loop-sets.changed c.sweep.new.changed c.loop-sets.invariant
-    (when_false (Dies c.args.pesp.now c.loop-sets.sets c.sweep.new.sets)
+    (MatchBool-at_false (Dies c.args.pesp.now c.loop-sets.sets c.sweep.new.sets)
     (Sweeps c.args.pesp.now c.loop-sets.sets c.sweep.new.sets c.sweep.new.changed)
-    c.in_ok-sweep.field-0 c.if-branch.false c.in_ok-sweep.ensures.sweeps)
+    c.if-branch.false c.in_ok-sweep.ensures.sweeps)
 
 pub returns-clause-reduces : goal.returns-clause-reduces
 returns-clause-reduces c =
@@ -35,13 +34,13 @@ returns-clause-reduces c =
     c.requires.period c.requires.events c.loop-sets.invariant.propagates
     (subst AreMarks c.sets.ensures c.period.ensures.sound)
     (all_bound c.args.pesp.now c.args.sets.now c.loop-sets.sets c.loop-sets.changed
-    c.loop-sets.invariant (sym c.has_some.ensures ∙ c.loop-sets-test.false))
+    c.event_count.ensures.problem c.loop-sets.invariant (sym c.has_some.ensures ∙ c.loop-sets-test.false))
 
 pub returns-then-branch-clause-empty : goal.returns-then-branch-clause-empty
 returns-then-branch-clause-empty c =
-    sym (when_true (Dies c.args.pesp.now c.loop-sets.sets c.sweep.new.sets)
+    sym (MatchBool-at_true (Dies c.args.pesp.now c.loop-sets.sets c.sweep.new.sets)
     (Sweeps c.args.pesp.now c.loop-sets.sets c.sweep.new.sets c.sweep.new.changed)
-    c.in_ok-sweep.field-0 c.if-branch.true c.in_ok-sweep.ensures.sweeps).empty
+    c.if-branch.true c.in_ok-sweep.ensures.sweeps).empty
 
 pub returns-clause-empty : goal.returns-clause-empty
 returns-clause-empty c = sym (c.loop-sets.invariant.full c.requires.ready.full)

@@ -2,14 +2,13 @@ use Rattle.std.proofs.Common.{◌∙◌, sym}
 use Rattle.pesp_search.specs.Revising.{Dies, Visits}
 use Rattle.pesp_search.proofs.Linked.{links_at}
 use Rattle.pesp_search.proofs.Sweeping.{sweep_begun, sweep_died, sweep_ended, sweep_turn}
-use Rattle.pesp_search.proofs.Sweeping.{when_false}
-use Rattle.pesp_search.proofs.Sweeping.{when_true}
+use Rattle.std.proofs.lemmas.Bool.{MatchBool-at_false, MatchBool-at_true}
 use Rattle.pesp_search.proofs.reduce.sweep.Goals as goal
 
 pub loop-event-init : goal.loop-event-init
 loop-event-init c =
     sweep_begun c.args.pesp.now c.args.sets.now c.args.changed.now c.events-end.result
-    c.events-end.ensures.sound c.events-end.ensures.value c.requires.each c.requires.revised
+    c.events-end.ensures.value c.requires.each c.requires.revised
 
 pub visit-requires-clause-links : goal.visit-requires-clause-links
 visit-requires-clause-links c =
@@ -20,25 +19,24 @@ pub returns-then-branch-clause-sweeps : goal.returns-then-branch-clause-sweeps
 returns-then-branch-clause-sweeps c =
     sweep_died c.args.pesp.now c.args.sets.now c.loop-event.sets c.visit.new.sets
     c.loop-event.changed
-    c.loop-event.end c.loop-event.invariant (when_true
+    c.loop-event.end c.loop-event.invariant (MatchBool-at_true
     (Dies c.args.pesp.now c.loop-event.sets c.visit.new.sets)
     (Visits c.args.pesp.now c.in-Some.event c.loop-event.sets c.visit.new.sets c.loop-event.changed
-    c.visit.new.changed) c.in_ok-visit.field-0 c.if-branch.true c.in_ok-visit.ensures.visits)
+    c.visit.new.changed) c.if-branch.true c.in_ok-visit.ensures.visits)
 
 pub loop-event-preserved : goal.loop-event-preserved
 loop-event-preserved c =
     sweep_turn c.args.pesp.now c.args.sets.now c.loop-event.sets c.visit.new.sets
     c.loop-event.changed
     c.visit.new.changed c.loop-event.end c.in-Some.event c.loop-event.invariant
-    c.in-Some.ensures.last (when_false (Dies c.args.pesp.now c.loop-event.sets c.visit.new.sets)
+    c.in-Some.ensures (MatchBool-at_false (Dies c.args.pesp.now c.loop-event.sets c.visit.new.sets)
     (Visits c.args.pesp.now c.in-Some.event c.loop-event.sets c.visit.new.sets c.loop-event.changed
-    c.visit.new.changed) c.in_ok-visit.field-0 c.if-branch.false c.in_ok-visit.ensures.visits)
+    c.visit.new.changed) c.if-branch.false c.in_ok-visit.ensures.visits)
 
 pub returns-clause-sweeps : goal.returns-clause-sweeps
 returns-clause-sweeps c =
     sweep_ended c.args.pesp.now c.args.sets.now c.loop-event.sets c.loop-event.changed
-    c.loop-event.end
-    c.in_default.ensures.sound c.loop-event.invariant c.in_default.ensures.last
+    c.loop-event.end c.loop-event.invariant c.in_default.ensures
 
 pub returns-then-branch-clause-each : goal.returns-then-branch-clause-each
 returns-then-branch-clause-each c =

@@ -9,10 +9,10 @@ loop-index-init c = record {
   visited =
       subst (λ (flags : Flags). IsVisited c.args.pesp.now c.args.event c.args.indexes.now
       c.args.sets.now
-      c.args.sets.now c.args.changed.now flags 0) (sym c.put.ensures.flag)
+      c.args.sets.now c.args.changed.now flags 0) (sym c.put.ensures)
       (visit_begun c.args.pesp.now c.args.event c.args.indexes.now c.args.sets.now
-      c.args.changed.now c.put.ensures.sound
-      (omega (arith, c.requires.event, c.requires.each)) c.requires.links c.requires.revised);
+      c.args.changed.now (omega (arith, c.requires.event, c.requires.each))
+      c.requires.links c.requires.revised);
   counted = c.count-count.ensures ∙ ap (λ (sets : Marks). length (times_from sets c.args.event 0))
       c.sets.ensures;
 }

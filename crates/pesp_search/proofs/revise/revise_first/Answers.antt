@@ -1,20 +1,20 @@
-use Rattle.std.proofs.Common.{◌≡◌, false, subst, sym}
+use Rattle.std.proofs.Common.{◌≡◌, arith, false, subst, sym}
 use Rattle.pesp_search.specs.Listings.{is_empty}
 use Rattle.pesp_search.specs.Marks.{Marks, is_left, times_from}
 use Rattle.pesp_search.specs.Revising.{second_left}
 use Rattle.pesp_search.proofs.Revised.{own_kept, side_full}
 use Rattle.pesp_search.specs.Flags.{Flags}
-use Rattle.pesp_search.specs.Revising.{RevisesSeconds}
-use Rattle.pesp_search.proofs.Revised.{seconds_revised}
+use Rattle.pesp_search.specs.Revising.{RevisesFirst}
+use Rattle.pesp_search.proofs.Revised.{first_revised}
 use Rattle.pesp_search.proofs.revise.revise_first.Goals as goal
 
 pub returns-clause-revises : goal.returns-clause-revises
 returns-clause-revises c =
-    subst (λ (more : Flags). RevisesSeconds c.args.activity c.args.at c.args.sets.now
-    c.prune_first.new.sets c.args.changed.now more) (sym c.note.ensures.noted)
-    (seconds_revised c.args.activity c.args.sets.now c.prune_first.new.sets
+    subst (λ (more : Flags). RevisesFirst c.args.activity c.args.at c.args.sets.now
+    c.prune_first.new.sets c.args.changed.now more) (sym c.note.ensures)
+    (first_revised c.args.activity c.args.sets.now c.prune_first.new.sets
     c.in_ok-is_changed.is_changed
-    c.args.at c.args.changed.now c.note.ensures.within c.in_ok-is_changed.ensures)
+    c.args.at c.args.changed.now (omega (arith, c.requires.each, c.requires.activity.from)) c.in_ok-is_changed.ensures)
 
 pub returns-clause-full : goal.returns-clause-full
 returns-clause-full c none =

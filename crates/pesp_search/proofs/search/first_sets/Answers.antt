@@ -1,31 +1,33 @@
-use Rattle.std.proofs.Common.{ap}
-use Rattle.std.proofs.Common.{◌∙◌, arith, map, subst, sym}
-use Rattle.std.specs.List.{range_with_len}
-use Rattle.pesp_search.specs.Listings.{times_at_first}
-use Rattle.pesp_search.specs.Marks.{Tracked}
-use Rattle.pesp_search.specs.Revising.{IsFull}
-use Rattle.pesp_search.proofs.EmptySets.{first_full}
-use Rattle.pesp_search.proofs.Entries.{search_begun}
+use Rattle.std.proofs.Common.{◌≡◌, arith, subst, sym, true}
+use Rattle.pesp_search.specs.Marks.{Tracked, is_left}
+use Rattle.pesp_search.proofs.FirstMarks.{first_of_none, first_of_some}
 use Rattle.pesp_search.proofs.search.first_sets.Goals as goal
 
-pub returns-clause-searched : goal.returns-clause-searched
-returns-clause-searched c =
-    let made = c.in_ok-marks.ensures in
-    let period = sym c.requires in
-    let events = c.event_count.ensures.count in
-    search_begun c.args.pesp.now c.in_ok-marks.marks c.new.result c.new.ensures (made.period
-    ∙ period)
-    (made.events ∙ events)
-    (made.first ∙ (λ i. map (times_at_first (period i)) (range_with_len 0 (events i))))
+pub returns-then-event_count-eq0 : goal.returns-then-event_count-eq0
+returns-then-event_count-eq0 c =
+    first_of_none c.args.pesp.now c.in_ok-marks.marks c.new-sets.result c.new-sets.ensures
+    (omega (arith, c.in_ok-marks.ensures.period, c.requires))
+    (omega (arith, c.in_ok-marks.ensures.events, c.event_count.ensures.count))
+    (λ event time low few. c.in_ok-marks.ensures.all event time
+    (omega (arith, low, c.in_ok-marks.ensures.events))
+    (omega (arith, few, c.in_ok-marks.ensures.period)))
+    (omega (arith, c.event_count-2.ensures.count, c.if-event_count-eq0.true))
 
-pub returns-clause-saved : goal.returns-clause-saved
-returns-clause-saved c = ap (λ (tracked : Tracked). tracked.saved) c.new.ensures
+pub keep_time-requires-clause-left : goal.keep_time-requires-clause-left
+keep_time-requires-clause-left c =
+    subst (λ (now : Tracked). is_left now.sets 0 0 ≡ true) (sym c.new-sets.ensures)
+    (c.in_ok-marks.ensures.all 0 0
+    (omega (arith, c.event_count.ensures.count, c.event_count-2.ensures.count, c.if-event_count-eq0.false))
+    (omega (arith, c.event_count.ensures.problem.some, c.requires)))
 
-pub returns-clause-full : goal.returns-clause-full
-returns-clause-full c =
-    subst (λ (tracked : Tracked). IsFull tracked.sets) (sym c.new.ensures)
-    (first_full c.in_ok-marks.marks _ _ (omega (
-      arith,
-      c.requires,
-      c.event_count.ensures.problem.some,
-    )) c.in_ok-marks.ensures.first)
+pub returns : goal.returns
+returns c =
+    first_of_some c.args.pesp.now c.in_ok-marks.marks c.new-sets.result c.new-sets.ensures
+    (omega (arith, c.in_ok-marks.ensures.period, c.requires))
+    (omega (arith, c.in_ok-marks.ensures.events, c.event_count.ensures.count))
+    (λ event time low few. c.in_ok-marks.ensures.all event time
+    (omega (arith, low, c.in_ok-marks.ensures.events))
+    (omega (arith, few, c.in_ok-marks.ensures.period)))
+    c.keep_time.new.sets
+    (omega (arith, c.event_count-2.ensures.count, c.if-event_count-eq0.false))
+    c.in_ok-keep_time.ensures

@@ -1,7 +1,8 @@
 use Rattle.std.proofs.Common.{◌∙◌, ◌≡◌, None, Some, arith, subst}
 use Rattle.std.proofs.lemmas.Result.{err_from_is_err_and}
 use Rattle.pesp_search.specs.Searches.{IsSearched, TakesEntry}
-use Rattle.pesp_search.proofs.Entries.{search_ended, search_spent, search_turn, step_within}
+use Rattle.pesp_search.proofs.EmptySets.{first_full}
+use Rattle.pesp_search.proofs.Entries.{search_begun, search_ended, search_spent, search_turn, step_within}
 use Rattle.pesp_search.proofs.Sweeping.{all_ready}
 use Rattle.pesp_search.proofs.search.search_times.Goals as goal
 
@@ -75,7 +76,7 @@ returns-clause-steps g c =
 
 pub loop-entry-init : goal.loop-entry-init
 loop-entry-init g c = record {
-  searched = c.in_ok-sets.ensures.searched;
+  searched = search_begun c.args.pesp.now c.in_ok-sets.sets c.in_ok-sets.ensures;
   ready = all_ready c.args.pesp.now c.in_ok-sets.sets c.in_ok-changed.changed
       c.event_count.ensures.problem (c.in_ok-changed.ensures.events ∙ c.event_count.ensures.count)
       (λ event low. c.in_ok-changed.ensures.all event (omega (
@@ -83,7 +84,9 @@ loop-entry-init g c = record {
         low,
         c.event_count.ensures.count,
       )))
-      c.in_ok-sets.ensures.saved c.in_ok-sets.ensures.full;
+      c.in_ok-sets.ensures.saved
+      (first_full c.in_ok-sets.sets.sets _ _ c.event_count.ensures.problem.some
+      c.in_ok-sets.ensures.first);
   settled = λ event low. absurd (omega (arith, low));
   steps = omega arith;
 }

@@ -1,11 +1,9 @@
-use Rattle.std.proofs.Common.{◌∙◌, subst}
-use Rattle.pesp_search.specs.Flags.{IsLastFlag}
+use Rattle.std.proofs.Common.{◌∙◌}
 use Rattle.pesp_search.proofs.FlagBits.{some_by_last}
 use Rattle.pesp_search.proofs.flags.EventFlags.has_some.Goals as goal
 
 pub returns : goal.returns
 returns c =
     c.is_some.ensures
-    ∙ some_by_last c.args.self.now c.last.result c.last.ensures.sound
-    (subst (λ end. IsLastFlag c.args.self.now end c.last.result) c.events.ensures.value
-    c.last.ensures.last)
+    ∙ some_by_last c.args.self.now c.events.result c.last.result c.events.ensures.value
+    c.last.ensures

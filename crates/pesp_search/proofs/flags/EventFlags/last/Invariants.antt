@@ -1,12 +1,11 @@
 -- None of the flags from the last one on is set so far.
-use Rattle.std.proofs.Common.{◌≤◌, ◌<◌, ◌+◌, ◌*◌, ◌/◌}
+use Rattle.std.proofs.Common.{◌≤◌, ◌+◌, ◌/◌}
 use Rattle.pesp_search.proofs.FlagBits.{NoneFrom}
 use Rattle.pesp_search.proofs.flags.EventFlags.last.Given as goal
 
 abbrev pub invariant-loop-index : goal.invariant-loop-index
 invariant-loop-index l = record {
-  few : l.index ≤ (l.self.events + 63) / 64;
-  low : 64 * l.index < l.end + 64;
+  few : l.index ≤ (l.end + 63) / 64;
   none : NoneFrom l.self l.end l.index;
 }
 

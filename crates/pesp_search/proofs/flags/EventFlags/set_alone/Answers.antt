@@ -1,7 +1,10 @@
+use Rattle.std.proofs.Common.{◌∙◌, ap, arith}
+use Rattle.pesp_search.specs.Flags.{Flags, has_changed}
 use Rattle.pesp_search.proofs.FlagBits.{one_set}
 use Rattle.pesp_search.proofs.flags.EventFlags.set_alone.Goals as goal
 
 pub returns-clause-alone : goal.returns-clause-alone
-returns-clause-alone c =
-    one_set c.clear.new.self c.put.new.self c.args.event c.put.ensures.within c.put.ensures.flag
-    c.clear.ensures.none
+returns-clause-alone c other =
+    ap (λ (flags : Flags). has_changed flags other) c.put.ensures
+    ∙ one_set c.clear.new.self c.args.event (omega (arith, c.requires, c.clear.ensures.events))
+    c.clear.ensures.none other

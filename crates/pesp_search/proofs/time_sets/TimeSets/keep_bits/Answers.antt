@@ -21,8 +21,7 @@ put_word-requires-clause-word c =
     kept_fits c.self.inside.sets.period c.self.inside.sets.events c.placed_word-place.result.0
     c.placed_word-place.result.1 c.args.keep
     (word_fits c.self.inside.sets c.placed_word-place.result.0 c.placed_word-place.result.1
-    c.placed_word-place.ensures.sound c.placed_word-place.ensures.within
-    c.placed_word-place.ensures.word)
+    c.placed_word-place.ensures.sound c.placed_word-place.ensures.word)
 
 pub invariant_of-self-2 : goal.invariant_of-self-2
 invariant_of-self-2 c =
@@ -34,8 +33,7 @@ invariant_of-self-2 c =
     (change.Replaced c.placed_word-place.result.0 c.placed_word-place.result.1) c.self.invariant (
       c.placed_word-place.ensures.within,
       word_fits sets c.placed_word-place.result.0 c.placed_word-place.result.1
-          c.placed_word-place.ensures.sound
-          c.placed_word-place.ensures.within c.placed_word-place.ensures.word,
+          c.placed_word-place.ensures.sound c.placed_word-place.ensures.word,
     )))
 
 pub returns : goal.returns
