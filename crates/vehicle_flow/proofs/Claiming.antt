@@ -12,11 +12,11 @@ use Rattle.flow_potentials.proofs.Certified.{by_bound}
 use Rattle.vehicle_flow.specs.declared.claim.Claim.{Claim}
 use Rattle.vehicle_flow.specs.declared.near.Near.{Near}
 use Rattle.vehicle_flow.specs.Claims.{ClaimsParts, claim_at, AreClaims}
-use Rattle.vehicle_flow.specs.Growing.{first_links, looking, is_claimed, in_tree, nearer, looked, IsFrom, IsNearest, IsNear, AreNear, IsTreeClaim, IsGrowing, IsPlaceFound}
+use Rattle.vehicle_flow.specs.Growing.{links_from, looking, is_placed, is_claimed, in_tree, nearer, looked, IsFrom, IsNearest, IsNear, AreNear, IsTreeClaim, IsGrowing, IsPlaceFound}
 use Rattle.vehicle_flow.specs.Searches.{IsTightAt, ComesFrom, IsClaim, AreClaimsBefore}
 use Rattle.vehicle_flow.specs.Slacks.{worth, slack_of, slack_to}
 use Rattle.vehicle_flow.proofs.Moves.{successor_within}
-use Rattle.vehicle_flow.proofs.Shifting.{gain_first, pos_worth, slack_inside, slack_past, tree_trip, tree_linked, tree_is, claim_there, tree_first, claimed_inside}
+use Rattle.vehicle_flow.proofs.Shifting.{some_gain, pos_worth, slack_inside, slack_past, tree_trip, tree_linked, tree_is, claim_there, tree_placed, tree_inside, claimed_inside}
 
 -- what is nearest after one trip more was looked from
 pub nearest_more : (links : Links) (potentials : PotentialParts) (some more : ℕ → Bool) (place by : ℕ)
@@ -119,18 +119,18 @@ module _ (links : Links) (potentials : PotentialParts) (trip : ℕ) (plan : List
       from_tree None own = ap (in_tree trip plan claims) own ∙ tree_trip trip plan claims
       from_tree (Some before) left = tree_linked trip plan claims near.by before left.0 left.1 ∙ left.2
 
-  by_first : near.by < trip + 1
-  by_first = tree_first links potentials trip plan claims is near.by by_in
+  by_placed : is_placed trip plan near.by ≡ true
+  by_placed = tree_placed links potentials trip plan claims is near.by by_in
 
   nearest : IsNearest links potentials (in_tree trip plan claims) place near
   nearest = subst (IsNear links potentials (in_tree trip plan claims) place) at_place (are.near place within free)
 
   -- the trip is tight at the place
-  tight_at : IsTightAt (first_links links (trip + 1)) potentials near.by place
+  tight_at : IsTightAt (links_from links (is_placed trip plan)) potentials near.by place
   tight_at = record {
-    linked = λ there. gain_first links (trip + 1) near.by place by_first
+    linked = λ there. some_gain links (is_placed trip plan) near.by place by_placed
         ∙ by_worth (worth (links.gain near.by place)) refl
-        (is.covered near.by by_first place)
+        (is.covered near.by by_placed place)
         (sym (slack_inside links potentials near.by place there) ∙ nearest.slack);
     last = λ past. same_Some (at potentials.u near.by) 0
         (sym (slack_past links potentials near.by place past) ∙ nearest.slack ∙ ap Some exact);
@@ -174,16 +174,16 @@ module _ (links : Links) (potentials : PotentialParts) (trip : ℕ) (plan : List
   sooner other found e = slice_get_within claims.order found.step other (ordered.placed other found e)
 
   -- the new claim is one
-  claim_new : IsClaim (looking links potentials trip) plan more place new_claim
+  claim_new : IsClaim (looking links potentials plan trip) plan more place new_claim
   claim_new = record {
     tight = tight_at;
-    movable = (omega arith, omega (arith, by_first, is.within));
+    movable = (omega arith, tree_inside links potentials trip plan claims is near.by by_in);
     from = from_it near.from from;
   }
     where
       from_it : (it : Option ℕ) → IsFrom trip plan claims near.by it
           → MatchOption it (Some near.by ≡ Some trip)
-          (λ before. ComesFrom (looking links potentials trip) plan more new_claim before)
+          (λ before. ComesFrom (looking links potentials plan trip) plan more new_claim before)
       from_it None own = ap Some own
       from_it (Some before) left =
           let found = claim_there claims before left.2 in
@@ -200,16 +200,16 @@ module _ (links : Links) (potentials : PotentialParts) (trip : ℕ) (plan : List
 
   -- and so are the others
   claim_old : (other : ℕ) (found : Claim) → claim_at claims other ≡ Some found
-      → IsClaim (looking links potentials trip) plan more other found
+      → IsClaim (looking links potentials plan trip) plan more other found
   claim_old other found e =
       let was = is.claims_are other found e (sooner other found e) in
       record { tight = was.tight; movable = was.movable; from = from_it found.from was.from }
     where
       from_it : (it : Option ℕ)
           → MatchOption it (found.by ≡ Some trip)
-          (λ before. ComesFrom (looking links potentials trip) plan claims found before)
+          (λ before. ComesFrom (looking links potentials plan trip) plan claims found before)
           → MatchOption it (found.by ≡ Some trip)
-          (λ before. ComesFrom (looking links potentials trip) plan more found before)
+          (λ before. ComesFrom (looking links potentials plan trip) plan more found before)
       from_it None own = own
       from_it (Some before) comes = record {
         before = comes.before;
@@ -218,10 +218,10 @@ module _ (links : Links) (potentials : PotentialParts) (trip : ℕ) (plan : List
         left = comes.left;
       }
 
-  claims_more : AreClaimsBefore (looking links potentials trip) plan more (length claims.order + 1)
+  claims_more : AreClaimsBefore (looking links potentials plan trip) plan more (length claims.order + 1)
   claims_more other found e less = by_number other place
-      (λ same. subst (λ x. IsClaim (looking links potentials trip) plan more x found) (sym same)
-      (subst (IsClaim (looking links potentials trip) plan more place)
+      (λ same. subst (λ x. IsClaim (looking links potentials plan trip) plan more x found) (sym same)
+      (subst (IsClaim (looking links potentials plan trip) plan more place)
       (same_Some new_claim found (sym new_is ∙ ap (claim_at more) (sym same) ∙ e)) claim_new))
       (λ apart. claim_old other found (sym (old_is other apart) ∙ e))
 
@@ -303,16 +303,10 @@ module _ (links : Links) (potentials : PotentialParts) (trip : ℕ) (plan : List
       tight = is.tight;
       waits = is.waits;
       covered = is.covered;
-      claims_are = subst (AreClaimsBefore (looking links potentials trip) plan more)
+      claims_are = subst (AreClaimsBefore (looking links potentials plan trip) plan more)
           (sym (length_push claims.order place)) claims_more;
       tree = tree_more;
     }
-
-    -- the trip that has the place is among the first ones
-    pub left_first : left < trip + 1
-    left_first = tree_first links potentials trip plan more grown left
-        (tree_linked trip plan more left place
-        (λ same. none-some place (sym is.waits ∙ ap (next plan) (sym same) ∙ has)) has ∙ ap is_some new_is)
 
     pub nears_grown : (now : List (Option Near)) → length now ≡ length nears
         → ((other : ℕ) → other < length nears → get_or now other None

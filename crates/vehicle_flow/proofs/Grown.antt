@@ -8,10 +8,10 @@ use Rattle.vehicle_model.proofs.Following.{links_within, links_most}
 use Rattle.flow_potentials.specs.Potentials.{PotentialParts, at}
 use Rattle.vehicle_flow.specs.declared.near.Near.{Near}
 use Rattle.vehicle_flow.specs.Claims.{ClaimsParts, claim_at, AreClaims}
-use Rattle.vehicle_flow.specs.Growing.{is_claimed, in_tree, moved_near, shifted, looked, IsNear, AreNear, IsGrowing, IsNearestPlace, AreShifted, IsPlaceFound}
+use Rattle.vehicle_flow.specs.Growing.{is_claimed, is_placed, StillCovers, in_tree, moved_near, shifted, looked, IsNear, AreNear, IsGrowing, IsNearestPlace, AreShifted, IsPlaceFound}
 use Rattle.vehicle_flow.specs.Slacks.{slack_to, Covers}
-use Rattle.vehicle_flow.proofs.Claiming.{place_found, grown, left_first, nears_grown}
-use Rattle.vehicle_flow.proofs.Shifting.{first_gain, slack_past, tree_trip, tree_linked, claim_there, last_open, tree_least, growing_after, nears_after}
+use Rattle.vehicle_flow.proofs.Claiming.{place_found, grown, nears_grown}
+use Rattle.vehicle_flow.proofs.Shifting.{gain_of_some, placed_next, slack_past, tree_trip, tree_linked, claim_there, last_open, tree_least, growing_after, covered_after, nears_after}
 
 module _ (trips : TripsParts) (potentials : PotentialParts) (trip : ℕ) (plan : List (Option ℕ)) (claims : ClaimsParts)
     (is : IsGrowing (links_of trips) potentials trip plan claims)
@@ -36,7 +36,7 @@ module _ (trips : TripsParts) (potentials : PotentialParts) (trip : ℕ) (plan :
     small_after sound j within e =
         let found = claim_there claims j e in
         let tree = is.tree j found.0 found.1 in
-        let gain = (first_gain (links_of trips) (trip + 1) tree.owner j _
+        let gain = (gain_of_some (links_of trips) (is_placed trip plan) tree.owner j _
         (is.tight.linked tree.owner j tree.owns)).1 in
         let most : pos (at potentials.u tree.owner + at potentials.v j) ≤ℤ pos trips.vehicle =
         subst (λ it. IfSome it (λ value. value ≤ℤ pos trips.vehicle)) gain (links_most trips tree.owner j) in
@@ -58,6 +58,11 @@ module _ (trips : TripsParts) (potentials : PotentialParts) (trip : ℕ) (plan :
         }) where
       growing : IsGrowing (links_of trips) after trip plan claims
       growing = growing_after (links_of trips) potentials trip plan claims is nears are near.slack best.least
+          after shift (links_within trips)
+
+      -- what was covered still is
+      pub kept_covered : StillCovers (links_of trips) potentials after
+      kept_covered = covered_after (links_of trips) potentials trip plan claims is nears are near.slack best.least
           after shift (links_within trips)
 
       nears_moved : AreNear (links_of trips) after trip plan claims moved
@@ -90,9 +95,7 @@ module _ (trips : TripsParts) (potentials : PotentialParts) (trip : ℕ) (plan :
             best.open_place (moved_near near.slack near) near_moved exact left has)
 
         pub left_covered : Covers (links_of trips) after left
-        left_covered = growing.covered left
-            (left_first (links_of trips) after trip plan claims growing ordered moved nears_moved place within
-            best.open_place (moved_near near.slack near) near_moved exact left has)
+        left_covered = growing.covered left (placed_next trip plan left place has)
 
         pub nears_now : (last : List (Option Near)) → length last ≡ length moved
             → ((other : ℕ) → other < length moved → get_or last other None ≡ looked (claim_at now other)

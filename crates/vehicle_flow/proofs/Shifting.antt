@@ -1,5 +1,5 @@
 -- Potentials of a tree that are shifted: it stays one, and each place without a claim is nearer.
-use Rattle.std.proofs.Common.{◌≡◌, ◌≢◌, ◌⊎◌, inl, inr, ℕ, ℤ, pos, negsuc, ◌<◌, ◌≤◌, ◌+◌, ◌-◌, ◌||◌, nat_lt, is_some, Bool, true, false, cond, List, length, get_or, Option, Some, None, option_map, MatchOption, IfSome, refl, ap, sym, ◌∙◌, subst, arith, eq-eqb}
+use Rattle.std.proofs.Common.{◌≡◌, ◌≢◌, ◌⊎◌, inl, inr, ℕ, ℤ, pos, negsuc, ◌<◌, ◌≤◌, ◌+◌, ◌-◌, ◌||◌, nat_lt, nat_eq, is_some, Bool, true, false, cond, List, length, get_or, Option, Some, None, option_map, MatchOption, IfSome, refl, ap, sym, ◌∙◌, subst, arith, eq-eqb}
 use Rattle.std.proofs.Math.ListN.{get_or-eq_default}
 use Rattle.std.proofs.lemmas.Bool.{false≢true, ne_eqb, ltb-true, ltb-false}
 use Rattle.std.proofs.lemmas.Option.{none-some, same_Some}
@@ -11,33 +11,48 @@ use Rattle.flow_potentials.proofs.Certified.{by_bound}
 use Rattle.vehicle_flow.specs.declared.claim.Claim.{Claim}
 use Rattle.vehicle_flow.specs.declared.near.Near.{Near}
 use Rattle.vehicle_flow.specs.Claims.{ClaimsParts, claim_at}
-use Rattle.vehicle_flow.specs.Growing.{first_links, looking, is_claimed, is_claimed_at, in_tree, moved_near, shifted, IsFrom, IsNearest, IsNear, AreNear, IsTreeClaim, IsGrowing, AreShifted}
+use Rattle.vehicle_flow.specs.Growing.{links_from, looking, is_placed, StillCovers, is_claimed, is_claimed_at, in_tree, moved_near, shifted, IsFrom, IsNearest, IsNear, AreNear, IsTreeClaim, IsGrowing, AreShifted}
 use Rattle.vehicle_flow.specs.Searches.{IsTightAt, IsTightBy, IsTightBut, IsLeft, ComesFrom, AreClaimsBefore}
 use Rattle.vehicle_flow.specs.Slacks.{worth, slack_of, slack_to, Covers}
+use Rattle.vehicle_flow.proofs.Moves.{has_next}
 
--- ---- the first links
+-- ---- the links from some trips
 
-pub first_gain : (links : Links) (taken i j : ℕ) (gain : ℤ)
-    → (first_links links taken).gain i j ≡ Some gain → (i < taken) × (links.gain i j ≡ Some gain)
-first_gain links taken i j gain e = split (nat_lt i taken) refl e
+pub gain_of_some : (links : Links) (some : ℕ → Bool) (i j : ℕ) (gain : ℤ)
+    → (links_from links some).gain i j ≡ Some gain → (some i ≡ true) × (links.gain i j ≡ Some gain)
+gain_of_some links some i j gain e = split (some i) refl e
   where
-    split : (b : Bool) → nat_lt i taken ≡ b → cond b (links.gain i j) None ≡ Some gain
-        → (i < taken) × (links.gain i j ≡ Some gain)
-    split true is f = (ltb-true i taken is, f)
+    split : (b : Bool) → some i ≡ b → cond b (links.gain i j) None ≡ Some gain
+        → (some i ≡ true) × (links.gain i j ≡ Some gain)
+    split true is f = (is, f)
     split false is f = absurd (none-some gain f)
 
-pub gain_first : (links : Links) (taken i j : ℕ) → i < taken
-    → (first_links links taken).gain i j ≡ links.gain i j
-gain_first links taken i j within = split (nat_lt i taken) refl
+pub some_gain : (links : Links) (some : ℕ → Bool) (i j : ℕ) → some i ≡ true
+    → (links_from links some).gain i j ≡ links.gain i j
+some_gain links some i j is = ap (λ b. cond b (links.gain i j) None) is
+
+-- who looks for a place, or has one
+pub placed_trip : (trip : ℕ) (plan : List (Option ℕ)) → is_placed trip plan trip ≡ true
+placed_trip trip plan = ap (λ b. b || is_some (next plan trip)) (eq-eqb trip trip refl)
+
+pub placed_next : (trip : ℕ) (plan : List (Option ℕ)) (i j : ℕ) → next plan i ≡ Some j
+    → is_placed trip plan i ≡ true
+placed_next trip plan i j e = ap (λ it. nat_eq i trip || is_some it) e ∙ or_true (nat_eq i trip)
   where
-    split : (b : Bool) → nat_lt i taken ≡ b → cond b (links.gain i j) None ≡ links.gain i j
-    split true is = refl
-    split false is = absurd (omega (arith, within, ltb-false i taken is))
+    or_true : (b : Bool) → (b || true) ≡ true
+    or_true true = refl
+    or_true false = refl
+
+pub placed_is : (trip : ℕ) (plan : List (Option ℕ)) (i : ℕ) → is_placed trip plan i ≡ true
+    → (i ≡ trip) ⊎ ((j : ℕ) × (next plan i ≡ Some j))
+placed_is trip plan i e = by_number i trip (λ same. inl same)
+    (λ apart. inr (at_next (next plan i) refl (sym (ap (λ b. b || is_some (next plan i)) (ne_eqb i trip apart)) ∙ e)))
+  where
+    at_next : (it : Option ℕ) → next plan i ≡ it → is_some it ≡ true → (j : ℕ) × (next plan i ≡ Some j)
+    at_next None is f = absurd (false≢true f)
+    at_next (Some j) is f = (j, is)
 
 -- ---- what a link is worth
-
-pub worth_pos : (at_j : Option ℤ) (n : ℕ) → at_j ≡ Some (pos n) → worth at_j ≡ Some n
-worth_pos at_j n e = ap worth e
 
 pub pos_worth : (at_j : Option ℤ) (n : ℕ) → worth at_j ≡ Some n → at_j ≡ Some (pos n)
 pos_worth None n e = absurd (none-some n e)
@@ -122,11 +137,18 @@ is_open claims place e = split (claim_at claims place) refl e
 
 module _ (links : Links) (potentials : PotentialParts) (trip : ℕ) (plan : List (Option ℕ)) (claims : ClaimsParts)
     (is : IsGrowing links potentials trip plan claims) where
-  -- trips of the tree are among the first ones
-  pub tree_first : (i : ℕ) → in_tree trip plan claims i ≡ true → i < trip + 1
-  tree_first i e = elim (tree_is trip plan claims i e) as (λ _. i < trip + 1) [
-    | inl same ↦ omega (arith, same)
-    | inr linked ↦ (first_gain links (trip + 1) i linked.0 _ (is.tight.linked i linked.0 linked.1.0)).0
+  -- trips of the tree look for a place or have one
+  pub tree_placed : (i : ℕ) → in_tree trip plan claims i ≡ true → is_placed trip plan i ≡ true
+  tree_placed i e = elim (tree_is trip plan claims i e) as (λ _. is_placed trip plan i ≡ true) [
+    | inl same ↦ ap (is_placed trip plan) same ∙ placed_trip trip plan
+    | inr linked ↦ placed_next trip plan i linked.0 linked.1.0
+  ]
+
+  -- and are there
+  pub tree_inside : (i : ℕ) → in_tree trip plan claims i ≡ true → i < links.count
+  tree_inside i e = elim (tree_is trip plan claims i e) as (λ _. i < links.count) [
+    | inl same ↦ omega (arith, same, is.within)
+    | inr linked ↦ omega (arith, has_next plan i linked.0 linked.1.0, is.tight.each)
   ]
 
   -- claimed places are those of trips
@@ -186,10 +208,6 @@ module _ (links : Links) (potentials : PotentialParts) (trip : ℕ) (plan : List
       v_out j within e = shift.v j within
           ∙ ap (λ b. cond b (at potentials.v j + slack) (at potentials.v j)) e
 
-      -- a trip of the tree is there
-      tree_inside : (i : ℕ) → in_tree trip plan claims i ≡ true → i < links.count
-      tree_inside i e = omega (arith, tree_first i e, is.within)
-
       -- what two potentials are after the shift, by whether the trip and the place are of the tree
       record AreMoved (i j : ℕ) : Type 0 where
         both : in_tree trip plan claims i ≡ true → is_claimed claims j ≡ true
@@ -215,9 +233,9 @@ module _ (links : Links) (potentials : PotentialParts) (trip : ℕ) (plan : List
             → (i < links.count) × (j < links.count)
         worth_inside i j gain e = inside i j (ap is_some (pos_worth (links.gain i j) gain e))
 
-        -- the potentials still cover all links
-        pub covered_after : (i : ℕ) → i < trip + 1 → Covers links after i
-        covered_after i first j = split (worth (links.gain i j)) refl (is.covered i first j)
+        -- the potentials still cover what they covered
+        pub covered_after : StillCovers links potentials after
+        covered_after i was j = split (worth (links.gain i j)) refl (was j)
           where
             -- by both tests
             by_tests : (gain : ℕ) → worth (links.gain i j) ≡ Some gain
@@ -253,8 +271,7 @@ module _ (links : Links) (potentials : PotentialParts) (trip : ℕ) (plan : List
             apart same = none-some j (sym is.waits ∙ ap (next plan) (sym same) ∙ e)
 
             there : AreMoved i j
-            there = moved i j (omega (arith, (first_gain links (trip + 1) i j _ (is.tight.linked i j e)).0, is.within))
-                (is.tight.within i j e)
+            there = moved i j (omega (arith, has_next plan i j e, is.tight.each)) (is.tight.within i j e)
 
             split : (b : Bool) → is_claimed claims j ≡ b
                 → at after.u i + at after.v j ≡ at potentials.u i + at potentials.v j
@@ -262,7 +279,7 @@ module _ (links : Links) (potentials : PotentialParts) (trip : ℕ) (plan : List
             split false f = there.none (tree_linked trip plan claims i j apart e ∙ f) f
 
         -- the plan is still tight
-        pub tight_after : IsTightBut (looking links after trip) links.count plan
+        pub tight_after : IsTightBut (looking links after plan trip) links.count plan
         tight_after = record {
           each = is.tight.each;
           within = is.tight.within;
@@ -285,12 +302,12 @@ module _ (links : Links) (potentials : PotentialParts) (trip : ℕ) (plan : List
                 absurd (not_next plan tree.owner j free tree.owns)
 
         -- and the claims are some
-        pub claims_after : AreClaimsBefore (looking links after trip) plan claims (length claims.order)
+        pub claims_after : AreClaimsBefore (looking links after plan trip) plan claims (length claims.order)
         claims_after place found e less =
             let was = is.claims_are place found e less in
             record {
-              tight = subst (IsTightBy (first_links links (trip + 1)) after place) (sym tree.by_is)
-                  (tight_by (subst (IsTightBy (first_links links (trip + 1)) potentials place) tree.by_is was.tight));
+              tight = subst (IsTightBy (links_from links (is_placed trip plan)) after place) (sym tree.by_is)
+                  (tight_by (subst (IsTightBy (links_from links (is_placed trip plan)) potentials place) tree.by_is was.tight));
               movable = was.movable;
               from = from_after found.from was.from;
             }
@@ -301,8 +318,8 @@ module _ (links : Links) (potentials : PotentialParts) (trip : ℕ) (plan : List
             claimed : is_claimed claims place ≡ true
             claimed = ap is_some e
 
-            tight_by : IsTightAt (first_links links (trip + 1)) potentials tree.by place
-                → IsTightAt (first_links links (trip + 1)) after tree.by place
+            tight_by : IsTightAt (links_from links (is_placed trip plan)) potentials tree.by place
+                → IsTightAt (links_from links (is_placed trip plan)) after tree.by place
             tight_by was = record {
               linked = λ within. was.linked within ∙ ap (λ n. Some (pos n))
                   (sym ((moved tree.by place (tree_inside tree.by tree.inside) within).both tree.inside claimed));
@@ -311,9 +328,9 @@ module _ (links : Links) (potentials : PotentialParts) (trip : ℕ) (plan : List
 
             from_after : (it : Option ℕ)
                 → MatchOption it (found.by ≡ Some trip)
-                (λ from. ComesFrom (looking links potentials trip) plan claims found from)
+                (λ from. ComesFrom (looking links potentials plan trip) plan claims found from)
                 → MatchOption it (found.by ≡ Some trip)
-                (λ from. ComesFrom (looking links after trip) plan claims found from)
+                (λ from. ComesFrom (looking links after plan trip) plan claims found from)
             from_after None own = own
             from_after (Some from) comes = record {
               before = comes.before;
@@ -322,8 +339,8 @@ module _ (links : Links) (potentials : PotentialParts) (trip : ℕ) (plan : List
               left = left_same found.by comes.left;
             }
               where
-                left_same : (by : Option ℕ) → IsLeft (looking links potentials trip) plan from by
-                    → IsLeft (looking links after trip) plan from by
+                left_same : (by : Option ℕ) → IsLeft (looking links potentials plan trip) plan from by
+                    → IsLeft (looking links after plan trip) plan from by
                 left_same None left = left
                 left_same (Some i) left = left
 
@@ -334,7 +351,7 @@ module _ (links : Links) (potentials : PotentialParts) (trip : ℕ) (plan : List
           places = is.places;
           tight = tight_after;
           waits = is.waits;
-          covered = covered_after;
+          covered = λ i placed. covered_after i (is.covered i placed);
           claims_are = claims_after;
           tree = is.tree;
         }

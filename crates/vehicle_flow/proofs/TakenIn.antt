@@ -1,5 +1,5 @@
 -- One trip more is taken into a plan: how a tree begins, and what is left where a place was found.
-use Rattle.std.proofs.Common.{◌≡◌, ◌≢◌, inl, inr, ℕ, ℤ, zero, suc, pos, negsuc, ◌<◌, ◌≤◌, ◌≤ℤ◌, ◌+◌, is_some, true, false, List, [], length, get_or, slice_set, replicate, Option, Some, None, IfSome, refl, ap, sym, ◌∙◌, subst, arith, get_or-set_other}
+use Rattle.std.proofs.Common.{◌≡◌, ◌≢◌, inl, inr, ℕ, ℤ, zero, suc, pos, negsuc, ◌<◌, ◌≤◌, ◌≤ℤ◌, ◌+◌, ◌-◌, is_some, true, false, List, [], length, get_or, slice_set, replicate, Option, Some, None, IfSome, refl, ap, sym, ◌∙◌, subst, arith, get_or-set_other}
 use Rattle.std.proofs.Math.ListN.{get_or-eq_default}
 use Rattle.std.proofs.lemmas.Bool.{false≢true}
 use Rattle.std.proofs.lemmas.Int.{ints}
@@ -14,12 +14,12 @@ use Rattle.flow_potentials.proofs.Certified.{by_bound}
 use Rattle.vehicle_flow.specs.declared.claim.Claim.{Claim}
 use Rattle.vehicle_flow.specs.declared.near.Near.{Near}
 use Rattle.vehicle_flow.specs.Claims.{ClaimsParts, claim_at, AreClaims}
-use Rattle.vehicle_flow.specs.Growing.{looking, in_tree, looked, IsTaken, IsNear, AreNear, IsGrowing, IsPlaceFound}
+use Rattle.vehicle_flow.specs.Growing.{looking, is_placed, in_tree, StillCovers, looked, IsTaken, IsNear, AreNear, IsGrowing, IsPlaceFound}
 use Rattle.vehicle_flow.specs.Searches.{IsTightBut, IsHandedOn}
 use Rattle.vehicle_flow.specs.Slacks.{worth, slack_to, Covers}
 use Rattle.vehicle_flow.proofs.Claiming.{nearest_more, from_more}
 use Rattle.vehicle_flow.proofs.ClaimLists.{none_at}
-use Rattle.vehicle_flow.proofs.Shifting.{first_gain, gain_first, tree_is}
+use Rattle.vehicle_flow.proofs.Shifting.{gain_of_some, some_gain, placed_next, placed_is, tree_is}
 use Rattle.vehicle_flow.proofs.TightValid.{tight_valid}
 
 abbrev no_one : Option Claim
@@ -34,7 +34,8 @@ no_next = None
 -- ---- the beginning
 
 module _ (links : Links) (potentials : PotentialParts) (plan : List (Option ℕ)) (trip : ℕ)
-    (is : IsTaken links potentials plan trip) (within : trip < links.count) (most : ℕ) (now : PotentialParts)
+    (is : IsTaken links potentials plan) (waits : next plan trip ≡ None) (within : trip < links.count) (most : ℕ)
+    (now : PotentialParts)
     (raised : now ≡ record { u = slice_set potentials.u trip most; v = potentials.v })
     (covers : Covers links now trip) where
   u_other : (i : ℕ) → i ≢ trip → at now.u i ≡ at potentials.u i
@@ -49,23 +50,30 @@ module _ (links : Links) (potentials : PotentialParts) (plan : List (Option ℕ)
     each_v = ap (λ p. length p.v) raised ∙ is.over.each_v;
   }
 
-  waits_now : next plan trip ≡ None
-  waits_now = split (next plan trip) refl
-    where
-      split : (it : Option ℕ) → next plan trip ≡ it → it ≡ None
-      split None e = refl
-      split (Some j) e =
-          let early = (first_gain links trip trip j _ (is.tight.linked trip j e)).0 in
-          absurd (omega (arith, early))
+  -- the trip had none
+  u_no_less : (i : ℕ) → at potentials.u i ≤ at now.u i
+  u_no_less i = by_number i trip
+      (λ same. omega (
+        arith,
+        ap (at potentials.u) same,
+        is.tight.last trip (λ last. omega (arith, within, last)) waits,
+      ))
+      (λ apart. omega (arith, u_other i apart))
 
-  tight_now : IsTightBut (looking links now trip) links.count plan
+  pub kept_now : StillCovers links potentials now
+  kept_now i was j = lift (worth (links.gain i j)) (was j)
+    where
+      lift : (it : Option ℕ) → IfSome it (λ gain. gain ≤ at potentials.u i + at potentials.v j)
+          → IfSome it (λ gain. gain ≤ at now.u i + at now.v j)
+      lift None h = tt
+      lift (Some gain) h = omega (arith, h, u_no_less i, v_same j)
+
+  tight_now : IsTightBut (looking links now plan trip) links.count plan
   tight_now = record {
     each = is.tight.each;
     within = is.tight.within;
-    linked = λ i j e.
-        let gain = first_gain links trip i j _ (is.tight.linked i j e) in
-        gain_first links (trip + 1) i j (omega (arith, gain.0)) ∙ gain.1
-        ∙ ap (λ n. Some (pos n)) (both i j gain.0);
+    linked = λ i j e. some_gain links (is_placed trip plan) i j (placed_next trip plan i j e)
+        ∙ is.tight.linked i j e ∙ ap (λ n. Some (pos n)) (both i j e);
     once = is.tight.once;
     last = λ i apart e. u_other i apart ∙ by_bound i links.count
         (λ inside. is.tight.last i (λ same. omega (arith, inside, same)) e)
@@ -73,17 +81,18 @@ module _ (links : Links) (potentials : PotentialParts) (plan : List (Option ℕ)
     first = λ j inside apart free. v_same j ∙ is.tight.first j inside apart free;
   }
     where
-      both : (i j : ℕ) → i < trip → at potentials.u i + at potentials.v j ≡ at now.u i + at now.v j
-      both i j early = omega (arith, u_other i (λ same. omega (arith, early, same)), v_same j)
+      both : (i j : ℕ) → next plan i ≡ Some j → at potentials.u i + at potentials.v j ≡ at now.u i + at now.v j
+      both i j e = omega (
+        arith,
+        u_other i (λ same. none-some j (sym waits ∙ ap (next plan) (sym same) ∙ e)),
+        v_same j,
+      )
 
-  covered_now : (i : ℕ) → i < trip + 1 → Covers links now i
-  covered_now i early = by_number i trip
-      (λ same. subst (Covers links now) (sym same) covers)
-      (λ apart j. subst (λ n. IfSome (worth (links.gain i j)) (λ gain. gain ≤ n))
-      (both apart j) (is.covered i (omega (arith, early, apart)) j))
-    where
-      both : i ≢ trip → (j : ℕ) → at potentials.u i + at potentials.v j ≡ at now.u i + at now.v j
-      both apart j = omega (arith, u_other i apart, v_same j)
+  covered_now : (i : ℕ) → is_placed trip plan i ≡ true → Covers links now i
+  covered_now i placed = elim (placed_is trip plan i placed) as (λ _. Covers links now i) [
+    | inl same ↦ subst (Covers links now) (sym same) covers
+    | inr linked ↦ kept_now i (is.covered i linked.0 linked.1)
+  ]
 
   module _ (claims : ClaimsParts) (none : claims ≡ record { at = replicate (links.count + 1) None; order = [] }) where
     no_claim : (place : ℕ) → claim_at claims place ≡ None
@@ -95,7 +104,7 @@ module _ (links : Links) (potentials : PotentialParts) (plan : List (Option ℕ)
       within = within;
       places = ap (λ x. length x.at) none ∙ length-replicate (links.count + 1) no_one;
       tight = tight_now;
-      waits = waits_now;
+      waits = waits;
       covered = covered_now;
       claims_are = λ place found e. absurd (none-some found (sym (no_claim place) ∙ e));
       tree = λ place found e. absurd (none-some found (sym (no_claim place) ∙ e));
@@ -145,26 +154,26 @@ module _ (links : Links) (potentials : PotentialParts) (plan : List (Option ℕ)
 
 -- ---- the end
 
--- a trip that was handed a place is taken in
+-- where a place was handed on, the plan is one of this kind again
 pub taken_more : (links : Links) (potentials : PotentialParts) (trip : ℕ) (claims : ClaimsParts) (plan after : List (Option ℕ))
     (place : ℕ) → IsPlaceFound links potentials trip plan claims place
-    → IsHandedOn (looking links potentials trip) claims plan after → IsTaken links potentials after (trip + 1)
+    → IsHandedOn (looking links potentials plan trip) claims plan after → IsTaken links potentials after
 taken_more links potentials trip claims plan after place found is = record {
   over = found.over;
   tight = record {
     each = is.each;
     within = is.within;
-    linked = is.linked;
+    linked = λ i j e. (gain_of_some links (is_placed trip plan) i j _ (is.linked i j e)).1;
     once = is.once;
     last = λ i apart e. is.last i e;
     first = λ j inside apart free. is.first j inside free;
   };
-  covered = found.covered;
+  covered = λ i j e. found.covered i (gain_of_some links (is_placed trip plan) i j _ (is.linked i j e)).0;
 }
 
 -- no trip is taken in
 pub none_taken : (links : Links) (n : ℕ) → n ≡ links.count
-    → IsTaken links (record { u = replicate n 0; v = replicate n 0 }) (replicate n None) 0
+    → IsTaken links (record { u = replicate n 0; v = replicate n 0 }) (replicate n None)
 none_taken links n is = record {
   over = record { each_u = length-replicate n 0 ∙ is; each_v = length-replicate n 0 ∙ is };
   tight = record {
@@ -175,7 +184,7 @@ none_taken links n is = record {
     last = λ i apart e. zero_at n i;
     first = λ j inside apart free. zero_at n j;
   };
-  covered = λ i early. absurd (omega (arith, early));
+  covered = λ i j e. absurd (none-some j (sym (none_next n i) ∙ e));
 }
   where
     zero_at : (n i : ℕ) → at (replicate n 0) i ≡ 0
@@ -184,16 +193,13 @@ none_taken links n is = record {
     zero_at (suc n) (suc i) = zero_at n i
 
 -- all trips are taken in: the plan is one, and the potentials are valid for it
-module _ (trips : TripsParts) (potentials : PotentialParts) (plan : List (Option ℕ)) (taken : ℕ)
-    (is : IsTaken (links_of trips) potentials plan taken) (all : length trips.trips ≤ taken) where
-  linked_all : (i j : ℕ) → next plan i ≡ Some j
-      → (links_of trips).gain i j ≡ Some (pos (at potentials.u i + at potentials.v j))
-  linked_all i j e = (first_gain (links_of trips) taken i j _ (is.tight.linked i j e)).1
-
+module _ (trips : TripsParts) (potentials : PotentialParts) (plan : List (Option ℕ))
+    (is : IsTaken (links_of trips) potentials plan)
+    (all : (i : ℕ) → i < length trips.trips → Covers (links_of trips) potentials i) where
   pub all_plan : IsPlan (links_of trips) plan
   all_plan = record {
     each = is.tight.each;
-    follow = λ i j e. ap is_some (linked_all i j e);
+    follow = λ i j e. ap is_some (is.tight.linked i j e);
     once = is.tight.once;
   }
 
@@ -215,11 +221,11 @@ module _ (trips : TripsParts) (potentials : PotentialParts) (plan : List (Option
           let there = links_within trips i j (ap is_some e) in
           by_worth gain (worth (Some gain)) refl
           (subst (λ it. IfSome (worth it) (λ n. n ≤ at potentials.u i + at potentials.v j)) e
-          (is.covered i (omega (arith, there.0, all)) j))
+          (all i there.0 j))
 
   pub all_valid : AreValid (links_of trips) plan potentials
   all_valid = tight_valid (links_of trips) plan potentials is.over covered_all all_plan (record {
-    linked = linked_all;
+    linked = is.tight.linked;
     last = λ i e. by_bound i (length trips.trips)
         (λ inside. is.tight.last i (λ same. omega (arith, inside, same)) e)
         (λ past. get_or-eq_default potentials.u 0 (omega (arith, past, is.over.each_u)));
@@ -228,21 +234,24 @@ module _ (trips : TripsParts) (potentials : PotentialParts) (plan : List (Option
         (λ past. get_or-eq_default potentials.v 0 (omega (arith, past, is.over.each_v)));
   })
 
--- a tree that grows, and what is near to it
-pub record IsTree (links : Links) (potentials : PotentialParts) (trip : ℕ) (plan : List (Option ℕ)) (claims : ClaimsParts) (nears : List (Option Near)) : Type 0 where
+-- a tree that grows, and what is near to it; what was covered still is
+pub record IsTree (links : Links) (before potentials : PotentialParts) (trip : ℕ) (plan : List (Option ℕ)) (claims : ClaimsParts) (nears : List (Option Near)) : Type 0 where
   pub growing : IsGrowing links potentials trip plan claims
   pub near : AreNear links potentials trip plan claims nears
+  pub kept : StillCovers links before potentials
 
 -- no more places are claimed than there are
-pub few_claimed : (links : Links) (potentials : PotentialParts) (trip : ℕ) (plan : List (Option ℕ)) (claims : ClaimsParts)
-    (nears : List (Option Near)) → IsTree links potentials trip plan claims nears → AreClaims claims
-    → length claims.order ≤ links.count + 1
-few_claimed links potentials trip plan claims nears is are =
+pub few_claimed : (links : Links) (before potentials : PotentialParts) (trip : ℕ) (plan : List (Option ℕ))
+    (claims : ClaimsParts) (nears : List (Option Near)) → IsTree links before potentials trip plan claims nears
+    → AreClaims claims → length claims.order ≤ links.count + 1
+few_claimed links before potentials trip plan claims nears is are =
     omega (arith, is.growing.places, are.counted)
 
--- the first trips are taken in, with room for each place
-pub record AreTakenIn (links : Links) (potentials : PotentialParts) (plan : List (Option ℕ)) (taken : ℕ) (claims : ClaimsParts) (near_places : List (Option Near)) : Type 0 where
-  pub is : IsTaken links potentials plan taken
+-- trips are taken in, with room for each place; so are those of the first so many steps of which each
+-- comes once for all trips
+pub record AreTakenIn (links : Links) (potentials : PotentialParts) (plan : List (Option ℕ)) (steps : ℕ) (claims : ClaimsParts) (near_places : List (Option Near)) : Type 0 where
+  pub is : IsTaken links potentials plan
+  pub covered : (i : ℕ) → i + links.count < steps → Covers links potentials i
   pub places : length claims.at ≡ links.count + 1
   pub near_each : length near_places ≡ links.count + 1
 
@@ -253,9 +262,30 @@ pub begun : (links : Links) (n : ℕ) (potentials : PotentialParts) (plan : List
     → claims ≡ record { at = replicate (n + 1) None; order = [] } → length near_places ≡ links.count + 1
     → AreTakenIn links potentials plan 0 claims near_places
 begun links n potentials plan claims near_places size plan_is potentials_is claims_is each = record {
-  is = subst (λ p. IsTaken links p plan 0) (sym potentials_is)
-      (subst (λ xs. IsTaken links (record { u = replicate n 0; v = replicate n 0 }) xs 0) (sym plan_is)
+  is = subst (λ p. IsTaken links p plan) (sym potentials_is)
+      (subst (IsTaken links (record { u = replicate n 0; v = replicate n 0 })) (sym plan_is)
       (none_taken links n size));
+  covered = λ i early. absurd (omega (arith, early));
   places = ap (λ x. length x.at) claims_is ∙ length-replicate (n + 1) no_one ∙ ap (λ k. k + 1) size;
   near_each = each;
 }
+
+-- a step more: one trip is taken in
+pub taken_step : (links : Links) (before potentials : PotentialParts) (plan after : List (Option ℕ)) (steps trip : ℕ)
+    (claims now : ClaimsParts) (near_places now_near : List (Option Near))
+    → AreTakenIn links before plan steps claims near_places → IsTaken links potentials after
+    → StillCovers links before potentials → Covers links potentials trip
+    → (links.count ≤ steps → trip ≡ steps - links.count)
+    → length now.at ≡ links.count + 1 → length now_near ≡ links.count + 1
+    → AreTakenIn links potentials after (steps + 1) now now_near
+taken_step links before potentials plan after steps trip claims now near_places now_near are is kept own again places each = record {
+  is = is;
+  covered = λ i early. by_number (i + links.count) steps
+      (λ same. subst (Covers links potentials) (trip_is i same) own)
+      (λ apart. kept i (are.covered i (omega (arith, early, apart))));
+  places = places;
+  near_each = each;
+}
+  where
+    trip_is : (i : ℕ) → i + links.count ≡ steps → trip ≡ i
+    trip_is i same = omega (arith, same, again (omega (arith, same)))

@@ -10,36 +10,44 @@ use Rattle.vehicle_flow.specs.Claims.{ClaimsParts, claim_at}
 use Rattle.vehicle_flow.specs.Searches.{Search, IsTightBut, AreClaimsBefore, IsFound}
 use Rattle.vehicle_flow.specs.Slacks.{slack_to, Covers}
 
--- the links from the first so many trips alone
-abbrev pub first_links : Links → ℕ → Links
-first_links links taken = record {
+-- the links from some trips alone
+abbrev pub links_from : Links → (ℕ → Bool) → Links
+links_from links some = record {
   count = links.count;
-  gain = λ i j. if nat_lt i taken then links.gain i j else None;
+  gain = λ i j. if some i then links.gain i j else None;
 }
 
--- a trip looks for a place among the first trips up to it
-abbrev pub looking : Links → PotentialParts → ℕ → Search
-looking links potentials trip = record {
-  links = first_links links (trip + 1);
+-- a trip looks for a place, or has one
+abbrev pub is_placed : ℕ → List (Option ℕ) → ℕ → Bool
+is_placed trip plan i = nat_eq i trip || is_some (next plan i)
+
+-- a trip looks for a place among those that have one
+abbrev pub looking : Links → PotentialParts → List (Option ℕ) → ℕ → Search
+looking links potentials plan trip = record {
+  links = links_from links (is_placed trip plan);
   potentials = potentials;
   trip = trip;
   low = 0;
 }
 
--- no trip looks for a place among the first so many
-abbrev pub settled : Links → PotentialParts → ℕ → Search
-settled links potentials taken = record {
-  links = first_links links taken;
+-- no trip looks for a place
+abbrev pub settled : Links → PotentialParts → Search
+settled links potentials = record {
+  links = links;
   potentials = potentials;
   trip = links.count;
   low = 0;
 }
 
--- a plan for the first so many trips, with potentials that prove it to be cheapest among these
-pub record IsTaken (links : Links) (potentials : PotentialParts) (plan : List (Option ℕ)) (taken : ℕ) : Type 0 where
+-- a plan with potentials that cover the links of each trip with a next one, and are tight at it
+pub record IsTaken (links : Links) (potentials : PotentialParts) (plan : List (Option ℕ)) : Type 0 where
   pub over : AreOver links.count potentials
-  pub tight : IsTightBut (settled links potentials taken) links.count plan
-  pub covered : (i : ℕ) → i < taken → Covers links potentials i
+  pub tight : IsTightBut (settled links potentials) links.count plan
+  pub covered : (i j : ℕ) → next plan i ≡ Some j → Covers links potentials i
+
+-- what is covered stays so
+abbrev pub StillCovers : Links → PotentialParts → PotentialParts → Type 0
+StillCovers links before after = (i : ℕ) → Covers links before i → Covers links after i
 
 -- a place is claimed
 abbrev pub is_claimed : ClaimsParts → ℕ → Bool
@@ -112,10 +120,10 @@ pub record IsGrowing (links : Links) (potentials : PotentialParts) (trip : ℕ) 
   pub over : AreOver links.count potentials
   pub within : trip < links.count
   pub places : length claims.at ≡ links.count + 1
-  pub tight : IsTightBut (looking links potentials trip) links.count plan
+  pub tight : IsTightBut (looking links potentials plan trip) links.count plan
   pub waits : next plan trip ≡ None
-  pub covered : (i : ℕ) → i < trip + 1 → Covers links potentials i
-  pub claims_are : AreClaimsBefore (looking links potentials trip) plan claims (length claims.order)
+  pub covered : (i : ℕ) → is_placed trip plan i ≡ true → Covers links potentials i
+  pub claims_are : AreClaimsBefore (looking links potentials plan trip) plan claims (length claims.order)
   pub tree : (place : ℕ) (found : Claim) → claim_at claims place ≡ Some found
       → IsTreeClaim trip plan claims place found
 
@@ -138,8 +146,8 @@ pub record AreShifted (trip : ℕ) (plan : List (Option ℕ)) (claims : ClaimsPa
 -- a place was found: it can be handed on, and the potentials still cover all links
 pub record IsPlaceFound (links : Links) (potentials : PotentialParts) (trip : ℕ) (plan : List (Option ℕ)) (claims : ClaimsParts) (place : ℕ) : Type 0 where
   pub over : AreOver links.count potentials
-  pub covered : (i : ℕ) → i < trip + 1 → Covers links potentials i
-  pub found : IsFound (looking links potentials trip) plan claims place
+  pub covered : (i : ℕ) → is_placed trip plan i ≡ true → Covers links potentials i
+  pub found : IsFound (looking links potentials plan trip) plan claims place
 
 -- what is nearest to a place without a claim
 abbrev pub open_near : Option Claim → Option Near → Option Near

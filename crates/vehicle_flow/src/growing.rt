@@ -1,6 +1,6 @@
 // Growing a tree from a trip until a place for it is found.
 ghost use Rattle.std.specs.Prelude.{◌≡◌, ◌<◌, ◌+◌, length, OnOk, IfOk, MatchOption};
-ghost use Rattle.vehicle_flow.specs.Growing.{IsTaken, IsGrowing, AreNear, IsPlaceFound};
+ghost use Rattle.vehicle_flow.specs.Growing.{IsGrowing, AreNear, IsPlaceFound, StillCovers};
 ghost use Rattle.vehicle_model.specs.Trips.{links_of};
 
 use crate::assignment::Assignment;
@@ -29,6 +29,7 @@ pub(crate) fn grow(
     ensures near { IfOk result (λ found. MatchOption found
         (AreNear (links_of trips.now) potentials.new trip assignment.now claims.new nears.new.items)
         (λ _. length nears.new.items ≡ length nears.old.items)) }
+    ensures kept { OnOk result (StillCovers (links_of trips.now) potentials.old potentials.new) }
     ensures more { OnOk result (length claims.new.order ≡ length claims.old.order + 1) }
 {
     let _ = trips.len();

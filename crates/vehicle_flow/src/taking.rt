@@ -1,7 +1,9 @@
-// Taking trips into a plan, one after another.
-ghost use Rattle.std.specs.Prelude.{◌≡◌, ◌<◌, ◌+◌, length, OnOk};
-ghost use Rattle.vehicle_flow.specs.Growing.{IsTaken, IsGrowing, AreNear};
+// Taking trips into a plan.
+ghost use Rattle.std.specs.Prelude.{◌≡◌, ◌<◌, ◌+◌, length, None, OnOk};
+ghost use Rattle.vehicle_flow.specs.Growing.{IsTaken, IsGrowing, AreNear, StillCovers};
 ghost use Rattle.vehicle_flow.specs.Searches.{Search, IsFound, IsHandedOn};
+ghost use Rattle.vehicle_flow.specs.Slacks.{Covers};
+ghost use Rattle.vehicle_model.specs.Plans.{next};
 ghost use Rattle.vehicle_model.specs.Trips.{links_of};
 
 use crate::assignment::Assignment;
@@ -14,8 +16,8 @@ use flow_potentials::Potentials;
 use plan_num::NoMemory;
 use vehicle_model::Trips;
 
-/// Takes one trip more into a plan that is cheapest among the trips before it.
-#[tactic(auto, using(crate::proofs::TakenIn::taken_more, crate::proofs::TakenIn::few_claimed))]
+/// Takes one trip more into a plan that is cheapest among the trips so far.
+#[tactic(auto, using(crate::proofs::TakenIn::few_claimed))]
 pub(crate) fn take_in(
     trips: &Trips,
     trip: usize,
@@ -24,14 +26,19 @@ pub(crate) fn take_in(
     claims: &mut Claims,
     nears: &mut Vec<Option<Near>>,
 ) -> Result<(), NoMemory>
-    requires taken { IsTaken (links_of trips.now) potentials.old assignment.old trip }
+    requires taken { IsTaken (links_of trips.now) potentials.old assignment.old }
     requires within { trip < length trips.now.trips }
     requires places { length claims.old.at ≡ length trips.now.trips + 1 }
     requires nears { length nears.old.items ≡ length trips.now.trips + 1 }
-    ensures taken { OnOk result (IsTaken (links_of trips.now) potentials.new assignment.new (trip + 1)) }
+    ensures taken { OnOk result (IsTaken (links_of trips.now) potentials.new assignment.new) }
+    ensures own { OnOk result (Covers (links_of trips.now) potentials.new trip) }
+    ensures kept { OnOk result (StillCovers (links_of trips.now) potentials.old potentials.new) }
     ensures places { OnOk result (length claims.new.at ≡ length trips.now.trips + 1) }
     ensures nears { OnOk result (length nears.new.items ≡ length trips.now.trips + 1) }
 {
+    if assignment.next(trip).is_some() {
+        return Ok(());
+    }
     start(trips, trip, assignment, potentials, claims, nears);
     loop {
         let _ = claims.count();
@@ -58,7 +65,7 @@ fn finish(
     hand_on(claims, assignment, place);
 }
 
-// Begins a tree with a trip that is not taken in yet.
+// Begins a tree with a trip that has no next one.
 fn start(
     trips: &Trips,
     trip: usize,
@@ -67,11 +74,13 @@ fn start(
     claims: &mut Claims,
     nears: &mut Vec<Option<Near>>,
 )
-    requires taken { IsTaken (links_of trips.now) potentials.old assignment.now trip }
+    requires taken { IsTaken (links_of trips.now) potentials.old assignment.now }
+    requires waits { next assignment.now trip ≡ None }
     requires within { trip < length trips.now.trips }
     requires places { length claims.old.at ≡ length trips.now.trips + 1 }
     requires nears { length nears.old.items ≡ length trips.now.trips + 1 }
     ensures growing { IsGrowing (links_of trips.now) potentials.new trip assignment.now claims.new }
+    ensures kept { StillCovers (links_of trips.now) potentials.old potentials.new }
     ensures near { AreNear (links_of trips.now) potentials.new trip assignment.now claims.new nears.new.items }
 {
     let _ = assignment.len();

@@ -6,10 +6,10 @@ use Rattle.vehicle_flow.proofs.TakenIn.{IsTree}
 use Rattle.vehicle_flow.proofs.taking.take_in.Given as goal
 
 abbrev pub ghost-finish : goal.ghost-finish
-ghost-finish a = looking (links_of a._trips.now) a._potentials.now a._trip
+ghost-finish a = looking (links_of a._trips.now) a._potentials.now a.assignment.now a._trip
 
 abbrev pub invariant-loop-place : goal.invariant-loop-place
-invariant-loop-place l = IsTree (links_of l.trips) l.potentials l.trip l.assignment l.claims l.nears.items
+invariant-loop-place l = IsTree (links_of l.trips) l.fn.potentials l.potentials l.trip l.assignment l.claims l.nears.items
 
 abbrev pub decreases-loop-place : goal.decreases-loop-place
 decreases-loop-place l = length l.trips.trips + 2 - length l.claims.order
