@@ -17,8 +17,8 @@ use giv_files::{FileId, Made, MadeFile, MadeList, Stage};
 use plan_num::{NoMemory, Text};
 use std::alloc::Global;
 
-/// The entry of a stage that the bytes are, whose settings and inputs stand there, and None exactly where they are none: where they are a
-/// front part of one, or one with more bytes behind it, too.
+/// The entry of a stage that the bytes are, whose settings and inputs stand there, and None exactly
+/// where they are none: where they are a front part of one, or one with more bytes behind it, too.
 pub fn read_keep(alloc: Global, stage: Stage, bytes: &[u8]) -> Result<Option<Entry<'_>>, NoMemory>
     ensures read { IfOk result (λ found. found ≡ read_entry stage bytes.now) }
     ensures exact { IfOk result (ReadsEntry stage bytes.now) }
