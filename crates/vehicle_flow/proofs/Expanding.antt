@@ -153,17 +153,6 @@ last_more search plan start claims after index is right more others all = record
       none other within undecided tight));
 }
 
--- or has a next one
-pub last_kept : (search : Search) (plan : List (Option ℕ)) (start claims : ClaimsParts) (index : ℕ)
-    → AreLast search plan start claims index → is_some (next plan index) ≡ true
-    → AreLast search plan start claims (index + 1)
-last_kept search plan start claims index is there = record {
-  going = is.going;
-  done = λ i low bound none other within undecided tight. by_number i index
-      (λ same. absurd (false≢true (sym (ap is_some (sym (ap (next plan) same) ∙ none)) ∙ there)))
-      (λ apart. is.done i low (omega (arith, bound, apart)) none other within undecided tight);
-}
-
 -- ---- from one place to the next
 
 -- the places that were claimed before a step are expanded

@@ -314,22 +314,3 @@ module _ (search : Search) (plan : List (Option ℕ)) (claims : ClaimsParts) (pl
 pub record IsHanding (search : Search) (claims : ClaimsParts) (start plan : List (Option ℕ)) (place : ℕ) : Type 0 where
   pub found : IsFound search plan claims place
   pub same : (i : ℕ) → i < search.low → next plan i ≡ next start i
-
--- what a whole chain of steps leaves
-pub handed_all : (search : Search) (claims : ClaimsParts) (start plan after : List (Option ℕ))
-    → ((i : ℕ) → i < search.low → next plan i ≡ next start i) → IsHandedOn search claims plan after
-    → IsHandedOn search claims start after
-handed_all search claims start plan left same is = record {
-  each = is.each;
-  within = is.within;
-  linked = is.linked;
-  once = is.once;
-  last = is.last;
-  first = is.first;
-  same = λ i less. is.same i less ∙ same i less;
-  place = is.place;
-  found = is.found;
-  claimed = is.claimed;
-  own = is.own;
-  next_is = is.next_is;
-}

@@ -5,7 +5,7 @@ use Rattle.std.proofs.lemmas.List.{length-set}
 use Rattle.std.proofs.lemmas.Option.{none-some, same_Some}
 use Rattle.vehicle_model.specs.Plans.{next, is_next, AreSuccessors}
 use Rattle.vehicle_model.proofs.Linking.{by_number, none_next, not_next, never_next}
-use Rattle.vehicle_flow.specs.Places.{successor_at, place_of, forgotten, AreLinked}
+use Rattle.vehicle_flow.specs.Places.{successor_at, forgotten, AreLinked}
 
 -- ---- places
 
@@ -50,12 +50,6 @@ same_place count f g few most e = split (nat_lt f count) refl
     split false is =
         let past = ltb-false f count is in
         omega (arith, few, most, past, no_successor count g (sym e ∙ successor_past count f past))
-
--- the trip at the place of a successor
-pub successor_of : (count : ℕ) (at : Option ℕ) → ((j : ℕ) → at ≡ Some j → j < count)
-    → successor_at count (place_of count at) ≡ at
-successor_of count None within = successor_past count count (omega arith)
-successor_of count (Some j) within = successor_within count j (within j refl)
 
 -- ---- one trip with another place
 

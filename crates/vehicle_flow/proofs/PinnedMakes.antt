@@ -1,5 +1,5 @@
 -- Which files the stage of a planner's schedule makes, which it names where it refuses a row, and what it gives.
-use Rattle.std.proofs.Common.{◌≡◌, ℕ, List, [], ◌∷◌, map, true, Bool, Option, Some, None, Result, Ok, Err, IfOk, ap, lit<, refl, sym, subst}
+use Rattle.std.proofs.Common.{◌≡◌, ℕ, List, [], ◌∷◌, map, true, Bool, Option, Some, None, Result, Ok, Err, IfOk, ap, lit<, refl, subst}
 use Rattle.giv_files.specs.declared.file_id.FileId.{FileId}
 use Rattle.giv_files.specs.declared.file_id.FileId.TheVariants as file
 use Rattle.giv_files.specs.declared.made.Made.{Made}

@@ -1,22 +1,10 @@
 -- Lists of places in rising order, one place after another.
-use Rattle.std.proofs.Common.{◌≡◌, ℕ, ℤ, pos, negsuc, ◌+◌, ◌<◌, ◌≤◌, ◌≤ℤ◌, List, [], ◌∷◌, ◌++◌, length, map, get_or, Option, Some, None, IfSome, refl, ap, sym, ◌∙◌, subst, arith, length-append}
-use Rattle.std.proofs.lemmas.Int.{ints}
+use Rattle.std.proofs.Common.{◌≡◌, ℕ, ◌+◌, ◌<◌, List, [], ◌∷◌, ◌++◌, length, map, get_or, refl, ap, sym, ◌∙◌, subst, arith, length-append}
 use Rattle.std.proofs.lemmas.List.{get_or_append_left}
 use Rattle.std.proofs.Math.Seq.{get_or-append_seam}
-use Rattle.vehicle_model.specs.Trips.{Links}
 use Rattle.vehicle_model.proofs.Linking.{by_number}
-use Rattle.flow_potentials.specs.Potentials.{PotentialParts, at, AreValid}
+use Rattle.flow_potentials.specs.Potentials.{at}
 use Rattle.vehicle_flow.specs.Choices.{ArePlaces}
-use Rattle.vehicle_flow.specs.Slacks.{worth, Covers}
-
--- no places below 0
-pub places_none : (P : ℕ → Type 0) → ArePlaces P 0 []
-places_none P = record {
-  rising = λ k m before bound. absurd (omega (arith, bound));
-  right = λ k bound. absurd (omega (arith, bound));
-  within = λ k bound. absurd (omega (arith, bound));
-  all = λ place bound h. absurd (omega (arith, bound));
-}
 
 module _ (P : ℕ → Type 0) (below : ℕ) (places : List ℕ) (are : ArePlaces P below places) where
   -- the next place is none of them
@@ -74,20 +62,6 @@ module _ (P : ℕ → Type 0) (below : ℕ) (places : List ℕ) (are : ArePlaces
         let k = are.all place (omega (arith, bound, apart)) h in
         (k.0, (omega (arith, k.1.0, size), front k.0 k.1.0 ∙ k.1.1)));
   }
-
--- valid potentials cover what links are worth
-covered_by : (gain : Option ℤ) (both : ℕ) → IfSome gain (λ value. value ≤ℤ pos both)
-    → IfSome (worth gain) (λ value. value ≤ both)
-covered_by None both h = tt
-covered_by (Some (pos gain)) both h = omega (arith, ints, h)
-covered_by (Some (negsuc less)) both h = tt
-
--- and so for each trip
-pub valid_covers : (links : Links) (plan : List (Option ℕ)) (potentials : PotentialParts)
-    → AreValid links plan potentials
-    → (i : ℕ) → Covers links potentials i
-valid_covers links plan potentials valid i j =
-    covered_by (links.gain i j) (at potentials.u i + at potentials.v j) (valid.covered i j)
 
 -- one trip's list more
 pub lists_more : {X : Type 0} (items : X → List ℕ) (Q : ℕ → List ℕ → Type 0) (lists : List X)

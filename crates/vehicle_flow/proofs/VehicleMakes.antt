@@ -1,5 +1,5 @@
 -- Which files the stage of vehicles makes, which it names where it refuses a row, and what it gives.
-use Rattle.std.proofs.Common.{◌≡◌, [], true, Bool, Some, Ok, Err, ap, lit<, sym, subst, ◌∙◌}
+use Rattle.std.proofs.Common.{◌≡◌, [], true, Bool, Some, Ok, Err, ap, lit<, ◌∙◌}
 use Rattle.giv_files.specs.declared.file_id.FileId.{FileId}
 use Rattle.giv_files.specs.declared.file_id.FileId.TheVariants as file
 use Rattle.giv_files.specs.declared.made.Made.{Made}

@@ -1,7 +1,7 @@
 use Rattle.std.proofs.Common.{◌+◌, ◌-◌, ap, ◌∙◌, sym, subst, arith}
 use Rattle.flow_potentials.specs.Potentials.{AreValid}
 use Rattle.flow_potentials.proofs.Certified.{certified_cheapest}
-use Rattle.vehicle_model.specs.Plans.{IsPlan, IsCheapest}
+use Rattle.vehicle_model.specs.Plans.{IsPlan}
 use Rattle.vehicle_model.specs.Trips.{links_of}
 use Rattle.vehicle_flow.proofs.TakenIn.{begun, taken_step, all_plan, all_valid}
 use Rattle.vehicle_flow.proofs.cheapest.cheapest_plan.Goals as goal
