@@ -10,6 +10,7 @@ mod claim;
 mod given;
 mod growing;
 mod handing;
+mod hints;
 mod judge;
 mod made;
 mod near;
