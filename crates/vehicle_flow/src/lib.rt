@@ -14,6 +14,7 @@ mod hints;
 mod judge;
 mod made;
 mod near;
+mod nearest;
 mod pinned;
 mod report;
 mod schedule_fault;
