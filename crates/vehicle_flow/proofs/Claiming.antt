@@ -12,7 +12,7 @@ use Rattle.flow_potentials.proofs.Certified.{by_bound}
 use Rattle.vehicle_flow.specs.declared.claim.Claim.{Claim}
 use Rattle.vehicle_flow.specs.declared.near.Near.{Near}
 use Rattle.vehicle_flow.specs.Claims.{ClaimsParts, claim_at, AreClaims}
-use Rattle.vehicle_flow.specs.Growing.{links_from, looking, is_placed, is_claimed, in_tree, nearer, looked, IsFrom, IsNearest, IsNear, AreNear, IsTreeClaim, IsGrowing, IsPlaceFound}
+use Rattle.vehicle_flow.specs.Growing.{links_from, looking, is_placed, is_claimed, in_tree, nearer, looked, IsFrom, IsNearest, IsNear, AreLooked, AreNear, IsTreeClaim, IsGrowing, IsPlaceFound}
 use Rattle.vehicle_flow.specs.Searches.{IsTightAt, ComesFrom, IsClaim, AreClaimsBefore}
 use Rattle.vehicle_flow.specs.Slacks.{worth, slack_of, slack_to}
 use Rattle.vehicle_flow.proofs.Moves.{successor_within}
@@ -106,12 +106,9 @@ from_more trip plan claims by from (Some slack) (Some found) new was near e =
 
 module _ (links : Links) (potentials : PotentialParts) (trip : ℕ) (plan : List (Option ℕ)) (claims : ClaimsParts)
     (is : IsGrowing links potentials trip plan claims) (ordered : AreClaims claims)
-    (nears : List (Option Near)) (are : AreNear links potentials trip plan claims nears)
     (place : ℕ) (within : place < links.count + 1) (free : claim_at claims place ≡ None)
-    (near : Near) (at_place : get_or nears place None ≡ Some near) (exact : near.slack ≡ 0) where
-  from : IsFrom trip plan claims near.by near.from
-  from = are.from place near free at_place
-
+    (near : Near) (from : IsFrom trip plan claims near.by near.from)
+    (exact : slack_to links potentials near.by place ≡ Some 0) where
   by_in : in_tree trip plan claims near.by ≡ true
   by_in = from_tree near.from from
     where
@@ -122,28 +119,25 @@ module _ (links : Links) (potentials : PotentialParts) (trip : ℕ) (plan : List
   by_placed : is_placed trip plan near.by ≡ true
   by_placed = tree_placed links potentials trip plan claims is near.by by_in
 
-  nearest : IsNearest links potentials (in_tree trip plan claims) place near
-  nearest = subst (IsNear links potentials (in_tree trip plan claims) place) at_place (are.near place within free)
-
   -- the trip is tight at the place
   tight_at : IsTightAt (links_from links (is_placed trip plan)) potentials near.by place
   tight_at = record {
     linked = λ there. some_gain links (is_placed trip plan) near.by place by_placed
         ∙ by_worth (worth (links.gain near.by place)) refl
         (is.covered near.by by_placed place)
-        (sym (slack_inside links potentials near.by place there) ∙ nearest.slack);
+        (sym (slack_inside links potentials near.by place there) ∙ exact);
     last = λ past. same_Some (at potentials.u near.by) 0
-        (sym (slack_past links potentials near.by place past) ∙ nearest.slack ∙ ap Some exact);
+        (sym (slack_past links potentials near.by place past) ∙ exact);
   }
     where
       by_worth : (it : Option ℕ) → worth (links.gain near.by place) ≡ it
           → IfSome it (λ gain. gain ≤ at potentials.u near.by + at potentials.v place)
-          → slack_of (at potentials.u near.by + at potentials.v place) it ≡ Some near.slack
+          → slack_of (at potentials.u near.by + at potentials.v place) it ≡ Some 0
           → links.gain near.by place ≡ Some (pos (at potentials.u near.by + at potentials.v place))
-      by_worth None e low f = absurd (none-some near.slack f)
+      by_worth None e low f = absurd (none-some 0 f)
       by_worth (Some gain) e low f =
-          let rest : at potentials.u near.by + at potentials.v place - gain ≡ near.slack = same_Some _ near.slack f in
-          let all : gain ≡ at potentials.u near.by + at potentials.v place = omega (arith, rest, low, exact) in
+          let rest : at potentials.u near.by + at potentials.v place - gain ≡ 0 = same_Some _ 0 f in
+          let all : gain ≡ at potentials.u near.by + at potentials.v place = omega (arith, rest, low) in
           pos_worth (links.gain near.by place) gain e ∙ ap (λ n. Some (pos n)) all
 
   abbrev new_claim : Claim
@@ -308,11 +302,19 @@ module _ (links : Links) (potentials : PotentialParts) (trip : ℕ) (plan : List
       tree = tree_more;
     }
 
-    pub nears_grown : (now : List (Option Near)) → length now ≡ length nears
-        → ((other : ℕ) → other < length nears → get_or now other None
-        ≡ looked (claim_at more other) (slack_to links potentials left other) left (Some place) (get_or nears other None))
+    -- it left its place
+    pub from_left : IsFrom trip plan more left (Some place)
+    from_left = (
+      (λ same. none-some place (sym is.waits ∙ ap (next plan) (sym same) ∙ has)),
+      has,
+      ap is_some new_is,
+    )
+
+    pub nears_grown : (nears now : List (Option Near)) → AreNear links potentials trip plan claims nears
+        → length now ≡ length nears
+        → AreLooked links potentials more left (Some place) nears now
         → AreNear links potentials trip plan more now
-    nears_grown now each told = record {
+    nears_grown nears now are each told = record {
       each = each ∙ are.each;
       near = λ other there none. subst (IsNear links potentials (in_tree trip plan more) other)
           (sym (told_it other there none))
@@ -337,13 +339,6 @@ module _ (links : Links) (potentials : PotentialParts) (trip : ℕ) (plan : List
         there_of other found e = by_bound other (links.count + 1) (λ it. it)
             (λ past. absurd (none-some found
             (sym (get_or-eq_default now None (omega (arith, past, each, are.each))) ∙ e)))
-
-        from_left : IsFrom trip plan more left (Some place)
-        from_left = (
-          (λ same. none-some place (sym is.waits ∙ ap (next plan) (sym same) ∙ has)),
-          has,
-          ap is_some new_is,
-        )
 
         from_old : (old : Near) → IsFrom trip plan claims old.by old.from → IsFrom trip plan more old.by old.from
         from_old old was = by_it old.from was

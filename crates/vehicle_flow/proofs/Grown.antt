@@ -1,16 +1,16 @@
 -- What one turn of growing a tree leaves.
-use Rattle.std.proofs.Common.{◌≡◌, ℕ, pos, ◌<◌, ◌≤◌, ◌≤ℤ◌, ◌+◌, ◌-◌, true, false, List, [], ◌∷◌, ◌++◌, length, get_or, slice_set, Option, Some, None, IfSome, option_map, ap, sym, ◌∙◌, subst, arith}
+use Rattle.std.proofs.Common.{◌≡◌, ℕ, pos, ◌<◌, ◌≤◌, ◌≤ℤ◌, ◌+◌, true, false, List, [], ◌∷◌, ◌++◌, length, get_or, slice_set, Option, Some, None, Result, Ok, Err, IfOk, OnOk, IfSome, MatchOption, option_map, ap, sym, ◌∙◌, subst, arith}
 use Rattle.std.proofs.lemmas.Int.{ints}
 use Rattle.std.proofs.lemmas.Option.{none-some}
 use Rattle.vehicle_model.specs.Plans.{next, is_next}
-use Rattle.vehicle_model.specs.Trips.{TripsParts, AreTrips, links_of}
+use Rattle.vehicle_model.specs.Trips.{TripsParts, Links, AreTrips, links_of}
 use Rattle.vehicle_model.proofs.Following.{links_within, links_most}
 use Rattle.flow_potentials.specs.Potentials.{PotentialParts, at}
 use Rattle.vehicle_flow.specs.declared.near.Near.{Near}
 use Rattle.vehicle_flow.specs.Claims.{ClaimsParts, claim_at, AreClaims}
-use Rattle.vehicle_flow.specs.Growing.{is_claimed, is_placed, StillCovers, in_tree, moved_near, shifted, looked, IsNear, AreNear, IsGrowing, IsNearestPlace, AreShifted, IsPlaceFound}
+use Rattle.vehicle_flow.specs.Growing.{is_claimed, is_placed, StillCovers, in_tree, moved_near, shifted, IsFrom, IsFreeAt, IsNear, AreLooked, AreNear, IsGrowing, IsNearestPlace, AreShifted, IsPlaceFound}
 use Rattle.vehicle_flow.specs.Slacks.{slack_to, Covers}
-use Rattle.vehicle_flow.proofs.Claiming.{place_found, grown, nears_grown}
+use Rattle.vehicle_flow.proofs.Claiming.{place_found, grown, from_left, nears_grown}
 use Rattle.vehicle_flow.proofs.Shifting.{gain_of_some, placed_next, slack_past, tree_trip, tree_linked, claim_there, last_open, tree_least, growing_after, covered_after, nears_after}
 
 module _ (trips : TripsParts) (potentials : PotentialParts) (trip : ℕ) (plan : List (Option ℕ)) (claims : ClaimsParts)
@@ -77,32 +77,68 @@ module _ (trips : TripsParts) (potentials : PotentialParts) (trip : ℕ) (plan :
       within : place < count + 1
       within = omega (arith, best.within, are.each)
 
-      exact : near.slack - near.slack ≡ 0
-      exact = omega arith
+      from_tree : IsFrom trip plan claims near.by near.from
+      from_tree = nears_moved.from place (moved_near near.slack near) best.open_place near_moved
+
+      exact : slack_to (links_of trips) after near.by place ≡ Some 0
+      exact = (subst (IsNear (links_of trips) after (in_tree trip plan claims) place) near_moved
+          (nears_moved.near place within best.open_place)).slack
+          ∙ ap Some (omega arith)
 
       -- a place without a trip was found
       pub found_now : is_next plan place ≡ false
           → IsPlaceFound (links_of trips) after trip plan now place
       found_now alone = subst (λ x. IsPlaceFound (links_of trips) after trip plan x place) (sym claimed)
-          (place_found (links_of trips) after trip plan claims growing ordered moved nears_moved place within
-          best.open_place (moved_near near.slack near) near_moved exact alone)
+          (place_found (links_of trips) after trip plan claims growing ordered place within best.open_place near
+          from_tree exact alone)
 
       -- or the tree has grown by the trip that has it
       module _ (left : ℕ) (has : next plan left ≡ Some place) where
         pub grown_now : IsGrowing (links_of trips) after trip plan now
         grown_now = subst (IsGrowing (links_of trips) after trip plan) (sym claimed)
-            (grown (links_of trips) after trip plan claims growing ordered moved nears_moved place within
-            best.open_place (moved_near near.slack near) near_moved exact left has)
+            (grown (links_of trips) after trip plan claims growing ordered place within best.open_place near
+            from_tree exact left has)
 
         pub left_covered : Covers (links_of trips) after left
         left_covered = growing.covered left (placed_next trip plan left place has)
 
-        pub nears_now : (last : List (Option Near)) → length last ≡ length moved
-            → ((other : ℕ) → other < length moved → get_or last other None ≡ looked (claim_at now other)
-            (slack_to (links_of trips) after left other) left (Some place) (get_or moved other None))
-            → AreNear (links_of trips) after trip plan now last
-        nears_now last size looks = subst (λ x. AreNear (links_of trips) after trip plan x last) (sym claimed)
-            (nears_grown (links_of trips) after trip plan claims growing ordered moved nears_moved place within
-            best.open_place (moved_near near.slack near) near_moved exact left has last size
-            (λ other there. looks other there ∙ ap (λ x. looked (claim_at x other)
-            (slack_to (links_of trips) after left other) left (Some place) (get_or moved other None)) claimed))
+        pub left_from : IsFrom trip plan now left (Some place)
+        left_from = subst (λ x. IsFrom trip plan x left (Some place)) (sym claimed)
+            (from_left (links_of trips) after trip plan claims growing ordered place within best.open_place near
+            from_tree exact left has)
+
+        pub nears_now : (last : List (Option Near)) (after_claims : ClaimsParts) → after_claims ≡ now
+            → length last ≡ length moved
+            → AreLooked (links_of trips) after now left (Some place) moved last
+            → AreNear (links_of trips) after trip plan after_claims last
+        nears_now last after_claims same size looks = subst (λ x. AreNear (links_of trips) after trip plan x last)
+            (sym (same ∙ claimed))
+            (nears_grown (links_of trips) after trip plan claims growing ordered place within best.open_place near
+            from_tree exact left has moved last nears_moved size
+            (subst (λ x. AreLooked (links_of trips) after x left (Some place) moved last) claimed looks))
+
+-- what a look leaves, by whether it found a place
+pub then_found : {E A B : Type 0} {P Q : ℕ → Type 0} (result : Result (Option ℕ) E)
+    → IfOk result (λ found. MatchOption found A P) → (A → B) → ((place : ℕ) → P place → Q place)
+    → IfOk result (λ found. MatchOption found B Q)
+then_found (Ok None) is none some = none is
+then_found (Ok (Some place)) is none some = some place is
+then_found (Err end) is none some = tt
+
+pub on_ok : {T E P : Type 0} (result : Result T E) → P → OnOk result P
+on_ok (Ok value) is = is
+on_ok (Err end) is = tt
+
+-- a place without a trip that a trip of a tree finds is the answer
+pub found_free : (links : Links) (potentials : PotentialParts) (trip : ℕ) (plan : List (Option ℕ)) (claims : ClaimsParts)
+    → IsGrowing links potentials trip plan claims → AreClaims claims → (by place : ℕ) (from : Option ℕ)
+    → IsFrom trip plan claims by from → IsFreeAt links potentials plan claims by place → (now : ClaimsParts)
+    → now ≡ record {
+      at = slice_set claims.at place (Some (record { by = Some by; from = from; step = length claims.order }));
+      order = claims.order ++ place ∷ [];
+    }
+    → IsPlaceFound links potentials trip plan now place
+found_free links potentials trip plan claims is ordered by place from comes free now claimed =
+    subst (λ x. IsPlaceFound links potentials trip plan x place) (sym claimed)
+    (place_found links potentials trip plan claims is ordered place free.within free.open_place
+    (record { slack = 0; by = by; from = from }) comes free.slack free.free)

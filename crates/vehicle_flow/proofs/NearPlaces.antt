@@ -108,6 +108,24 @@ open_is : (claim : Option Claim) (near : Option Near) (found : Near) → open_ne
 open_is None near found e = (refl, e)
 open_is (Some claim) near found e = absurd (none-some found e)
 
+-- a place at which the slack is 0 is the nearest
+pub exact_is_nearest : (claims : ClaimsParts) (nears : List (Option Near)) (place : ℕ) (near : Near)
+    → place < length nears → near.slack ≡ 0
+    → open_near (claim_at claims place) (get_or nears place None) ≡ Some near
+    → IsNearestPlace claims nears place near
+exact_is_nearest claims nears place near within exact is =
+    let there = open_is (claim_at claims place) (get_or nears place None) near is in
+    record {
+      within = within;
+      open_place = there.0;
+      is = there.1;
+      least = λ other inside free. any (get_or nears other None);
+    }
+  where
+    any : (it : Option Near) → IfSome it (λ x. near.slack ≤ x.slack)
+    any None = tt
+    any (Some x) = omega (arith, exact)
+
 -- the nearest of all places
 pub best_all : (claims : ClaimsParts) (nears : List (Option Near)) (done : ℕ) (best : Option (ℕ × Near))
     → IsBest claims nears done best → done ≡ length nears

@@ -14,7 +14,7 @@ use Rattle.flow_potentials.proofs.Certified.{by_bound}
 use Rattle.vehicle_flow.specs.declared.claim.Claim.{Claim}
 use Rattle.vehicle_flow.specs.declared.near.Near.{Near}
 use Rattle.vehicle_flow.specs.Claims.{ClaimsParts, claim_at, AreClaims}
-use Rattle.vehicle_flow.specs.Growing.{looking, is_placed, in_tree, StillCovers, looked, IsTaken, IsNear, AreNear, IsGrowing, IsPlaceFound}
+use Rattle.vehicle_flow.specs.Growing.{looking, is_placed, in_tree, StillCovers, looked, IsTaken, IsNear, AreLooked, AreNear, IsGrowing, IsPlaceFound}
 use Rattle.vehicle_flow.specs.Searches.{IsTightBut, IsHandedOn}
 use Rattle.vehicle_flow.specs.Slacks.{worth, slack_to, Covers}
 use Rattle.vehicle_flow.proofs.Claiming.{nearest_more, from_more}
@@ -25,7 +25,7 @@ use Rattle.vehicle_flow.proofs.TightValid.{tight_valid}
 abbrev no_one : Option Claim
 no_one = None
 
-abbrev no_near : Option Near
+abbrev pub no_near : Option Near
 no_near = None
 
 abbrev no_next : Option ℕ
@@ -119,9 +119,7 @@ module _ (links : Links) (potentials : PotentialParts) (plan : List (Option ℕ)
 
     pub near_started : (before last : List (Option Near)) → before ≡ replicate (links.count + 1) None
         → length last ≡ length before
-        → ((place : ℕ) → place < length before → get_or last place None
-        ≡ looked (claim_at claims place) (slack_to links now trip place) trip None (get_or before place None))
-        → AreNear links now trip plan claims last
+        → AreLooked links now claims trip None before last → AreNear links now trip plan claims last
     near_started before last empty each told = record {
       each = each ∙ size;
       near = λ place there free. subst (λ it. IsNear links now (in_tree trip plan claims) place it) (sym (told_it place there))

@@ -37,3 +37,18 @@ pub told_on : {X : Type 0} (none : X) (step : ℕ → X → X) (old now : List X
 told_on none step old now done x are inside is =
     told_more none (λ i. step i (get_or old i none)) old now done x are inside
     (is ∙ ap (step done) (are.left done (omega arith)))
+
+-- one place more was written, and all others are as they were
+pub told_at : {X : Type 0} (none : X) (step : ℕ → X → X) (old now after : List X) (done : ℕ)
+    → IsTold none (λ i. step i (get_or old i none)) old now done → length after ≡ length now
+    → ((i : ℕ) → (i ≡ done → ⊥) → get_or after i none ≡ get_or now i none)
+    → get_or after done none ≡ step done (get_or now done none)
+    → IsTold none (λ i. step i (get_or old i none)) old after (done + 1)
+told_at none step old now after done are each others here = record {
+  each = each ∙ are.each;
+  is = λ i h. by_number i done
+      (λ same. ap (λ k. get_or after k none) same ∙ here ∙ ap (step done) (are.left done (omega arith))
+      ∙ ap (λ k. step k (get_or old k none)) (sym same))
+      (λ apart. others i apart ∙ are.is i (omega (arith, h, apart)));
+  left = λ i h. others i (λ same. omega (arith, h, same)) ∙ are.left i (omega (arith, h));
+}

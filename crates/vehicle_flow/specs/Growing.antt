@@ -1,7 +1,7 @@
 -- Inner words of the search for a plan of least cost: the tree that grows from a trip that looks for a
 -- place, and how near each place is to it.
 use Rattle.std.specs.Prelude.{ℕ, ◌≡◌, ◌⊎◌, ◌+◌, ◌-◌, ◌<◌, ◌≤◌, ◌||◌, nat_eq, nat_lt, is_some, if◌then◌else◌, Bool, true, false, List, length, get_or, Option, Some, None, option_map, MatchOption, IfSome}
-use Rattle.vehicle_model.specs.Plans.{next}
+use Rattle.vehicle_model.specs.Plans.{next, is_next}
 use Rattle.vehicle_model.specs.Trips.{Links}
 use Rattle.flow_potentials.specs.Potentials.{PotentialParts, at, AreOver}
 use Rattle.vehicle_flow.specs.declared.claim.Claim.{Claim}
@@ -67,11 +67,34 @@ nearer slack by from None = record { slack = slack; by = by; from = from }
 nearer slack by from (Some old) =
     if nat_lt slack old.slack then record { slack = slack; by = by; from = from } else old
 
+-- and whether it is the trip
+abbrev pub is_nearer : ℕ → Option Near → Bool
+is_nearer slack None = true
+is_nearer slack (Some old) = nat_lt slack old.slack
+
+-- what is near to all places but one is as before
+pub record AreAsBefore (place : ℕ) (before after : List (Option Near)) : Type 0 where
+  pub each : length after ≡ length before
+  pub others : (other : ℕ) → (other ≡ place → ⊥) → get_or after other None ≡ get_or before other None
+
+-- a place has neither a claim nor a trip, and the slack of a trip is 0 there
+pub record IsFreeAt (links : Links) (potentials : PotentialParts) (plan : List (Option ℕ)) (claims : ClaimsParts) (by place : ℕ) : Type 0 where
+  pub within : place < links.count + 1
+  pub open_place : claim_at claims place ≡ None
+  pub free : is_next plan place ≡ false
+  pub slack : slack_to links potentials by place ≡ Some 0
+
 -- what is nearest to a place without a claim, after one trip more was looked from
 abbrev pub looked : Option Claim → Option ℕ → ℕ → Option ℕ → Option Near → Option Near
 looked (Some found) slack by from old = old
 looked None None by from old = old
 looked None (Some slack) by from old = Some (nearer slack by from old)
+
+-- the same at all places
+abbrev pub AreLooked : Links → PotentialParts → ClaimsParts → ℕ → Option ℕ → List (Option Near) → List (Option Near) → Type 0
+AreLooked links potentials claims by from before after =
+    (place : ℕ) → place < length before → get_or after place None
+    ≡ looked (claim_at claims place) (slack_to links potentials by place) by from (get_or before place None)
 
 -- the same after all potentials were shifted
 abbrev pub moved_near : ℕ → Near → Near

@@ -6,6 +6,7 @@ ghost use Rattle.vehicle_model.specs.Trips.{links_of};
 
 use crate::assignment::Assignment;
 use crate::claim::Claims;
+use crate::hints::Hints;
 use crate::near::Near;
 use crate::solved::Solved;
 use crate::taking::take_in;
@@ -29,6 +30,7 @@ pub fn cheapest_plan(alloc: Global, trips: &Trips) -> Result<Solved, NoMemory>
     let mut potentials = Potentials::zeros(alloc, count)?;
     let mut claims = Claims::new(alloc, count + 1)?;
     let mut nears = nothing_near(alloc, count + 1)?;
+    let mut hints = Hints::new(alloc, count + 1)?;
     for step in 0..count + count {
         take_in(
             trips,
@@ -37,6 +39,7 @@ pub fn cheapest_plan(alloc: Global, trips: &Trips) -> Result<Solved, NoMemory>
             &mut potentials,
             &mut claims,
             &mut nears,
+            &mut hints,
         )?;
     }
     let plan = assignment.to_plan(alloc)?;

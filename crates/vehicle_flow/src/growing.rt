@@ -1,18 +1,21 @@
 // Growing a tree from a trip until a place for it is found.
-ghost use Rattle.std.specs.Prelude.{◌≡◌, ◌<◌, ◌+◌, length, OnOk, IfOk, MatchOption};
-ghost use Rattle.vehicle_flow.specs.Growing.{IsGrowing, AreNear, IsPlaceFound, StillCovers};
+ghost use Rattle.std.specs.Prelude.{◌≡◌, ◌<◌, ◌+◌, length, ⊤, OnOk, IfOk, MatchOption};
+ghost use Rattle.vehicle_flow.specs.Growing.{IsFrom, IsGrowing, AreLooked, AreNear, IsPlaceFound, StillCovers};
+ghost use Rattle.vehicle_flow.specs.Slacks.{Covers};
 ghost use Rattle.vehicle_model.specs.Trips.{links_of};
 
 use crate::assignment::Assignment;
 use crate::claim::Claims;
-use crate::near::{Near, look, nearest, shift_nears};
+use crate::hints::Hints;
+use crate::near::{Near, look, shift_nears};
+use crate::nearest::nearest;
 use crate::shift::shift;
 use flow_potentials::Potentials;
 use plan_num::NoMemory;
 use vehicle_model::Trips;
 
-/// Claims the nearest place of a tree. Where a trip has it the tree grows by this trip; where none has
-/// it the place is the answer.
+/// Claims the nearest place of a tree. Where a trip has it the tree grows by this trip, which may find a
+/// place without one; where none has it the place is the answer.
 pub(crate) fn grow(
     trips: &Trips,
     trip: usize,
@@ -20,6 +23,7 @@ pub(crate) fn grow(
     potentials: &mut Potentials,
     claims: &mut Claims,
     nears: &mut Vec<Option<Near>>,
+    hints: &mut Hints,
 ) -> Result<Option<usize>, NoMemory>
     requires growing { IsGrowing (links_of trips.now) potentials.old trip assignment.now claims.old }
     requires near { AreNear (links_of trips.now) potentials.old trip assignment.now claims.old nears.old.items }
@@ -30,22 +34,65 @@ pub(crate) fn grow(
         (AreNear (links_of trips.now) potentials.new trip assignment.now claims.new nears.new.items)
         (λ _. length nears.new.items ≡ length nears.old.items)) }
     ensures kept { OnOk result (StillCovers (links_of trips.now) potentials.old potentials.new) }
-    ensures more { OnOk result (length claims.new.order ≡ length claims.old.order + 1) }
+    ensures more { IfOk result (λ found. MatchOption found
+        (length claims.new.order ≡ length claims.old.order + 1) (λ _. ⊤)) }
 {
     let _ = trips.len();
     let _ = claims.count();
-    match nearest(claims, assignment, nears) {
+    match nearest(claims, assignment, nears, hints) {
         Some((place, near)) => {
             shift(trip, assignment, claims, potentials, near.slack);
-            shift_nears(claims, nears, near.slack);
+            shift_nears(claims, nears, hints, near.slack);
             claims.claim(place, Some(near.by), near.from)?;
             match assignment.trip_at(place) {
-                Some(left) => {
-                    look(trips, potentials, claims, nears, left, Some(place));
-                    Ok(None)
-                }
+                Some(left) => look_from(
+                    trips,
+                    trip,
+                    assignment,
+                    potentials,
+                    claims,
+                    nears,
+                    hints,
+                    left,
+                    Some(place),
+                ),
                 None => Ok(Some(place)),
             }
+        }
+        None => Ok(None),
+    }
+}
+
+/// Looks from a trip of a tree, and claims the place without a trip that is found, if there is one.
+pub(crate) fn look_from(
+    trips: &Trips,
+    trip: usize,
+    assignment: &Assignment,
+    potentials: &Potentials,
+    claims: &mut Claims,
+    nears: &mut Vec<Option<Near>>,
+    hints: &mut Hints,
+    by: usize,
+    from: Option<usize>,
+) -> Result<Option<usize>, NoMemory>
+    requires growing { IsGrowing (links_of trips.now) potentials.now trip assignment.now claims.old }
+    requires trip { by < length trips.now.trips }
+    requires covered { Covers (links_of trips.now) potentials.now by }
+    requires nears { length nears.old.items ≡ length trips.now.trips + 1 }
+    requires from { IsFrom trip assignment.now claims.old by from }
+    ensures each { length nears.new.items ≡ length nears.old.items }
+    ensures looked { IfOk result (λ found. MatchOption found
+        ((claims.new ≡ claims.old)
+        × AreLooked (links_of trips.now) potentials.now claims.old by from nears.old.items nears.new.items)
+        (IsPlaceFound (links_of trips.now) potentials.now trip assignment.now claims.new)) }
+{
+    let _ = claims.count();
+    match look(
+        trips, potentials, claims, assignment, nears, hints, by, from,
+    ) {
+        Some(place) => {
+            claims.claim(place, Some(by), from)?;
+            Ok(Some(place))
         }
         None => Ok(None),
     }

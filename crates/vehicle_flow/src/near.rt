@@ -1,13 +1,15 @@
 // How near places are to the trips of a tree.
-ghost use Rattle.std.specs.Prelude.{ℕ, ◌≡◌, ◌+◌, ◌<◌, ◌≤◌, true, length, get_or, replicate, None, MatchOption};
+ghost use Rattle.std.specs.Prelude.{ℕ, ◌≡◌, ◌+◌, ◌<◌, true, false, length, get_or, replicate, Some, None, MatchOption};
 ghost use Rattle.flow_potentials.specs.Potentials.{AreOver};
 ghost use Rattle.vehicle_flow.specs.Claims.{claim_at};
-ghost use Rattle.vehicle_flow.specs.Growing.{looked, nearer, shifted, open_near, IsNearestPlace, IsNearerOf, IsBetter};
+ghost use Rattle.vehicle_flow.specs.Growing.{looked, nearer, is_nearer, shifted, AreAsBefore, AreLooked, IsFreeAt};
+ghost use Rattle.vehicle_model.specs.Plans.{is_next};
 ghost use Rattle.vehicle_flow.specs.Slacks.{slack_to, Covers};
 ghost use Rattle.vehicle_model.specs.Trips.{links_of};
 
 use crate::assignment::Assignment;
 use crate::claim::Claims;
+use crate::hints::Hints;
 use crate::slack::slack;
 use flow_potentials::Potentials;
 use vehicle_model::Trips;
@@ -34,91 +36,138 @@ pub(crate) fn forget(nears: &mut Vec<Option<Near>>)
     }
 }
 
-/// Looks from a trip that comes to the tree, at each place without a claim.
+/// Looks from a trip that comes to the tree, at each place without a claim, up to one without a trip at
+/// which its slack is 0.
 #[tactic(auto, using(crate::proofs::Told::told_start, crate::proofs::Told::told_more))]
 pub(crate) fn look(
     trips: &Trips,
     potentials: &Potentials,
     claims: &Claims,
+    assignment: &Assignment,
     nears: &mut Vec<Option<Near>>,
+    hints: &mut Hints,
     by: usize,
     from: Option<usize>,
-)
+) -> Option<usize>
     requires each { AreOver (length trips.now.trips) potentials.now }
     requires trip { by < length trips.now.trips }
     requires covered { Covers (links_of trips.now) potentials.now by }
     requires places { length claims.now.at ≡ length trips.now.trips + 1 }
     requires nears { length nears.old.items ≡ length trips.now.trips + 1 }
     ensures each { length nears.new.items ≡ length nears.old.items }
-    ensures looked { (place : ℕ) → place < length nears.old.items → get_or nears.new.items place None
-        ≡ looked (claim_at claims.now place) (slack_to (links_of trips.now) potentials.now by place) by from
-        (get_or nears.old.items place None) }
+    ensures looked { MatchOption result
+        (AreLooked (links_of trips.now) potentials.now claims.now by from nears.old.items nears.new.items)
+        (IsFreeAt (links_of trips.now) potentials.now assignment.now claims.now by) }
 {
     for place in 0..nears.len() {
-        nears[place] = look_at(
-            trips,
-            potentials,
-            claims,
-            place,
-            by,
-            from,
-            near_at(nears, place),
-        );
+        if look_at(
+            trips, potentials, claims, assignment, nears, hints, place, by, from,
+        ) {
+            return Some(place);
+        }
+    }
+    None
+}
+
+// The same at one place: tells whether it has no trip, and the slack is 0.
+fn look_at(
+    trips: &Trips,
+    potentials: &Potentials,
+    claims: &Claims,
+    assignment: &Assignment,
+    nears: &mut Vec<Option<Near>>,
+    hints: &mut Hints,
+    place: usize,
+    by: usize,
+    from: Option<usize>,
+) -> bool
+    requires each { AreOver (length trips.now.trips) potentials.now }
+    requires trip { by < length trips.now.trips }
+    requires covered { Covers (links_of trips.now) potentials.now by }
+    requires places { length claims.now.at ≡ length trips.now.trips + 1 }
+    requires place { place < length claims.now.at }
+    requires nears { length nears.old.items ≡ length claims.now.at }
+    ensures others { AreAsBefore place nears.old.items nears.new.items }
+    ensures here { result ≡ false → get_or nears.new.items place None
+        ≡ looked (claim_at claims.now place) (slack_to (links_of trips.now) potentials.now by place) by from
+        (get_or nears.old.items place None) }
+    ensures found { result ≡ true
+        → IsFreeAt (links_of trips.now) potentials.now assignment.now claims.now by place }
+{
+    if claims.is_claimed(place) {
+        return false;
+    }
+    match slack(trips, potentials, by, place) {
+        Some(slack) => bring(assignment, nears, hints, place, Near { slack, by, from }),
+        None => false,
     }
 }
 
-// What is nearest to a place.
-fn near_at(nears: &[Option<Near>], place: usize) -> Option<Near>
+// Brings a trip to a place where it is nearer than the nearest one so far: tells whether the place has
+// no trip, and the slack is 0.
+fn bring(
+    assignment: &Assignment,
+    nears: &mut Vec<Option<Near>>,
+    hints: &mut Hints,
+    place: usize,
+    near: Near,
+) -> bool
+    requires { place < length nears.old.items }
+    ensures others { AreAsBefore place nears.old.items nears.new.items }
+    ensures here { get_or nears.new.items place None
+        ≡ Some (nearer near.slack near.by near.from (get_or nears.old.items place None)) }
+    ensures exact { result ≡ true → near.slack ≡ 0 }
+    ensures free { result ≡ true → is_next assignment.now place ≡ false }
+{
+    if !is_nearer(nears, place, near.slack) {
+        return false;
+    }
+    nears[place] = Some(near);
+    if near.slack == 0 {
+        is_free_or_hint(assignment, hints, place)
+    } else {
+        false
+    }
+}
+
+// Whether a slack is less than that of the nearest trip so far.
+fn is_nearer(nears: &[Option<Near>], place: usize, slack: u64) -> bool
+    requires { place < length nears.now }
+    ensures { result ≡ is_nearer slack (get_or nears.now place None) }
+{
+    match &nears[place] {
+        Some(old) => slack < old.slack,
+        None => true,
+    }
+}
+
+// Whether a place has no trip; one with a trip is kept in mind.
+fn is_free_or_hint(assignment: &Assignment, hints: &mut Hints, place: usize) -> bool
+    ensures { result ≡ true → is_next assignment.now place ≡ false }
+{
+    if assignment.is_free(place) {
+        return true;
+    }
+    hints.put(place);
+    false
+}
+
+/// What is nearest to a place.
+pub(crate) fn near_at(nears: &[Option<Near>], place: usize) -> Option<Near>
     requires { place < length nears.now }
     ensures { result ≡ get_or nears.now place None }
 {
     nears[place]
 }
 
-// The same at one place.
-fn look_at(
-    trips: &Trips,
-    potentials: &Potentials,
-    claims: &Claims,
-    place: usize,
-    by: usize,
-    from: Option<usize>,
-    old: Option<Near>,
-) -> Option<Near>
-    requires each { AreOver (length trips.now.trips) potentials.now }
-    requires trip { by < length trips.now.trips }
-    requires covered { Covers (links_of trips.now) potentials.now by }
-    requires places { length claims.now.at ≡ length trips.now.trips + 1 }
-    requires place { place < length claims.now.at }
-    ensures { result ≡ looked (claim_at claims.now place)
-        (slack_to (links_of trips.now) potentials.now by place) by from old }
-{
-    if claims.is_claimed(place) {
-        return old;
-    }
-    match slack(trips, potentials, by, place) {
-        Some(slack) => Some(nearer(slack, by, from, old)),
-        None => old,
-    }
-}
-
-// The nearer one of a trip and what was the nearest one so far.
-fn nearer(slack: u64, by: usize, from: Option<usize>, old: Option<Near>) -> Near
-    ensures { result ≡ nearer slack by from old }
-{
-    match old {
-        Some(old) => if slack < old.slack {
-            Near { slack, by, from }
-        } else {
-            old
-        },
-        None => Near { slack, by, from },
-    }
-}
-
 /// Every place without a claim is nearer by a slack.
 #[tactic(auto, using(crate::proofs::Told::told_start, crate::proofs::Told::told_more, crate::proofs::NearPlaces::unmoved))]
-pub(crate) fn shift_nears(claims: &Claims, nears: &mut Vec<Option<Near>>, slack: u64)
+pub(crate) fn shift_nears(
+    claims: &Claims,
+    nears: &mut Vec<Option<Near>>,
+    hints: &mut Hints,
+    slack: u64,
+)
     requires { length claims.now.at ≡ length nears.old.items }
     ensures each { length nears.new.items ≡ length nears.old.items }
     ensures shifted { (place : ℕ) → place < length nears.old.items → get_or nears.new.items place None
@@ -128,7 +177,18 @@ pub(crate) fn shift_nears(claims: &Claims, nears: &mut Vec<Option<Near>>, slack:
         return;
     }
     for place in 0..nears.len() {
-        nears[place] = shifted(claims, place, slack, near_at(nears, place));
+        let near = shifted(claims, place, slack, near_at(nears, place));
+        nears[place] = near;
+        hint_if_exact(hints, place, near);
+    }
+}
+
+// Keeps a place in mind that is as near as can be.
+fn hint_if_exact(hints: &mut Hints, place: usize, near: Option<Near>) {
+    if let Some(near) = near {
+        if near.slack == 0 {
+            hints.put(place);
+        }
     }
 }
 
@@ -148,67 +208,4 @@ fn shifted(claims: &Claims, place: usize, slack: u64, old: Option<Near>) -> Opti
         }),
         None => None,
     }
-}
-
-/// The nearest place without a claim, and of two that are as near one without a trip.
-#[tactic(auto, using(crate::proofs::NearPlaces::best_more, crate::proofs::NearPlaces::best_all))]
-pub(crate) fn nearest(
-    claims: &Claims,
-    assignment: &Assignment,
-    nears: &[Option<Near>],
-) -> Option<(usize, Near)>
-    requires { length claims.now.at ≡ length nears.now }
-    ensures { MatchOption result
-        ((place : ℕ) → place < length nears.now → claim_at claims.now place ≡ None → get_or nears.now place None ≡ None)
-        (λ best. IsNearestPlace claims.now nears.now best.0 best.1) }
-{
-    let mut best: Option<(usize, Near)> = None;
-    for place in 0..nears.len() {
-        best = better(assignment, best, place, open_near(claims, nears, place));
-    }
-    best
-}
-
-// What is nearest to a place without a claim.
-fn open_near(claims: &Claims, nears: &[Option<Near>], place: usize) -> Option<Near>
-    requires claims { place < length claims.now.at }
-    requires nears { place < length nears.now }
-    ensures { result ≡ open_near (claim_at claims.now place) (get_or nears.now place None) }
-{
-    if claims.is_claimed(place) {
-        None
-    } else {
-        near_at(nears, place)
-    }
-}
-
-// The nearer one of the nearest place so far and another one.
-fn better(
-    assignment: &Assignment,
-    best: Option<(usize, Near)>,
-    place: usize,
-    near: Option<Near>,
-) -> Option<(usize, Near)>
-    ensures { IsBetter best place near result }
-{
-    match near {
-        Some(near) => Some(match best {
-            Some(best) => better_of(assignment, best, (place, near)),
-            None => (place, near),
-        }),
-        None => best,
-    }
-}
-
-// The nearer one of two places, and of two that are as near one without a trip.
-fn better_of(assignment: &Assignment, best: (usize, Near), other: (usize, Near)) -> (usize, Near)
-    ensures { IsNearerOf best other result }
-{
-    if other.1.slack < best.1.slack {
-        return other;
-    }
-    if other.1.slack == best.1.slack && assignment.is_free(other.0) && !assignment.is_free(best.0) {
-        return other;
-    }
-    best
 }

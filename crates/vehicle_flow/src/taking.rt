@@ -1,6 +1,6 @@
 // Taking trips into a plan.
-ghost use Rattle.std.specs.Prelude.{◌≡◌, ◌<◌, ◌+◌, length, None, OnOk};
-ghost use Rattle.vehicle_flow.specs.Growing.{IsTaken, IsGrowing, AreNear, StillCovers};
+ghost use Rattle.std.specs.Prelude.{◌≡◌, ◌<◌, ◌+◌, length, None, IfOk, MatchOption, OnOk};
+ghost use Rattle.vehicle_flow.specs.Growing.{IsTaken, IsGrowing, AreNear, IsPlaceFound, StillCovers};
 ghost use Rattle.vehicle_flow.specs.Searches.{Search, IsFound, IsHandedOn};
 ghost use Rattle.vehicle_flow.specs.Slacks.{Covers};
 ghost use Rattle.vehicle_model.specs.Plans.{next};
@@ -8,16 +8,16 @@ ghost use Rattle.vehicle_model.specs.Trips.{links_of};
 
 use crate::assignment::Assignment;
 use crate::claim::Claims;
-use crate::growing::grow;
+use crate::growing::{grow, look_from};
 use crate::handing::hand_on;
-use crate::near::{Near, forget, look};
+use crate::hints::Hints;
+use crate::near::{Near, forget};
 use crate::slack::cover;
 use flow_potentials::Potentials;
 use plan_num::NoMemory;
 use vehicle_model::Trips;
 
 /// Takes one trip more into a plan that is cheapest among the trips so far.
-#[tactic(auto, using(crate::proofs::TakenIn::few_claimed))]
 pub(crate) fn take_in(
     trips: &Trips,
     trip: usize,
@@ -25,6 +25,7 @@ pub(crate) fn take_in(
     potentials: &mut Potentials,
     claims: &mut Claims,
     nears: &mut Vec<Option<Near>>,
+    hints: &mut Hints,
 ) -> Result<(), NoMemory>
     requires taken { IsTaken (links_of trips.now) potentials.old assignment.old }
     requires within { trip < length trips.now.trips }
@@ -39,12 +40,39 @@ pub(crate) fn take_in(
     if assignment.next(trip).is_some() {
         return Ok(());
     }
-    start(trips, trip, assignment, potentials, claims, nears);
+    let place = find_place(trips, trip, assignment, potentials, claims, nears, hints)?;
+    finish(trips, potentials, trip, claims, assignment, place);
+    Ok(())
+}
+
+// Finds a place without a trip that can be handed on to a trip.
+#[tactic(auto, using(crate::proofs::TakenIn::few_claimed))]
+fn find_place(
+    trips: &Trips,
+    trip: usize,
+    assignment: &Assignment,
+    potentials: &mut Potentials,
+    claims: &mut Claims,
+    nears: &mut Vec<Option<Near>>,
+    hints: &mut Hints,
+) -> Result<usize, NoMemory>
+    requires taken { IsTaken (links_of trips.now) potentials.old assignment.now }
+    requires waits { next assignment.now trip ≡ None }
+    requires within { trip < length trips.now.trips }
+    requires places { length claims.old.at ≡ length trips.now.trips + 1 }
+    requires nears { length nears.old.items ≡ length trips.now.trips + 1 }
+    ensures found { IfOk result
+        (IsPlaceFound (links_of trips.now) potentials.new trip assignment.now claims.new) }
+    ensures kept { OnOk result (StillCovers (links_of trips.now) potentials.old potentials.new) }
+    ensures nears { OnOk result (length nears.new.items ≡ length trips.now.trips + 1) }
+{
+    if let Some(place) = start(trips, trip, assignment, potentials, claims, nears, hints)? {
+        return Ok(place);
+    }
     loop {
         let _ = claims.count();
-        if let Some(place) = grow(trips, trip, assignment, potentials, claims, nears)? {
-            finish(trips, potentials, trip, claims, assignment, place);
-            return Ok(());
+        if let Some(place) = grow(trips, trip, assignment, potentials, claims, nears, hints)? {
+            return Ok(place);
         }
     }
 }
@@ -65,7 +93,8 @@ fn finish(
     hand_on(claims, assignment, place);
 }
 
-// Begins a tree with a trip that has no next one.
+// Begins a tree with a trip that has no next one. Where it finds a place without a trip at once, this
+// is the answer.
 fn start(
     trips: &Trips,
     trip: usize,
@@ -73,19 +102,27 @@ fn start(
     potentials: &mut Potentials,
     claims: &mut Claims,
     nears: &mut Vec<Option<Near>>,
-)
+    hints: &mut Hints,
+) -> Result<Option<usize>, NoMemory>
     requires taken { IsTaken (links_of trips.now) potentials.old assignment.now }
     requires waits { next assignment.now trip ≡ None }
     requires within { trip < length trips.now.trips }
     requires places { length claims.old.at ≡ length trips.now.trips + 1 }
     requires nears { length nears.old.items ≡ length trips.now.trips + 1 }
-    ensures growing { IsGrowing (links_of trips.now) potentials.new trip assignment.now claims.new }
+    ensures found { IfOk result (λ found. MatchOption found
+        (IsGrowing (links_of trips.now) potentials.new trip assignment.now claims.new)
+        (IsPlaceFound (links_of trips.now) potentials.new trip assignment.now claims.new)) }
     ensures kept { StillCovers (links_of trips.now) potentials.old potentials.new }
-    ensures near { AreNear (links_of trips.now) potentials.new trip assignment.now claims.new nears.new.items }
+    ensures near { IfOk result (λ found. MatchOption found
+        (AreNear (links_of trips.now) potentials.new trip assignment.now claims.new nears.new.items)
+        (λ _. length nears.new.items ≡ length nears.old.items)) }
 {
     let _ = assignment.len();
     cover(trips, potentials, trip);
     claims.clear();
     forget(nears);
-    look(trips, potentials, claims, nears, trip, None);
+    hints.clear();
+    look_from(
+        trips, trip, assignment, potentials, claims, nears, hints, trip, None,
+    )
 }
