@@ -1,6 +1,6 @@
 -- The cells of the files of a day are in their columns.
 use Rattle.std.proofs.Common.{ℕ, pos, ◌+◌, ◌-◌, ◌<◌, ◌≤◌, ◌≤ℤ◌, arith, All, IfSome, List, [], ◌∷◌, ◌++◌, length, filter, get_or, refl, Option, Some, None, subst, sym}
-use Rattle.std.specs.List.{flat_map, enumerate_from, AllByRecursion}
+use Rattle.std.specs.List.{flat_map, enumerate_from}
 use Rattle.std.proofs.lemmas.Int.{ints}
 use Rattle.std.proofs.lemmas.List.Elements.{All-nil, All-cons, All-append, All-head, All-tail, All-map, All-filter, All-weaker, All-from_recursion, recursion_from_All}
 use Rattle.std.proofs.lemmas.List.{length-map}
@@ -22,6 +22,7 @@ use Rattle.roll_out.specs.DayTrips.{TripParts, day_event, day_events, no_timed, 
 use Rattle.roll_out.specs.Plans.{IsBetween, IsTimely, IsTrip}
 use Rattle.roll_out.specs.RolloutStage.{trip_rows}
 use Rattle.roll_out.specs.TimedRuns.{TimedParts}
+use Rattle.roll_out.proofs.SoundTrips.{numbered_by}
 
 id_in : (id : ℕ) → 1 ≤ id → id ≤ 1000000000 → (pos 1 ≤ℤ pos id) × (pos id ≤ℤ pos 1000000000)
 id_in id low high = (omega (arith, ints), omega (arith, ints))
@@ -47,17 +48,6 @@ parts_fit P Q f step (x ∷ xs) all =
     All-append P (f x) (flat_map f xs) (step x (All-head Q x xs all))
     (parts_fit P Q f step xs (All-tail Q x xs all))
 
--- what holds of the timed events of a trip with their ids
-numbered_fit : (P : ℕ × TimedEvent → Type 0) (a : ℕ) (run : List TimedEvent)
-    → ((k : ℕ) (at : TimedEvent) → a ≤ k → k < a + length run → IsTimely at → P (k, at))
-    → AllByRecursion IsTimely run → AllByRecursion P (enumerate_from a run)
-numbered_fit P a [] step all = tt
-numbered_fit P a (at ∷ run) step all = (
-  step a at (omega arith) (omega arith) all.0,
-  numbered_fit P (a + 1) run (λ k at low high good. step k at (omega (arith, low))
-      (omega (arith, high)) good) all.1,
-)
-
 module _ (trip : TripParts) (is : IsTrip trip) where
   run_fits : (P : ℕ × TimedEvent → Type 0)
       → ((k : ℕ) (at : TimedEvent) → 1 ≤ k → k ≤ 100000 → IsTimely at → P (k, at))
@@ -66,7 +56,7 @@ module _ (trip : TripParts) (is : IsTrip trip) where
       let low = is.low in
       let ids = is.ids in
       All-from_recursion P (enumerate_from trip.first trip.run)
-      (numbered_fit P trip.first trip.run
+      (numbered_by P IsTimely trip.first trip.run
       (λ k at above below good. step k at (omega (arith, low, above)) (omega (arith, ids, below))
       good)
       (recursion_from_All IsTimely trip.run is.timely))

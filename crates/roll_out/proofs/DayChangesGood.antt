@@ -1,7 +1,7 @@
 -- The changes of a day go forward between its events.
-use Rattle.std.proofs.Common.{◌≡◌, ℕ, ◌+◌, ◌-◌, ◌≤◌, ◌==◌, arith, Bool, true, false, ◌&&◌, not, cond, All, List, [], ◌∷◌, map, filter, get_or, refl, ap, subst, sym, ◌∙◌}
+use Rattle.std.proofs.Common.{◌≡◌, ℕ, ◌+◌, ◌-◌, ◌≤◌, ◌==◌, arith, Bool, true, false, ◌&&◌, not, All, List, [], ◌∷◌, map, filter, get_or, refl, ap, subst, sym, ◌∙◌, inl, inr}
 use Rattle.std.specs.List.{flat_map, enumerate_from, AllByRecursion}
-use Rattle.std.proofs.lemmas.Bool.{eqb-true}
+use Rattle.std.proofs.lemmas.Bool.{eqb-true, and_parts as both_true, not-true as not_true, cases_Bool}
 use Rattle.std.proofs.lemmas.List.Elements.{recursion_from_All}
 use Rattle.event_tables.specs.declared.expanded_event.ExpandedEvent.{ExpandedEvent}
 use Rattle.event_tables.specs.declared.periodic_activity.PeriodicActivity.{PeriodicActivity}
@@ -64,12 +64,10 @@ both_all P Q (x ∷ xs) first second = ((first.0, second.0), both_all P Q xs fir
 pub passing_all : {X : Type 0} (P : X → Type 0) (p : X → Bool) (xs : List X) → AllByRecursion P xs
     → AllByRecursion (λ x. P x × (p x ≡ true)) (filter p xs)
 passing_all P p [] all = tt
-passing_all P p (x ∷ xs) all = by (p x) refl (passing_all P p xs all.1)
-  where
-    by : (b : Bool) → p x ≡ b → AllByRecursion (λ x. P x × (p x ≡ true)) (filter p xs)
-        → AllByRecursion (λ x. P x × (p x ≡ true)) (cond b (x ∷ filter p xs) (filter p xs))
-    by true is rest = ((all.0, is), rest)
-    by false is rest = rest
+passing_all P p (x ∷ xs) all = elim (cases_Bool (p x)) [
+  | inl is ↦ rw is ((all.0, is), passing_all P p xs all.1)
+  | inr is ↦ rw is (passing_all P p xs all.1)
+]
 
 pub mapped_from : {A X : Type 0} (P : X → Type 0) (Q : A → Type 0) (f : A → X)
     → ((x : A) → Q x → P (f x)) → (xs : List A)
@@ -84,10 +82,6 @@ parts_from P Q f step [] all = tt
 parts_from P Q f step (x ∷ xs) all =
     append_all P (f x) (flat_map f xs) (step x all.0) (parts_from P Q f step xs all.1)
 
-pub both_true : (a b : Bool) → (a && b) ≡ true → (a ≡ true) × (b ≡ true)
-both_true true b all = (refl, all)
-both_true false b all = no_true all
-
 joins_as : (of : PeriodicKind) (event next : PeriodicEvent) → same_kind of kind.Change ≡ true
     → joins of event next ≡ true → joins kind.Change event next ≡ true
 joins_as kind.Change event next is joined = joined
@@ -95,10 +89,6 @@ joins_as kind.Drive event next is joined = no_true is
 joins_as kind.Wait event next is joined = no_true is
 joins_as kind.Sync event next is joined = no_true is
 joins_as kind.Headway event next is joined = no_true is
-
-not_true : (b : Bool) → not b ≡ true → b ≡ false
-not_true false is = refl
-not_true true is = no_true is
 
 -- a change goes from an arrival to a departure
 change_ends : (event next : PeriodicEvent) → joins kind.Change event next ≡ true

@@ -1,7 +1,7 @@
 -- The trips and the changes of a day are those that the words say.
 use Rattle.std.proofs.Common.{◌≡◌, ℕ, zero, suc, ◌+◌, ◌*◌, ◌/◌, ◌%◌, ◌<◌, ◌≤◌, ◌==◌, nat_le, arith, true, ◌&&◌, Contains, List, [], ◌∷◌, length, map, filter, get_or, refl, ap, subst, sym, ◌∙◌}
 use Rattle.std.specs.List.{flat_map, range_with_len, AllByRecursion}
-use Rattle.std.proofs.lemmas.Bool.{eq-eqb, eqb-true, le-leb, leb-true}
+use Rattle.std.proofs.lemmas.Bool.{eq-eqb, eqb-true, le-leb, leb-true, and_parts as both_true}
 use Rattle.std.proofs.lemmas.List.Elements.{All-contains_itself, All-from_recursion, recursion_from_All}
 use Rattle.std.proofs.lemmas.Nat.{div-add-mod', mod-mul-add}
 use Rattle.event_tables.specs.declared.expanded_activity.ExpandedActivity.{ExpandedActivity}
@@ -15,7 +15,7 @@ use Rattle.roll_out.specs.DayInWords.{AreChangesOf, AreTripsOf, IsChangeOf, IsSt
 use Rattle.roll_out.specs.DayTrips.{TripParts, departures_of, first_time, is_in_day, numbered_trips, starts, trips_of}
 use Rattle.roll_out.specs.Plans.{IsDay, IsTimed}
 use Rattle.roll_out.specs.TimedRuns.{TimedParts, minutes_of, no_event, timed_from}
-use Rattle.roll_out.proofs.DayChangesGood.{both_true, mapped_from, parts_from, passing_all}
+use Rattle.roll_out.proofs.DayChangesGood.{mapped_from, parts_from, passing_all}
 use Rattle.roll_out.proofs.Members.{contains_filter, contains_map, contains_more, contains_part, contains_range}
 use Rattle.roll_out.proofs.SoundPlans.{ids_in, time_in}
 use Rattle.roll_out.proofs.WholeRuns.{runs_some}

@@ -1,12 +1,12 @@
 -- Runs and activities that keep the rules of runs.
-use Rattle.std.proofs.Common.{◌≡◌, ℕ, zero, suc, ◌+◌, ◌-◌, ◌%◌, ◌<◌, ◌≤◌, ◌==◌, arith, Bool, true, false, ◌&&◌, ◌||◌, not, cond, All, IfSome, List, [], ◌∷◌, length, map, filter, get_or, find, Some, refl, ap, subst, sym, ◌∙◌}
+use Rattle.std.proofs.Common.{◌≡◌, ℕ, zero, suc, ◌+◌, ◌-◌, ◌%◌, ◌<◌, ◌≤◌, ◌==◌, arith, Bool, true, false, ◌&&◌, ◌||◌, not, cond, All, IfSome, List, [], ◌∷◌, length, filter, get_or, find, Some, refl, ap, subst, sym, ◌∙◌, inl, inr}
 use Rattle.std.specs.List.{flat_map, enumerate_from, count_by, AllByRecursion}
-use Rattle.std.proofs.lemmas.Bool.{eq-eqb, eqb-true, eqb-false, false≢true}
+use Rattle.std.proofs.lemmas.Bool.{eq-eqb, eqb-true, eqb-false, false≢true, or_parts as or_none, not-false, cases_Bool}
 use Rattle.std.proofs.lemmas.List.{get_or-map}
 use Rattle.std.proofs.lemmas.List.Elements.{All-from_recursion, recursion_from_All}
 use Rattle.std.proofs.lemmas.List.FromFn.{get_or-enumerate_from, get_or-range_with_len, length-enumerate_from}
 use Rattle.std.proofs.lemmas.List.Sums.{sum_by-cons}
-use Rattle.giv_files.proofs.Ranges.{front_none, back_none}
+use Rattle.giv_files.proofs.Ranges.{front_none, back_none, unmapped as nothing_mapped}
 use Rattle.event_tables.specs.declared.event_kind.EventKind.{EventKind}
 use Rattle.event_tables.specs.declared.event_kind.EventKind.TheVariants as kinds
 use Rattle.event_tables.specs.declared.periodic_activity.PeriodicActivity.{PeriodicActivity}
@@ -27,24 +27,13 @@ no_true e = absurd (false≢true e)
 pub no_false : {P : Type 0} → true ≡ false → P
 no_false e = no_true (sym e)
 
-or_none : (a b : Bool) → (a || b) ≡ false → (a ≡ false) × (b ≡ false)
-or_none false b none = (refl, none)
-or_none true b none = no_false none
-
-pub nothing_mapped : {A X : Type 0} (f : A → X) (xs : List A) → map f xs ≡ [] → xs ≡ []
-nothing_mapped f [] none = refl
-nothing_mapped f (x ∷ xs) none = absurd (cc)
-
 nothing_passes : {X : Type 0} (p : X → Bool) (xs : List X) → filter p xs ≡ []
     → AllByRecursion (λ x. p x ≡ false) xs
 nothing_passes p [] none = tt
-nothing_passes p (x ∷ xs) none = by (p x) refl (nothing_passes p xs) none
-  where
-    by : (b : Bool) → p x ≡ b → (filter p xs ≡ [] → AllByRecursion (λ x. p x ≡ false) xs)
-        → cond b (x ∷ filter p xs) (filter p xs) ≡ [] → (p x ≡ false)
-        × AllByRecursion (λ x. p x ≡ false) xs
-    by true is rest none = absurd (cc)
-    by false is rest none = (is, rest none)
+nothing_passes p (x ∷ xs) none = elim (cases_Bool (p x)) [
+  | inl is ↦ absurd (let e = rw is at none in cc)
+  | inr fails ↦ (fails, nothing_passes p xs (rw fails at none))
+]
 
 no_parts : {A X : Type 0} (f : A → List X) (xs : List A) → flat_map f xs ≡ []
     → AllByRecursion (λ x. f x ≡ []) xs
@@ -86,25 +75,21 @@ all_fit network is none = λ i d h.
 -- what is found passes the test
 pub found_passes : {X : Type 0} (p : X → Bool) (xs : List X) → IfSome (find p xs) (λ x. p x ≡ true)
 found_passes p [] = tt
-found_passes p (x ∷ xs) = by (p x) refl (found_passes p xs)
-  where
-    by : (b : Bool) → p x ≡ b → IfSome (find p xs) (λ x. p x ≡ true)
-        → IfSome (cond b (Some x) (find p xs)) (λ x. p x ≡ true)
-    by true is rest = is
-    by false is rest = rest
+found_passes p (x ∷ xs) = elim (cases_Bool (p x)) [
+  | inl is ↦ rw is is
+  | inr none ↦ rw none (found_passes p xs)
+]
 
 -- something that passes is found
 counted_found : {X : Type 0} (p : X → Bool) (xs : List X) → 1 ≤ count_by p xs → (x : X)
     × (find p xs ≡ Some x)
 counted_found p [] some = absurd (omega (arith, some))
-counted_found {X} p (x ∷ xs) some = by (p x) (counted_found p xs)
-    (subst (λ n. 1 ≤ n) (sum_by-cons (λ x. cond (p x) 1 0) x xs) some)
-  where
-    by : (b : Bool) → (1 ≤ count_by p xs → (y : X) × (find p xs ≡ Some y)) → 1
-        ≤ cond b 1 0 + count_by p xs
-        → (y : X) × (cond b (Some x) (find p xs) ≡ Some y)
-    by true rest some = (x, refl)
-    by false rest some = rest (omega (arith, some))
+counted_found p (x ∷ xs) some = elim (cases_Bool (p x)) [
+  | inl is ↦ (x, rw is refl)
+  | inr none ↦
+      let all = subst (λ n. 1 ≤ n) (sum_by-cons (λ x. cond (p x) 1 0) x xs) some in
+      rw none (counted_found p xs (omega (arith, rw none at all)))
+]
 
 -- ---- drives
 
@@ -162,13 +147,9 @@ last_turn : (kind : EventKind) (size place : ℕ) → place + 1 ≡ size
 last_turn kinds.Arrival size place last none = refl
 last_turn kinds.Departure size place last none =
     let parts = or_none _ _ none in
-    let even : place % 2 ≡ 0 = sym (eqb-true 0 (place % 2) (not_false _ parts.0)) in
+    let even : place % 2 ≡ 0 = sym (eqb-true 0 (place % 2) (not-false _ parts.0)) in
     let odd = eqb-false (size % 2) 1 (ap (λ b. b && size % 2 == 1) (sym (eq-eqb _ _ last)) ∙ parts.1) in
     absurd (omega (arith, even, odd, last))
-  where
-    not_false : (b : Bool) → not b ≡ false → b ≡ true
-    not_false true none = refl
-    not_false false none = no_false none
 
 good_run : (network : TimedParts) (run : List PeriodicEvent) → 1 ≤ length run → broken_in run ≡ []
     → unjoined_in network.activities run ≡ [] → AllByRecursion (IsIn network) run
@@ -235,11 +216,8 @@ first_joined network event next run none =
     let kept = (nothing_passes (lacks_way network.activities) (neighbours (event ∷ next ∷ run))
     (nothing_mapped (λ (pair : PeriodicEvent × PeriodicEvent). pair.0) _ none)).0 in
     counted_found (leads (event, next)) network.activities
-    (once (count_by (leads (event, next)) network.activities) kept)
-  where
-    once : (n : ℕ) → not (n == 1) ≡ false → 1 ≤ n
-    once n kept = by (n == 1) refl kept
-      where
-        by : (b : Bool) → (n == 1) ≡ b → not b ≡ false → 1 ≤ n
-        by true is kept = let e = eqb-true n 1 is in omega (arith, e)
-        by false is kept = no_false kept
+    (omega (
+      arith,
+      eqb-true (count_by (leads (event, next)) network.activities) 1
+          (not-false _ kept),
+    ))

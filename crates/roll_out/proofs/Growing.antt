@@ -70,10 +70,6 @@ unfolding copies_by
 copies_none n = refl
 
 module _ (network : TimedParts) where
-  abbrev pub timed_part : ℕ → PeriodicEvent → List PeriodicEvent → List TimedEvent
-  timed_part minutes event run =
-      record { event = event; minutes = minutes; way = way_on network event run } ∷ []
-
   -- one timed event more
   pub timed_moved : (run : List PeriodicEvent) (now after all : List TimedEvent)
       (minutes more i : ℕ)

@@ -1,8 +1,9 @@
 -- Parts of lists, tests of them, and numbers in order.
-use Rattle.std.proofs.Common.{◌≡◌, ℕ, zero, suc, ◌+◌, ◌-◌, ◌<◌, ◌≤◌, arith, Bool, true, false, ◌&&◌, cond, List, [], ◌∷◌, ◌++◌, map, filter, refl, ap, ◌∙◌}
+use Rattle.std.proofs.Common.{◌≡◌, ℕ, zero, suc, ◌+◌, ◌-◌, ◌<◌, ◌≤◌, arith, Bool, true, false, ◌&&◌, cond, List, [], ◌∷◌, ◌++◌, map, filter, refl, ap, ◌∙◌, inl, inr}
 use Rattle.std.specs.List.{flat_map, range_with_len}
-use Rattle.std.proofs.lemmas.List.{map-append}
+use Rattle.std.proofs.lemmas.List.{map-append, append-nil}
 use Rattle.std.proofs.lemmas.List.Elements.{filter-append}
+use Rattle.std.proofs.lemmas.Bool.{cases_Bool}
 
 pub filter_parts : {A X : Type 0} (p : X → Bool) (f : A → List X) (xs : List A)
     → filter p (flat_map f xs) ≡ flat_map (λ x. filter p (f x)) xs
@@ -31,36 +32,27 @@ same_map f g same (x ∷ xs) = ap (λ y. y ∷ map f xs) (same x)
 pub filter_map_is : {A X : Type 0} (p : X → Bool) (f : A → X) (xs : List A)
     → filter p (map f xs) ≡ map f (filter (λ x. p (f x)) xs)
 filter_map_is p f [] = refl
-filter_map_is p f (x ∷ xs) = by (filter_map_is p f xs) (p (f x))
-  where
-    by : filter p (map f xs) ≡ map f (filter (λ x. p (f x)) xs) → (b : Bool)
-        → cond b (f x ∷ filter p (map f xs)) (filter p (map f xs))
-        ≡ map f (cond b (x ∷ filter (λ x. p (f x)) xs) (filter (λ x. p (f x)) xs))
-    by rest true = ap (λ ys. f x ∷ ys) rest
-    by rest false = rest
+filter_map_is p f (x ∷ xs) = elim (cases_Bool (p (f x))) [
+  | inl is ↦ rw is (ap (λ ys. f x ∷ ys) (filter_map_is p f xs))
+  | inr is ↦ rw is (filter_map_is p f xs)
+]
 
 pub filter_both : {X : Type 0} (p q : X → Bool) (xs : List X)
     → filter (λ x. p x && q x) xs ≡ filter q (filter p xs)
 filter_both p q [] = refl
-filter_both p q (x ∷ xs) = by (filter_both p q xs) (p x)
-  where
-    by : filter (λ x. p x && q x) xs ≡ filter q (filter p xs) → (b : Bool)
-        → cond (b && q x) (x ∷ filter (λ x. p x && q x) xs) (filter (λ x. p x && q x) xs)
-        ≡ filter q (cond b (x ∷ filter p xs) (filter p xs))
-    by rest true = ap (λ ys. cond (q x) (x ∷ ys) ys) rest
-    by rest false = rest
+filter_both p q (x ∷ xs) = elim (cases_Bool (p x)) [
+  | inl is ↦ rw is (ap (λ ys. cond (q x) (x ∷ ys) ys) (filter_both p q xs))
+  | inr is ↦ rw is (filter_both p q xs)
+]
 
 -- parts of the things that pass a test
 pub parts_where : {A X : Type 0} (p : A → Bool) (f : A → List X) (xs : List A)
     → flat_map (λ x. cond (p x) (f x) []) xs ≡ flat_map f (filter p xs)
 parts_where p f [] = refl
-parts_where p f (x ∷ xs) = by (parts_where p f xs) (p x)
-  where
-    by : flat_map (λ x. cond (p x) (f x) []) xs ≡ flat_map f (filter p xs) → (b : Bool)
-        → cond b (f x) [] ++ flat_map (λ x. cond (p x) (f x) []) xs
-        ≡ flat_map f (cond b (x ∷ filter p xs) (filter p xs))
-    by rest true = ap (λ ys. f x ++ ys) rest
-    by rest false = rest
+parts_where p f (x ∷ xs) = elim (cases_Bool (p x)) [
+  | inl is ↦ rw is (ap (λ ys. f x ++ ys) (parts_where p f xs))
+  | inr is ↦ rw is (parts_where p f xs)
+]
 
 -- ---- numbers in order
 
@@ -68,31 +60,26 @@ pub none_of_range : (p : ℕ → Bool) (a n : ℕ) → ((k : ℕ) → a ≤ k �
     → filter p (range_with_len a n) ≡ []
 none_of_range p a zero none = refl
 none_of_range p a (suc n) none =
-    ap (λ b. cond b (a ∷ filter p (range_with_len (a + 1) n)) (filter p (range_with_len (a + 1) n)))
-    (none a (omega arith) (omega arith))
-    ∙ none_of_range p (a + 1) n (λ k low high. none k (omega (arith, low)) (omega (arith, high)))
+    rw (none a (omega arith) (omega arith))
+    (none_of_range p (a + 1) n (λ k low high. none k (omega (arith, low)) (omega (arith, high))))
 
 pub all_of_range : (p : ℕ → Bool) (a n : ℕ) → ((k : ℕ) → a ≤ k → k < a + n → p k ≡ true)
     → filter p (range_with_len a n) ≡ range_with_len a n
 all_of_range p a zero all = refl
 all_of_range p a (suc n) all =
-    ap (λ b. cond b (a ∷ filter p (range_with_len (a + 1) n)) (filter p (range_with_len (a + 1) n)))
-    (all a (omega arith) (omega arith))
-    ∙ ap (λ rest. a ∷ rest)
-    (all_of_range p (a + 1) n (λ k low high. all k (omega (arith, low)) (omega (arith, high))))
+    rw (all a (omega arith) (omega arith)) (ap (λ rest. a ∷ rest)
+    (all_of_range p (a + 1) n (λ k low high. all k (omega (arith, low)) (omega (arith, high)))))
 
 pub range_parts : (a m n : ℕ) → range_with_len a (m + n) ≡ range_with_len a m
     ++ range_with_len (a + m) n
 range_parts a zero n =
     let e : zero + n ≡ n = omega arith in
-    let f : a ≡ a + zero = omega arith in
-    ap (range_with_len a) e ∙ ap (λ b. range_with_len b n) f
+    let f : a + zero ≡ a = omega arith in
+    rw (e, f) refl
 range_parts a (suc m) n =
     let e : suc m + n ≡ suc (m + n) = omega arith in
     let f : a + 1 + m ≡ a + suc m = omega arith in
-    ap (range_with_len a) e
-    ∙ ap (λ rest. a ∷ rest) (range_parts (a + 1) m n
-    ∙ ap (λ b. range_with_len (a + 1) m ++ range_with_len b n) f)
+    rw (e, ← f) (ap (λ rest. a ∷ rest) (range_parts (a + 1) m n))
 
 -- the numbers of a window
 pub window : (p : ℕ → Bool) (from count all : ℕ) → from + count ≤ all
@@ -117,11 +104,7 @@ window p from count all fits below inside above =
     (all_of_range p from count (λ k low high. inside k low high))
     ∙ ap (λ ys. range_with_len from count ++ ys)
     (none_of_range p (from + count) rest (λ k low high. above k low))
-    ∙ append_none (range_with_len from count)
-  where
-    append_none : (xs : List ℕ) → xs ++ [] ≡ xs
-    append_none [] = refl
-    append_none (x ∷ xs) = ap (λ ys. x ∷ ys) (append_none xs)
+    ∙ append-nil (range_with_len from count)
 
 pub shifted : {X : Type 0} (f : ℕ → X) (by a n : ℕ)
     → map f (range_with_len (by + a) n) ≡ map (λ k. f (by + k)) (range_with_len a n)

@@ -1,9 +1,10 @@
 -- What is one of a list is one of the lists that are made of it.
-use Rattle.std.proofs.Common.{◌≡◌, ℕ, zero, suc, ◌+◌, ◌-◌, ◌<◌, ◌≤◌, arith, Bool, true, false, cond, Contains, List, [], ◌∷◌, map, filter, ap, subst, sym, ◌∙◌}
+use Rattle.std.proofs.Common.{◌≡◌, ℕ, zero, suc, ◌+◌, ◌-◌, ◌<◌, ◌≤◌, arith, Bool, true, Contains, List, [], ◌∷◌, map, filter, ap, subst, sym, ◌∙◌, inl, inr}
 use Rattle.std.specs.List.{flat_map, range_with_len}
 use Rattle.std.proofs.lemmas.List.{get_or-map, length-map}
 use Rattle.std.proofs.lemmas.List.Elements.{Contains-append_left, Contains-append_right}
 use Rattle.std.proofs.lemmas.List.FromFn.{length-range_with_len, get_or-range_with_len}
+use Rattle.std.proofs.lemmas.Bool.{cases_Bool}
 
 pub contains_more : {X : Type 0} (y : X) (xs : List X) (x : X) → Contains xs x → Contains (y ∷ xs) x
 contains_more y xs x (k, h, is) = (suc k, omega (arith, h), is)
@@ -28,13 +29,12 @@ pub contains_filter : {X : Type 0} (p : X → Bool) (xs : List X) (x : X) → Co
     → Contains (filter p xs) x
 contains_filter p [] x (k, h, is) passes = absurd (omega (arith, h))
 contains_filter p (first ∷ xs) x (zero, h, is) passes =
-    subst (λ b. Contains (cond b (first ∷ filter p xs) (filter p xs)) x)
-    (sym (ap p is ∙ passes)) (zero, omega arith, is)
+    rw (ap p is ∙ passes) (zero, omega arith, is)
 contains_filter p (first ∷ xs) x (suc k, h, is) passes =
     let rest = contains_filter p xs x (k, omega (arith, h), is) passes in
-    elim (p first) as (λ b. Contains (cond b (first ∷ filter p xs) (filter p xs)) x) [
-      | true ↦ contains_more first (filter p xs) x rest
-      | false ↦ rest
+    elim (cases_Bool (p first)) [
+      | inl one ↦ rw one (suc rest.0, omega (arith, rest.1), rest.2)
+      | inr one ↦ rw one rest
     ]
 
 pub contains_range : (a n j : ℕ) → a ≤ j → j < a + n → Contains (range_with_len a n) j

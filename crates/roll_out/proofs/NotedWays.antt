@@ -1,12 +1,10 @@
--- The drives and waits at the events that they leave, noted one after the other.
-use Rattle.std.proofs.Common.{◌≡◌, ◌∙◌, inl, inr, ℕ, ◌+◌, ◌-◌, ◌<◌, ◌==◌, ◌&&◌, ◌||◌, not, Bool}
-use Rattle.std.proofs.Common.{true, false, cond, List, [], ◌∷◌, ◌++◌, Some, filter, find}
-use Rattle.std.proofs.Common.{get_or, length, slice_get}
-use Rattle.std.proofs.Common.{slice_set, refl, ap, sym, arith}
-use Rattle.std.proofs.lemmas.Bool.{and_parts, cases_Bool, cases_eq, eq-eqb, false≢true, ne_eqb}
+-- The drives and waits at the events that they leave.
+use Rattle.std.proofs.Common.{◌≡◌, ◌∙◌, inl, inr, ◌==◌, ◌&&◌, ◌||◌, not, Bool}
+use Rattle.std.proofs.Common.{true, false, cond, List, [], ◌∷◌, Some, filter, find}
+use Rattle.std.proofs.Common.{length, slice_get}
+use Rattle.std.proofs.Common.{refl, ap, sym}
+use Rattle.std.proofs.lemmas.Bool.{and_parts, cases_Bool, false≢true, false_from_ne_true}
 use Rattle.std.proofs.lemmas.Bool.{or_left, or_right}
-use Rattle.std.proofs.lemmas.List.{append-nil, get_or-set_other, get_or-set_same, length-set}
-use Rattle.std.proofs.lemmas.List.Elements.{filter-append}
 use Rattle.std.proofs.lemmas.List.Sums.{length-filter}
 use Rattle.std.proofs.lemmas.Option.{none-some, same_Some}
 use Rattle.event_tables.specs.declared.event_kind.EventKind.{EventKind}
@@ -15,103 +13,25 @@ use Rattle.event_tables.specs.declared.periodic_activity.PeriodicActivity.{Perio
 use Rattle.event_tables.specs.declared.periodic_event.PeriodicEvent.{PeriodicEvent}
 use Rattle.event_tables.specs.declared.periodic_kind.PeriodicKind.{PeriodicKind}
 use Rattle.event_tables.specs.declared.periodic_kind.PeriodicKind.TheVariants as kind
-use Rattle.event_tables.specs.Places.{IsOneOf}
 use Rattle.event_tables.specs.RunRules.{lacks_way, leads, same_kind, way_on}
 use Rattle.roll_out.specs.TimedRuns.{TimedParts}
 use Rattle.roll_out.specs.TimedRuns.{way_on as way_from}
-use Rattle.roll_out.specs.Plans.{AreWays, NotesWay, is_way, leaves}
-
--- ---- one more at the end of a list
-
-kept_last : {X : Type 0} (test : X → Bool) (xs : List X) (x : X) → test x ≡ true
-    → filter test (xs ++ x ∷ []) ≡ filter test xs ++ x ∷ []
-kept_last test xs x is =
-    filter-append test xs (x ∷ []) ∙ ap (λ b. filter test xs ++ cond b (x ∷ []) []) is
-
-out_last : {X : Type 0} (test : X → Bool) (xs : List X) (x : X) → test x ≡ false
-    → filter test (xs ++ x ∷ []) ≡ filter test xs
-out_last test xs x is =
-    filter-append test xs (x ∷ []) ∙ ap (λ b. filter test xs ++ cond b (x ∷ []) []) is
-    ∙ append-nil (filter test xs)
-
--- ---- one activity more
-
-module _ (events : ℕ) (some : List PeriodicActivity) (activity : PeriodicActivity)
-    (old new : List (List PeriodicActivity)) (so : AreWays events some old)
-    (there : IsOneOf events activity.from) (noted : NotesWay activity old new) where
-  abbrev row : List PeriodicActivity
-  row = get_or old (activity.from - 1) [] ++ activity ∷ []
-
-  is_new : (is : Bool) → is_way activity ≡ is
-      → new ≡ cond is (slice_set old (activity.from - 1) row) old
-  is_new is same = noted ∙ ap (λ b. cond b (slice_set old (activity.from - 1) row) old) same
-
-  inside : activity.from - 1 < length old
-  inside = let low = there.0 in let high = there.1 in omega (arith, low, high, so.size)
-
-  leaves_as : (id : ℕ) (is from : Bool) → is_way activity ≡ is → (activity.from == id) ≡ from
-      → leaves id activity ≡ (is && from)
-  leaves_as id is from way same = λ i. way i && same i
-
-  with_other : is_way activity ≡ false → AreWays events (some ++ activity ∷ []) new
-  with_other other = record {
-    size = ap length (is_new false other) ∙ so.size;
-    each = λ place low.
-        ap (λ rows. get_or rows place []) (is_new false other) ∙ so.each place low
-        ∙ sym (out_last (leaves (place + 1)) some activity
-        (leaves_as (place + 1) false _ other refl));
-  }
-
-  with_way : is_way activity ≡ true → AreWays events (some ++ activity ∷ []) new
-  with_way way = record {
-    size = ap length (is_new true way) ∙ length-set old (activity.from - 1) row ∙ so.size;
-    each = λ place low. elim (cases_eq place (activity.from - 1)) [
-      | inl same ↦
-          let own : activity.from ≡ place + 1 = (let low = there.0 in omega (arith, low, same)) in
-          ap (λ rows. get_or rows place []) (is_new true way)
-          ∙ ap (λ at. get_or (slice_set old (activity.from - 1) row) at []) same
-          ∙ get_or-set_same old (activity.from - 1) row [] inside
-          ∙ ap (λ at. get_or old at [] ++ activity ∷ []) (sym same)
-          ∙ ap (λ xs. xs ++ activity ∷ []) (so.each place low)
-          ∙ sym (kept_last (leaves (place + 1)) some activity
-          (leaves_as (place + 1) true true way (eq-eqb activity.from (place + 1) own)))
-      | inr apart ↦
-          ap (λ rows. get_or rows place []) (is_new true way)
-          ∙ get_or-set_other old (activity.from - 1) place row [] apart
-          ∙ so.each place low
-          ∙ sym (out_last (leaves (place + 1)) some activity
-          (leaves_as (place + 1) true false way
-          (ne_eqb activity.from (place + 1) (λ own. apart (omega (arith, own))))))
-    ];
-  }
-
-  pub way_noted : AreWays events (some ++ activity ∷ []) new
-  way_noted = elim (cases_Bool (is_way activity)) [
-    | inl way ↦ with_way way
-    | inr other ↦ with_other other
-  ]
+use Rattle.roll_out.specs.Plans.{leaves}
 
 -- ---- those that lead from an event to the next one are among those that leave it
 
 fails : {X : Type 0} (test other : X → Bool) → ((x : X) → test x ≡ true → other x ≡ true) → (x : X)
     → other x ≡ false → test x ≡ false
-fails test other more x none = elim (cases_Bool (test x)) [
-  | inl is ↦ absurd (false≢true (sym none ∙ more x is))
-  | inr is ↦ is
-]
+fails test other more x none =
+    false_from_ne_true (test x) (λ is. false≢true (sym none ∙ more x is))
 
 filter_within : {X : Type 0} (test other : X → Bool)
     → ((x : X) → test x ≡ true → other x ≡ true) → (xs : List X)
     → filter test (filter other xs) ≡ filter test xs
 filter_within test other more [] = refl
 filter_within test other more (x ∷ xs) = elim (cases_Bool (other x)) [
-  | inl is ↦
-      ap (λ b. filter test (cond b (x ∷ filter other xs) (filter other xs))) is
-      ∙ ap (λ rest. cond (test x) (x ∷ rest) rest) (filter_within test other more xs)
-  | inr none ↦
-      ap (λ b. filter test (cond b (x ∷ filter other xs) (filter other xs))) none
-      ∙ filter_within test other more xs
-      ∙ sym (ap (λ b. cond b (x ∷ filter test xs) (filter test xs)) (fails test other more x none))
+  | inl is ↦ rw is (ap (λ rest. cond (test x) (x ∷ rest) rest) (filter_within test other more xs))
+  | inr none ↦ rw (none, fails test other more x none) (filter_within test other more xs)
 ]
 
 find_within : {X : Type 0} (test other : X → Bool)
@@ -119,13 +39,8 @@ find_within : {X : Type 0} (test other : X → Bool)
     → find test (filter other xs) ≡ find test xs
 find_within test other more [] = refl
 find_within test other more (x ∷ xs) = elim (cases_Bool (other x)) [
-  | inl is ↦
-      ap (λ b. find test (cond b (x ∷ filter other xs) (filter other xs))) is
-      ∙ ap (λ rest. cond (test x) (Some x) rest) (find_within test other more xs)
-  | inr none ↦
-      ap (λ b. find test (cond b (x ∷ filter other xs) (filter other xs))) none
-      ∙ find_within test other more xs
-      ∙ sym (ap (λ b. cond b (Some x) (find test xs)) (fails test other more x none))
+  | inl is ↦ rw is (ap (λ rest. cond (test x) (Some x) rest) (find_within test other more xs))
+  | inr none ↦ rw (none, fails test other more x none) (find_within test other more xs)
 ]
 
 way_kind : (of : EventKind) (at : PeriodicKind) → same_kind at (way_on of) ≡ true

@@ -1,7 +1,7 @@
 -- The copies of a periodic event among the events of a day.
-use Rattle.std.proofs.Common.{◌≡◌, ℕ, zero, suc, ◌+◌, ◌-◌, ◌*◌, ◌<◌, ◌≤◌, ◌⊎◌, inl, inr, arith, Bool, true, false, cond, List, [], ◌∷◌, ◌++◌, length, map, filter, get_or, nat_lt, refl, ap, sym, ◌∙◌}
+use Rattle.std.proofs.Common.{◌≡◌, ℕ, zero, suc, ◌+◌, ◌-◌, ◌*◌, ◌<◌, ◌≤◌, ◌⊎◌, inl, inr, arith, cond, List, [], ◌∷◌, ◌++◌, length, map, filter, get_or, refl, ap, sym, ◌∙◌}
 use Rattle.std.specs.List.{flat_map, range_with_len, enumerate_from}
-use Rattle.std.proofs.lemmas.Bool.{eq-eqb, ne_eqb, ltb-true, ltb-false}
+use Rattle.std.proofs.lemmas.Bool.{eq-eqb, ne_eqb, cases_lt}
 use Rattle.std.proofs.lemmas.List.{get_or-map, get_or_append_left, get_or-append_right, length-append, length-map, append-nil}
 use Rattle.std.proofs.lemmas.List.Concat.{flat_map_single}
 use Rattle.std.proofs.lemmas.List.Elements.{filter-append}
@@ -225,17 +225,6 @@ module _ (period : ℕ) where
         ∙ ap told (sym (get_or-append_right (plan_copies n plan) (copies_by later plans)
         (length plan.run) i no_copies size h))
 
-    either : (b : Bool) → nat_lt i (length plan.run) ≡ b
-        → (length plan.run ≤ i
-        → map place_of (filter (is_copy (f + length plan.run + (i - length plan.run)))
-        (day_events (trips_by period later plans)))
-        ≡ told (get_or (copies_by later plans) (i - length plan.run) no_copies))
-        → map place_of (firsts ++ others) ≡ told
-        (get_or (plan_copies n plan ++ copies_by later plans) i no_copies)
-    either true here next = inside (ltb-true i (length plan.run) here)
-    either false here next =
-        let h = ltb-false i (length plan.run) here in outside h (next h)
-
   -- the copies of each event of plans are where they are said to be
   pub copies_are : (n f i : ℕ) (plans : List PlanParts) → all_ids plans
       ≡ range_with_len f (length (all_ids plans))
@@ -258,6 +247,9 @@ module _ (period : ℕ) where
       (flat_map-append trip_events (plan_trips period n plan) (trips_by period later plans))
       ∙ ap (map place_of) (filter-append (is_copy (f + i)) (day_events (plan_trips period n plan))
       (day_events (trips_by period later plans)))
-      ∙ either n f i plan plans later mine theirs (nat_lt i (length plan.run)) refl
-      (λ far. copies_are later (f + length plan.run) (i - length plan.run) plans theirs
-      (omega (arith, whole, size, h, far)))
+      ∙ elim (cases_lt i (length plan.run)) [
+        | inl here ↦ inside n f i plan plans later mine theirs here
+        | inr far ↦ outside n f i plan plans later mine theirs far
+            (copies_are later (f + length plan.run) (i - length plan.run) plans theirs
+            (omega (arith, whole, size, h, far)))
+      ]

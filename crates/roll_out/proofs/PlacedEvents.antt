@@ -4,6 +4,7 @@ use Rattle.std.specs.List.{list_any, range_with_len}
 use Rattle.std.proofs.lemmas.Bool.{eq-eqb, ne_eqb}
 use Rattle.std.proofs.lemmas.List.{get_or-map}
 use Rattle.std.proofs.lemmas.List.FromFn.{get_or-range_with_len}
+use Rattle.std.proofs.Math.Bool.{or-false as or_false}
 use Rattle.event_tables.specs.declared.periodic_activity.PeriodicActivity.{PeriodicActivity}
 use Rattle.event_tables.specs.declared.periodic_event.PeriodicEvent.{PeriodicEvent}
 use Rattle.event_tables.specs.PeriodicRuns.{joins}
@@ -13,10 +14,6 @@ use Rattle.event_tables.specs.RunRules.{goes_between, is_placed}
 no_any : {X : Type 0} (p : X → Bool) (xs : List X) → ((x : X) → p x ≡ false) → list_any p xs ≡ false
 no_any p [] none = refl
 no_any p (x ∷ xs) none = ap (λ b. b || list_any p xs) (none x) ∙ no_any p xs none
-
-or_false : (b : Bool) → (b || false) ≡ b
-or_false true = refl
-or_false false = refl
 
 module _ (p : PeriodicEvent → Bool) (k : ℕ) (only : (x : PeriodicEvent) → (x.id ≡ k → ⊥) → p x
     ≡ false) where

@@ -1,6 +1,7 @@
 -- Each trip is of a run that goes on by drives and waits, and what follows for its events.
-use Rattle.std.proofs.Common.{◌≡◌, ℕ, ◌+◌, ◌≤◌, arith, Bool, true, false, ◌&&◌, All, IfSome, List, [], ◌∷◌, ◌++◌, length, map, Option, Some, None, refl, ap, subst, sym}
+use Rattle.std.proofs.Common.{◌≡◌, ℕ, ◌+◌, ◌≤◌, arith, true, false, ◌&&◌, All, IfSome, List, [], ◌∷◌, ◌++◌, length, map, Option, Some, None, refl, ap, subst, sym, ◌==◌}
 use Rattle.std.specs.List.{flat_map, enumerate_from, AllByRecursion}
+use Rattle.std.proofs.lemmas.Bool.{and_parts}
 use Rattle.event_tables.specs.declared.event_kind.EventKind.{EventKind}
 use Rattle.event_tables.specs.declared.event_kind.EventKind.TheVariants as kinds
 use Rattle.event_tables.specs.declared.expanded_event.ExpandedEvent.{ExpandedEvent}
@@ -80,11 +81,9 @@ module _ (network : TimedParts) where
 pub leads_kind : (pair : PeriodicEvent × PeriodicEvent) (way : PeriodicActivity) → leads pair way
     ≡ true
     → same_kind way.kind (rules.way_on pair.0.kind) ≡ true
-leads_kind pair way is = front (same_kind way.kind (rules.way_on pair.0.kind)) _ _ is
-  where
-    front : (a b c : Bool) → (a && b && c) ≡ true → a ≡ true
-    front true b c all = refl
-    front false b c all = all
+leads_kind pair way is =
+    (and_parts _ _ (and_parts (same_kind way.kind (rules.way_on pair.0.kind)
+    && way.from == pair.0.id) (way.to == pair.1.id) is).0).0
 
 module _ (network : TimedParts) (some : 1 ≤ network.period) (short : network.period ≤ 720)
     (fit : All (IsFit network) network.activities) (events : List ExpandedEvent) (start : ℕ) where

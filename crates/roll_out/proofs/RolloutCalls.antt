@@ -17,7 +17,7 @@ use Rattle.giv_files.specs.StageCalls.{StageGives}
 use Rattle.giv_files.proofs.StageCalls.{stage_refused, stage_made}
 use Rattle.event_tables.specs.declared.expanded_activity.ExpandedActivity.{ExpandedActivity}
 use Rattle.event_tables.specs.declared.expanded_event.ExpandedEvent.{ExpandedEvent}
-use Rattle.roll_out.specs.DayActivities.{day_activities, day_changes, day_ways, with_number, with_numbers}
+use Rattle.roll_out.specs.DayActivities.{day_activities, day_changes, day_ways, with_number}
 use Rattle.roll_out.specs.DayTrips.{TripParts, day_events}
 use Rattle.roll_out.specs.RolloutStage.{file_faults, long_lists, made_of, network_in, rollout_faults, rollout_stage, run_faults, trips_in}
 use Rattle.roll_out.specs.TimedRuns.{TimedParts}
@@ -112,11 +112,6 @@ module _ (network : TimedParts) (trips : List TripParts) where
       let same = length-enumerate_from 1 plain in
       let both = length-append (day_ways trips) (day_changes network events) in
       omega (arith, first, second, size, same, both)
-
-  pub activities_told : (numbered plain : List ExpandedActivity) → numbered ≡ with_numbers plain
-      → plain ≡ day_ways trips ++ day_changes network events → numbered ≡ activities
-  unfolding day_activities
-  activities_told numbered plain is told = is ∙ ap with_numbers told
 
 -- ---- the stage
 

@@ -17,7 +17,7 @@ use Rattle.giv_files.specs.Inputs.{input_faults, limit_faults, records_of, row_l
 use Rattle.giv_files.specs.Settings.{BundleParts, Fits, SettingsFit}
 use Rattle.giv_files.specs.StageCalls.{StageGives, input_text}
 use Rattle.giv_files.proofs.Inputs.{limits_sound}
-use Rattle.giv_files.proofs.Ranges.{front_none, back_none}
+use Rattle.giv_files.proofs.Ranges.{front_none, back_none, unmapped as nothing_mapped}
 use Rattle.giv_files.proofs.SettingFacts.{amount_within}
 use Rattle.giv_files.proofs.StageCalls.{made_unless, none_unless}
 use Rattle.event_tables.specs.Cells.{expanded_activity_cells, expanded_event_cells, trip_cells}
@@ -43,7 +43,7 @@ use Rattle.roll_out.proofs.DayChangesGood.{changes_good, events_of_trips, mapped
 use Rattle.roll_out.proofs.DayInWords.{changes_are_those, trips_are_those}
 use Rattle.roll_out.proofs.EndsOfTrips.{trips_over}
 use Rattle.roll_out.proofs.FilesRead.{activities_fine, events_fine, times_fine}
-use Rattle.roll_out.proofs.GoodRuns.{IsFit, all_fit, nothing_mapped, runs_good}
+use Rattle.roll_out.proofs.GoodRuns.{IsFit, all_fit, runs_good}
 use Rattle.roll_out.proofs.GoodTrips.{starts_rise, trip_stops, trip_takes}
 use Rattle.roll_out.proofs.ListedEvents.{IsListed, all_listed, events_placed, parts_of_all}
 use Rattle.roll_out.proofs.RolledTrips.{IsRolled, append_all, trips_rolled, ways_good}

@@ -1,7 +1,7 @@
 -- Runs that are read from the left.
-use Rattle.std.proofs.Common.{◌≡◌, ℕ, suc, ◌==◌, ◌-◌, ◌+◌, ◌<◌, ◌≤◌, arith, Bool, true, false, cond, List, [], ◌∷◌, ◌++◌, length, take, drop, get_or, refl, ap, sym, ◌∙◌}
+use Rattle.std.proofs.Common.{◌≡◌, ℕ, suc, ◌==◌, ◌-◌, ◌+◌, ◌<◌, ◌≤◌, arith, true, false, cond, List, [], ◌∷◌, ◌++◌, length, take, drop, get_or, refl, ap, sym, ◌∙◌, inl, inr}
 use Rattle.std.proofs.lemmas.List.{append_assoc, drop_more, drop_all, take_more, take_all}
-use Rattle.std.proofs.lemmas.Bool.{eqb-true}
+use Rattle.std.proofs.lemmas.Bool.{eqb-true, cases_Bool}
 use Rattle.event_tables.specs.declared.periodic_event.PeriodicEvent.{PeriodicEvent}
 use Rattle.event_tables.specs.PeriodicRuns.{same_run, before_runs, runs_of}
 
@@ -18,44 +18,25 @@ pub onto_more : (last next : PeriodicEvent) (some : List PeriodicEvent)
     (runs : List (List PeriodicEvent))
     → same_run last next ≡ true
     → onto last some (before_runs next runs) ≡ onto next (some ++ next ∷ []) runs
-onto_more last next some [] same =
-    ap (λ b. cond b ((some ++ next ∷ []) ∷ []) (some ∷ (next ∷ []) ∷ [])) same
-onto_more last next some ([] ∷ runs) same =
-    ap (λ b. cond b ((some ++ next ∷ []) ∷ [] ∷ runs) (some ∷ (next ∷ []) ∷ [] ∷ runs)) same
-onto_more last next some ((event ∷ run) ∷ runs) same = by (same_run next event)
-  where
-    by : (b : Bool)
-        → onto last some (cond b ((next ∷ event ∷ run) ∷ runs) ((next ∷ []) ∷ (event ∷ run) ∷ runs))
-        ≡ cond b (((some ++ next ∷ []) ++ event ∷ run) ∷ runs)
-        ((some ++ next ∷ []) ∷ (event ∷ run) ∷ runs)
-    by true =
-        ap (λ b. cond b ((some ++ next ∷ event ∷ run) ∷ runs) (some ∷ (next ∷ event ∷ run) ∷ runs))
-        same
-        ∙ ap (λ one. one ∷ runs) (sym (append_assoc some (next ∷ []) (event ∷ run)))
-    by false =
-        ap (λ b. cond b ((some ++ next ∷ []) ∷ (event ∷ run) ∷ runs)
-        (some ∷ (next ∷ []) ∷ (event ∷ run) ∷ runs)) same
+onto_more last next some [] same = rw same refl
+onto_more last next some ([] ∷ runs) same = rw same refl
+onto_more last next some ((event ∷ run) ∷ runs) same = elim (cases_Bool (same_run next event)) [
+  | inl is ↦ rw (is, same)
+      (ap (λ one. one ∷ runs) (sym (append_assoc some (next ∷ []) (event ∷ run))))
+  | inr is ↦ rw (is, same) refl
+]
 
 -- an event that does not agree ends the run
 pub onto_ends : (last next : PeriodicEvent) (some : List PeriodicEvent)
     (runs : List (List PeriodicEvent))
     → same_run last next ≡ false
     → onto last some (before_runs next runs) ≡ some ∷ before_runs next runs
-onto_ends last next some [] other =
-    ap (λ b. cond b ((some ++ next ∷ []) ∷ []) (some ∷ (next ∷ []) ∷ [])) other
-onto_ends last next some ([] ∷ runs) other =
-    ap (λ b. cond b ((some ++ next ∷ []) ∷ [] ∷ runs) (some ∷ (next ∷ []) ∷ [] ∷ runs)) other
-onto_ends last next some ((event ∷ run) ∷ runs) other = by (same_run next event)
-  where
-    by : (b : Bool)
-        → onto last some (cond b ((next ∷ event ∷ run) ∷ runs) ((next ∷ []) ∷ (event ∷ run) ∷ runs))
-        ≡ some ∷ cond b ((next ∷ event ∷ run) ∷ runs) ((next ∷ []) ∷ (event ∷ run) ∷ runs)
-    by true =
-        ap (λ b. cond b ((some ++ next ∷ event ∷ run) ∷ runs) (some ∷ (next ∷ event ∷ run) ∷ runs))
-        other
-    by false =
-        ap (λ b. cond b ((some ++ next ∷ []) ∷ (event ∷ run) ∷ runs)
-        (some ∷ (next ∷ []) ∷ (event ∷ run) ∷ runs)) other
+onto_ends last next some [] other = rw other refl
+onto_ends last next some ([] ∷ runs) other = rw other refl
+onto_ends last next some ((event ∷ run) ∷ runs) other = elim (cases_Bool (same_run next event)) [
+  | inl is ↦ rw (is, other) refl
+  | inr is ↦ rw (is, other) refl
+]
 
 before_onto : (event : PeriodicEvent) (runs : List (List PeriodicEvent))
     → before_runs event runs ≡ onto event (event ∷ []) runs

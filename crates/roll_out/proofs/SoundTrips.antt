@@ -22,7 +22,7 @@ numbers_by P a (suc n) each = (
       (λ k low high. each k (omega (arith, low)) (omega (arith, high))),
 )
 
-numbered_by : (P : ℕ × TimedEvent → Type 0) (Q : TimedEvent → Type 0) (a : ℕ)
+pub numbered_by : (P : ℕ × TimedEvent → Type 0) (Q : TimedEvent → Type 0) (a : ℕ)
     (run : List TimedEvent)
     → ((k : ℕ) (at : TimedEvent) → a ≤ k → k < a + length run → Q at → P (k, at))
     → AllByRecursion Q run → AllByRecursion P (enumerate_from a run)

@@ -1,10 +1,11 @@
 -- Times that are whole periods apart.
-use Rattle.std.proofs.Common.{◌≡◌, ℕ, ◌+◌, ◌-◌, ◌*◌, ◌/◌, ◌%◌, ◌==◌, ◌<◌, ◌≤◌, nat_le, arith, Bool, true, false, ◌&&◌, cond, [], ◌∷◌, map, filter, refl, ap, sym, ◌∙◌}
+use Rattle.std.proofs.Common.{◌≡◌, ℕ, ◌+◌, ◌-◌, ◌*◌, ◌/◌, ◌%◌, ◌==◌, ◌<◌, ◌≤◌, nat_le, arith, Bool, true, false, ◌&&◌, cond, [], ◌∷◌, map, filter, refl, ap, sym, ◌∙◌, inl, inr}
 use Rattle.std.specs.Int.{div_ceil}
 use Rattle.std.specs.List.{range_with_len}
-use Rattle.std.proofs.lemmas.Bool.{eq-eqb, ne_eqb, le-leb, lt-leb, leb-true, leb-false}
+use Rattle.std.proofs.lemmas.Bool.{eq-eqb, ne_eqb, le-leb, lt-leb, leb-true, leb-false, cases_lt}
 use Rattle.std.proofs.lemmas.Grind.{div_ceil_times}
 use Rattle.std.proofs.lemmas.Nat.{mul-le, mod_below, div-add-mod', div-mul-add, mod-mul-add}
+use Rattle.std.proofs.Math.Bool.{and-false}
 use Rattle.roll_out.specs.declared.copies.Copies.{Copies}
 use Rattle.roll_out.specs.declared.day.Day.{Day}
 use Rattle.roll_out.specs.DayTrips.{is_in_day, starts}
@@ -76,17 +77,15 @@ module _ (period time : ℕ) (some : 1 ≤ period) (copies : Copies) where
         (λ e. let is = only k e in omega (arith, is, above)))))
 
 pub div_low : (a b period : ℕ) → 1 ≤ period → a * period ≤ b → a ≤ b / period
-div_low a b period some h = by (nat_le a (b / period)) refl
-  where
-    by : (c : Bool) → nat_le a (b / period) ≡ c → a ≤ b / period
-    by true e = leb-true a (b / period) e
-    by false e =
-        let over = leb-false a (b / period) e in
-        let far = mul-le (b / period + 1) period a period (omega (arith, over)) (omega arith) in
-        let one : (b / period + 1) * period ≡ b / period * period + period = grind arith in
-        let parts = div-add-mod' b period in
-        let small = mod_below b period (omega (arith, some)) in
-        absurd (omega (arith, far, one, parts, small, h))
+div_low a b period some h = elim (cases_lt (b / period) a) [
+  | inl over ↦
+      let far = mul-le (b / period + 1) period a period (omega (arith, over)) (omega arith) in
+      let one : (b / period + 1) * period ≡ b / period * period + period = grind arith in
+      let parts = div-add-mod' b period in
+      let small = mod_below b period (omega (arith, some)) in
+      absurd (omega (arith, far, one, parts, small, h))
+  | inr low ↦ low
+]
 
 -- ---- the starts of a day
 
@@ -95,11 +94,7 @@ not_early day t early = ap (λ b. b && nat_le t day.latest) (lt-leb day.earliest
 
 not_late : (day : Day) (t : ℕ) → day.latest < t → is_in_day day t ≡ false
 not_late day t late =
-    ap (λ b. nat_le day.earliest t && b) (lt-leb t day.latest late) ∙ by (nat_le day.earliest t)
-  where
-    by : (b : Bool) → (b && false) ≡ false
-    by true = refl
-    by false = refl
+    ap (λ b. nat_le day.earliest t && b) (lt-leb t day.latest late) ∙ and-false (nat_le day.earliest t)
 
 in_time : (day : Day) (t : ℕ) → day.earliest ≤ t → t ≤ day.latest → is_in_day day t ≡ true
 in_time day t low high =

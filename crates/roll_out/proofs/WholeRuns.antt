@@ -1,7 +1,8 @@
 -- The runs of events are all of them, each with some.
-use Rattle.std.proofs.Common.{◌≡◌, ℕ, ◌≤◌, arith, Bool, true, false, cond, List, [], ◌∷◌, ◌++◌, length, refl, ap, ◌∙◌}
+use Rattle.std.proofs.Common.{◌≡◌, ℕ, ◌≤◌, arith, List, [], ◌∷◌, ◌++◌, length, refl, ap, ◌∙◌, inl, inr}
 use Rattle.std.specs.List.{flat_map, AllByRecursion}
 use Rattle.std.proofs.lemmas.List.{length-append}
+use Rattle.std.proofs.lemmas.Bool.{cases_Bool}
 use Rattle.event_tables.specs.declared.periodic_event.PeriodicEvent.{PeriodicEvent}
 use Rattle.event_tables.specs.PeriodicRuns.{same_run, before_runs, runs_of}
 
@@ -12,13 +13,10 @@ before_whole : (event : PeriodicEvent) (runs : List (List PeriodicEvent))
     → flat_map whole_run (before_runs event runs) ≡ event ∷ flat_map whole_run runs
 before_whole event [] = refl
 before_whole event ([] ∷ runs) = refl
-before_whole event ((next ∷ run) ∷ runs) = by (same_run event next)
-  where
-    by : (b : Bool) → flat_map whole_run (cond b ((event ∷ next ∷ run) ∷ runs)
-        ((event ∷ []) ∷ (next ∷ run) ∷ runs))
-        ≡ event ∷ flat_map whole_run ((next ∷ run) ∷ runs)
-    by true = refl
-    by false = refl
+before_whole event ((next ∷ run) ∷ runs) = elim (cases_Bool (same_run event next)) [
+  | inl is ↦ rw is refl
+  | inr is ↦ rw is refl
+]
 
 -- the runs of events are all of them
 pub runs_whole : (events : List PeriodicEvent) → flat_map whole_run (runs_of events) ≡ events
@@ -32,12 +30,10 @@ before_some : (event : PeriodicEvent) (runs : List (List PeriodicEvent))
     → AllByRecursion (λ (run : List PeriodicEvent). 1 ≤ length run) (before_runs event runs)
 before_some event [] all = (omega arith, tt)
 before_some event ([] ∷ runs) all = (omega arith, all)
-before_some event ((next ∷ run) ∷ runs) all = by (same_run event next)
-  where
-    by : (b : Bool) → AllByRecursion (λ (run : List PeriodicEvent). 1 ≤ length run)
-        (cond b ((event ∷ next ∷ run) ∷ runs) ((event ∷ []) ∷ (next ∷ run) ∷ runs))
-    by true = (omega arith, all.1)
-    by false = (omega arith, all)
+before_some event ((next ∷ run) ∷ runs) all = elim (cases_Bool (same_run event next)) [
+  | inl is ↦ rw is (omega arith, all.1)
+  | inr is ↦ rw is (omega arith, all)
+]
 
 -- each run has an event
 pub runs_some : (events : List PeriodicEvent)

@@ -14,8 +14,8 @@ use Rattle.event_tables.specs.Cells.{periodic_event_cells, periodic_activity_cel
 use Rattle.roll_out.specs.declared.copies.Copies.{Copies}
 use Rattle.roll_out.specs.declared.day.Day.{Day}
 use Rattle.roll_out.specs.declared.timed_event.TimedEvent.{TimedEvent}
-use Rattle.roll_out.specs.DayActivities.{change_copy, is_change}
-use Rattle.roll_out.specs.DayTrips.{TripParts, first_time}
+use Rattle.roll_out.specs.DayActivities.{change_copy, day_changes, is_change}
+use Rattle.roll_out.specs.DayTrips.{TripParts, day_events, first_time}
 use Rattle.roll_out.specs.TimedRuns.{TimedParts, minutes_of, timed_from}
 
 -- what always holds of a timetable that was read
@@ -204,3 +204,16 @@ pub record ArePlans (network : TimedParts) (plans : List PlanParts) : Type 0 whe
   pub few : length plans ≤ 4000
   pub placed : flat_map (λ plan. map (λ at. at.event.id) plan.run) plans
       ≡ range_with_len 1 (length network.events)
+
+-- the trips of a day and the copies of its events, few enough to be written
+pub record IsSmallDay (network : TimedParts) (trips : List TripParts) (copies : List Copies)
+    : Type 0
+  where
+    pub timed : IsTimed network
+    pub trips_are : All IsTrip trips
+    pub few_trips : length trips ≤ 2000
+    pub few_events : length (day_events trips) ≤ 100000
+    pub copies_are : All AreFew copies
+    pub each : length copies ≡ length network.events
+    pub changes : flat_map (changes_if network copies) network.activities
+        ≡ day_changes network (day_events trips)

@@ -1,16 +1,17 @@
 // The stage that rolls a timetable out over a day.
-ghost use Rattle.std.specs.Prelude.{◌≡◌, [], IfOk};
+ghost use Rattle.std.specs.Prelude.{◌≡◌, ◌≤◌, [], length, IfOk};
 ghost use Rattle.giv_files.specs.declared.stage.Stage.TheVariants as stages;
 ghost use Rattle.giv_files.specs.Inputs.{UnlessFault};
 ghost use Rattle.giv_files.specs.Settings.{Fits};
 ghost use Rattle.giv_files.specs.StageCalls.{StageGives, TakesSteps};
 ghost use Rattle.event_tables.specs.PeriodicRuns.{runs_of};
-ghost use Rattle.roll_out.specs.Plans.{ArePlans, trips_by};
+ghost use Rattle.roll_out.specs.DayActivities.{day_activities};
+ghost use Rattle.roll_out.specs.Plans.{ArePlans, IsSmallDay, trips_by};
 ghost use Rattle.roll_out.specs.RightRollout.{RolloutIsRight};
 ghost use Rattle.roll_out.specs.RolloutStage.{file_faults, long_lists, made_of, network_in, rollout_stage, run_faults};
 
 use crate::changes::{add_changes, change_count};
-use crate::copies::copies_by;
+use crate::copies::{Copies, copies_by};
 use crate::day::Day;
 use crate::files::rollout_made;
 use crate::network::TimedNetwork;
@@ -18,10 +19,11 @@ use crate::plan::{RunPlan, run_plans};
 use crate::refused::{no_activity_at, no_event_at, too_many};
 use crate::rules::{broken_events, stray_activities, unjoined_events};
 use crate::run::{Run, runs_of};
-use crate::trip::{day_events, day_trips, event_count, trip_count, trip_rows};
+use crate::trip::{DayTrip, day_events, day_trips, event_count, trip_count, trip_rows};
 use crate::ways::{add_ways, way_count, with_numbers};
+use event_tables::ExpandedActivity;
 use giv_files::{Bundle, Counted, Made, RowWhy, StageFault};
-use plan_num::{Ledger, Steps};
+use plan_num::{Ledger, NoMemory, Steps};
 use std::alloc::Global;
 
 const MOST_TRIPS: usize = 2_000;
@@ -101,15 +103,52 @@ fn rolled_out(alloc: Global, network: &TimedNetwork, plans: &[RunPlan]) -> Resul
     }
     let trips = day_trips(alloc, network.period(), plans)?;
     let copies = copies_by(alloc, plans)?;
-    let activity_count = way_count(&trips) + change_count(network, &copies);
+    made_of_day(alloc, network, &trips, &copies)
+}
+
+// What is made of the trips of a day, or the refusal of too many activities.
+fn made_of_day(
+    alloc: Global,
+    network: &TimedNetwork,
+    trips: &[DayTrip],
+    copies: &[Copies],
+) -> Result<Made, StageFault>
+    requires { IsSmallDay network.now trips.now copies.now }
+    ensures { UnlessFault (long_lists network.now trips.now)
+        (λ made. made ≡ made_of network.now trips.now) result }
+{
+    let activity_count = activity_count(network, trips, copies);
     if activity_count > MOST_ACTIVITIES {
         return Err(too_many(Counted::ExpandedActivities, activity_count));
     }
-    let events = day_events(alloc, &trips)?;
+    let events = day_events(alloc, trips)?;
+    let activities = day_activities(alloc, network, trips, copies)?;
+    let rows = trip_rows(alloc, trips)?;
+    Ok(rollout_made(alloc, &events, &activities, &rows)?)
+}
+
+// How many activities there are between the events of trips.
+fn activity_count(network: &TimedNetwork, trips: &[DayTrip], copies: &[Copies]) -> usize
+    requires { IsSmallDay network.now trips.now copies.now }
+    ensures { result ≡ length (day_activities network.now trips.now) }
+{
+    way_count(trips) + change_count(network, copies)
+}
+
+// The activities between the events of trips, numbered.
+fn day_activities(
+    alloc: Global,
+    network: &TimedNetwork,
+    trips: &[DayTrip],
+    copies: &[Copies],
+) -> Result<Vec<ExpandedActivity>, NoMemory>
+    requires day { IsSmallDay network.now trips.now copies.now }
+    requires few { length (day_activities network.now trips.now) ≤ 500000 }
+    ensures { IfOk result (λ activities. activities.items
+        ≡ day_activities network.now trips.now) }
+{
     let mut activities = Vec::new(alloc);
-    add_ways(&trips, &mut activities)?;
-    add_changes(network, &copies, &mut activities)?;
-    let numbered = with_numbers(alloc, &activities)?;
-    let rows = trip_rows(alloc, &trips)?;
-    Ok(rollout_made(alloc, &events, &numbered, &rows)?)
+    add_ways(trips, &mut activities)?;
+    add_changes(network, copies, &mut activities)?;
+    with_numbers(alloc, &activities)
 }
