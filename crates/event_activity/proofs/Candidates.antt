@@ -1,17 +1,15 @@
 -- The lists of events by their keys have all events that an event is joined to.
-use Rattle.std.proofs.Common.{◌≡◌, ℕ, suc, ◌+◌, ◌%◌, ◌<◌, ◌≤◌, ◌==◌, arith, Bool, true, false, ◌&&◌, not, nat_lt, cond, List, [], ◌∷◌, ◌++◌, length, filter, get_or, take, set, refl, ap, sym, ◌∙◌, inl, inr}
+use Rattle.std.proofs.Common.{◌≡◌, ℕ, ◌+◌, ◌%◌, ◌<◌, ◌≤◌, ◌==◌, arith, Bool, true, ◌&&◌, not, nat_lt, cond, List, [], ◌∷◌, length, filter, get_or, refl, ap, sym, ◌∙◌, inl, inr}
 use Rattle.std.specs.Ordering.{int_eq}
-use Rattle.std.proofs.lemmas.Bool.{and_parts, cases_eq, eq-eqb, eqb-true, ne_eqb, false≢true}
-use Rattle.std.proofs.lemmas.List.{length-set, get_or-set_same, get_or-set_other, append-nil}
-use Rattle.std.proofs.lemmas.List.Elements.{filter-append}
-use Rattle.std.proofs.Math.Seq.{take-suc}
+use Rattle.std.proofs.lemmas.Bool.{and_parts, eq-eqb, eqb-true, cases_Bool, both_ways, false_from_ne_true}
+use Rattle.std.proofs.lemmas.List.Sums.{length-filter, count_by-le-length}
 use Rattle.event_tables.specs.Kinds.{is_arrival, same_direction}
 use Rattle.event_tables.specs.PeriodicRuns.{headways, same_run, syncs}
 use Rattle.event_activity.specs.declared.joining.Joining.{Joining}
 use Rattle.event_activity.specs.declared.joining.Joining.TheVariants as joining
 use Rattle.event_activity.specs.declared.run_event.RunEvent.{RunEvent}
 use Rattle.event_activity.specs.Activities.{joined}
-use Rattle.event_activity.specs.NextEvents.{AreNextEvents, NotesAt, key_from, key_of, may_end, stands_in}
+use Rattle.event_activity.specs.NextEvents.{AreNextEvents, key_from, key_of, may_end, stands_in}
 
 -- ---- filters
 
@@ -19,30 +17,14 @@ use Rattle.event_activity.specs.NextEvents.{AreNextEvents, NotesAt, key_from, ke
 filter_within : {X : Type 0} (p q : X → Bool) (xs : List X)
     → ((x : X) → p x ≡ true → q x ≡ true) → filter p (filter q xs) ≡ filter p xs
 filter_within p q [] weaker = refl
-filter_within p q (x ∷ xs) weaker = by (p x) (q x) refl refl (filter_within p q xs weaker)
-  where
-    by : (b c : Bool) → p x ≡ b → q x ≡ c → filter p (filter q xs) ≡ filter p xs
-        → filter p (cond c (x ∷ filter q xs) (filter q xs)) ≡ cond b (x ∷ filter p xs) (filter p xs)
-    by true true is also rest = rw is (ap (λ more. x ∷ more) rest)
-    by true false is also rest = absurd (false≢true (sym also ∙ weaker x is))
-    by false true is also rest = rw is rest
-    by false false is also rest = rest
+filter_within p q (x ∷ xs) weaker = elim (cases_Bool (q x)) [
+  | inl is ↦ rw is (ap (λ more. cond (p x) (x ∷ more) more) (filter_within p q xs weaker))
+  | inr none ↦ rw (none, false_from_ne_true (p x) (λ is. both_ways (q x) none (weaker x is)))
+      (filter_within p q xs weaker)
+]
 
 filter_few : {X : Type 0} (q : X → Bool) (xs : List X) → length (filter q xs) ≤ length xs
-filter_few q [] = omega arith
-filter_few q (x ∷ xs) = by (q x) (filter_few q xs)
-  where
-    by : (b : Bool) → length (filter q xs) ≤ length xs
-        → length (cond b (x ∷ filter q xs) (filter q xs)) ≤ suc (length xs)
-    by true rest = omega (arith, rest)
-    by false rest = omega (arith, rest)
-
--- one thing more, which passes or does not
-filter_more : {X : Type 0} (q : X → Bool) (xs : List X) (i : ℕ) (x : X) → i < length xs
-    → filter q (take (suc i) xs)
-    ≡ filter q (take i xs) ++ cond (q (get_or xs i x)) (get_or xs i x ∷ []) []
-filter_more q xs i x h =
-    ap (filter q) (take-suc xs i x h) ∙ filter-append q (take i xs) (get_or xs i x ∷ [])
+filter_few q xs = omega (arith, length-filter q xs, count_by-le-length q xs)
 
 -- ---- keys
 
@@ -121,66 +103,3 @@ pub record NotedTo (by : Joining) (count : ℕ) (events : List RunEvent)
   pub size : length lists ≡ count
   pub each : (list : ℕ) → list < count
       → get_or lists list [] ≡ filter (stands_in by count list) events
-
--- one event more
-module _ (by : Joining) (count : ℕ) (some : 1 ≤ count) (events : List RunEvent) (i : ℕ)
-    (event : RunEvent) (inside : i < length events) (is : get_or events i event ≡ event)
-    (lists : List (List RunEvent)) (so_far : NotedTo by count (take i events) lists) where
-  more : (list : ℕ) → filter (stands_in by count list) (take (suc i) events)
-      ≡ filter (stands_in by count list) (take i events)
-      ++ cond (stands_in by count list event) (event ∷ []) []
-  more list =
-      filter_more (stands_in by count list) events i event inside
-      ∙ ap (λ last. filter (stands_in by count list) (take i events)
-      ++ cond (stands_in by count list last) (last ∷ []) []) is
-
-  -- that may not end
-  pub noted_none : may_end by event ≡ false → NotedTo by count (take (suc i) events) lists
-  noted_none cannot = record {
-    size = so_far.size;
-    each = λ list h. so_far.each list h
-        ∙ sym (append-nil (filter (stands_in by count list) (take i events)))
-        ∙ sym (more list ∙ ap (λ b. filter (stands_in by count list) (take i events)
-        ++ cond (b && key_of by event % count == list) (event ∷ []) []) cannot);
-  }
-
-  -- that may
-  module _ (may : may_end by event ≡ true) (new : List (List RunEvent))
-      (noted : NotesAt (key_of by event % count) event lists new) where
-    abbrev own : ℕ
-    own = key_of by event % count
-
-    own_inside : own < length lists
-    own_inside = omega (arith, some, so_far.size)
-
-    standing : (list : ℕ) (b : Bool) → (own == list) ≡ b → stands_in by count list event ≡ b
-    standing list b is = rw (may, is) refl
-
-    at_list : (list : ℕ) → list < count
-        → get_or new list [] ≡ filter (stands_in by count list) (take (suc i) events)
-    at_list list h = elim (cases_eq list own)
-        as (λ c. get_or new list [] ≡ filter (stands_in by count list) (take (suc i) events)) [
-          | inl same ↦
-              ap (λ (rows : List (List RunEvent)). get_or rows list []) noted
-              ∙ ap (λ at. get_or (set lists own (get_or lists own [] ++ event ∷ [])) at []) same
-              ∙ get_or-set_same lists own (get_or lists own [] ++ event ∷ []) [] own_inside
-              ∙ ap (λ at. get_or lists at [] ++ event ∷ []) (sym same)
-              ∙ ap (λ row. row ++ event ∷ []) (so_far.each list h)
-              ∙ sym (more list ∙ ap (λ b. filter (stands_in by count list) (take i events)
-              ++ cond b (event ∷ []) []) (standing list true (eq-eqb own list (sym same))))
-          | inr apart ↦
-              ap (λ (rows : List (List RunEvent)). get_or rows list []) noted
-              ∙ get_or-set_other lists own list (get_or lists own [] ++ event ∷ []) [] apart
-              ∙ so_far.each list h
-              ∙ sym (append-nil (filter (stands_in by count list) (take i events)))
-              ∙ sym (more list ∙ ap (λ b. filter (stands_in by count list) (take i events)
-              ++ cond b (event ∷ []) [])
-              (standing list false (ne_eqb own list (λ e. apart (sym e)))))
-        ]
-
-    pub noted_one : NotedTo by count (take (suc i) events) new
-    noted_one = record {
-      size = ap length noted ∙ length-set lists own (get_or lists own [] ++ event ∷ [])
-          ∙ so_far.size;
-      each = at_list;
-    }

@@ -1,9 +1,10 @@
 -- Each drive of a run goes over its edge, from the one of its ends to the other.
-use Rattle.std.proofs.Common.{◌≡◌, ℕ, zero, suc, ◌+◌, ◌*◌, ◌-◌, ◌/◌, ◌%◌, ◌<◌, arith, true, false, cond, eqb, eqb-true, ◌⊎◌, inl, inr, All, List, [], ◌∷◌, length, get_or, refl, ap, subst, sym, ◌∙◌, Some, None, option_map, option_and_then}
+use Rattle.std.proofs.Common.{◌≡◌, ℕ, zero, suc, ◌+◌, ◌*◌, ◌-◌, ◌/◌, ◌%◌, ◌<◌, arith, eqb, eqb-true, ◌⊎◌, inl, inr, All, List, [], ◌∷◌, length, get_or, refl, ap, subst, sym, ◌∙◌, Some, None, option_map, option_and_then}
 use Rattle.std.specs.List.{cons_option}
 use Rattle.std.proofs.lemmas.List.{get_or-reverse}
 use Rattle.std.proofs.lemmas.List.Elements.{All-head, All-tail}
 use Rattle.std.proofs.lemmas.Option.{slice_get-get_or, same_Some}
+use Rattle.std.proofs.lemmas.Bool.{cases_Bool}
 use Rattle.event_tables.specs.declared.direction.Direction.{Direction}
 use Rattle.event_tables.specs.declared.direction.Direction.TheVariants as direction
 use Rattle.line_pool.specs.Pools.{LineParts, walk_from, or_walk, walk_of, IsLine}
@@ -25,15 +26,14 @@ turned edge from to (inr ends) = inl (ends.1, ends.0)
 
 across_ends : (edge : Edge) (stop next : ℕ) → across edge stop ≡ Some next → AreEnds edge stop next
 across_ends edge stop next goes =
-    elim (eqb edge.left stop) as (λ left. eqb edge.left stop ≡ left → cond left (Some edge.right)
-    (cond (eqb edge.right stop) (Some edge.left) None) ≡ Some next → AreEnds edge stop next) [
-      | true ↦ λ is e. inl (sym (eqb-true edge.left stop is), sym (same_Some _ _ e))
-      | false ↦ λ other e. elim (eqb edge.right stop) as (λ right. eqb edge.right stop ≡ right
-          → cond right (Some edge.left) None ≡ Some next → AreEnds edge stop next) [
-            | true ↦ λ is f. inr (sym (eqb-true edge.right stop is), sym (same_Some _ _ f))
-            | false ↦ λ none f. cc
-          ] refl e
-    ] refl goes
+    elim (cases_Bool (eqb edge.left stop)) [
+      | inl left ↦ inl (sym (eqb-true edge.left stop left), sym (same_Some _ _ (rw left at goes)))
+      | inr other ↦ elim (cases_Bool (eqb edge.right stop)) [
+        | inl right ↦
+            inr (sym (eqb-true edge.right stop right), sym (same_Some _ _ (rw (other, right) at goes)))
+        | inr none ↦ absurd (let e = rw (other, none) at goes in cc)
+      ]
+    ]
 
 -- a walk over an edge and others
 record IsStep (edge : Edge) (edges : List Edge) (stop : ℕ) (stops : List ℕ) : Type 0 where

@@ -9,12 +9,13 @@ use Rattle.line_pool.specs.Pools.{LineParts, IsLine}
 use Rattle.line_pool.proofs.SoundLines.{unsigned_within}
 use Rattle.ptn_network.specs.declared.edge.Edge.{Edge}
 use Rattle.ptn_network.specs.Networks.{NetworkParts, IsEdge}
+use Rattle.ptn_network.proofs.Walks.{All-flat_map as all_parts}
 use Rattle.event_activity.specs.declared.run_event.RunEvent.{RunEvent}
 use Rattle.event_activity.specs.Fitting.{AreBounds, drive_bounds, IsDriven, IsNumbered}
 use Rattle.event_activity.specs.Runs.{AreServed, along, no_edge, no_line, line_at, edge_at, run_event, run, runs, line_events, with_id, concept_events}
 use Rattle.event_activity.proofs.Along.{all_along, length-along}
 use Rattle.event_activity.proofs.LineEvents.{numbered_size}
-use Rattle.event_activity.proofs.Numbered.{all_numbers, all_parts, all_numbered}
+use Rattle.event_activity.proofs.Numbered.{all_numbers, all_numbered}
 use Rattle.event_activity.proofs.StopsOfRuns.{stop_within, id_within}
 
 unsigned_order : (low high : ℤ) → pos 1 ≤ℤ low → low ≤ℤ high → unsigned_abs low ≤ unsigned_abs high

@@ -1,30 +1,25 @@
 -- The stage of events and activities, from what each of its inputs gives.
-use Rattle.std.proofs.Common.{◌≡◌, ℕ, ◌<◌, ◌≤◌, List, [], ◌∷◌, ◌++◌, length, ap, subst, sym, ◌∙◌, Ok, Err, slice_get}
-use Rattle.std.proofs.lemmas.List.{append-nil}
+use Rattle.std.proofs.Common.{◌≡◌, ℕ, ◌<◌, ◌≤◌, List, [], ◌++◌, length, ap, subst, sym, ◌∙◌, Result, Ok, Err, slice_get}
 use Rattle.giv_files.specs.declared.counted.Counted.TheVariants as counted
 use Rattle.giv_files.specs.declared.made.Made.{Made}
-use Rattle.giv_files.specs.declared.refusal.Refusal.{Refusal}
 use Rattle.giv_files.specs.declared.refusal.Refusal.TheVariants as refusal
 use Rattle.giv_files.specs.declared.refusal.StageFault.{StageFault}
 use Rattle.giv_files.specs.declared.refusal.StageFault.TheVariants as fault
-use Rattle.giv_files.specs.Inputs.{Refuses, or_else, limit_faults, row_limit}
+use Rattle.giv_files.specs.declared.setting.Setting.{Setting}
+use Rattle.giv_files.specs.Inputs.{Refuses, UnlessFault, or_else}
 use Rattle.giv_files.specs.Settings.{BundleParts}
 use Rattle.giv_files.specs.StageCalls.{input_text, StageGives}
 use Rattle.giv_files.proofs.Inputs.{refused_append}
 use Rattle.giv_files.proofs.StageCalls.{stage_refused, stage_made}
-use Rattle.event_tables.specs.declared.periodic_activity.PeriodicActivity.{PeriodicActivity}
 use Rattle.event_activity.specs.declared.run_event.RunEvent.{RunEvent}
 use Rattle.event_activity.specs.Activities.{concept_activities}
-use Rattle.event_activity.specs.EanStage.{ean_made, ean_faults, ean_stage, events_in, activities_in, too_many, rows_of}
+use Rattle.event_activity.specs.EanStage.{ean_made, ean_faults, ean_stage, events_in, activities_in, long_activities, too_many, rows_of}
 use Rattle.event_activity.specs.Runs.{concept_events}
 use Rattle.event_activity.proofs.Refused.{refused_before, behind_none, over_limit, under_limit}
 use Rattle.line_pool.specs.Pools.{LineParts, concept_of, concept_faults}
 use Rattle.ptn_network.specs.Networks.{NetworkParts, network_of, network_faults}
 
 module _ (bundle : BundleParts) where
-  all_faults : List Refusal
-  all_faults = or_else (ean_faults bundle) (too_many (events_in bundle) (activities_in bundle))
-
   -- texts that give no network
   pub network_refused : (end : StageFault)
       → Refuses (network_faults (input_text bundle 0) (input_text bundle 1)) end
@@ -74,52 +69,36 @@ module _ (bundle : BundleParts) where
           (Err (fault.Refused (refusal.TooMany counted.PeriodicEvents count)))
       unfolding ean_stage
       events_refused count told over =
-          let first = over_limit counted.PeriodicEvents 4000 (events_in bundle)
-          (limit_faults (row_limit counted.PeriodicActivities 200000 ∷ [])
-          (activities_in bundle)) count (told ∙ ap length events_are) over in
           stage_refused _ _ (fault.Refused (refusal.TooMany counted.PeriodicEvents count))
-          (ap (λ all. slice_get all 0) (left ∙ first))
+          (ap (λ all. slice_get all 0) (left ∙ ap (λ some. some ++ long_activities (activities_in
+          bundle)) (over_limit counted.PeriodicEvents 4000 (events_in bundle) count
+          (told ∙ ap length events_are) over)))
 
-      module _ (events : List RunEvent) (made : events ≡ concept_events network lines)
+      module _ (settings : List Setting) (set : settings ≡ bundle.settings)
+          (events : List RunEvent) (made : events ≡ concept_events network lines)
           (few : length events ≤ 4000) where
-        events_told : events ≡ events_in bundle
-        events_told = made ∙ events_are
+        activities_are : concept_activities settings events ≡ activities_in bundle
+        activities_are =
+            ap (λ some. concept_activities some events) set
+            ∙ ap (concept_activities bundle.settings) (made ∙ events_are)
 
-        activities_are : concept_activities bundle.settings events ≡ activities_in bundle
-        activities_are = ap (concept_activities bundle.settings) events_told
+        faults_are : or_else (ean_faults bundle) (too_many (events_in bundle) (activities_in bundle))
+            ≡ long_activities (concept_activities settings events)
+        faults_are =
+            left ∙ ap (λ some. some ++ long_activities (activities_in bundle))
+            (under_limit counted.PeriodicEvents 4000 (events_in bundle)
+            (subst (λ some. length some ≤ 4000) (made ∙ events_are) few))
+            ∙ ap long_activities (sym activities_are)
 
-        only : too_many (events_in bundle) (activities_in bundle)
-            ≡ limit_faults (row_limit counted.PeriodicActivities 200000 ∷ [])
-            (activities_in bundle) ++ []
-        only =
-            ap (λ some. some ++ limit_faults (row_limit counted.PeriodicActivities 200000 ∷ [])
-            (activities_in bundle)) (under_limit counted.PeriodicEvents 4000 (events_in bundle)
-            (subst (λ some. length some ≤ 4000) events_told few))
-            ∙ sym (append-nil (limit_faults (row_limit counted.PeriodicActivities 200000 ∷ [])
-            (activities_in bundle)))
-
-        -- too many activities
-        pub activities_refused : (count : ℕ)
-            → count ≡ length (concept_activities bundle.settings events) → 200000 < count
-            → StageGives (ean_stage bundle)
-            (Err (fault.Refused (refusal.TooMany counted.PeriodicActivities count)))
+        -- and else what the events come to
+        pub ean_given : (result : Result Made StageFault)
+            → UnlessFault (long_activities (concept_activities settings events))
+            (λ made. made ≡ ean_made (rows_of events) (concept_activities settings events)) result
+            → StageGives (ean_stage bundle) result
         unfolding ean_stage
-        activities_refused count told over =
-            let first = over_limit counted.PeriodicActivities 200000 (activities_in bundle) []
-            count (told ∙ ap length activities_are) over in
-            stage_refused _ _ (fault.Refused (refusal.TooMany counted.PeriodicActivities count))
-            (ap (λ all. slice_get all 0) (left ∙ only ∙ first))
-
-        -- texts without a fault, and lists within their limits
-        pub ean_given : (activities : List PeriodicActivity) (result : Made)
-            → activities ≡ concept_activities bundle.settings events → length activities ≤ 200000
-            → result ≡ ean_made (rows_of events) activities
-            → StageGives (ean_stage bundle) (Ok result)
-        unfolding ean_stage
-        ean_given activities result told short given =
-            let same = told ∙ activities_are in
-            let within = under_limit counted.PeriodicActivities 200000 (activities_in bundle)
-            (subst (λ some. length some ≤ 200000) same short) in
-            stage_made _ _ result (left ∙ only ∙ ap (λ some. some ++ []) within)
-            (given ∙ ap (ean_made (rows_of events)) same
-            ∙ ap (λ some. ean_made (rows_of some) (activities_in bundle)) events_told)
+        ean_given (Ok result) h =
+            stage_made _ _ result (faults_are ∙ h.0)
+            (h.1 ∙ ap (ean_made (rows_of events)) activities_are
+            ∙ ap (λ some. ean_made (rows_of some) (activities_in bundle)) (made ∙ events_are))
+        ean_given (Err why) h =
+            stage_refused _ _ why (subst (λ all. Refuses all why) (sym faults_are) h)

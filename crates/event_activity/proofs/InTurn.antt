@@ -2,7 +2,7 @@
 -- begins behind a whole one.
 use Rattle.std.proofs.Common.{◌≡◌, ℕ, zero, suc, ◌+◌, ◌*◌, ◌%◌, ◌==◌, ◌<◌, ◌≤◌, arith, Bool, ◌&&◌, true, false, All, MatchBool, List, [], ◌∷◌, ◌++◌, length, map, unsigned_abs, refl, subst, sym}
 use Rattle.std.specs.List.{flat_map, range_with_len, enumerate_from}
-use Rattle.std.proofs.lemmas.Bool.{eq-eqb, ne_eqb}
+use Rattle.std.proofs.lemmas.Bool.{eq-eqb, ne_eqb, and_left as line_false}
 use Rattle.std.proofs.lemmas.List.{append_assoc}
 use Rattle.std.proofs.lemmas.List.Elements.{All-nil, All-cons}
 use Rattle.event_tables.specs.declared.direction.Direction.{Direction}
@@ -106,10 +106,6 @@ first_false : (a b c : Bool) → (a && b) ≡ false → (a && b && c) ≡ false
 first_false true true c none = absurd (cc)
 first_false true false c none = refl
 first_false false b c none = refl
-
-line_false : (a b : Bool) → a ≡ false → (a && b) ≡ false
-line_false true b none = absurd (cc)
-line_false false b none = refl
 
 way_false : (a : Bool) → (a && same_direction direction.Forward direction.Backward) ≡ false
 way_false true = refl

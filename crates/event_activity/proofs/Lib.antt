@@ -6,7 +6,6 @@ mod DrivenEvents
 mod EanAccepted
 mod EanCalls
 mod EanCells
-mod EanGiven
 pub mod EanMakes
 pub mod EanNames
 pub mod EanReads

@@ -1,7 +1,7 @@
 -- What holds of all parts, of numbered things, and of their numbers.
 use Rattle.std.proofs.Common.{◌≡◌, ℕ, ◌+◌, ◌<◌, ◌≤◌, arith, All, List, [], ◌∷◌, length, map, get_or, refl, ap, subst, sym, ◌∙◌}
-use Rattle.std.specs.List.{flat_map, range_with_len, enumerate_from}
-use Rattle.std.proofs.lemmas.List.Elements.{All-nil, All-append, All-head, All-tail, All-map}
+use Rattle.std.specs.List.{range_with_len, enumerate_from}
+use Rattle.std.proofs.lemmas.List.Elements.{All-map}
 use Rattle.std.proofs.lemmas.List.FromFn.{length-range_with_len, get_or-range_with_len, length-enumerate_from, get_or-enumerate_from}
 
 -- what holds of each number from one on
@@ -11,14 +11,6 @@ all_numbers P a n each = λ k d h.
     let within : k < n = omega (arith, h, length-range_with_len a n) in
     subst P (sym (get_or-range_with_len a n k d within))
     (each (a + k) (omega arith) (omega (arith, within)))
-
--- what holds of all of each part
-pub all_parts : {A X : Type 0} (P : X → Type 0) (f : A → List X) (xs : List A)
-    → All (λ x. All P (f x)) xs → All P (flat_map f xs)
-all_parts P f [] all = All-nil P
-all_parts P f (x ∷ xs) all =
-    All-append P (f x) (flat_map f xs) (All-head (λ x. All P (f x)) x xs all)
-    (all_parts P f xs (All-tail (λ x. All P (f x)) x xs all))
 
 -- what holds of each thing with its number
 pub all_numbered : {X Y : Type 0} (P : X → Type 0) (Q : Y → Type 0) (f : ℕ × X → Y) (xs : List X)

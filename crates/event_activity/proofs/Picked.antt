@@ -1,9 +1,10 @@
 -- Parts of lists of events that are numbered in their order: what one event or two of them give.
-use Rattle.std.proofs.Common.{◌≡◌, ℕ, zero, suc, ◌+◌, ◌<◌, ◌≤◌, arith, Bool, ◌&&◌, true, false, cond, List, [], ◌∷◌, ◌++◌, length, map, filter, get_or, refl, ap, sym, ◌∙◌}
+use Rattle.std.proofs.Common.{◌≡◌, ℕ, zero, suc, ◌+◌, ◌<◌, ◌≤◌, arith, Bool, ◌&&◌, false, cond, List, [], ◌∷◌, ◌++◌, length, map, filter, get_or, refl, ap, sym, ◌∙◌, inl, inr}
 use Rattle.std.specs.List.{flat_map, range_with_len, enumerate_from, count_by}
 use Rattle.std.proofs.lemmas.List.{append-nil}
 use Rattle.std.proofs.lemmas.List.Elements.{filter-append}
 use Rattle.std.proofs.lemmas.List.Sums.{sum_by-cons}
+use Rattle.std.proofs.lemmas.Bool.{cases_Bool}
 
 -- numbers change nothing of how many things pass a test that does not look at them
 pub numbered_count : {X : Type 0} (f : ℕ × X → X) (p : X → Bool)
@@ -40,16 +41,12 @@ pub both_tests : {A X : Type 0} (p : X → Bool) (q : A → Bool) (f : A → X) 
 both_tests p q f [] = refl
 both_tests p q f (x ∷ xs) =
     let rest = both_tests p q f xs in
-    elim (q x) as (λ b. filter p (map f (cond b (x ∷ filter q xs) (filter q xs)))
-    ≡ cond (b && p (f x)) (f x ∷ []) []
-    ++ flat_map (λ x. cond (q x && p (f x)) (f x ∷ []) []) xs) [
-      | true ↦ elim (p (f x)) as (λ c. cond c (f x ∷ filter p (map f (filter q xs)))
-          (filter p (map f (filter q xs))) ≡ cond c (f x ∷ []) []
-          ++ flat_map (λ x. cond (q x && p (f x)) (f x ∷ []) []) xs) [
-            | true ↦ ap (λ ys. f x ∷ ys) rest
-            | false ↦ rest
-          ]
-      | false ↦ rest
+    elim (cases_Bool (q x)) [
+      | inl is ↦ elim (cases_Bool (p (f x))) [
+        | inl so ↦ rw (is, so) (ap (λ ys. f x ∷ ys) rest)
+        | inr so ↦ rw (is, so) rest
+      ]
+      | inr is ↦ rw is rest
     ]
 
 module _ {X Y : Type 0} (id : X → ℕ) (g : X → List Y) where

@@ -30,12 +30,12 @@ none_behind (first ∷ more) others none = absurd (cc)
 
 module _ {X : Type 0} (what : Counted) (most : ℕ) (rows : List X) where
   -- a list that is too long is refused with its length
-  pub over_limit : (others : List Refusal) (count : ℕ) → count ≡ length rows → most < count
-      → limit_faults (row_limit what most ∷ []) rows ++ others ≡ refusal.TooMany what count ∷ others
-  over_limit others count is over =
-      ap (λ b. (cond b (refusal.TooMany what (length rows) ∷ []) [] ++ []) ++ others)
+  pub over_limit : (count : ℕ) → count ≡ length rows → most < count
+      → limit_faults (row_limit what most ∷ []) rows ≡ refusal.TooMany what count ∷ []
+  over_limit count is over =
+      ap (λ b. cond b (refusal.TooMany what (length rows) ∷ []) [] ++ [])
       (lt-ltb most (length rows) (omega (arith, is, over)))
-      ∙ ap (λ n. refusal.TooMany what n ∷ others) (sym is)
+      ∙ ap (λ n. refusal.TooMany what n ∷ []) (sym is)
 
   -- and one that is not, is not
   pub under_limit : length rows ≤ most → limit_faults (row_limit what most ∷ []) rows ≡ []

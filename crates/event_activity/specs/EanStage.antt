@@ -57,10 +57,15 @@ abbrev pub ean_faults : BundleParts → List Refusal
 ean_faults bundle = network_faults (input_text bundle 0) (input_text bundle 1)
     ++ concept_faults (network_in bundle) (input_text bundle 2)
 
+-- a list of activities that is too long
+abbrev pub long_activities : List PeriodicActivity → List Refusal
+long_activities activities =
+    limit_faults (row_limit counted.PeriodicActivities 200000 ∷ []) activities
+
 -- the lists to be made that are too long, events first
 abbrev pub too_many : List RunEvent → List PeriodicActivity → List Refusal
-too_many events activities = limit_faults (row_limit counted.PeriodicEvents 4000 ∷ []) events
-    ++ limit_faults (row_limit counted.PeriodicActivities 200000 ∷ []) activities
+too_many events activities =
+    limit_faults (row_limit counted.PeriodicEvents 4000 ∷ []) events ++ long_activities activities
 
 -- the stage: from settings and input texts to what is made, or the first fault; the lists count
 -- where the texts have none

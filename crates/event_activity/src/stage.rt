@@ -1,18 +1,22 @@
 // The stage that makes the periodic events and activities of a line concept.
-ghost use Rattle.std.specs.Prelude.{◌≡◌, ◌≤◌, IfOk};
+ghost use Rattle.std.specs.Prelude.{◌≡◌, ◌≤◌, length, All, IfOk};
 ghost use Rattle.giv_files.specs.declared.counted.Counted.{Counted};
 ghost use Rattle.giv_files.specs.declared.stage.Stage.TheVariants as stages;
 ghost use Rattle.giv_files.specs.declared.refusal.Refusal.TheVariants as refusals;
 ghost use Rattle.giv_files.specs.declared.refusal.StageFault.TheVariants as faults;
+ghost use Rattle.giv_files.specs.Inputs.{UnlessFault};
 ghost use Rattle.giv_files.specs.Settings.{Fits};
 ghost use Rattle.giv_files.specs.StageCalls.{StageGives, TakesSteps};
-ghost use Rattle.event_activity.specs.EanStage.{ean_stage};
+ghost use Rattle.event_activity.specs.Activities.{concept_activities};
+ghost use Rattle.event_activity.specs.EanStage.{ean_made, ean_stage, long_activities, rows_of};
+ghost use Rattle.event_activity.specs.Fitting.{AreTimely, IsNumbered};
 ghost use Rattle.event_activity.specs.RightEan.{EanIsRight};
 
 use crate::activities::{activity_count, concept_activities};
 use crate::files::{ean_made, rows_of};
+use crate::run_event::RunEvent;
 use crate::runs::{concept_events, event_count};
-use giv_files::{Bundle, Counted, Made, Refusal, StageFault};
+use giv_files::{Bundle, Counted, Made, Refusal, Settings, StageFault};
 use line_pool::Pool;
 use plan_num::{Ledger, Steps};
 use ptn_network::Network;
@@ -52,12 +56,28 @@ fn ean_of_bundle(alloc: Global, bundle: &Bundle) -> Result<Made, StageFault>
         return Err(too_many(Counted::PeriodicEvents, event_count));
     }
     let events = concept_events(alloc, &network, &pool)?;
-    let activity_count = activity_count(alloc, bundle.settings(), &events)?;
+    ean_of_events(alloc, bundle.settings(), &events)
+}
+
+// What is made of events, or the refusal of too many activities between them.
+fn ean_of_events(
+    alloc: Global,
+    settings: &Settings,
+    events: &[RunEvent],
+) -> Result<Made, StageFault>
+    requires settings { AreTimely settings.now }
+    requires events { All (IsNumbered (length events.now)) events.now }
+    requires few { length events.now ≤ 4000 }
+    ensures { UnlessFault (long_activities (concept_activities settings.now events.now))
+        (λ made. made ≡ ean_made (rows_of events.now)
+        (concept_activities settings.now events.now)) result }
+{
+    let activity_count = activity_count(alloc, settings, events)?;
     if activity_count > MOST_ACTIVITIES {
         return Err(too_many(Counted::PeriodicActivities, activity_count));
     }
-    let activities = concept_activities(alloc, bundle.settings(), &events)?;
-    let rows = rows_of(alloc, &events)?;
+    let activities = concept_activities(alloc, settings, events)?;
+    let rows = rows_of(alloc, events)?;
     Ok(ean_made(alloc, &rows, &activities)?)
 }
 
