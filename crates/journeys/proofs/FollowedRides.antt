@@ -2,7 +2,7 @@
 -- a ride.
 use Rattle.std.proofs.Common.{◌≡◌, ℕ, suc, ◌≤◌, ◌&&◌, ◌||◌, ◌==◌, nat_le, Bool, true, false, cond, List, [], ◌∷◌, length, get_or, All, refl, sym, ap, ◌∙◌, subst, arith}
 use Rattle.std.specs.List.{list_all, list_any}
-use Rattle.std.proofs.lemmas.Bool.{and_from, and_parts, both_ways, le-leb, leb-true}
+use Rattle.std.proofs.lemmas.Bool.{and_from, and_parts, both_ways, le-leb, leb-true, false_from_ne_true}
 use Rattle.std.proofs.lemmas.Bool.Decides.{Decides-eqb}
 use Rattle.std.proofs.lemmas.List.Elements.{All-head, All-tail}
 use Rattle.std.proofs.lemmas.List.Folds.{Any-from_list_any, list_any_at}
@@ -77,14 +77,9 @@ no_head link links event next turn some =
     let any = Any-from_list_any (joins event next) (link ∷ links) some in
     let parts = and_parts (any.1.from == event) (any.1.to == next) any.4 in
     let to = (Decides-eqb any.1.to next).0 parts.1 in
-    by (link.from == next) refl
+    false_from_ne_true (link.from == next)
     (λ from. turn 0 any.0 any.1 (omega arith) any.2
     (ap (λ (at : Link). at.to) any.3 ∙ to ∙ sym ((Decides-eqb link.from next).0 from)))
-  where
-    by : (b : Bool) → (link.from == next) ≡ b → ((link.from == next) ≡ true → ⊥)
-        → (link.from == next) ≡ false
-    by true same none = absurd (none same)
-    by false same none = same
 
 -- the links of later steps stand behind the first link
 later : (link : Link) (links : List Link) (event next : ℕ) (more : List ℕ)

@@ -2,7 +2,7 @@
 use Rattle.std.proofs.Common.{◌≡◌, ◌∙◌, ℕ, ℤ, ◌<◌, ◌&&◌, ◌==◌, Bool, true, false, List, [], ◌∷◌, length, get_or, All, Option, Some, None, refl, ap, sym, subst, arith}
 use Rattle.std.specs.List.{list_any}
 use Rattle.std.specs.Option.{option_map_or}
-use Rattle.std.proofs.lemmas.Bool.{and_from, and_parts, both_ways, leb-true}
+use Rattle.std.proofs.lemmas.Bool.{and_from, and_parts, both_ways, leb-true, and_parts as both, false_from_ne_true}
 use Rattle.std.proofs.lemmas.Bool.Decides.{Decides-eqb}
 use Rattle.std.proofs.lemmas.List.Elements.{All-tail}
 use Rattle.std.proofs.lemmas.Map.Keys.{any_passes_from_place}
@@ -19,7 +19,7 @@ use Rattle.journeys.specs.Judged.{NoneEarlier, first_broken_rule}
 use Rattle.journeys.specs.Ways.{AreWays, IsBy, IsWay, is_by, is_reached, way_at}
 use Rattle.journeys.proofs.FilteredRanges.{filter_rises, in_filter}
 use Rattle.journeys.proofs.Answers.{answers_pass}
-use Rattle.journeys.proofs.Passing.{both, ends_with, passing_proves, way}
+use Rattle.journeys.proofs.Passing.{ends_with, passing_proves, way}
 use Rattle.journeys.proofs.WayBack.{reached_inside}
 use Rattle.journeys.proofs.WaysAlong.{by_reached, reached_by_way}
 
@@ -90,15 +90,10 @@ module _ (net : JourneyParts) (sound : All (IsConnection net) net.connections) (
         (and_parts (passes_at (arrives_at to) net end) (is_reached (way_at ways end)) is).1
 
     none_told : IsFirstEnd net ways to (length ways) None → IsToldJourney net from to start []
-    none_told none other = by (is_journey net from to start other) refl
-      where
-        by : (b : Bool) → is_journey net from to start other ≡ b
-            → is_journey net from to start other ≡ false
-        by false same = same
-        by true same =
-            let last = ends_with net from to start other same in
-            let is = is_end_of other last.0 same last.1 in
-            absurd (both_ways (is_end net ways to last.0) (none last.0 (end_inside last.0 is)) is)
+    none_told none other = false_from_ne_true (is_journey net from to start other) (λ same.
+        let last = ends_with net from to start other same in
+        let is = is_end_of other last.0 same last.1 in
+        both_ways (is_end net ways to last.0) (none last.0 (end_inside last.0 is)) is)
 
     module _ (end : ℕ) (told : IsFirstEnd net ways to (length ways) (Some end))
         (first : ℕ) (rest : List ℕ) (begin : way_at ways first ≡ way.Start)

@@ -2,7 +2,7 @@
 use Rattle.std.proofs.Common.{◌≡◌, ◌∙◌, ℕ, zero, suc, ◌+◌, ◌<◌, ◌≤◌, ◌⊎◌, ◌==◌, inl, inr, true, false, List, [], ◌∷◌, ◌++◌, length, reverse, get_or, slice_get, All, Some, refl, ap, sym, subst, arith}
 use Rattle.std.proofs.lemmas.Bool.{both_ways, cases_lt, cond_both, eqb-false, eqb-true}
 use Rattle.std.proofs.lemmas.List.{get_or_past, reverse-append}
-use Rattle.std.proofs.lemmas.List.Elements.{All-cons, All-nil}
+use Rattle.std.proofs.lemmas.List.Elements.{All-cons}
 use Rattle.std.proofs.lemmas.Option.{get_or_from_slice_get}
 use Rattle.journeys.specs.declared.connection.Connection.{Connection}
 use Rattle.journeys.specs.declared.links.Link.{Link}
@@ -105,16 +105,6 @@ pub record IsBackSoFar (connections : List Connection) (ways : List Way) (end ev
   pub reached : is_reached (way_at ways event) ≡ true
 
 module _ (connections : List Connection) (ways : List Way) (end : ℕ) where
-  pub back_none : is_reached (way_at ways end) ≡ true
-      → IsBackSoFar connections ways end end (end ∷ [])
-  back_none reached = record {
-    rest = [];
-    is = refl;
-    last = refl;
-    steps = All-nil (λ (pair : ℕ × ℕ). IsStep connections ways pair.0 pair.1);
-    reached = reached;
-  }
-
   pub back_more : (event tail place : ℕ) (events : List ℕ)
       → IsBackSoFar connections ways end event events → way_at ways event ≡ way.By place
       → slice_get connections place ≡ Some (record { from = tail; to = event })

@@ -21,11 +21,6 @@ use Rattle.journeys.proofs.FollowedRides.{turn_tail}
 
 -- ---- what one link does to the way into its head
 
-reached_by : (w : Way) (index : ℕ) → is_reached (or_by w index) ≡ true
-reached_by way.Unreached index = refl
-reached_by way.Start index = refl
-reached_by (way.By other) index = refl
-
 lesser_first : (a b : ℕ) → lesser a b ≤ a
 lesser_first a b = cond_both (nat_le a b) a b (λ n. n ≤ a) (λ is. omega arith)
     (λ fails. let less = leb-false a b fails in omega (arith, less))
