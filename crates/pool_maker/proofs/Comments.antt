@@ -1,11 +1,12 @@
 -- A table is read back where comments stand behind it.
-use Rattle.std.proofs.Common.{◌≡◌, ◌≢◌, ℕ, suc, ◌+◌, ◌-◌, ◌==◌, Bool, true, false, cond, List, []}
+use Rattle.std.proofs.Common.{◌≡◌, ◌≢◌, ℕ, suc, ◌+◌, ◌-◌, ◌==◌, Bool, true, false, cond, List, [], inl, inr}
 use Rattle.std.proofs.Common.{◌∷◌, ◌++◌, length, map, filter, take, All, refl, ap, sym, subst, ◌∙◌}
 use Rattle.std.proofs.Common.{arith, append_assoc, ne_eqb}
 use Rattle.std.specs.List.{AllByRecursion, enumerate_from, flat_map, onto_first}
 use Rattle.std.specs.Str.Lines.{strip_carriage_return}
 use Rattle.std.proofs.lemmas.List.{map-append}
 use Rattle.std.proofs.lemmas.List.Splits.{slice_split_none}
+use Rattle.std.proofs.lemmas.Bool.{cases_Bool}
 use Rattle.giv_files.specs.declared.column.ColumnKind.{ColumnKind}
 use Rattle.giv_files.specs.Reading.{has_mark, row_faults, table_row}
 use Rattle.giv_files.proofs.RowsLeft.{no_mark, table_is}
@@ -37,17 +38,13 @@ has_part (byte ∷ text) = by (byte == 10) (has_part text)
 pub parts_both : (text more : List ℕ) → parts_of (text ++ 10 ∷ more) ≡ parts_of text ++ parts_of
     more
 parts_both [] more = refl
-parts_both (byte ∷ text) more = by (byte == 10) (parts_both text more)
-  where
-    by : (ends : Bool) → parts_of (text ++ 10 ∷ more) ≡ parts_of text ++ parts_of more
-        → cond ends ([] ∷ parts_of (text ++ 10 ∷ more))
-        (onto_first byte (parts_of (text ++ 10 ∷ more)))
-        ≡ cond ends ([] ∷ parts_of text) (onto_first byte (parts_of text)) ++ parts_of more
-    by true rest = ap (λ parts. [] ∷ parts) rest
-    by false rest =
-        let part = has_part text in
-        ap (onto_first byte) (rest ∙ ap (λ parts. parts ++ parts_of more) part.is)
-        ∙ sym (ap (λ parts. onto_first byte parts ++ parts_of more) part.is)
+parts_both (byte ∷ text) more = elim (cases_Bool (byte == 10)) [
+  | inl ends ↦ rw ends (ap (λ parts. [] ∷ parts) (parts_both text more))
+  | inr goes_on ↦ rw goes_on (
+      let part = has_part text in
+      ap (onto_first byte) (parts_both text more ∙ ap (λ parts. parts ++ parts_of more) part.is)
+      ∙ sym (ap (λ parts. onto_first byte parts ++ parts_of more) part.is))
+]
 
 -- ---- lines without a row
 
@@ -63,30 +60,20 @@ rows_from number some =
 none_from : (number : ℕ) (some : List (List ℕ)) → AllByRecursion IsRowless some
     → rows_from number some ≡ []
 none_from number [] none = refl
-none_from number (line ∷ some) none =
-    by (has_byte line) (λ number. none_from number some none.1)
-  where
-    by : (b : Bool) → ((number : ℕ) → rows_from number some ≡ [])
-        → flat_map (λ line. row_of line.0 line.1)
-        (enumerate_from number (cond b (line ∷ filter has_byte some) (filter has_byte some))) ≡ []
-    by true rest = ap (λ own. own ++ rows_from (number + 1) some) (none.0 number)
-        ∙ rest (number + 1)
-    by false rest = rest number
+none_from number (line ∷ some) none = elim (cases_Bool (has_byte line)) [
+  | inl is ↦ rw is (ap (λ own. own ++ rows_from (number + 1) some) (none.0 number)
+      ∙ none_from (number + 1) some none.1)
+  | inr is ↦ rw is (none_from number some none.1)
+]
 
 rows_front : (number : ℕ) (some more : List (List ℕ)) → AllByRecursion IsRowless more
     → rows_from number (some ++ more) ≡ rows_from number some
 rows_front number [] more none = none_from number more none
-rows_front number (line ∷ some) more none =
-    by (has_byte line) (λ number. rows_front number some more none)
-  where
-    by : (b : Bool) → ((number : ℕ) → rows_from number (some ++ more) ≡ rows_from number some)
-        → flat_map (λ line. row_of line.0 line.1)
-        (enumerate_from number (cond b (line ∷ filter has_byte (some ++ more))
-        (filter has_byte (some ++ more))))
-        ≡ flat_map (λ line. row_of line.0 line.1)
-        (enumerate_from number (cond b (line ∷ filter has_byte some) (filter has_byte some)))
-    by true front = ap (λ rest. row_of number line ++ rest) (front (number + 1))
-    by false front = front number
+rows_front number (line ∷ some) more none = elim (cases_Bool (has_byte line)) [
+  | inl is ↦ rw is
+      (ap (λ rest. row_of number line ++ rest) (rows_front (number + 1) some more none))
+  | inr is ↦ rw is (rows_front number some more none)
+]
 
 -- ---- comments
 

@@ -4,9 +4,11 @@ use Rattle.std.proofs.Common.{◌≡◌, ◌≢◌, ℕ, ◌<◌, Bool, true, fa
 use Rattle.std.proofs.Common.{[], ◌∷◌, length, get_or, All, inl, inr, ◌⊎◌, refl, ap, subst, sym}
 use Rattle.std.proofs.Common.{◌∙◌, Some}
 use Rattle.std.specs.List.{AllByRecursion, IsDistinct, cons_option, list_all, list_any}
-use Rattle.std.proofs.lemmas.Bool.{and_parts, eq-eqb, eqb-true, ne_eqb}
+use Rattle.std.proofs.lemmas.Bool.{eq-eqb, eqb-true, ne_eqb, or_right as or_second, cases_Bool}
 use Rattle.std.proofs.lemmas.List.Elements.{All-contains, All-head, All-tail}
 use Rattle.std.proofs.lemmas.Option.{slice_get-get_or}
+use Rattle.std.proofs.lemmas.List.Folds.{Any-from_list_any}
+use Rattle.std.proofs.lemmas.List.Sums.{AllPass-from_list_all}
 use Rattle.ptn_network.specs.declared.edge.Edge.{Edge}
 use Rattle.ptn_network.specs.Networks.{IsEdge}
 use Rattle.ptn_network.specs.Paths.{IsSimple, edges_at}
@@ -133,31 +135,20 @@ odd_without : (test : ℕ → Bool) (x : ℕ) (ys : List ℕ) → is_in x ys ≡
     → odd_by test ys ≡ differ (test x) (odd_by test (without x ys))
 unfolding odd_by without
 odd_without test x [] there = cc
-odd_without test x (y ∷ ys) there = by (nat_eq x y) refl there
-    (λ there. odd_without test x ys there)
-  where
-    by : (b : Bool) → nat_eq x y ≡ b → (b || list_any (nat_eq x) ys) ≡ true
-        → (list_any (nat_eq x) ys ≡ true → odd_by test ys ≡ differ (test x)
-        (odd_by test (without x ys)))
-        → differ (test y) (odd_by test ys) ≡ differ (test x)
-        (odd_by test (cond b ys (y ∷ without x ys)))
-    by true same there rest = ap (λ at. differ (test at) (odd_by test ys)) (sym (eqb-true x y same))
-    by false other there rest =
-        ap (differ (test y)) (rest there)
-        ∙ differ_swap (test y) (test x) (odd_by test (without x ys))
+odd_without test x (y ∷ ys) there = elim (cases_Bool (nat_eq x y)) [
+  | inl same ↦ rw same (ap (λ at. differ (test at) (odd_by test ys)) (sym (eqb-true x y same)))
+  | inr other ↦ rw other (ap (differ (test y)) (odd_without test x ys (rw other at there))
+      ∙ differ_swap (test y) (test x) (odd_by test (without x ys)))
+]
 
 still_in : (x p : ℕ) (ys : List ℕ) → p ≢ x → is_in p (without x ys) ≡ is_in p ys
 unfolding without
 still_in x p [] apart = refl
-still_in x p (y ∷ ys) apart = by (nat_eq x y) refl (still_in x p ys apart)
-  where
-    by : (b : Bool) → nat_eq x y ≡ b → list_any (nat_eq p) (without x ys) ≡ list_any (nat_eq p) ys
-        → list_any (nat_eq p) (cond b ys (y ∷ without x ys))
-        ≡ (nat_eq p y || list_any (nat_eq p) ys)
-    by true same rest =
-        ap (λ b. b || list_any (nat_eq p) ys)
-        (sym (ne_eqb p y (λ own. apart (own ∙ sym (eqb-true x y same)))))
-    by false other rest = ap (λ b. nat_eq p y || b) rest
+still_in x p (y ∷ ys) apart = elim (cases_Bool (nat_eq x y)) [
+  | inl same ↦ rw same (ap (λ b. b || list_any (nat_eq p) ys)
+      (sym (ne_eqb p y (λ own. apart (own ∙ sym (eqb-true x y same))))))
+  | inr other ↦ rw other (ap (λ b. nat_eq p y || b) (still_in x p ys apart))
+]
 
 none_of : (x : ℕ) (ys : List ℕ) → AllByRecursion (λ y. nat_eq x y ≡ false) ys → is_in x ys ≡ false
 none_of x [] apart = refl
@@ -166,35 +157,32 @@ none_of x (y ∷ ys) apart = ap (λ b. b || list_any (nat_eq x) ys) apart.0 ∙ 
 not_in : (x : ℕ) (ys : List ℕ) → IsDistinct nat_eq ys → is_in x (without x ys) ≡ false
 unfolding without IsDistinct
 not_in x [] apart = refl
-not_in x (y ∷ ys) apart = by (nat_eq x y) refl (not_in x ys apart.1)
-  where
-    by : (b : Bool) → nat_eq x y ≡ b → list_any (nat_eq x) (without x ys) ≡ false
-        → list_any (nat_eq x) (cond b ys (y ∷ without x ys)) ≡ false
-    by true same rest =
-        subst (λ at. list_any (nat_eq at) ys ≡ false) (sym (eqb-true x y same))
-        (none_of y ys apart.0)
-    by false other rest = ap (λ b. b || list_any (nat_eq x) (without x ys)) other ∙ rest
+not_in x (y ∷ ys) apart = elim (cases_Bool (nat_eq x y)) [
+  | inl same ↦ rw same (subst (λ at. list_any (nat_eq at) ys ≡ false) (sym (eqb-true x y same))
+      (none_of y ys apart.0))
+  | inr other ↦ rw other (ap (λ b. b || list_any (nat_eq x) (without x ys)) other
+      ∙ not_in x ys apart.1)
+]
 
 all_without : (P : ℕ → Type 0) (x : ℕ) (ys : List ℕ) → AllByRecursion P ys
     → AllByRecursion P (without x ys)
 unfolding without
 all_without P x [] all = tt
-all_without P x (y ∷ ys) all = by (nat_eq x y) (all_without P x ys all.1)
-  where
-    by : (b : Bool) → AllByRecursion P (without x ys) → AllByRecursion P
-        (cond b ys (y ∷ without x ys))
-    by true rest = all.1
-    by false rest = (all.0, rest)
+all_without P x (y ∷ ys) all = elim (cases_Bool (nat_eq x y)) [
+  | inl same ↦ rw same all.1
+  | inr other ↦ rw other (all.0, all_without P x ys all.1)
+]
 
 distinct_without : (x : ℕ) (ys : List ℕ) → IsDistinct nat_eq ys → IsDistinct nat_eq (without x ys)
 unfolding without IsDistinct
 distinct_without x [] apart = tt
-distinct_without x (y ∷ ys) apart = by (nat_eq x y) (distinct_without x ys apart.1)
-  where
-    by : (b : Bool) → IsDistinct nat_eq (without x ys)
-        → IsDistinct nat_eq (cond b ys (y ∷ without x ys))
-    by true rest = apart.1
-    by false rest = (all_without (λ z. nat_eq y z ≡ false) x ys apart.0, rest)
+distinct_without x (y ∷ ys) apart = elim (cases_Bool (nat_eq x y)) [
+  | inl same ↦ rw same apart.1
+  | inr other ↦ rw other (
+    all_without (λ z. nat_eq y z ≡ false) x ys apart.0,
+    distinct_without x ys apart.1,
+  )
+]
 
 -- numbers of one list are in another one
 abbrev pub AreIn : List ℕ → List ℕ → Type 0
@@ -228,10 +216,6 @@ same_odd test (x ∷ xs) ys one two into back =
     let in_ys : is_in p ys ≡ true = sym (still_in x p ys apart) ∙ h in
     sym (ap (λ b. b || is_in p xs) (ne_eqb p x apart)) ∙ back p in_ys))
     ∙ sym (odd_without test x ys there)
-  where
-    or_second : (a b : Bool) → b ≡ true → (a || b) ≡ true
-    or_second true b is = refl
-    or_second false b is = is
 
 -- ---- the ends of two walks over the same edges
 
@@ -293,14 +277,7 @@ paths_ends edges n a b c d path other sound one two first second apart into back
 -- what a test of lists says of their members
 pub members_in : (path other : List ℕ) → list_all (λ edge. list_any (nat_eq edge) other) path ≡ true
     → AreIn path other
-members_in [] other all x there = cc
-members_in (edge ∷ path) other all x there =
-    by (nat_eq x edge) refl there (λ there. members_in path other (and_parts _ _ all).1 x there)
-  where
-    by : (b : Bool) → nat_eq x edge ≡ b → (b || list_any (nat_eq x) path) ≡ true
-        → (list_any (nat_eq x) path ≡ true → list_any (nat_eq x) other ≡ true)
-        → list_any (nat_eq x) other ≡ true
-    by true same there rest =
-        subst (λ at. list_any (nat_eq at) other ≡ true) (sym (eqb-true x edge same))
-        (and_parts _ _ all).0
-    by false apart there rest = rest there
+members_in path other all x there =
+    let at = Any-from_list_any (nat_eq x) path there in
+    subst (λ edge. list_any (nat_eq edge) other ≡ true) (at.3 ∙ sym (eqb-true x at.1 at.4))
+    (AllPass-from_list_all (λ edge. list_any (nat_eq edge) other) path all at.0 at.1 at.2)

@@ -1,10 +1,10 @@
 -- The least sum of the definition is the least over all walks: a walk that comes to a stop twice
 -- can be cut short.
-use Rattle.std.proofs.Common.{◌≡◌, ℕ, ℤ, pos, suc, ◌+◌, ◌<◌, ◌≤◌, Bool, true, false, ◌||◌, nat_eq}
+use Rattle.std.proofs.Common.{◌≡◌, ℕ, ℤ, pos, suc, ◌<◌, ◌≤◌, true, false, nat_eq, inl, inr}
 use Rattle.std.proofs.Common.{List, [], ◌∷◌, length, map, refl, ap, subst, sym, ◌∙◌, arith, Option}
 use Rattle.std.proofs.Common.{Some, None, option_map, unsigned_abs, unwrap_or, All, Contains}
 use Rattle.std.specs.List.{AllByRecursion, IsDistinct, list_any}
-use Rattle.std.proofs.lemmas.Bool.{eqb-true}
+use Rattle.std.proofs.lemmas.Bool.{eqb-true, cases_Bool}
 use Rattle.std.proofs.lemmas.List.Elements.{All-contains}
 use Rattle.std.proofs.lemmas.List.FromFn.{get_or-map-range_with_len}
 use Rattle.std.proofs.lemmas.Map.Steps.{length-le_from_distinct_below}
@@ -13,7 +13,7 @@ use Rattle.ptn_network.specs.Networks.{IsEdge, IsNetwork, NetworkParts}
 use Rattle.ptn_network.specs.Walks.{AreLeastSums, IsLeastSum, IsWalk, across, least_of, least_sum}
 use Rattle.ptn_network.specs.Walks.{least_sums, walk_sum, walks_within}
 use Rattle.ptn_network.proofs.LastWalks.{starts_within}
-use Rattle.ptn_network.proofs.Walks.{Begins, Contains-cons, Contains-head, Contains-map}
+use Rattle.ptn_network.proofs.Walks.{Contains-cons, Contains-head, Contains-map}
 use Rattle.ptn_network.proofs.Walks.{Contains-rec, IsUpTo, begins, edge_first, least_of_all}
 use Rattle.ptn_network.proofs.Walks.{least_of_there, walk_sum-cons, within_all, within_there}
 
@@ -33,17 +33,13 @@ starts_on : (edge : Edge) (stop next : ℕ) (walk : List Edge) → across edge s
 unfolding starts
 starts_on edge stop next walk over = ap (λ end. stop ∷ starts (unwrap_or end 0) walk) over
 
-none_alike : (stop : ℕ) (stops : List ℕ) → list_any (nat_eq stop) stops ≡ false
-    → AllByRecursion (λ other. nat_eq stop other ≡ false) stops
-none_alike stop [] none = tt
-none_alike stop (other ∷ stops) none = by (nat_eq stop other) refl none (none_alike stop stops)
-  where
-    by : (b : Bool) → nat_eq stop other ≡ b → (b || list_any (nat_eq stop) stops) ≡ false
-        → (list_any (nat_eq stop) stops ≡ false → AllByRecursion
-        (λ other. nat_eq stop other ≡ false) stops)
-        → AllByRecursion (λ other. nat_eq stop other ≡ false) (other ∷ stops)
-    by true is none rest = absurd (cc)
-    by false is none rest = (is, rest none)
+pub none_alike : (one : ℕ) (xs : List ℕ) → list_any (nat_eq one) xs ≡ false
+    → AllByRecursion (λ x. nat_eq one x ≡ false) xs
+none_alike one [] none = tt
+none_alike one (x ∷ xs) none = elim (cases_Bool (nat_eq one x)) [
+  | inl is ↦ absurd (let e = rw is at none in cc)
+  | inr is ↦ (is, none_alike one xs (rw is at none))
+]
 
 module _ (edges : List Edge) (weight : Edge → ℕ) (to : ℕ) where
   -- a walk that goes on from each stop once, with a sum that is not above another one
@@ -60,24 +56,16 @@ module _ (edges : List Edge) (weight : Edge → ℕ) (to : ℕ) where
   unfolding starts IsDistinct
   cut from stop most [] is apart less there = absurd (cc)
   cut from stop most (edge ∷ walk) is apart less there =
-      by (nat_eq from stop) refl there (begins edges stop to edge walk is)
-      (λ next on apart below there. cut from next most walk on apart below there)
-    where
-      by : (b : Bool) → nat_eq from stop ≡ b
-          → (b || list_any (nat_eq from) (starts (unwrap_or (across edge stop) 0) walk)) ≡ true
-          → Begins edges stop to edge walk
-          → ((next : ℕ) → IsWalk edges next to walk → IsDistinct nat_eq (starts next walk)
-          → walk_sum weight walk ≤ most → list_any (nat_eq from) (starts next walk) ≡ true
-          → IsPlain from most)
-          → IsPlain from most
-      by true same there start rest = subst (λ first. IsPlain first most)
-          (sym (eqb-true from stop same))
-          (record { walk = edge ∷ walk; is = is; apart = apart; less = less })
-      by false other there start rest =
-          let on = ap (λ end. starts (unwrap_or end 0) walk) start.over in
-          rest start.next start.on (subst (IsDistinct nat_eq) on apart.1)
-          (omega (arith, less, walk_sum-cons weight edge walk))
-          (subst (λ stops. list_any (nat_eq from) stops ≡ true) on there)
+      let start = begins edges stop to edge walk is in
+      elim (cases_Bool (nat_eq from stop)) [
+        | inl same ↦ subst (λ first. IsPlain first most) (sym (eqb-true from stop same))
+            (record { walk = edge ∷ walk; is = is; apart = apart; less = less })
+        | inr other ↦
+            let on = ap (λ end. starts (unwrap_or end 0) walk) start.over in
+            cut from start.next most walk start.on (subst (IsDistinct nat_eq) on apart.1)
+            (omega (arith, less, walk_sum-cons weight edge walk))
+            (subst (λ stops. list_any (nat_eq from) stops ≡ true) on (rw other at there))
+      ]
 
   -- from a stop a walk goes on once
   plain_on : (from next : ℕ) (edge : Edge) (rest : List Edge) → Contains edges edge
@@ -85,22 +73,18 @@ module _ (edges : List Edge) (weight : Edge → ℕ) (to : ℕ) where
       → IsPlain from (walk_sum weight (edge ∷ rest))
   unfolding IsDistinct
   plain_on from next edge rest there over plain =
-      by (list_any (nat_eq from) (starts next plain.walk)) refl
-    where
-      sums : walk_sum weight (edge ∷ rest) ≡ weight edge + walk_sum weight rest
-      sums = walk_sum-cons weight edge rest
-
-      by : (b : Bool) → list_any (nat_eq from) (starts next plain.walk) ≡ b
-          → IsPlain from (walk_sum weight (edge ∷ rest))
-      by true again = cut from next (walk_sum weight (edge ∷ rest)) plain.walk plain.is plain.apart
-          (omega (arith, plain.less, sums)) again
-      by false new = record {
-        walk = edge ∷ plain.walk;
-        is = edge_first edges from next to edge plain.walk there over plain.is;
-        apart = subst (IsDistinct nat_eq) (sym (starts_on edge from next plain.walk over))
-            (none_alike from (starts next plain.walk) new, plain.apart);
-        less = omega (arith, plain.less, sums, walk_sum-cons weight edge plain.walk);
-      }
+      let sums = walk_sum-cons weight edge rest in
+      elim (cases_Bool (list_any (nat_eq from) (starts next plain.walk))) [
+        | inl again ↦ cut from next (walk_sum weight (edge ∷ rest)) plain.walk plain.is plain.apart
+            (omega (arith, plain.less, sums)) again
+        | inr new ↦ record {
+          walk = edge ∷ plain.walk;
+          is = edge_first edges from next to edge plain.walk there over plain.is;
+          apart = subst (IsDistinct nat_eq) (sym (starts_on edge from next plain.walk over))
+              (none_alike from (starts next plain.walk) new, plain.apart);
+          less = omega (arith, plain.less, sums, walk_sum-cons weight edge plain.walk);
+        }
+      ]
 
   plain : (from : ℕ) (walk : List Edge) → IsWalk edges from to walk
       → IsPlain from (walk_sum weight walk)
@@ -117,22 +101,15 @@ module _ (edges : List Edge) (weight : Edge → ℕ) (to : ℕ) where
     unfolding starts
     within from [] is stop there = absurd (cc)
     within from (edge ∷ walk) is stop there =
-        by (nat_eq stop from) refl there (begins edges from to edge walk is)
-        (λ next on there. within next walk on stop there)
-      where
-        by : (b : Bool) → nat_eq stop from ≡ b
-            → (b || list_any (nat_eq stop) (starts (unwrap_or (across edge from) 0) walk)) ≡ true
-            → Begins edges from to edge walk
-            → ((next : ℕ) → IsWalk edges next to walk
-            → list_any (nat_eq stop) (starts next walk) ≡ true → stop < n)
-            → stop < n
-        by true same there start rest =
-            subst (λ first. first < n) (sym (eqb-true stop from same))
-            (starts_within n edge from start.next
-            (All-contains (IsEdge n) edges edge sound start.there) start.over)
-        by false other there start rest =
-            rest start.next start.on (subst (λ stops. list_any (nat_eq stop) stops ≡ true)
-            (ap (λ end. starts (unwrap_or end 0) walk) start.over) there)
+        let start = begins edges from to edge walk is in
+        elim (cases_Bool (nat_eq stop from)) [
+          | inl same ↦ subst (λ first. first < n) (sym (eqb-true stop from same))
+              (starts_within n edge from start.next
+              (All-contains (IsEdge n) edges edge sound start.there) start.over)
+          | inr other ↦ within start.next walk start.on stop
+              (subst (λ stops. list_any (nat_eq stop) stops ≡ true)
+              (ap (λ end. starts (unwrap_or end 0) walk) start.over) (rw other at there))
+        ]
 
     short : (from most : ℕ) (some : IsPlain from most) → length some.walk ≤ n
     short from most some =

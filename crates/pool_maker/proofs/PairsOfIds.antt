@@ -1,5 +1,5 @@
 -- The pairs of terminals: each of them once, and not more than 190.
-use Rattle.std.proofs.Common.{◌≡◌, ℕ, ℤ, zero, suc, ◌+◌, ◌≤◌, ◌<ℤ◌, Bool, true, false, cond, int_lt}
+use Rattle.std.proofs.Common.{◌≡◌, ℕ, ℤ, zero, suc, ◌+◌, ◌≤◌, ◌<ℤ◌, Bool, true, false, cond, int_lt, inl, inr}
 use Rattle.std.proofs.Common.{List, [], ◌∷◌, ◌++◌, length, map, filter, All, refl, ap, subst, sym}
 use Rattle.std.proofs.Common.{◌∙◌, arith, append_assoc}
 use Rattle.std.specs.List.{AllByRecursion, flat_map}
@@ -12,6 +12,7 @@ use Rattle.std.proofs.lemmas.Cmp.{int_cmp_total}
 use Rattle.std.proofs.lemmas.List.{length-append, length-map}
 use Rattle.std.proofs.lemmas.List.Elements.{All-append, All-cons, All-head, All-nil, All-tail}
 use Rattle.std.proofs.lemmas.List.Elements.{filter-append}
+use Rattle.std.proofs.lemmas.Bool.{cases_Bool}
 use Rattle.ptn_network.specs.Networks.{rising}
 use Rattle.ptn_network.proofs.Sound.{rising_rises}
 use Rattle.pool_maker.specs.TerminalPaths.{pairs_of}
@@ -38,14 +39,10 @@ above_tests : (x y : ℤ) → int_cmp x y ≡ Less → int_lt y x ≡ false
 above_tests x y less = not_less_tests y x (int_cmp x y) (int_cmp_total.antisymm y x) less
 
 own_tests : (x : ℤ) → int_lt x x ≡ false
-own_tests x = by (int_lt x x) refl
-  where
-    by : (b : Bool) → int_lt x x ≡ b → b ≡ false
-    by false is = refl
-    by true is =
-        let less : int_cmp x x ≡ Less = ap (λ b. cond b Less (cond b Greater Equal)) is in
-        let not : int_lt x x ≡ false = above_tests x x less in
-        absurd (let both : true ≡ false = sym is ∙ not in cc)
+own_tests x = elim (cases_Bool (int_lt x x)) [
+  | inl is ↦ above_tests x x (ap (λ b. cond b Less (cond b Greater Equal)) is)
+  | inr is ↦ is
+]
 
 pub less_is : (x y : ℤ) → int_lt x y ≡ true → x <ℤ y
 less_is x y is =

@@ -1,12 +1,12 @@
 -- No two paths between terminals lie in one another, so each path lies in a line.
-use Rattle.std.proofs.Common.{◌≡◌, ◌≢◌, ℕ, ℤ, pos, zero, suc, ◌<◌, Bool, true, false, ◌&&◌, ◌||◌}
+use Rattle.std.proofs.Common.{◌≡◌, ◌≢◌, ℕ, ℤ, pos, zero, suc, ◌<◌, Bool, true, false, ◌||◌}
 use Rattle.std.proofs.Common.{nat_eq, List, [], ◌∷◌, ◌++◌, length, map, filter_map, get_or, All}
 use Rattle.std.proofs.Common.{Option, Some, None, inl, inr, refl, ap, subst, sym, ◌∙◌, arith}
 use Rattle.std.specs.List.{AllByRecursion, IsDistinct, cons_option, list_all, list_any}
 use Rattle.std.specs.List.Sorted.{IsStrictlySortedBy}
 use Rattle.std.specs.Ordering.{int_cmp, int_eq}
 use Rattle.std.specs.declared.cmp.Ordering.TheVariants.{Less}
-use Rattle.std.proofs.lemmas.Bool.{cases_lt, eq-eqb, eqb-true}
+use Rattle.std.proofs.lemmas.Bool.{cases_lt, eq-eqb, eqb-true, or_right, cases_Bool}
 use Rattle.std.proofs.lemmas.Bool.Decides.{Decides-int_eq}
 use Rattle.std.proofs.lemmas.Cmp.{nat_eq_equiv}
 use Rattle.std.proofs.lemmas.Int.{ints}
@@ -24,6 +24,7 @@ use Rattle.pool_maker.proofs.EndsOfWalks.{members_in, paths_ends}
 use Rattle.pool_maker.proofs.PairsOfIds.{AreInOrder, less_is, not_own, pairs_after, pairs_are}
 use Rattle.pool_maker.proofs.TerminalWays.{IsKnown, all_stops, in_order, is_index, way_of}
 use Rattle.pool_maker.proofs.TerminalWays.{way_shortest}
+use Rattle.pool_maker.proofs.LeastWalks.{none_alike}
 
 -- ---- the pairs differ
 
@@ -231,37 +232,20 @@ record Fails (p : ℕ → Bool) (xs : List ℕ) : Type 0 where
 
 fails_at : (p : ℕ → Bool) (xs : List ℕ) → list_all p xs ≡ false → Fails p xs
 fails_at p [] none = cc
-fails_at p (x ∷ xs) none = by (p x) refl none (λ none. fails_at p xs none)
-  where
-    by : (b : Bool) → p x ≡ b → (b && list_all p xs) ≡ false
-        → (list_all p xs ≡ false → Fails p xs) → Fails p (x ∷ xs)
-    by false is none rest = record {
-      one = x;
-      there = ap (λ b. b || list_any (nat_eq x) xs) (eq-eqb x x refl);
-      fails = is;
-    }
-    by true is none rest =
-        let later = rest none in
-        record {
-          one = later.one;
-          there = or_second (nat_eq later.one x) (list_any (nat_eq later.one) xs) later.there;
-          fails = later.fails;
-        }
-      where
-        or_second : (a b : Bool) → b ≡ true → (a || b) ≡ true
-        or_second true b is = refl
-        or_second false b is = is
-
-none_alike : (one : ℕ) (xs : List ℕ) → list_any (nat_eq one) xs ≡ false
-    → AllByRecursion (λ x. nat_eq one x ≡ false) xs
-none_alike one [] none = tt
-none_alike one (x ∷ xs) none = by (nat_eq one x) refl none (none_alike one xs)
-  where
-    by : (b : Bool) → nat_eq one x ≡ b → (b || list_any (nat_eq one) xs) ≡ false
-        → (list_any (nat_eq one) xs ≡ false → AllByRecursion (λ x. nat_eq one x ≡ false) xs)
-        → AllByRecursion (λ x. nat_eq one x ≡ false) (x ∷ xs)
-    by true is none rest = cc
-    by false is none rest = (is, rest none)
+fails_at p (x ∷ xs) none = elim (cases_Bool (p x)) [
+  | inl is ↦
+      let later = fails_at p xs (rw is at none) in
+      record {
+        one = later.one;
+        there = or_right (nat_eq later.one x) (list_any (nat_eq later.one) xs) later.there;
+        fails = later.fails;
+      }
+  | inr is ↦ record {
+    one = x;
+    there = ap (λ b. b || list_any (nat_eq x) xs) (eq-eqb x x refl);
+    fails = is;
+  }
+]
 
 pub longer : (path other : List ℕ) → IsDistinct nat_eq path → lies_in path other ≡ true
     → lies_in other path ≡ false → length path < length other
@@ -275,10 +259,7 @@ longer path other apart into back =
   where
     member : (x one : ℕ) → list_any (nat_eq one) other ≡ true
         → list_any (nat_eq x) (one ∷ path) ≡ true → list_any (nat_eq x) other ≡ true
-    member x one own there = by (nat_eq x one) refl there
-      where
-        by : (b : Bool) → nat_eq x one ≡ b → (b || list_any (nat_eq x) path) ≡ true
-            → list_any (nat_eq x) other ≡ true
-        by true same there =
-            subst (λ at. list_any (nat_eq at) other ≡ true) (sym (eqb-true x one same)) own
-        by false differs there = members_in path other into x there
+    member x one own there = elim (cases_Bool (nat_eq x one)) [
+      | inl same ↦ subst (λ at. list_any (nat_eq at) other ≡ true) (sym (eqb-true x one same)) own
+      | inr differs ↦ members_in path other into x (rw differs at there)
+    ]

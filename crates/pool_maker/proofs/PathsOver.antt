@@ -1,6 +1,6 @@
 -- The paths over terminals with their stops are the paths between their ids.
-use Rattle.std.proofs.Common.{◌≡◌, ℕ, ℤ, ◌<◌, Bool, true, false, cond, int_lt, List, [], ◌∷◌, ◌++◌}
-use Rattle.std.proofs.Common.{length, map, filter, filter_map, Option, None, refl, ap, sym, ◌∙◌}
+use Rattle.std.proofs.Common.{◌≡◌, ℕ, ℤ, ◌<◌, true, int_lt, List, [], ◌∷◌, ◌++◌, inl, inr}
+use Rattle.std.proofs.Common.{length, map, filter, filter_map, Option, refl, ap, sym, ◌∙◌}
 use Rattle.std.specs.List.{cons_option, flat_map}
 use Rattle.std.proofs.lemmas.List.Elements.{All-map, All-weaker, filter_map-append}
 use Rattle.ptn_network.specs.Networks.{NetworkParts, index_in, rising}
@@ -13,6 +13,7 @@ use Rattle.pool_maker.proofs.TerminalWays.{all_stops, is_index}
 use Rattle.std.specs.List.{list_any}
 use Rattle.std.specs.Ordering.{int_eq}
 use Rattle.std.proofs.lemmas.List.Sums.{AllPass-from_list_all}
+use Rattle.std.proofs.lemmas.Bool.{cases_Bool}
 
 module _ (network : NetworkParts) where
   abbrev way_of : ℤ × ℤ → Option (List ℕ)
@@ -23,19 +24,10 @@ module _ (network : NetworkParts) where
       (map (terminal_of network.stops) ids)
       ≡ filter_map way_of (map (λ to. (from, to)) (filter (int_lt from) ids))
   ways_from from [] = refl
-  ways_from from (to ∷ ids) = by (int_lt from to) (ways_from from ids)
-    where
-      by : (b : Bool)
-          → filter_map (way_between network (terminal_of network.stops from))
-          (map (terminal_of network.stops) ids)
-          ≡ filter_map way_of (map (λ to. (from, to)) (filter (int_lt from) ids))
-          → cons_option (cond b (way_of (from, to)) None)
-          (filter_map (way_between network (terminal_of network.stops from))
-          (map (terminal_of network.stops) ids))
-          ≡ filter_map way_of (map (λ to. (from, to))
-          (cond b (to ∷ filter (int_lt from) ids) (filter (int_lt from) ids)))
-      by true rest = ap (cons_option (way_of (from, to))) rest
-      by false rest = rest
+  ways_from from (to ∷ ids) = elim (cases_Bool (int_lt from to)) [
+    | inl is ↦ rw is (ap (cons_option (way_of (from, to))) (ways_from from ids))
+    | inr is ↦ rw is (ways_from from ids)
+  ]
 
   ways_over : (all ids : List ℤ)
       → flat_map (λ from. filter_map (way_between network from)

@@ -1,12 +1,12 @@
 -- Each path between terminals lies in a line.
-use Rattle.std.proofs.Common.{◌≡◌, ◌≢◌, ℕ, zero, suc, ◌+◌, ◌<◌, ◌≤◌, ◌==◌, Bool, true, false, not}
+use Rattle.std.proofs.Common.{◌≡◌, ◌≢◌, ℕ, zero, suc, ◌+◌, ◌<◌, ◌≤◌, ◌==◌, Bool, true, false, not, inl, inr}
 use Rattle.std.proofs.Common.{◌&&◌, ◌||◌, cond, nat_eq, List, [], ◌∷◌, length, map, filter, get_or}
 use Rattle.std.proofs.Common.{All, Any, refl, ap, subst, sym, ◌∙◌, arith}
 use Rattle.std.specs.List.{IsDistinct, enumerate_from, list_any}
-use Rattle.std.proofs.lemmas.Bool.{and_parts, eq-eqb, eqb-false, not-true}
+use Rattle.std.proofs.lemmas.Bool.{and_parts, eq-eqb, eqb-false, not-true, or_right as or_second, cases_Bool}
 use Rattle.std.proofs.lemmas.List.{get_or_default}
 use Rattle.std.proofs.lemmas.List.Elements.{All-get_or, All-weaker}
-use Rattle.std.proofs.lemmas.List.Folds.{Any-from_list_any}
+use Rattle.std.proofs.lemmas.List.Folds.{Any-from_list_any, list_any_at}
 use Rattle.std.proofs.lemmas.List.FromFn.{get_or-enumerate_from, length-enumerate_from}
 use Rattle.pool_maker.specs.Laws.{EachPathIsServed}
 use Rattle.pool_maker.specs.TerminalPaths.{is_contained, lies_in, lines_among, lines_between}
@@ -24,10 +24,6 @@ all_in (edge ∷ path) other into =
     (into edge (ap (λ b. b || list_any (nat_eq edge) path) (eq-eqb edge edge refl)))
     ∙ all_in path other (λ x there. into x
     (or_second (nat_eq x edge) (list_any (nat_eq x) path) there))
-  where
-    or_second : (a b : Bool) → b ≡ true → (a || b) ≡ true
-    or_second true b is = refl
-    or_second false b is = is
 
 lies_in_itself : (path : List ℕ) → lies_in path path ≡ true
 lies_in_itself path = all_in path path (λ x there. there)
@@ -40,17 +36,9 @@ lies_on path other more first second =
 
 any_too : {X : Type 0} (p q : X → Bool) (xs : List X) → ((x : X) → p x ≡ true → q x ≡ true)
     → list_any p xs ≡ true → list_any q xs ≡ true
-any_too p q [] too there = cc
-any_too p q (x ∷ xs) too there = by (p x) refl there (any_too p q xs too)
-  where
-    by : (b : Bool) → p x ≡ b → (b || list_any p xs) ≡ true
-        → (list_any p xs ≡ true → list_any q xs ≡ true) → list_any q (x ∷ xs) ≡ true
-    by true is there rest = ap (λ b. b || list_any q xs) (too x is)
-    by false is there rest = or_second (q x) (list_any q xs) (rest there)
-      where
-        or_second : (a b : Bool) → b ≡ true → (a || b) ≡ true
-        or_second true b is = refl
-        or_second false b is = is
+any_too p q xs too there =
+    let at = Any-from_list_any p xs there in
+    list_any_at q xs at.0 at.1 at.2 (ap q at.3 ∙ too at.1 at.4)
 
 -- ---- a path that lies in no other one is a line
 
@@ -67,18 +55,11 @@ module _ (paths : List (List ℕ)) (q : List ℕ → Bool) where
       ∙ ap (λ b. b || list_any q (lines_among paths some))
       (ap (λ (at : ℕ × List ℕ). q at.1) is ∙ passes)
   kept (first ∷ some) (suc i) at h is none passes =
-      by (is_contained paths first) (kept some i at (omega (arith, h)) is none passes)
-    where
-      by : (b : Bool) → list_any q (lines_among paths some) ≡ true
-          → list_any q (map (λ (at : ℕ × List ℕ). at.1)
-          (cond (not b) (first ∷ filter (λ at. not (is_contained paths at)) some)
-          (filter (λ at. not (is_contained paths at)) some))) ≡ true
-      by true rest = rest
-      by false rest = or_second (q first.1) (list_any q (lines_among paths some)) rest
-        where
-          or_second : (a b : Bool) → b ≡ true → (a || b) ≡ true
-          or_second true b is = refl
-          or_second false b is = is
+      let rest = kept some i at (omega (arith, h)) is none passes in
+      elim (cases_Bool (is_contained paths first)) [
+        | inl is ↦ rw is rest
+        | inr is ↦ rw is (or_second (q first.1) (list_any q (lines_among paths some)) rest)
+      ]
 
 -- ---- each path lies in a line
 
@@ -129,18 +110,17 @@ module _ (paths : List (List ℕ)) where
         → (length (path_at place) < length (path_at hold.other)
         → list_any (lies_in (path_at hold.other)) (uncontained paths) ≡ true)
         → list_any (lies_in (path_at place)) (uncontained paths) ≡ true
-    through place h hold rest = by (lies_in (path_at hold.other) (path_at place)) refl
-      where
-        by : (b : Bool) → lies_in (path_at hold.other) (path_at place) ≡ b
-            → list_any (lies_in (path_at place)) (uncontained paths) ≡ true
-        by true back =
-            absurd (hold.apart (sym (same_place paths apart place hold.other h hold.within
-            hold.holds back)))
-        by false back =
-            any_too (lies_in (path_at hold.other)) (lies_in (path_at place)) (uncontained paths)
-            (λ line is. lies_on (path_at place) (path_at hold.other) line hold.holds is)
-            (rest (longer (path_at place) (path_at hold.other)
-            (All-get_or (IsDistinct nat_eq) paths place [] h distinct) hold.holds back))
+    through place h hold rest =
+        elim (cases_Bool (lies_in (path_at hold.other) (path_at place))) [
+          | inl back ↦
+              absurd (hold.apart (sym (same_place paths apart place hold.other h hold.within
+              hold.holds back)))
+          | inr back ↦
+              any_too (lies_in (path_at hold.other)) (lies_in (path_at place)) (uncontained paths)
+              (λ line is. lies_on (path_at place) (path_at hold.other) line hold.holds is)
+              (rest (longer (path_at place) (path_at hold.other)
+              (All-get_or (IsDistinct nat_eq) paths place [] h distinct) hold.holds back))
+        ]
 
     module _ (most : ℕ) (few : All (λ path. length path ≤ most) paths) where
       serves : (left place : ℕ) → place < length paths → most < length (path_at place) + left
@@ -153,22 +133,16 @@ module _ (paths : List (List ℕ)) where
                 few,
           ))
       serves (suc left) place h bound =
-          by (is_contained paths (place, path_at place)) refl
-          (λ other k more. serves left other k more)
-        where
-          by : (b : Bool) → is_contained paths (place, path_at place) ≡ b
-              → ((other : ℕ) → other < length paths → most < length (path_at other) + left
-              → list_any (lies_in (path_at other)) (uncontained paths) ≡ true)
-              → list_any (lies_in (path_at place)) (uncontained paths) ≡ true
-          by false none rest =
-              kept paths (lies_in (path_at place)) (enumerate_from 0 paths) place
-              (place, path_at place) (omega (arith, h, length-enumerate_from 0 paths))
-              (here place h)
-              none (lies_in_itself (path_at place))
-          by true some rest =
-              let hold = holder place some in
-              through place h hold (λ longer. rest hold.other hold.within
-              (omega (arith, longer, bound)))
+          elim (cases_Bool (is_contained paths (place, path_at place))) [
+            | inr none ↦
+                kept paths (lies_in (path_at place)) (enumerate_from 0 paths) place
+                (place, path_at place) (omega (arith, h, length-enumerate_from 0 paths))
+                (here place h) none (lies_in_itself (path_at place))
+            | inl some ↦
+                let hold = holder place some in
+                through place h hold (λ longer. serves left hold.other hold.within
+                (omega (arith, longer, bound)))
+          ]
 
       all_served : All (λ path. Any (λ line. lies_in path line ≡ true) (uncontained paths)) paths
       all_served k d h =

@@ -1,5 +1,5 @@
 -- Ids that are sorted, and whether all of some ids are different or are known.
-use Rattle.std.proofs.Common.{◌≡◌, ℕ, ℤ, pos, ◌+◌, ◌-◌, ◌<◌, ◌≤◌, Bool, true, false, not, ◌||◌}
+use Rattle.std.proofs.Common.{◌≡◌, ℕ, ℤ, pos, ◌+◌, ◌-◌, ◌<◌, ◌≤◌, Bool, true, false, not, ◌||◌, inl, inr}
 use Rattle.std.proofs.Common.{◌&&◌, List, [], ◌∷◌, ◌++◌, cond, length, map, take, drop, get_or}
 use Rattle.std.proofs.Common.{slice_get, position, is_some, unwrap_or, Option, Some, None}
 use Rattle.std.proofs.Common.{option_map, refl, ap, subst, sym, ◌∙◌}
@@ -12,6 +12,7 @@ use Rattle.std.proofs.lemmas.List.Folds.{list_all_at, list_all_more}
 use Rattle.std.proofs.lemmas.Option.{same_Some}
 use Rattle.std.proofs.lemmas.List.Sorted.{list_any-IsPermutation}
 use Rattle.std.proofs.lemmas.Map.Keys.{IsDistinct-IsPermutation}
+use Rattle.std.proofs.lemmas.Bool.{cases_Bool}
 use Rattle.giv_files.specs.declared.file_id.FileId.TheVariants as file
 use Rattle.giv_files.specs.declared.refusal.Refusal.TheVariants as refusal
 use Rattle.giv_files.specs.declared.row_why.RowWhy.TheVariants as why
@@ -46,15 +47,10 @@ module _ (ids : List ℤ) where
   none_alike : (id : ℤ) (rest : List ℤ) → list_any (λ other. int_eq other id) rest ≡ false
       → AllByRecursion (λ other. int_eq id other ≡ false) rest
   none_alike id [] none = tt
-  none_alike id (other ∷ rest) none = by (int_eq other id) refl none (none_alike id rest)
-    where
-      by : (b : Bool) → int_eq other id ≡ b → (b || list_any (λ other. int_eq other id) rest)
-          ≡ false
-          → (list_any (λ other. int_eq other id) rest ≡ false
-          → AllByRecursion (λ other. int_eq id other ≡ false) rest)
-          → AllByRecursion (λ other. int_eq id other ≡ false) (other ∷ rest)
-      by true is none more = absurd (cc)
-      by false is none more = (int_eq_equiv.symm id other ∙ is, more none)
+  none_alike id (other ∷ rest) none = elim (cases_Bool (int_eq other id)) [
+    | inl is ↦ absurd (let e = rw is at none in cc)
+    | inr is ↦ (int_eq_equiv.symm id other ∙ is, none_alike id rest (rw is at none))
+  ]
 
   not_apart : (id : ℤ) (rest : List ℤ) → list_any (λ other. int_eq other id) rest ≡ true
       → AllByRecursion (λ other. int_eq id other ≡ false) rest → ⊥
@@ -106,12 +102,10 @@ all_done ids place past decided =
 all_by_any : {X : Type 0} (p : X → Bool) (xs : List X)
     → list_all p xs ≡ not (list_any (λ x. not (p x)) xs)
 all_by_any p [] = refl
-all_by_any p (x ∷ xs) = ap (λ b. p x && b) (all_by_any p xs)
-    ∙ by (p x) (list_any (λ x. not (p x)) xs)
-  where
-    by : (a b : Bool) → (a && not b) ≡ not (not a || b)
-    by true b = refl
-    by false b = refl
+all_by_any p (x ∷ xs) = elim (cases_Bool (p x)) [
+  | inl is ↦ rw is (all_by_any p xs)
+  | inr is ↦ rw is refl
+]
 
 pub same_all : (p : ℤ → Bool) (some others : List ℤ)
     → ((q : ℤ → Bool) → list_any q some ≡ list_any q others) → list_all p some ≡ list_all p others

@@ -1,19 +1,21 @@
 -- The paths between terminals are shortest lines, and there are not more than 190 of them.
-use Rattle.std.proofs.Common.{◌≡◌, ℕ, ℤ, pos, ◌+◌, ◌<◌, ◌≤◌, Bool, true, false, cond, not, ◌||◌}
-use Rattle.std.proofs.Common.{nat_eq, List, [], ◌∷◌, length, map, filter, filter_map, get_or}
+use Rattle.std.proofs.Common.{◌≡◌, ℕ, ℤ, pos, ◌+◌, ◌<◌, ◌≤◌, Bool, true, false, cond, not, inl, inr}
+use Rattle.std.proofs.Common.{nat_eq, List, [], ◌∷◌, length, filter, filter_map, get_or}
 use Rattle.std.proofs.Common.{position, All, Contains, Option, Some, None, option_map, is_some}
 use Rattle.std.proofs.Common.{unwrap_or, unsigned_abs, refl, ap, subst, sym, ◌∙◌, arith}
 use Rattle.std.specs.List.{cons_option, enumerate_from, list_all, list_any}
 use Rattle.std.specs.Ordering.{int_eq}
-use Rattle.std.proofs.lemmas.Bool.{eqb-true}
+use Rattle.std.proofs.lemmas.Bool.{eqb-true, cases_Bool}
 use Rattle.std.proofs.lemmas.Bool.Decides.{Decides-int_eq}
 use Rattle.std.proofs.lemmas.List.Elements.{All-cons, All-contains_itself, All-head, All-nil}
 use Rattle.std.proofs.lemmas.List.Elements.{All-tail}
 use Rattle.std.proofs.lemmas.List.FromFn.{get_or-map-range_with_len, length-enumerate_from}
 use Rattle.std.proofs.lemmas.List.Quantifiers.{position-Some}
-use Rattle.std.proofs.lemmas.List.Sums.{AllPass-from_list_all}
+use Rattle.std.proofs.lemmas.List.Sums.{AllPass-from_list_all, length-filter, count_by-le-length}
 use Rattle.std.proofs.lemmas.Map.Steps.{length-le_from_distinct_below}
 use Rattle.std.proofs.lemmas.Option.{same_Some}
+use Rattle.std.proofs.lemmas.List.Folds.{Any-from_list_any}
+use Rattle.std.proofs.lemmas.List.{length-map}
 use Rattle.giv_files.specs.declared.refusal.Refusal.{Refusal}
 use Rattle.giv_files.proofs.Found.{any_is}
 use Rattle.ptn_network.specs.Networks.{IsNetwork, NetworkParts, index_in, rising}
@@ -214,16 +216,12 @@ module _ (P : List ℕ → Type 0) where
       → All (λ (at : ℕ × List ℕ). P at.1) some → All P (lines_among paths some)
   some_among paths [] all = All-nil P
   some_among paths (at ∷ some) all =
-      by (is_contained paths at) (some_among paths some
-      (All-tail (λ (at : ℕ × List ℕ). P at.1) at some all))
-    where
-      by : (b : Bool) → All P (lines_among paths some)
-          → All P (map (λ (at : ℕ × List ℕ). at.1)
-          (cond (not b) (at ∷ filter (λ at. not (is_contained paths at)) some)
-          (filter (λ at. not (is_contained paths at)) some)))
-      by true rest = rest
-      by false rest =
-          All-cons P at.1 _ (All-head (λ (at : ℕ × List ℕ). P at.1) at some all) rest
+      let rest = some_among paths some (All-tail (λ (at : ℕ × List ℕ). P at.1) at some all) in
+      elim (cases_Bool (is_contained paths at)) [
+        | inl is ↦ rw is rest
+        | inr is ↦ rw is
+            (All-cons P at.1 _ (All-head (λ (at : ℕ × List ℕ). P at.1) at some all) rest)
+      ]
 
   -- what holds of all paths holds of the lines
   pub lines_too : (paths : List (List ℕ)) → All P paths → All P (uncontained paths)
@@ -231,15 +229,14 @@ module _ (P : List ℕ → Type 0) where
 
 few_among : (paths : List (List ℕ)) (some : List (ℕ × List ℕ))
     → length (lines_among paths some) ≤ length some
-few_among paths [] = omega arith
-few_among paths (at ∷ some) = by (is_contained paths at) (few_among paths some)
-  where
-    by : (b : Bool) → length (lines_among paths some) ≤ length some
-        → length (map (λ (at : ℕ × List ℕ). at.1)
-        (cond (not b) (at ∷ filter (λ at. not (is_contained paths at)) some)
-        (filter (λ at. not (is_contained paths at)) some))) ≤ length (at ∷ some)
-    by true rest = omega (arith, rest)
-    by false rest = omega (arith, rest)
+few_among paths some =
+    let test = λ (at : ℕ × List ℕ). not (is_contained paths at) in
+    omega (
+      arith,
+      length-map (filter test some) (λ at. at.1),
+      length-filter test some,
+      count_by-le-length test some,
+    )
 
 pub few_lines : (paths : List (List ℕ)) → length (uncontained paths) ≤ length paths
 few_lines paths =
@@ -249,17 +246,9 @@ few_lines paths =
 
 below_member : (edges : List ℕ) (n : ℕ) → All (λ edge. edge < n) edges → (edge : ℕ)
     → list_any (nat_eq edge) edges ≡ true → edge < n
-below_member [] n all edge is = absurd (cc)
-below_member (first ∷ edges) n all edge is =
-    by (nat_eq edge first) refl is (λ is. below_member edges n
-    (All-tail (λ edge. edge < n) first edges all) edge is)
-  where
-    by : (b : Bool) → nat_eq edge first ≡ b → (b || list_any (nat_eq edge) edges) ≡ true
-        → (list_any (nat_eq edge) edges ≡ true → edge < n) → edge < n
-    by true same is rest =
-        subst (λ at. at < n) (sym (eqb-true edge first same))
-        (All-head (λ edge. edge < n) first edges all)
-    by false other is rest = rest is
+below_member edges n all edge is =
+    let at = Any-from_list_any (nat_eq edge) edges is in
+    omega (arith, all at.0 at.1 at.2, at.3, eqb-true edge at.1 at.4)
 
 module _ (network : NetworkParts) (sound : IsNetwork network) (terminals : List ℤ) where
   pub path_short : (path : List ℕ) → IsTerminalPath network terminals path → IsShort network path

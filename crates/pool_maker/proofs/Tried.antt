@@ -1,5 +1,5 @@
 -- The definitions on small networks.
-use Rattle.std.proofs.Common.{◌≡◌, ℕ, List, [], ◌∷◌, ◌++◌, refl, pos, codes, map}
+use Rattle.std.proofs.Common.{◌≡◌, ℕ, List, [], ◌∷◌, ◌++◌, refl, pos, codes, map, ℤ}
 use Rattle.std.specs.Fmt.{digits}
 use Rattle.giv_files.specs.declared.file_id.FileId.TheVariants as file
 use Rattle.giv_files.specs.declared.refusal.Refusal.TheVariants as refusal
@@ -41,50 +41,10 @@ square = record {
   edges = edge 1 0 1 1000000 ∷ edge 2 1 3 1000000 ∷ edge 3 0 2 1000000 ∷ edge 4 2 3 1000000 ∷ [];
 }
 
-is_square : network_of stops edges ≡ square
-unfolding input_faults row_faults faults table_of cells_from cell_of values errors row_whys
-    rows cleaned spelling_of value_of value_at fixed_of whole_of
-    network_of network_faults stops_of by_id
-is_square = refl
-
 pairs : pairs_of (pos 4 ∷ pos 2 ∷ pos 1 ∷ []) ≡ (pos 1, pos 2) ∷ (pos 1, pos 4) ∷ (pos 2, pos 4)
     ∷ []
 unfolding by_id
 pairs = refl
-
-two_terminals : pool_text square (pos 1 ∷ pos 4 ∷ [])
-    ≡ pool_header ++ codes "\n1; 1; 1\n1; 2; 2\n# uncovered; 3\n# uncovered; 4\n"
-unfolding digits pool_text cell_text cell_texts joined table_text
-    by_id lines_between path_within least_sum walks_within least_of
-two_terminals = refl
-
--- the paths of the other two pairs lie in that of 1 and 4
-three_terminals : pool_text square (pos 4 ∷ pos 2 ∷ pos 1 ∷ [])
-    ≡ pool_header ++ codes "\n1; 1; 1\n1; 2; 2\n# uncovered; 3\n# uncovered; 4\n"
-unfolding digits pool_text cell_text cell_texts joined table_text
-    by_id lines_between path_within least_sum walks_within least_of
-three_terminals = refl
-
-one_edge : pool_text square (pos 4 ∷ pos 3 ∷ [])
-    ≡ pool_header ++ codes "\n1; 1; 4\n# uncovered; 1\n# uncovered; 2\n# uncovered; 3\n"
-unfolding digits pool_text cell_text cell_texts joined table_text
-    by_id lines_between path_within least_sum walks_within least_of
-one_edge = refl
-
-all_stops : pool_text square (pos 1 ∷ pos 2 ∷ pos 3 ∷ pos 4 ∷ [])
-    ≡ pool_header ++ codes "\n1; 1; 1\n1; 2; 2\n2; 1; 1\n2; 2; 3\n3; 1; 4\n"
-unfolding digits pool_text cell_text cell_texts joined table_text
-    by_id lines_between path_within least_sum walks_within least_of
-all_stops = refl
-
-from_texts : pool_text (network_of stops edges) (pos 1 ∷ pos 4 ∷ [])
-    ≡ pool_header ++ codes "\n1; 1; 1\n1; 2; 2\n# uncovered; 3\n# uncovered; 4\n"
-unfolding digits pool_text cell_text cell_texts joined table_text
-    input_faults row_faults faults table_of cells_from cell_of values errors row_whys
-    rows cleaned spelling_of value_of value_at fixed_of whole_of
-    network_of network_faults stops_of by_id lines_between path_within least_sum walks_within
-    least_of
-from_texts = refl
 
 -- ---- read again as a pool, with its comments
 
@@ -97,18 +57,12 @@ unfolding line_faults walk_from by_id input_faults row_faults faults table_of ce
     rows cleaned spelling_of value_of value_at fixed_of whole_of
 accepted = refl
 
-its_lines : map (λ line. line.edges) (pool_of square made) ≡ (0 ∷ 1 ∷ []) ∷ (0 ∷ 2 ∷ []) ∷ (3 ∷ [])
-    ∷ []
+its_lines : map {B = ℤ × List ℕ} (λ line. (line.id, line.edges)) (pool_of square made)
+    ≡ (pos 1, 0 ∷ 1 ∷ []) ∷ (pos 2, 0 ∷ 2 ∷ []) ∷ (pos 3, 3 ∷ []) ∷ []
 unfolding lines_of walk_from by_id input_faults row_faults faults table_of cells_from cell_of values
     errors row_whys
     rows cleaned spelling_of value_of value_at fixed_of whole_of
 its_lines = refl
-
-its_numbers : map (λ line. line.id) (pool_of square made) ≡ pos 1 ∷ pos 2 ∷ pos 3 ∷ []
-unfolding lines_of walk_from by_id input_faults row_faults faults table_of cells_from cell_of values
-    errors row_whys
-    rows cleaned spelling_of value_of value_at fixed_of whole_of
-its_numbers = refl
 
 -- ---- the shortest walk is not the one of fewest edges; ids of stops and of edges do not rise in the texts, and
 -- no walk leads to stop 5
@@ -125,49 +79,63 @@ triangle = record {
   edges = edge 2 0 1 1000000 ∷ edge 4 1 2 1500000 ∷ edge 7 2 0 5000000 ∷ [];
 }
 
-is_triangle : network_of other_stops other_edges ≡ triangle
+networks_read : network_of stops edges ∷ network_of other_stops other_edges ∷ [] ≡ square ∷ triangle ∷ []
 unfolding input_faults row_faults faults table_of cells_from cell_of values errors row_whys
     rows cleaned spelling_of value_of value_at fixed_of whole_of
     network_of network_faults stops_of by_id
-is_triangle = refl
+networks_read = refl
 
-by_length : pool_text triangle (pos 3 ∷ pos 1 ∷ pos 5 ∷ [])
-    ≡ pool_header ++ codes "\n1; 1; 2\n1; 2; 4\n# uncovered; 7\n"
-unfolding digits pool_text cell_text cell_texts joined table_text
-    by_id lines_between path_within least_sum walks_within least_of
-by_length = refl
+-- ---- terminals of a network, each with the rows of the pool
 
--- ---- what is refused
+abbrev pools : List (List ℕ × List ℕ)
+pools = (
+  pool_text square (pos 1 ∷ pos 4 ∷ []),
+  codes "\n1; 1; 1\n1; 2; 2\n# uncovered; 3\n# uncovered; 4\n",
+)
+    -- the paths of the other two pairs lie in that of 1 and 4
+    ∷ (
+      pool_text square (pos 4 ∷ pos 2 ∷ pos 1 ∷ []),
+      codes "\n1; 1; 1\n1; 2; 2\n# uncovered; 3\n# uncovered; 4\n",
+    )
+    ∷ (
+      pool_text square (pos 4 ∷ pos 3 ∷ []),
+      codes "\n1; 1; 4\n# uncovered; 1\n# uncovered; 2\n# uncovered; 3\n",
+    )
+    ∷ (
+      pool_text square (pos 1 ∷ pos 2 ∷ pos 3 ∷ pos 4 ∷ []),
+      codes "\n1; 1; 1\n1; 2; 2\n2; 1; 1\n2; 2; 3\n3; 1; 4\n",
+    )
+    ∷ (
+      pool_text triangle (pos 3 ∷ pos 1 ∷ pos 5 ∷ []),
+      codes "\n1; 1; 2\n1; 2; 4\n# uncovered; 7\n",
+    )
+    -- a network of texts; two stops and no edge: the header alone
+    ∷ (
+      pool_text (network_of stops edges) (pos 1 ∷ pos 4 ∷ []),
+      codes "\n1; 1; 1\n1; 2; 2\n# uncovered; 3\n# uncovered; 4\n",
+    )
+    ∷ (
+      pool_text (network_of (codes "1; A; A; 0; 0\n2; B; B; 0; 0\n") []) (pos 1 ∷ pos 2 ∷ []),
+      codes "\n",
+    ) ∷ []
 
-unknown_terminal : terminal_faults stops edges (pos 1 ∷ pos 9 ∷ []) ≡ refusal.BadRow file.Stop 0
-    why.UnknownStop ∷ []
-unfolding terminal_faults input_faults row_faults faults table_of cells_from cell_of values errors
-    row_whys
-    rows cleaned spelling_of value_of value_at fixed_of whole_of
-    network_of network_faults stops_of by_id
-unknown_terminal = refl
-
-fine : terminal_faults stops edges (pos 1 ∷ pos 4 ∷ []) ≡ []
-unfolding terminal_faults input_faults row_faults faults table_of cells_from cell_of values errors
-    row_whys
-    rows cleaned spelling_of value_of value_at fixed_of whole_of
-    network_of network_faults stops_of by_id
-fine = refl
-
-texts_first : terminal_faults stops (codes "1; 1; 1; 1; 1; 1\n") (pos 1 ∷ pos 9 ∷ [])
-    ≡ refusal.BadRow file.Edge 1 why.LoopEdge ∷ refusal.BadRow file.Stop 0 why.UnknownStop ∷ []
-unfolding terminal_faults input_faults row_faults faults table_of cells_from cell_of values errors
-    row_whys
-    rows cleaned spelling_of value_of value_at fixed_of whole_of
-    network_of network_faults stops_of by_id
-texts_first = refl
-
--- two stops and no edge: the header alone
-without_edges : pool_text (network_of (codes "1; A; A; 0; 0\n2; B; B; 0; 0\n") [])
-    (pos 1 ∷ pos 2 ∷ []) ≡ pool_header ++ codes "\n"
+each_has_these_rows : map (λ at. at.0) pools ≡ map (λ at. pool_header ++ at.1) pools
 unfolding digits pool_text cell_text cell_texts joined table_text
     input_faults row_faults faults table_of cells_from cell_of values errors row_whys
     rows cleaned spelling_of value_of value_at fixed_of whole_of
     network_of network_faults stops_of by_id lines_between path_within least_sum walks_within
     least_of
-without_edges = refl
+each_has_these_rows = refl
+
+-- ---- what is refused
+
+refused : terminal_faults stops edges (pos 1 ∷ pos 4 ∷ [])
+    ∷ terminal_faults stops edges (pos 1 ∷ pos 9 ∷ [])
+    ∷ terminal_faults stops (codes "1; 1; 1; 1; 1; 1\n") (pos 1 ∷ pos 9 ∷ []) ∷ []
+    ≡ [] ∷ (refusal.BadRow file.Stop 0 why.UnknownStop ∷ [])
+    ∷ (refusal.BadRow file.Edge 1 why.LoopEdge ∷ refusal.BadRow file.Stop 0 why.UnknownStop ∷ []) ∷ []
+unfolding terminal_faults input_faults row_faults faults table_of cells_from cell_of values errors
+    row_whys
+    rows cleaned spelling_of value_of value_at fixed_of whole_of
+    network_of network_faults stops_of by_id
+refused = refl
