@@ -1,5 +1,5 @@
 -- The files of a line concept are right over what the stage was given.
-use Rattle.std.proofs.Common.{◌≡◌, ℕ, zero, suc, ℤ, pos, ◌≤◌, Bool, true, false, cond, List, [], ◌∷◌, length, map}
+use Rattle.std.proofs.Common.{◌≡◌, ℕ, zero, suc, ℤ, pos, ◌≤◌, true, false, cond, List, [], ◌∷◌, length, map, inl, inr}
 use Rattle.std.proofs.Common.{All, Option, Some, None, IfSome, Result, Ok, Err, refl, ap, sym, subst}
 use Rattle.std.proofs.Common.{◌∙◌, arith, find, get_or, option_map, take, unsigned_abs, unwrap_or}
 use Rattle.std.proofs.Common.{nat_le}
@@ -7,6 +7,7 @@ use Rattle.std.specs.Prelude.{IfOk, ok_or, ⊤}
 use Rattle.std.specs.List.{AllZip, flat_map}
 use Rattle.std.specs.Ordering.{int_eq}
 use Rattle.std.specs.Cmp.Rules.{signed_items}
+use Rattle.std.proofs.lemmas.Bool.{cases_Bool}
 use lib.Pointwise.{pointwise, pointwise_decides}
 use Rattle.giv_files.specs.declared.made.Made.{Made}
 use Rattle.giv_files.specs.declared.refusal.Refusal.{Refusal}
@@ -39,7 +40,7 @@ use Rattle.line_search.specs.Budgets.{nodes_in, result_within, spent_result, who
 use Rattle.line_search.specs.ConceptStage.{after_faults, budget_of, concept_made, concept_stage}
 use Rattle.line_search.specs.ConceptStage.{search_made}
 use Rattle.line_search.specs.ConceptTables.{concept_header, concept_rows, concept_text}
-use Rattle.line_search.specs.ConceptTables.{frequencies_in, frequency_in, frequency_of_row}
+use Rattle.line_search.specs.ConceptTables.{frequencies_in, frequency_in}
 use Rattle.line_search.specs.GivenProblems.{problem_faults, problem_of}
 use Rattle.line_search.specs.Judged.{Marks, first_broken, has_some, same_cells, tree_rule}
 use Rattle.line_search.specs.Listings.{best_after, listing}
@@ -72,15 +73,10 @@ frequency_by line rows =
 pub by_cells : (line : ℤ) (rows : List TableRow)
     → frequency_in rows line ≡ frequency_by line (map (λ row. row.cells) rows)
 by_cells line [] = refl
-by_cells line (row ∷ rows) = one (int_eq line (get_or row.cells 0 (pos 0))) (by_cells line rows)
-  where
-    one : (b : Bool) → frequency_in rows line ≡ frequency_by line (map (λ row. row.cells) rows)
-        → unwrap_or (option_map frequency_of_row (cond b (Some row)
-        (find (λ row. int_eq line (get_or row.cells 0 (pos 0))) rows))) 0
-        ≡ unwrap_or (option_map (λ cells. unsigned_abs (get_or cells 3 (pos 0))) (cond b (Some row.cells)
-        (find (λ cells. int_eq line (get_or cells 0 (pos 0))) (map (λ row. row.cells) rows)))) 0
-    one true rest = refl
-    one false rest = rest
+by_cells line (row ∷ rows) = elim (cases_Bool (int_eq line (get_or row.cells 0 (pos 0)))) [
+  | inl is ↦ rw is refl
+  | inr is ↦ rw is (by_cells line rows)
+]
 
 module _ (problem : ProblemParts) (sound : IsProblem problem) (frequencies : List ℕ)
     (feasible : IsFeasible problem frequencies) where

@@ -1,7 +1,7 @@
 -- The rows of a concept can be written, and what it costs can be printed.
 use Rattle.std.proofs.Common.{◌≡◌, ℕ, ℤ, zero, suc, pos, ◌+◌, ◌*◌, ◌≤◌, ◌<◌, ◌≤ℤ◌, ◌∙◌, nat_eq}
-use Rattle.std.proofs.Common.{◌||◌, true, false, List, [], ◌∷◌, length, map, zip, sum_by, arith}
-use Rattle.std.proofs.Common.{refl, ap, All, Result, Ok, Err, IfOk, to_z, of_z}
+use Rattle.std.proofs.Common.{true, List, [], ◌∷◌, length, map, zip, sum_by, arith}
+use Rattle.std.proofs.Common.{ap, All, Result, Ok, Err, IfOk, to_z, of_z}
 use Rattle.std.specs.Int.{w128}
 use Rattle.std.specs.List.{enumerate_from, flat_map, list_any}
 use Rattle.std.proofs.lemmas.Bool.{eqb-true}
@@ -10,6 +10,7 @@ use Rattle.std.proofs.lemmas.List.Elements.{All-nil, All-cons, All-append}
 use Rattle.std.proofs.lemmas.List.Sums.{sum_by-cons}
 use Rattle.std.proofs.lemmas.Map.Steps.{length-le_from_distinct_below}
 use Rattle.std.proofs.lemmas.Nat.{mul-le}
+use Rattle.std.proofs.lemmas.List.Folds.{Any-from_list_any}
 use Rattle.giv_files.specs.Columns.{concept_columns}
 use Rattle.giv_files.specs.Tables.{TableRow}
 use Rattle.giv_files.specs.Writing.{CanWrite, InColumns, table_text}
@@ -34,13 +35,9 @@ columns_written (suc (suc (suc (suc k)))) d h = absurd (omega arith)
 
 one_below : (edges : List ℕ) (n : ℕ) → All (λ edge. edge < n) edges → (edge : ℕ)
     → list_any (nat_eq edge) edges ≡ true → edge < n
-one_below [] n all edge is = absurd (cc)
-one_below (first ∷ edges) n all edge is =
-    elim (nat_eq edge first) as
-    (λ b. nat_eq edge first ≡ b → (b || list_any (nat_eq edge) edges) ≡ true → edge < n) [
-      | true ↦ λ same _. omega (arith, all 0 first (omega arith), eqb-true edge first same)
-      | false ↦ λ _ is. one_below edges n (λ k d h. all (suc k) d (omega (arith, h))) edge is
-    ] refl is
+one_below edges n all edge is =
+    let at = Any-from_list_any (nat_eq edge) edges is in
+    omega (arith, all at.0 at.1 at.2, at.3, eqb-true edge at.1 at.4)
 
 module _ (problem : ProblemParts) (sound : IsProblem problem) where
   few_places : (line : CostedLine) → IsCostedLine (length problem.edges) line

@@ -11,6 +11,7 @@ use Rattle.std.specs.List.{AllByRecursion, enumerate_from, list_all}
 use Rattle.std.specs.List.Sorted.{IsStrictlySortedBy}
 use Rattle.std.specs.Ordering.{int_cmp}
 use Rattle.std.specs.declared.cmp.Ordering.TheVariants.{Less}
+use Rattle.std.proofs.Math.Bool.{and-false as never}
 use Rattle.line_cost_model.specs.declared.range.LineRange.{LineRange}
 use Rattle.line_cost_model.specs.Problems.{CostedLine, ProblemParts}
 use Rattle.line_cost_model.specs.Chosen.{stands_before}
@@ -18,6 +19,7 @@ use Rattle.line_cost_model.specs.Regions.{has_several, range_of}
 use Rattle.line_search.proofs.Lists.{less_is}
 use Rattle.line_search.specs.Listings.{first_among, first_open}
 use Rattle.line_search.specs.Searches.{dearer}
+use Rattle.line_search.proofs.Lengths.{open_from, all_map as all_by}
 
 -- ---- one line after the other
 
@@ -52,15 +54,8 @@ row_turn n (at ∷ lines) (range ∷ region) (suc line) row same is first =
 
 -- ---- the open ones alone
 
-abbrev Open : Type 0
-Open = ℕ × CostedLine
-
 abbrev with_open : Option (ℕ × ℤ) → ℕ × CostedLine → Option (ℕ × ℤ)
 with_open first at = dearer first at.0 (pos at.1.cost) true
-
-abbrev open_from : ℕ → List CostedLine → List LineRange → List (ℕ × CostedLine)
-open_from n lines region =
-    map (λ at. (at.0, at.1.0)) (filter (λ at. has_several at.1.1) (enumerate_from n (zip lines region)))
 
 open_alone : (n : ℕ) (lines : List CostedLine) (region : List LineRange) (first : Option (ℕ × ℤ))
     → fold with_row first (rows_from n lines region) ≡ fold with_open first (open_from n lines region)
@@ -131,11 +126,6 @@ all_behind : {X : Type 0} (P : X → Type 0) (xs ys : List X) → AllByRecursion
     → AllByRecursion P (xs ++ ys)
 all_behind P [] ys all more = more
 all_behind P (x ∷ xs) ys all more = (all.0, all_behind P xs ys all.1 more)
-
-all_by : {X : Type 0} (P Q : X → Type 0) (xs : List X) → ((x : X) → P x → Q x) → AllByRecursion P xs
-    → AllByRecursion Q xs
-all_by P Q [] f all = tt
-all_by P Q (x ∷ xs) f all = (f x all.0, all_by P Q xs f all.1)
 
 one_dearer : (done : List (ℕ × CostedLine)) (first : ℕ × ℤ) (at : ℕ × CostedLine) → Dearest done first
     → (b : Bool) → int_le (pos at.1.cost) first.1 ≡ b
@@ -223,10 +213,6 @@ one_fails : {X : Type 0} (q : X → Bool) (before : List X) (x : X) (behind : Li
 one_fails q [] x behind fails = ap (λ b. b && list_all q behind) fails
 one_fails q (y ∷ before) x behind fails =
     ap (λ rest. q y && rest) (one_fails q before x behind fails) ∙ never (q y)
-  where
-    never : (b : Bool) → (b && false) ≡ false
-    never true = refl
-    never false = refl
 
 -- a line stands before no dearer one
 not_before_dearer : (other line : CostedLine) → other.cost < line.cost
@@ -243,10 +229,6 @@ not_before_first : (other line : CostedLine) → other.cost ≤ line.cost
 not_before_first other line most id =
     let greater : nat_lt line.cost other.cost ≡ false = le-ltb line.cost other.cost most in
     (λ i. not (greater i || ((line.cost == other.cost) && id i))) ∙ ap not (never (line.cost == other.cost))
-  where
-    never : (b : Bool) → (b && false) ≡ false
-    never true = refl
-    never false = refl
 
 not_less : (x y : ℤ) → (x <ℤ y → ⊥) → int_lt x y ≡ false
 not_less x y never = elim (int_lt x y) as (λ b. int_lt x y ≡ b → b ≡ false) [

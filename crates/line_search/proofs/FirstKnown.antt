@@ -1,8 +1,9 @@
 -- The frequency of the first row of a line, among some rows and one more.
-use Rattle.std.proofs.Common.{◌≡◌, ℕ, ℤ, ◌+◌, ◌<◌, Bool, true, false, cond, List, [], ◌∷◌, ◌++◌}
+use Rattle.std.proofs.Common.{◌≡◌, ℕ, ℤ, ◌+◌, ◌<◌, cond, List, [], ◌∷◌, ◌++◌, inl, inr}
 use Rattle.std.proofs.Common.{length, take, get_or, Option, Some, None, refl, ap, sym, ◌∙◌}
 use Rattle.std.specs.Option.{option_or}
 use Rattle.std.specs.Ordering.{int_eq}
+use Rattle.std.proofs.lemmas.Bool.{cases_Bool}
 use Rattle.giv_files.specs.Tables.{TableRow, no_row}
 use Rattle.giv_files.proofs.Inputs.{records_more}
 use Rattle.line_pool.specs.Pools.{differs}
@@ -15,23 +16,14 @@ pub first_more : (rows : List TableRow) (row : TableRow) (line : ℤ)
     → first_of_line (rows_with (rows ++ row ∷ []) line)
     ≡ option_or (first_of_line (rows_with rows line))
     (cond (int_eq line (line_in row)) (Some (frequency_at row)) None)
-first_more [] row line = last (int_eq line (line_in row))
-  where
-    last : (b : Bool) → first_of_line (cond b (row ∷ []) [])
-        ≡ cond b (Some (frequency_at row)) None
-    last true = refl
-    last false = refl
-first_more (first ∷ rows) row line = one (int_eq line (line_in first)) (first_more rows row line)
-  where
-    one : (b : Bool) → first_of_line (rows_with (rows ++ row ∷ []) line)
-        ≡ option_or (first_of_line (rows_with rows line))
-        (cond (int_eq line (line_in row)) (Some (frequency_at row)) None)
-        → first_of_line (cond b (first ∷ rows_with (rows ++ row ∷ []) line)
-        (rows_with (rows ++ row ∷ []) line))
-        ≡ option_or (first_of_line (cond b (first ∷ rows_with rows line) (rows_with rows line)))
-        (cond (int_eq line (line_in row)) (Some (frequency_at row)) None)
-    one true rest = refl
-    one false rest = rest
+first_more [] row line = elim (cases_Bool (int_eq line (line_in row))) [
+  | inl is ↦ rw is refl
+  | inr is ↦ rw is refl
+]
+first_more (first ∷ rows) row line = elim (cases_Bool (int_eq line (line_in first))) [
+  | inl is ↦ rw is refl
+  | inr is ↦ rw is (first_more rows row line)
+]
 
 -- the test of a row by what is known of its line
 pub is_other : (before : List TableRow) (row : TableRow) (known : ℤ → Option ℤ)

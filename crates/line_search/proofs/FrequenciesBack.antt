@@ -1,5 +1,5 @@
 -- The rows of a concept give back its frequencies.
-use Rattle.std.proofs.Common.{◌≡◌, ℕ, suc, ℤ, pos, ◌+◌, ◌<◌, Bool, true, false, ◌∙◌, List, [], ◌∷◌, ◌++◌}
+use Rattle.std.proofs.Common.{◌≡◌, ℕ, suc, ℤ, pos, ◌+◌, ◌<◌, Bool, false, ◌∙◌, List, [], ◌∷◌, ◌++◌}
 use Rattle.std.proofs.Common.{cond, length, map, find, zip, Some, None, All, refl, ap, sym, arith}
 use Rattle.std.proofs.Common.{append_assoc, get_or, option_map, unwrap_or}
 use Rattle.std.specs.List.{AllByRecursion, enumerate_from, flat_map}
@@ -8,21 +8,12 @@ use Rattle.std.specs.Option.{option_or}
 use Rattle.std.specs.Ordering.{int_cmp, int_eq}
 use Rattle.std.specs.declared.cmp.Ordering.TheVariants.{Less}
 use Rattle.std.proofs.lemmas.Cmp.{int_eq_equiv}
+use Rattle.std.proofs.lemmas.List.Folds.{find-append as find_both}
 use Rattle.giv_files.specs.Tables.{TableRow}
 use Rattle.line_pool.proofs.WalkRows.{above_differs}
 use Rattle.line_cost_model.specs.Problems.{CostedLine, IsCostedLine, IsProblem, ProblemParts}
 use Rattle.line_search.specs.ConceptTables.{concept_rows, frequencies_in, frequency_in, line_rows}
 use Rattle.line_search.specs.ConceptTables.{frequency_of_row, row_at}
-
-find_both : {X : Type 0} (p : X → Bool) (xs ys : List X)
-    → find p (xs ++ ys) ≡ option_or (find p xs) (find p ys)
-find_both p [] ys = refl
-find_both p (x ∷ xs) ys = by (p x) (find_both p xs ys)
-  where
-    by : (b : Bool) → find p (xs ++ ys) ≡ option_or (find p xs) (find p ys)
-        → cond b (Some x) (find p (xs ++ ys)) ≡ option_or (cond b (Some x) (find p xs)) (find p ys)
-    by true rest = refl
-    by false rest = rest
 
 -- the row of a line
 abbrev is_of : ℤ → TableRow → Bool

@@ -1,5 +1,5 @@
 -- A stable sort by keys puts items one group after the other.
-use Rattle.std.proofs.Common.{◌≡◌, suc, ℤ, pos, ◌+◌, Bool, true, false, ◌||◌, not, cond, List, []}
+use Rattle.std.proofs.Common.{◌≡◌, suc, ℤ, pos, ◌+◌, Bool, true, false, ◌||◌, not, cond, List, [], inl, inr}
 use Rattle.std.proofs.Common.{◌∷◌, ◌++◌, length, map, filter, get_or, All, refl, ap, subst, sym}
 use Rattle.std.proofs.Common.{◌∙◌, arith}
 use Rattle.std.specs.List.{AllByRecursion, flat_map, list_any}
@@ -10,7 +10,7 @@ use Rattle.std.specs.declared.cmp.Ordering.{Ordering}
 use Rattle.std.specs.declared.cmp.Ordering.TheVariants.{Less, Equal, Greater}
 use Rattle.std.specs.FinMap.{put}
 use Rattle.std.specs.FinMap.Entries.{by_order}
-use Rattle.std.proofs.lemmas.Bool.{ne_eqb}
+use Rattle.std.proofs.lemmas.Bool.{ne_eqb, cases_Bool}
 use Rattle.std.proofs.lemmas.Cmp.{int_cmp_total, int_eq_equiv}
 use Rattle.std.proofs.lemmas.List.{length-append}
 use Rattle.std.proofs.lemmas.List.Elements.{All-map}
@@ -30,13 +30,10 @@ module _ {X : Type 0} (key : X → ℤ) where
   none_with : (q : ℤ) (items : List X) → list_any (int_eq q) (map key items) ≡ false
       → with_key items q ≡ []
   none_with q [] e = refl
-  none_with q (item ∷ items) e = by (int_eq q (key item)) e (none_with q items)
-    where
-      by : (b : Bool) → (b || list_any (int_eq q) (map key items)) ≡ false
-          → (list_any (int_eq q) (map key items) ≡ false → with_key items q ≡ [])
-          → cond b (item ∷ with_key items q) (with_key items q) ≡ []
-      by true e rest = absurd (cc)
-      by false e rest = rest e
+  none_with q (item ∷ items) e = elim (cases_Bool (int_eq q (key item))) [
+    | inl is ↦ absurd (let f = rw is at e in cc)
+    | inr is ↦ rw is (none_with q items (rw is at e))
+  ]
 
   -- an item with another key changes no group
   others : (item : X) (items : List X) (ids : List ℤ)
@@ -214,14 +211,11 @@ module _ {X : Type 0} (key : X → ℤ) where
   has_with : (q : ℤ) (items : List X)
       → list_any (int_eq q) (map key items) ≡ has_some (with_key items q)
   has_with q [] = refl
-  has_with q (item ∷ items) = by (int_eq q (key item)) (has_with q items)
-    where
-      by : (b : Bool) → list_any (int_eq q) (map key items) ≡ has_some (with_key items q)
-          → (b || list_any (int_eq q) (map key items))
-          ≡ has_some (cond b (item ∷ with_key items q) (with_key items q))
-      by true rest = sym (ap not (ne_eqb (length (item ∷ with_key items q)) 0
-          (λ none. omega (arith, none))))
-      by false rest = rest
+  has_with q (item ∷ items) = elim (cases_Bool (int_eq q (key item))) [
+    | inl is ↦ rw is (sym (ap not (ne_eqb (length (item ∷ with_key items q)) 0
+        (λ none. omega (arith, none)))))
+    | inr is ↦ rw is (has_with q items)
+  ]
 
   -- a stable sort by the keys, where there is an item of each key
   pub sorted_groups : (of : ℤ → X) → ((id : ℤ) → key (of id) ≡ id) → (items sorted : List X)

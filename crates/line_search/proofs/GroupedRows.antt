@@ -1,11 +1,12 @@
 -- The rows of a planner's concept, line by line.
-use Rattle.std.proofs.Common.{◌≡◌, ℤ, pos, Bool, true, false, cond, List, [], ◌∷◌, ◌++◌, length}
+use Rattle.std.proofs.Common.{◌≡◌, ℤ, pos, Bool, List, [], ◌∷◌, ◌++◌, length, inl, inr}
 use Rattle.std.proofs.Common.{map, filter, get_or, take, All, refl, ap, sym, ◌∙◌, arith}
 use Rattle.std.specs.List.{flat_map}
 use Rattle.std.specs.Ordering.{int_eq}
 use Rattle.std.proofs.lemmas.List.{length-map, map-append}
 use Rattle.std.proofs.lemmas.List.Elements.{All-head, All-tail}
 use Rattle.std.proofs.lemmas.Simd.{map-map}
+use Rattle.std.proofs.lemmas.Bool.{cases_Bool}
 use Rattle.giv_files.specs.Tables.{TableRow, Wide}
 use Rattle.ptn_network.specs.Networks.{rising}
 use Rattle.line_search.specs.declared.pool_rows.PlacedEdge.{PlacedEdge}
@@ -16,13 +17,10 @@ use Rattle.line_search.proofs.Grouped.{grouped_count}
 filter_map_of : {X Y : Type 0} (f : X → Y) (p : Y → Bool) (xs : List X)
     → filter p (map f xs) ≡ map f (filter (λ x. p (f x)) xs)
 filter_map_of f p [] = refl
-filter_map_of {X} {Y} f p (x ∷ xs) = by (p (f x)) (filter_map_of f p xs)
-  where
-    by : (b : Bool) → filter p (map f xs) ≡ map f (filter (λ x. p (f x)) xs)
-        → cond b (f x ∷ filter p (map f xs)) (filter p (map f xs))
-        ≡ map f (cond b (x ∷ filter (λ x. p (f x)) xs) (filter (λ x. p (f x)) xs))
-    by true rest = ap (λ some. f x ∷ some) rest
-    by false rest = rest
+filter_map_of f p (x ∷ xs) = elim (cases_Bool (p (f x))) [
+  | inl is ↦ rw is (ap (λ some. f x ∷ some) (filter_map_of f p xs))
+  | inr is ↦ rw is (filter_map_of f p xs)
+]
 
 map_flat : {X Y : Type 0} (f : X → Y) (h : ℤ → List X) (ids : List ℤ)
     → map f (flat_map h ids) ≡ flat_map (λ id. map f (h id)) ids
@@ -42,14 +40,12 @@ grouped_map {X} {Y} f key xs =
 filter_same : {X Y : Type 0} (f g : X → Y) (p : X → Bool) (xs : List X) → All (λ x. f x ≡ g x) xs
     → map f (filter p xs) ≡ map g (filter p xs)
 filter_same f g p [] same = refl
-filter_same {X} {Y} f g p (x ∷ xs) same = by (p x) (filter_same f g p xs
-    (All-tail (λ x. f x ≡ g x) x xs same))
-  where
-    by : (b : Bool) → map f (filter p xs) ≡ map g (filter p xs)
-        → map f (cond b (x ∷ filter p xs) (filter p xs))
-        ≡ map g (cond b (x ∷ filter p xs) (filter p xs))
-    by true rest = λ i. All-head (λ x. f x ≡ g x) x xs same i ∷ rest i
-    by false rest = rest
+filter_same f g p (x ∷ xs) same =
+    let rest = filter_same f g p xs (All-tail (λ x. f x ≡ g x) x xs same) in
+    elim (cases_Bool (p x)) [
+      | inl is ↦ rw is (λ i. All-head (λ x. f x ≡ g x) x xs same i ∷ rest i)
+      | inr is ↦ rw is rest
+    ]
 
 -- functions that agree on items agree on their groups
 grouped_same : {X Y : Type 0} (f g : X → Y) (key : X → ℤ) (xs : List X) → All (λ x. f x ≡ g x) xs

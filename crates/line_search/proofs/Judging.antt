@@ -14,7 +14,7 @@ use Rattle.line_search.specs.ConceptTables.{concept_rows, frequencies_in}
 use Rattle.line_search.specs.Judged.{Marks, Passes, broken_where, first_broken, has_some, same_cells, tree_rule}
 use Rattle.line_search.proofs.SameCells.{same_are}
 
-none_there : {X : Type 0} (list : List X) → has_some list ≡ false → list ≡ []
+pub none_there : {X : Type 0} (list : List X) → has_some list ≡ false → list ≡ []
 none_there [] e = refl
 none_there (x ∷ list) e =
     let some : has_some (x ∷ list) ≡ true = ap not (ne_eqb (length (x ∷ list)) 0

@@ -1,8 +1,9 @@
 -- The order of lines, and the first line of a list in it.
-use Rattle.std.proofs.Common.{◌≡◌, ℕ, ℤ, ◌<◌, ◌<ℤ◌, Bool, true, false, cond, not, ◌&&◌, ◌||◌, ◌==◌, nat_lt, int_lt, List, [], ◌∷◌, find, Option, Some, None, IfSome, ◌⊎◌, inl, inr, ⊎_elim, refl, ap, sym, ◌∙◌, arith}
+use Rattle.std.proofs.Common.{◌≡◌, ℕ, ℤ, ◌<◌, ◌<ℤ◌, Bool, true, false, not, ◌==◌, nat_lt, int_lt, List, [], ◌∷◌, find, None, IfSome, ◌⊎◌, inl, inr, ⊎_elim, refl, ap, sym, ◌∙◌, arith}
 use Rattle.std.proofs.lemmas.Int.{ints}
 use Rattle.std.specs.List.{list_all}
-use Rattle.std.proofs.lemmas.Bool.{and_parts, and_from, false_from_ne_true, true≢false, ltb-true, ltb-false, lt-ltb, eqb-true, eq-eqb}
+use Rattle.std.proofs.lemmas.Bool.{and_parts, and_from, false_from_ne_true, true≢false, ltb-true, lt-ltb, eqb-true, eq-eqb, cases_Bool, true_from_ne_false, or_right, cases_lt}
+use Rattle.std.proofs.lemmas.Option.{IfSome_then}
 use Rattle.line_cost_model.specs.Chosen.{stands_before}
 use Rattle.line_cost_model.specs.Problems.{CostedLine}
 
@@ -23,26 +24,22 @@ all_have p (y ∷ ys) x all (inr one) = all_have p ys x (and_parts _ _ all).1 on
 pub found_passes : {X : Type 0} (p : X → Bool) (xs : List X)
     → IfSome (find p xs) (λ x. (p x ≡ true) × IsOneOf x xs)
 found_passes p [] = tt
-found_passes p (x ∷ xs) = by (p x) refl (find p xs) (found_passes p xs)
-  where
-    by : (b : Bool) → p x ≡ b → (more : Option _)
-        → IfSome more (λ y. (p y ≡ true) × IsOneOf y xs)
-        → IfSome (cond b (Some x) more) (λ y. (p y ≡ true) × IsOneOf y (x ∷ xs))
-    by true is more rest = (is, inl refl)
-    by false is None rest = tt
-    by false is (Some y) rest = (rest.0, inr rest.1)
+found_passes p (x ∷ xs) = elim (cases_Bool (p x)) [
+  | inl is ↦ rw is (is, inl refl)
+  | inr is ↦ rw is (IfSome_then (find p xs) (found_passes p xs) (λ y rest. (rest.0, inr rest.1)))
+]
 
 -- one that passes is found
 pub one_found : {X : Type 0} (p : X → Bool) (xs : List X) (x : X) → IsOneOf x xs → p x ≡ true
     → find p xs ≡ None → ⊥
 one_found p [] x one passes none = one
-one_found p (y ∷ ys) x one passes none = by (p y) refl (one_found p ys x) one none
-  where
-    by : (b : Bool) → p y ≡ b → (IsOneOf x ys → p x ≡ true → find p ys ≡ None → ⊥)
-        → IsOneOf x (y ∷ ys) → cond b (Some y) (find p ys) ≡ None → ⊥
-    by true is more one none = absurd (cc)
-    by false is more (inl same) none = true≢false (sym (ap p same ∙ passes) ∙ is)
-    by false is more (inr one) none = more one passes none
+one_found p (y ∷ ys) x one passes none = elim (cases_Bool (p y)) [
+  | inl is ↦ absurd (let e = rw is at none in cc)
+  | inr is ↦ elim one [
+    | inl same ↦ true≢false (sym (ap p same ∙ passes) ∙ is)
+    | inr more ↦ one_found p ys x more passes (rw is at none)
+  ]
+]
 
 module _ {X : Type 0} (before : X → X → Bool) (self : (x : X) → before x x ≡ false)
     (through : (a b c : X) → before a b ≡ true → before b c ≡ true → before a c ≡ true) where
@@ -55,11 +52,8 @@ module _ {X : Type 0} (before : X → X → Bool) (self : (x : X) → before x x
   none_through [] a b h least = refl
   none_through (x ∷ xs) a b h least =
       let parts = and_parts _ _ least in
-      and_from _ _ (by (before x a) refl) (none_through xs a b h parts.1)
-    where
-      by : (t : Bool) → before x a ≡ t → not t ≡ true
-      by true is = absurd (true≢false (sym (and_parts _ _ least).0 ∙ ap not (through x a b is h)))
-      by false is = refl
+      and_from _ _ (ap not (false_from_ne_true (before x a) (λ is.
+      true≢false (sym parts.0 ∙ ap not (through x a b is h))))) (none_through xs a b h parts.1)
 
   record Least (xs : List X) : Type 0 where
     least : X
@@ -68,22 +62,20 @@ module _ {X : Type 0} (before : X → X → Bool) (self : (x : X) → before x x
 
   least_of : (x : X) (xs : List X) → Least (x ∷ xs)
   least_of x [] = record { least = x; one = inl refl; passes = and_from _ _ (ap not (self x)) refl }
-  least_of x (y ∷ ys) = by (least_of y ys)
-    where
-      by : Least (y ∷ ys) → Least (x ∷ y ∷ ys)
-      by rest = with (before x rest.least) refl
-        where
-          with : (b : Bool) → before x rest.least ≡ b → Least (x ∷ y ∷ ys)
-          with true is = record {
-            least = x;
-            one = inl refl;
-            passes = and_from _ _ (ap not (self x)) (none_through (y ∷ ys) x rest.least is rest.passes);
-          }
-          with false is = record {
-            least = rest.least;
-            one = inr rest.one;
-            passes = and_from _ _ (ap not is) rest.passes;
-          }
+  least_of x (y ∷ ys) =
+      let rest = least_of y ys in
+      elim (cases_Bool (before x rest.least)) [
+        | inl is ↦ record {
+          least = x;
+          one = inl refl;
+          passes = and_from _ _ (ap not (self x)) (none_through (y ∷ ys) x rest.least is rest.passes);
+        }
+        | inr is ↦ record {
+          least = rest.least;
+          one = inr rest.one;
+          passes = and_from _ _ (ap not is) rest.passes;
+        }
+      ]
 
   -- so it is found
   pub least_found : (xs : List X) → find (is_least xs) xs ≡ None → xs ≡ []
@@ -101,30 +93,22 @@ int_yes : (a b : ℤ) → int_lt a b ≡ true → a <ℤ b
 int_yes a b e = omega (arith, ints, e)
 
 yes_int : (a b : ℤ) → a <ℤ b → int_lt a b ≡ true
-yes_int a b h = by (int_lt a b) refl
-  where
-    by : (t : Bool) → int_lt a b ≡ t → t ≡ true
-    by true e = refl
-    by false e = absurd (omega (arith, ints, e, h))
+yes_int a b h = true_from_ne_false _ (λ e. omega (arith, ints, e, h))
 
 stands_is : (line other : CostedLine) → stands_before line other ≡ true → Stands line other
 unfolding Stands
-stands_is line other h = by (nat_lt other.cost line.cost) refl h
-  where
-    by : (t : Bool) → nat_lt other.cost line.cost ≡ t
-        → (t || ((other.cost == line.cost) && int_lt line.id other.id)) ≡ true
-        → (other.cost < line.cost) ⊎ ((other.cost ≡ line.cost) × (line.id <ℤ other.id))
-    by true is h = inl (ltb-true _ _ is)
-    by false is h = inr (eqb-true _ _ (and_parts _ _ h).0, int_yes _ _ (and_parts _ _ h).1)
+stands_is line other h = elim (cases_Bool (nat_lt other.cost line.cost)) [
+  | inl is ↦ inl (ltb-true _ _ is)
+  | inr is ↦
+      let parts = and_parts (other.cost == line.cost) _ (rw is at h) in
+      inr (eqb-true _ _ parts.0, int_yes _ _ parts.1)
+]
 
 is_stands : (line other : CostedLine) → Stands line other → stands_before line other ≡ true
 unfolding Stands
 is_stands line other (inl less) = rw (lt-ltb other.cost line.cost less) refl
-is_stands line other (inr same) = by (nat_lt other.cost line.cost)
-  where
-    by : (t : Bool) → (t || ((other.cost == line.cost) && int_lt line.id other.id)) ≡ true
-    by true = refl
-    by false = and_from _ _ (eq-eqb other.cost line.cost same.0) (yes_int line.id other.id same.1)
+is_stands line other (inr same) = or_right (nat_lt other.cost line.cost) _
+    (and_from _ _ (eq-eqb other.cost line.cost same.0) (yes_int line.id other.id same.1))
 
 never_self : (line : CostedLine) → Stands line line → ⊥
 unfolding Stands
@@ -141,15 +125,15 @@ both_stand a b c (inr x) (inr y) = inr (omega (arith, x.0, y.0), omega (arith, i
 -- of two lines with different ids one stands before the other
 one_stands : (a b : CostedLine) → (a.id <ℤ b.id) ⊎ (b.id <ℤ a.id) → Stands a b ⊎ Stands b a
 unfolding Stands
-one_stands a b apart = by (nat_lt b.cost a.cost) refl (nat_lt a.cost b.cost) refl
-  where
-    by : (t : Bool) → nat_lt b.cost a.cost ≡ t → (u : Bool) → nat_lt a.cost b.cost ≡ u
-        → ((b.cost < a.cost) ⊎ ((b.cost ≡ a.cost) × (a.id <ℤ b.id))) ⊎ ((a.cost < b.cost) ⊎ ((a.cost ≡ b.cost) × (b.id <ℤ a.id)))
-    by true is u same = inl (inl (ltb-true _ _ is))
-    by false is true same = inr (inl (ltb-true _ _ same))
-    by false is false same =
-        let equal : a.cost ≡ b.cost = omega (arith, ltb-false b.cost a.cost is, ltb-false a.cost b.cost same) in
+one_stands a b apart = elim (cases_lt b.cost a.cost) [
+  | inl less ↦ inl (inl less)
+  | inr most ↦ elim (cases_lt a.cost b.cost) [
+    | inl less ↦ inr (inl less)
+    | inr least ↦
+        let equal : a.cost ≡ b.cost = omega (arith, most, least) in
         ⊎_elim (λ low. inl (inr (sym equal, low))) (λ high. inr (inr (equal, high))) apart
+  ]
+]
 
 abbrev pub before : ℕ × CostedLine → ℕ × CostedLine → Bool
 before at other = stands_before at.1 other.1

@@ -1,21 +1,13 @@
 -- What is at a place of a list, and what stands before it.
-use Rattle.std.proofs.Common.{◌≡◌, ℕ, zero, suc, ℤ, pos, ◌<◌, ◌<ℤ◌, arith, Bool, true, false, cond, int_lt, List, [], ◌∷◌, length, map, take, get_or, slice_get, zip, refl, ap, subst, sym, ◌∙◌, Some}
-use Rattle.std.specs.Int.Signed.{lt_z_yes}
+use Rattle.std.proofs.Common.{◌≡◌, ℕ, zero, suc, ℤ, pos, ◌<◌, ◌<ℤ◌, arith, List, [], ◌∷◌, length, map, take, get_or, slice_get, zip, ap, subst, sym, ◌∙◌, Some}
 use Rattle.std.specs.List.{All}
 use Rattle.std.specs.List.Sorted.{IsStrictlySortedBy}
-use Rattle.std.specs.Ordering.{int_cmp}
-use Rattle.std.specs.declared.cmp.Ordering.TheVariants.{Less, Equal, Greater}
-use Rattle.std.proofs.lemmas.Float.{T_from_true}
+use Rattle.std.specs.Ordering.{int_cmp, MatchOrdering}
+use Rattle.std.specs.declared.cmp.Ordering.TheVariants.{Less}
 use Rattle.std.proofs.lemmas.List.{get_or-map, length-map, length-take-le, get_or-take}
-use Rattle.std.proofs.lemmas.List.Elements.{All-get_or}
 use Rattle.std.proofs.lemmas.Map.Keys.{Less-from_sorted}
 use Rattle.std.proofs.lemmas.Option.{get_or_from_slice_get, slice_get_within, none-some}
-
--- what holds of all holds of the one at a place
-pub held : {X : Type 0} (P : X → Type 0) (xs : List X) (i : ℕ) (x : X) → All P xs
-    → slice_get xs i ≡ Some x → P x
-held P xs i x all is = subst P (get_or_from_slice_get xs i x x is)
-    (All-get_or P xs i x (slice_get_within xs i x is) all)
+use Rattle.std.specs.Cmp.{int_ranks}
 
 -- two at a place are a pair there
 pub zip_at : {X Y : Type 0} (xs : List X) (ys : List Y) (i : ℕ) (x : X) (y : Y)
@@ -29,15 +21,7 @@ zip_at (a ∷ xs) (b ∷ ys) zero x y is own =
 zip_at (a ∷ xs) (b ∷ ys) (suc i) x y is own = zip_at xs ys i x y is own
 
 pub less_is : (x y : ℤ) → int_cmp x y ≡ Less → x <ℤ y
-less_is x y e = one (int_lt x y) refl e
-  where
-    one : (b : Bool) → int_lt x y ≡ b → cond b Less (cond (int_lt y x) Greater Equal) ≡ Less
-        → x <ℤ y
-    one true is e = lt_z_yes (T_from_true _ is)
-    one false is e = elim (int_lt y x) as (λ c. cond c Greater Equal ≡ Less → x <ℤ y) [
-      | true ↦ λ e. cc
-      | false ↦ λ e. cc
-    ] e
+less_is x y e = subst (λ o. MatchOrdering o (x <ℤ y) (x ≡ y) (y <ℤ x)) e (int_ranks x y)
 
 -- where ids rise, those before a place are below its own
 pub below : {X : Type 0} (id : X → ℤ) (xs : List X) (i : ℕ) (x : X)

@@ -1,8 +1,8 @@
 -- No concept of the upper part of a split at the first open line comes before one of the lower part.
-use Rattle.std.proofs.Common.{◌≡◌, ◌≢◌, ℕ, zero, suc, pos, ◌+◌, ◌-◌, ◌<◌, ◌≤◌, ◌<ℤ◌, Bool, true, false, cond, not, nat_lt, List, [], ◌∷◌, length, map, filter, find, get_or, slice_get, zip, Option, Some, None, IfSome, option_map, ◌⊎◌, inl, inr, refl, ap, sym, subst, ◌∙◌, arith}
-use Rattle.std.specs.List.{enumerate_from, list_all}
+use Rattle.std.proofs.Common.{◌≡◌, ◌≢◌, ℕ, zero, suc, pos, ◌+◌, ◌-◌, ◌<◌, ◌≤◌, ◌<ℤ◌, true, not, List, [], ◌∷◌, length, map, find, get_or, slice_get, Option, Some, None, IfSome, option_map, ◌⊎◌, inl, inr, ap, sym, subst, ◌∙◌, arith}
+use Rattle.std.specs.List.{list_all}
 use Rattle.std.specs.Ordering.{int_cmp}
-use Rattle.std.proofs.lemmas.Bool.{ltb-true, ltb-false, lt-ltb}
+use Rattle.std.proofs.lemmas.Bool.{lt-ltb, cases_Bool, cases_lt}
 use Rattle.std.proofs.lemmas.List.{get_or-map, length-map}
 use Rattle.std.proofs.lemmas.Map.Keys.{Less-from_sorted}
 use Rattle.std.proofs.lemmas.Option.{get_or_from_slice_get, slice_get_within, none-some}
@@ -79,12 +79,10 @@ open_one n (a ∷ lines) (range ∷ region) zero line there is_open =
 open_one n (a ∷ lines) (range ∷ region) (suc k) line there is_open =
     let index : n + 1 + k ≡ n + suc k = omega arith in
     let rest = subst (λ m. IsOneOf {X = ℕ × CostedLine} (m, line) (open_from (n + 1) lines region)) index (open_one (n + 1) lines region k line there (omega (arith, is_open.0), is_open.1)) in
-    by (has_several range) rest
-  where
-    by : (b : Bool) → IsOneOf {X = ℕ × CostedLine} (n + suc k, line) (open_from (n + 1) lines region)
-        → IsOneOf {X = ℕ × CostedLine} (n + suc k, line) (map (λ at. (at.0, at.1.0)) (cond b ((n, (a, range)) ∷ filter (λ at. has_several at.1.1) (enumerate_from (n + 1) (zip lines region))) (filter (λ at. has_several at.1.1) (enumerate_from (n + 1) (zip lines region)))))
-    by true rest = inr rest
-    by false rest = rest
+    elim (cases_Bool (has_several range)) [
+      | inl is ↦ rw is (inr rest)
+      | inr is ↦ rw is rest
+    ]
 
 abbrev IsLineFrom : ℕ → List CostedLine → ℕ × CostedLine → Type 0
 IsLineFrom n lines at = (n ≤ at.0) × (slice_get lines (at.0 - n) ≡ Some at.1)
@@ -93,7 +91,13 @@ one_is : (n : ℕ) (lines : List CostedLine) (region : List LineRange) (at : ℕ
     → IsOneOf at (open_from n lines region) → IsLineFrom n lines at
 one_is n [] region at one = absurd one
 one_is n (a ∷ lines) [] at one = absurd one
-one_is n (a ∷ lines) (range ∷ region) at one = by (has_several range) (one_is (n + 1) lines region at) one
+one_is n (a ∷ lines) (range ∷ region) at one = elim (cases_Bool (has_several range)) [
+  | inl is ↦ elim (rw is at one) [
+    | inl same ↦ here same
+    | inr more ↦ behind (one_is (n + 1) lines region at more)
+  ]
+  | inr is ↦ behind (one_is (n + 1) lines region at (rw is at one))
+]
   where
     behind : IsLineFrom (n + 1) lines at → IsLineFrom n (a ∷ lines) at
     behind h =
@@ -102,13 +106,6 @@ one_is n (a ∷ lines) (range ∷ region) at one = by (has_several range) (one_i
 
     here : (n, a) ≡ at → IsLineFrom n (a ∷ lines) at
     here same = subst (IsLineFrom n (a ∷ lines)) same (omega arith, let none : n - n ≡ zero = omega arith in ap (slice_get (a ∷ lines)) none)
-
-    by : (b : Bool) → (IsOneOf at (open_from (n + 1) lines region) → IsLineFrom (n + 1) lines at)
-        → IsOneOf at (map (λ at. (at.0, at.1.0)) (cond b ((n, (a, range)) ∷ filter (λ at. has_several at.1.1) (enumerate_from (n + 1) (zip lines region))) (filter (λ at. has_several at.1.1) (enumerate_from (n + 1) (zip lines region)))))
-        → IsLineFrom n (a ∷ lines) at
-    by true rest (inl same) = here same
-    by true rest (inr one) = behind (rest one)
-    by false rest one = behind (rest one)
 
 -- the first open line: no open line stands before it
 pub record IsFirstOpen (problem : ProblemParts) (region : List LineRange) (line : ℕ) : Type 0 where
@@ -152,17 +149,10 @@ ids_rise problem sound i j a b less there other =
 ids_apart : (problem : ProblemParts) → IsProblem problem → (i j : ℕ) (a b : CostedLine) → i ≢ j
     → slice_get problem.lines i ≡ Some a → slice_get problem.lines j ≡ Some b
     → (a.id <ℤ b.id) ⊎ (b.id <ℤ a.id)
-ids_apart problem sound i j a b apart there other = elim (nat_cases i j apart) [
+ids_apart problem sound i j a b apart there other = elim (cases_lt i j) [
   | inl less ↦ inl (ids_rise problem sound i j a b less there other)
-  | inr more ↦ inr (ids_rise problem sound j i b a more other there)
+  | inr more ↦ inr (ids_rise problem sound j i b a (omega (arith, more, apart)) other there)
 ]
-  where
-    nat_cases : (i j : ℕ) → i ≢ j → (i < j) ⊎ (j < i)
-    nat_cases i j apart = by (nat_lt i j) refl
-      where
-        by : (t : Bool) → nat_lt i j ≡ t → (i < j) ⊎ (j < i)
-        by true is = inl (ltb-true i j is)
-        by false is = inr (omega (arith, ltb-false i j is, apart))
 
 -- ---- no concept of the upper part comes before one of the lower part
 

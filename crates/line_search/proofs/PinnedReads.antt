@@ -1,8 +1,7 @@
 -- What is made of a planner's concept is right.
-use Rattle.std.proofs.Common.{◌≡◌, ℕ, ℤ, pos, Bool, true, false, cond, not, List, [], ◌∷◌, length}
+use Rattle.std.proofs.Common.{◌≡◌, ℕ, ℤ, pos, Bool, true, false, cond, not, List, [], ◌∷◌}
 use Rattle.std.proofs.Common.{map, slice_get, option_map, is_some, Option, Some, None, Ok, refl, ap}
-use Rattle.std.proofs.Common.{sym, ◌∙◌, subst, arith}
-use Rattle.std.proofs.lemmas.Bool.{eqb-true, not-false}
+use Rattle.std.proofs.Common.{sym, ◌∙◌, subst}
 use Rattle.std.proofs.lemmas.Simd.{map-map}
 use Rattle.giv_files.specs.declared.made.Made.{Made}
 use Rattle.giv_files.specs.declared.row_why.RowWhy.TheVariants as why
@@ -41,14 +40,9 @@ use Rattle.line_search.proofs.ConceptAccepted.{concept_accepted}
 use Rattle.line_search.proofs.ConceptReads.{by_cells, frequency_by, marks, passes_by, reads}
 use Rattle.line_search.proofs.ConceptReads.{tree_kept}
 use Rattle.line_search.proofs.SoundProblems.{problem_sound}
+use Rattle.line_search.proofs.Judging.{none_there as no_some}
 
 -- ---- a tree that breaks no rule
-
-no_some : {X : Type 0} (all : List X) → has_some all ≡ false → all ≡ []
-no_some [] e = refl
-no_some (x ∷ all) e =
-    let zero : length (x ∷ all) ≡ 0 = eqb-true _ _ (not-false _ e) in
-    absurd (omega (arith, zero))
 
 none_ruled : (all : List TreeFault) → option_map rule_of (slice_get all 0) ≡ None → all ≡ []
 none_ruled [] e = refl

@@ -1,5 +1,5 @@
 -- Ids that rise, and the ids that they are.
-use Rattle.std.proofs.Common.{◌≡◌, ℤ, Bool, true, false, ◌&&◌, ◌||◌, not, cond, List, [], ◌∷◌, map}
+use Rattle.std.proofs.Common.{◌≡◌, ℤ, true, false, ◌&&◌, not, List, [], ◌∷◌, map, inl, inr}
 use Rattle.std.proofs.Common.{is_some, Option, Some, None, refl, ap, subst, sym, ◌∙◌}
 use Rattle.std.specs.List.{list_any}
 use Rattle.std.specs.Map.{keys_of}
@@ -13,6 +13,7 @@ use Rattle.std.proofs.lemmas.Bool.Decides.{Decides-int_eq, same_from_decides}
 use Rattle.std.proofs.lemmas.Cmp.{int_cmp_total}
 use Rattle.std.proofs.lemmas.Map.Lookups.{exact_signed}
 use Rattle.std.proofs.lemmas.Map.Views.{tells_apart}
+use Rattle.std.proofs.lemmas.Bool.{cases_Bool}
 use Rattle.ptn_network.specs.Networks.{by_id, rising}
 use Rattle.ptn_network.proofs.ById.{by_id_sorted}
 
@@ -41,13 +42,10 @@ units ids = map (λ id. (id, tt {0})) ids
 among : (q : ℤ) (es : List (ℤ × Unit {0}))
     → list_any (int_eq q) (keys_of es) ≡ is_some (find int_cmp q es)
 among q [] = refl
-among q (e ∷ es) = ap (λ b. b || list_any (int_eq q) (keys_of es)) (sym (same_test q e.0))
-    ∙ by (is_eq (int_cmp q e.0)) (among q es)
-  where
-    by : (b : Bool) → list_any (int_eq q) (keys_of es) ≡ is_some (find int_cmp q es)
-        → (b || list_any (int_eq q) (keys_of es)) ≡ is_some (cond b (Some e.1) (find int_cmp q es))
-    by true rest = refl
-    by false rest = rest
+among q (e ∷ es) = rw (← same_test q e.0) (elim (cases_Bool (is_eq (int_cmp q e.0))) [
+  | inl is ↦ rw is refl
+  | inr is ↦ rw is (among q es)
+])
 
 found_there : (q : ℤ) (ids : List ℤ)
     → is_some (find int_cmp q (by_id (units ids))) ≡ list_any (int_eq q) ids
@@ -55,14 +53,10 @@ unfolding by_id
 found_there q [] = refl
 found_there q (id ∷ ids) =
     ap is_some (find-put int_cmp int_cmp_total q id tt (by_id (units ids)))
-    ∙ by (is_eq (int_cmp q id)) (found_there q ids)
-    ∙ ap (λ b. b || list_any (int_eq q) ids) (same_test q id)
-  where
-    by : (b : Bool) → is_some (find int_cmp q (by_id (units ids))) ≡ list_any (int_eq q) ids
-        → is_some (cond b (Some (tt {0})) (find int_cmp q (by_id (units ids))))
-        ≡ (b || list_any (int_eq q) ids)
-    by true rest = refl
-    by false rest = rest
+    ∙ rw (← same_test q id) (elim (cases_Bool (is_eq (int_cmp q id))) [
+      | inl is ↦ rw is refl
+      | inr is ↦ rw is (found_there q ids)
+    ])
 
 -- rising ids are the same ids
 pub rising_has : (q : ℤ) (ids : List ℤ) → list_any (int_eq q) (rising ids) ≡ list_any (int_eq q) ids

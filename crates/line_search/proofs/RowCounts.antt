@@ -4,8 +4,8 @@ use Rattle.std.proofs.Common.{◌∷◌, length, map, drop, get_or, slice_get, z
 use Rattle.std.proofs.Common.{arith, Some, option_map, pos}
 use Rattle.std.specs.List.{enumerate_from, flat_map}
 use Rattle.std.specs.Ordering.{int_eq}
-use Rattle.std.proofs.lemmas.Bool.{eq-eqb, eqb-true, false≢true, ne_eqb}
-use Rattle.std.proofs.lemmas.List.{at_drop_all, at_drop_more, length-append, length-map}
+use Rattle.std.proofs.lemmas.Bool.{eq-eqb, eqb-true, false≢true, ne_eqb, false_from_ne_true}
+use Rattle.std.proofs.lemmas.List.{at_drop_more, length-append, length-map}
 use Rattle.std.proofs.lemmas.List.FromFn.{length-enumerate_from}
 use Rattle.std.proofs.lemmas.Option.{same_Some, slice_get-get_or}
 use Rattle.std.specs.Cmp.Rules.{signed_items}
@@ -54,10 +54,6 @@ module _ (lines : List CostedLine) (i left : ℕ) (edges : List ℕ) (there : i 
       (row_count (drop (i + 1) lines))
       (λ same. omega (arith, same, rows, enough)) (λ same. omega (arith, same, rows, enough))
 
-pub none_behind : (lines : List CostedLine) (i left : ℕ) → length lines ≤ i
-    → nat_eq left (row_count (drop i lines)) ≡ nat_eq left 0
-none_behind lines i left past = at_drop_all (λ rest. nat_eq left (row_count rest)) lines i past
-
 -- ---- the rows of a concept
 
 rows_of_all : (problem : ProblemParts) (lines : List CostedLine) (frequencies : List ℕ)
@@ -83,13 +79,9 @@ concept_long problem frequencies each = rows_of_all problem problem.lines freque
 -- lists of other lengths are others
 pub other_lists : (xs ys : List (List ℤ)) → nat_eq (length xs) (length ys) ≡ false
     → false ≡ pointwise (pointwise int_eq) xs ys
-other_lists xs ys differ = by (pointwise (pointwise int_eq) xs ys) refl
-  where
-    by : (b : Bool) → pointwise (pointwise int_eq) xs ys ≡ b → false ≡ b
-    by false e = refl
-    by true e =
-        let same : xs ≡ ys = (pointwise_decides {E = pointwise int_eq} signed_items xs ys).0 e in
-        absurd (false≢true (sym differ ∙ eq-eqb (length xs) (length ys) (ap length same)))
+other_lists xs ys differ = sym (false_from_ne_true _ (λ e.
+    let same : xs ≡ ys = (pointwise_decides {E = pointwise int_eq} signed_items xs ys).0 e in
+    false≢true (sym differ ∙ eq-eqb (length xs) (length ys) (ap length same))))
 
 -- and so are rows of another number
 pub other_cells : (rows other : List TableRow) → nat_eq (length rows) (length other) ≡ false

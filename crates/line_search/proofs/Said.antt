@@ -1,9 +1,9 @@
 -- What is known of a region by what is said of it.
-use Rattle.std.proofs.Common.{◌≡◌, ℕ, zero, suc, ◌+◌, ◌-◌, ◌<◌, ◌≤◌, Bool, true, false, cond, nat_le, nat_lt, List, [], ◌∷◌, length, map, filter, filter_map, slice_get, zip, Option, Some, None, IfSome, option_map, unwrap_or, refl, ap, sym, subst, ◌∙◌, arith}
+use Rattle.std.proofs.Common.{◌≡◌, ℕ, zero, suc, ◌+◌, ◌-◌, ◌<◌, ◌≤◌, Bool, true, false, cond, nat_le, nat_lt, List, [], ◌∷◌, length, filter_map, slice_get, Option, Some, None, IfSome, option_map, unwrap_or, refl, ap, sym, subst, ◌∙◌, arith, inl, inr}
 use Rattle.std.specs.List.{AllByRecursion, cons_option, enumerate_from}
 use Rattle.std.proofs.lemmas.List.{length-map}
 use Rattle.std.proofs.lemmas.Option.{none-some}
-use Rattle.std.proofs.lemmas.Bool.{ltb-true, ltb-false, leb-true, leb-false}
+use Rattle.std.proofs.lemmas.Bool.{ltb-true, ltb-false, leb-true, leb-false, cases_Bool}
 use Rattle.line_cost_model.specs.declared.edge.BoundedEdge.{BoundedEdge}
 use Rattle.line_cost_model.specs.declared.range.LineRange.{LineRange}
 use Rattle.line_cost_model.specs.declared.side.Side.{Side}
@@ -31,20 +31,18 @@ side_shows : (lines : List CostedLine) (region : List LineRange) (edge : ℕ) (b
     (found : Side) → empty_side lines region edge bounds ≡ Some found
     → IsEmptyAt lines region edge bounds found
 side_shows lines region edge bounds found is =
-    by (nat_lt bounds.most (frequency_on lines (least_in region) edge)) refl
-    (nat_lt (frequency_on lines (greatest_in region) edge) bounds.least) refl is
-  where
-    by : (a : Bool) → nat_lt bounds.most (frequency_on lines (least_in region) edge) ≡ a
-        → (b : Bool) → nat_lt (frequency_on lines (greatest_in region) edge) bounds.least ≡ b
-        → cond a (Some side.Over) (cond b (Some side.Under) None) ≡ Some found
-        → IsEmptyAt lines region edge bounds found
-    by true over b under is =
-        let same : side.Over ≡ found = cc in
-        subst (IsEmptyAt lines region edge bounds) same (ltb-true _ _ over)
-    by false over true under is =
-        let same : side.Under ≡ found = cc in
-        subst (IsEmptyAt lines region edge bounds) same (ltb-true _ _ under)
-    by false over false under is = absurd (cc)
+    elim (cases_Bool (nat_lt bounds.most (frequency_on lines (least_in region) edge))) [
+      | inl over ↦
+          let same : side.Over ≡ found = let e = rw over at is in cc in
+          subst (IsEmptyAt lines region edge bounds) same (ltb-true _ _ over)
+      | inr over ↦
+          elim (cases_Bool (nat_lt (frequency_on lines (greatest_in region) edge) bounds.least)) [
+            | inl under ↦
+                let same : side.Under ≡ found = let e = rw (over, under) at is in cc in
+                subst (IsEmptyAt lines region edge bounds) same (ltb-true _ _ under)
+            | inr under ↦ absurd (let e = rw (over, under) at is in cc)
+          ]
+    ]
 
 -- the sides of edges from one on
 abbrev sides_on : ProblemParts → List LineRange → ℕ → List BoundedEdge → List (ℕ × Side)
@@ -126,17 +124,14 @@ side_none : (lines : List CostedLine) (region : List LineRange) (edge : ℕ) (bo
     → (frequency_on lines (least_in region) edge ≤ bounds.most)
     × (bounds.least ≤ frequency_on lines (greatest_in region) edge)
 side_none lines region edge bounds none =
-    by (nat_lt bounds.most (frequency_on lines (least_in region) edge)) refl
-    (nat_lt (frequency_on lines (greatest_in region) edge) bounds.least) refl none
-  where
-    by : (a : Bool) → nat_lt bounds.most (frequency_on lines (least_in region) edge) ≡ a
-        → (b : Bool) → nat_lt (frequency_on lines (greatest_in region) edge) bounds.least ≡ b
-        → cond a (Some side.Over) (cond b (Some side.Under) None) ≡ None
-        → (frequency_on lines (least_in region) edge ≤ bounds.most)
-        × (bounds.least ≤ frequency_on lines (greatest_in region) edge)
-    by true over b under none = absurd (cc)
-    by false over true under none = absurd (cc)
-    by false over false under none = (ltb-false _ _ over, ltb-false _ _ under)
+    elim (cases_Bool (nat_lt bounds.most (frequency_on lines (least_in region) edge))) [
+      | inl over ↦ absurd (let e = rw over at none in cc)
+      | inr over ↦
+          elim (cases_Bool (nat_lt (frequency_on lines (greatest_in region) edge) bounds.least)) [
+            | inl under ↦ absurd (let e = rw (over, under) at none in cc)
+            | inr under ↦ (ltb-false _ _ over, ltb-false _ _ under)
+          ]
+    ]
 
 -- ---- regions of one concept
 
@@ -170,14 +165,13 @@ all_closed : (n : ℕ) (lines : List CostedLine) (region : List LineRange)
 all_closed n lines [] long ordered none = tt
 all_closed n [] (range ∷ region) long ordered none = absurd (omega (arith, long))
 all_closed n (line ∷ lines) (range ∷ region) long ordered none =
-    by (has_several range) refl none (all_closed (n + 1) lines region (omega (arith, long)) ordered.1)
-  where
-    by : (b : Bool) → has_several range ≡ b
-        → map {B = ℕ × CostedLine} (λ at. (at.0, at.1.0)) (cond b ((n, (line, range)) ∷ filter (λ at. has_several at.1.1) (enumerate_from (n + 1) (zip lines region))) (filter (λ at. has_several at.1.1) (enumerate_from (n + 1) (zip lines region)))) ≡ []
-        → (open_from (n + 1) lines region ≡ [] → IsOneConcept region)
-        → (range.lo ≡ range.hi) × IsOneConcept region
-    by true is none rest = absurd (cc)
-    by false is none rest = (omega (arith, ordered.0, ltb-false range.lo range.hi is), rest none)
+    elim (cases_Bool (has_several range)) [
+      | inl is ↦ absurd (let e = rw is at none in cc)
+      | inr is ↦ (
+        omega (arith, ordered.0, ltb-false range.lo range.hi is),
+        all_closed (n + 1) lines region (omega (arith, long)) ordered.1 (rw is at none),
+      )
+    ]
 
 no_option : {X Y : Type 0} (f : X → Y) (o : Option X) → option_map f o ≡ None → o ≡ None
 no_option f None none = refl

@@ -1,5 +1,5 @@
 -- The definitions on a small dataset.
-use Rattle.std.proofs.Common.{◌≡◌, ℕ, List, [], ◌∷◌, refl, pos, codes, Some, None}
+use Rattle.std.proofs.Common.{◌≡◌, ℕ, List, [], ◌∷◌, map, refl, pos, codes, Option, Some, None}
 use Rattle.giv_files.specs.declared.file_id.FileId.TheVariants as file
 use Rattle.giv_files.specs.declared.key.Key.TheVariants as key
 use Rattle.giv_files.specs.declared.refusal.Refusal.TheVariants as refusal
@@ -24,6 +24,7 @@ use Rattle.line_cost_model.specs.DualBounds.{bound_by}
 use Rattle.branch_certificate.specs.TreeFaults.{tree_faults}
 use Rattle.branch_certificate.specs.TreeFiles.{nodes_of, tree_of, read_faults}
 use Rattle.branch_certificate.specs.Trees.{first_tree, placed_over}
+use Rattle.line_search.specs.declared.fault.ConceptFault.{ConceptFault}
 use Rattle.line_search.specs.declared.fault.ConceptFault.TheVariants as fault
 use Rattle.line_search.specs.ConceptTables.{concept_text}
 use Rattle.line_search.specs.GivenProblems.{problem_of, problem_faults}
@@ -76,6 +77,9 @@ broken = refl
 abbrev concept : List ℕ
 concept = codes "# line-id; edge-order; edge-id; frequency\n1; 1; 1; 1\n1; 2; 2; 1\n2; 1; 1; 1\n"
 
+abbrev dear : List ℕ
+dear = codes "1; 1; 1; 2\n1; 2; 2; 2\n2; 1; 1; 0\n"
+
 abbrev tree : List ℕ
 tree = codes "# kind; id; value; multiplier\nsplit; 1; 1; 0\nsplit; 1; 0; 0\nempty; 2; 1; 0\nsplit; 2; 1; 0\nsplit; 2; 0; 0\nempty; 1; 1; 0\npoint; 0; 0; 0\nbound; 0; 0; 0\nbound; 0; 0; 0\n"
 
@@ -83,48 +87,32 @@ written : concept_text two (1 ∷ 1 ∷ []) ≡ concept
 unfolding concept_text digits digits_at cell_text cell_texts joined table_text
 written = refl
 
-passes : first_broken two concept (Some tree) ≡ None
+-- concepts and trees, each with the rule that it breaks
+abbrev judged : List (Option ConceptFault × Option ConceptFault)
+judged = (first_broken two concept (Some tree), None)
+    -- the last row of the tree is missing
+    ∷ (
+      first_broken two concept (Some (codes "split; 1; 1; 0\nsplit; 1; 0; 0\nempty; 2; 1; 0\nsplit; 2; 1; 0\nsplit; 2; 0; 0\nempty; 1; 1; 0\npoint; 0; 0; 0\nbound; 0; 0; 0\n")),
+      Some fault.Tree,
+    )
+    -- the first split stands outside the range of its line
+    ∷ (
+      first_broken two concept (Some (codes "split; 1; 3; 0\nsplit; 1; 0; 0\nempty; 2; 1; 0\nsplit; 2; 1; 0\nsplit; 2; 0; 0\nempty; 1; 1; 0\npoint; 0; 0; 0\nbound; 0; 0; 0\nbound; 0; 0; 0\n")),
+      Some fault.Split,
+    )
+    -- the second line is not driven
+    ∷ (
+      first_broken two (codes "1; 1; 1; 1\n1; 2; 2; 1\n2; 1; 1; 0\n") (Some tree),
+      Some fault.Bounds,
+    )
+    -- the first line is driven twice, which costs more than the point; without a tree it passes
+    ∷ (first_broken two dear (Some tree), Some fault.Point) ∷ (first_broken two dear None, None)
+    -- a line with two frequencies; an edge too few; rows in another order; no table
+    ∷ (first_broken two (codes "1; 1; 1; 1\n1; 2; 2; 2\n2; 1; 1; 1\n") None, Some fault.Lines)
+    ∷ (first_broken two (codes "1; 1; 1; 1\n2; 1; 1; 1\n") None, Some fault.Lines)
+    ∷ (first_broken two (codes "2; 1; 1; 1\n1; 1; 1; 1\n1; 2; 2; 1\n") None, Some fault.Lines)
+    ∷ (first_broken two (codes "1; 1; 1\n") None, Some fault.Row) ∷ []
+
+each_breaks_it : map (λ at. at.0) judged ≡ map (λ at. at.1) judged
 unfolding first_broken is_feasible tree_faults first_tree placed_over bound_by read_faults tree_of nodes_of input_faults row_faults faults table_of cells_from cell_of values errors row_whys rows cleaned spelling_of value_of value_at fixed_of whole_of
-passes = refl
-
--- the last row of the tree is missing
-no_tree : first_broken two concept (Some (codes "split; 1; 1; 0\nsplit; 1; 0; 0\nempty; 2; 1; 0\nsplit; 2; 1; 0\nsplit; 2; 0; 0\nempty; 1; 1; 0\npoint; 0; 0; 0\nbound; 0; 0; 0\n")) ≡ Some fault.Tree
-unfolding first_broken is_feasible tree_faults first_tree placed_over bound_by read_faults tree_of nodes_of input_faults row_faults faults table_of cells_from cell_of values errors row_whys rows cleaned spelling_of value_of value_at fixed_of whole_of
-no_tree = refl
-
--- the first split stands outside the range of its line
-outside : first_broken two concept (Some (codes "split; 1; 3; 0\nsplit; 1; 0; 0\nempty; 2; 1; 0\nsplit; 2; 1; 0\nsplit; 2; 0; 0\nempty; 1; 1; 0\npoint; 0; 0; 0\nbound; 0; 0; 0\nbound; 0; 0; 0\n")) ≡ Some fault.Split
-unfolding first_broken is_feasible tree_faults first_tree placed_over bound_by read_faults tree_of nodes_of input_faults row_faults faults table_of cells_from cell_of values errors row_whys rows cleaned spelling_of value_of value_at fixed_of whole_of
-outside = refl
-
--- the second line is not driven
-too_few : first_broken two (codes "1; 1; 1; 1\n1; 2; 2; 1\n2; 1; 1; 0\n") (Some tree) ≡ Some fault.Bounds
-unfolding first_broken is_feasible faults table_of cells_from cell_of values errors row_whys rows cleaned spelling_of value_of value_at fixed_of whole_of
-too_few = refl
-
--- the first line is driven twice, which costs more than the point
-dear : first_broken two (codes "1; 1; 1; 2\n1; 2; 2; 2\n2; 1; 1; 0\n") (Some tree) ≡ Some fault.Point
-unfolding first_broken is_feasible tree_faults first_tree placed_over bound_by read_faults tree_of nodes_of input_faults row_faults faults table_of cells_from cell_of values errors row_whys rows cleaned spelling_of value_of value_at fixed_of whole_of
-dear = refl
-
--- without a tree it passes
-unproved : first_broken two (codes "1; 1; 1; 2\n1; 2; 2; 2\n2; 1; 1; 0\n") None ≡ None
-unfolding first_broken is_feasible faults table_of cells_from cell_of values errors row_whys rows cleaned spelling_of value_of value_at fixed_of whole_of
-unproved = refl
-
--- a line with two frequencies; an edge too few; rows in another order; no table
-differs : first_broken two (codes "1; 1; 1; 1\n1; 2; 2; 2\n2; 1; 1; 1\n") None ≡ Some fault.Lines
-unfolding first_broken is_feasible faults table_of cells_from cell_of values errors row_whys rows cleaned spelling_of value_of value_at fixed_of whole_of
-differs = refl
-
-lacks : first_broken two (codes "1; 1; 1; 1\n2; 1; 1; 1\n") None ≡ Some fault.Lines
-unfolding first_broken is_feasible faults table_of cells_from cell_of values errors row_whys rows cleaned spelling_of value_of value_at fixed_of whole_of
-lacks = refl
-
-turned : first_broken two (codes "2; 1; 1; 1\n1; 1; 1; 1\n1; 2; 2; 1\n") None ≡ Some fault.Lines
-unfolding first_broken is_feasible faults table_of cells_from cell_of values errors row_whys rows cleaned spelling_of value_of value_at fixed_of whole_of
-turned = refl
-
-no_table : first_broken two (codes "1; 1; 1\n") None ≡ Some fault.Row
-unfolding first_broken is_feasible faults table_of cells_from cell_of values errors row_whys rows cleaned spelling_of value_of value_at fixed_of whole_of
-no_table = refl
+each_breaks_it = refl

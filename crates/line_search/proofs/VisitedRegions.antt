@@ -1,7 +1,7 @@
 -- What holds of the entries of each region holds of the listing: its nodes certify what the best concept
 -- costs, and that is the chosen one.
-use Rattle.std.proofs.Common.{◌≡◌, ℕ, zero, suc, ℤ, pos, ◌+◌, ◌<◌, ◌≤◌, ◌≤ℤ◌, Bool, true, false, cond, ◌==◌, nat_lt, List, [], ◌∷◌, ◌++◌, fold, length, filter_map, Option, Some, None, IfSome, inl, inr, ⊎_elim, nat_le, slice_set, refl, ap, sym, subst, ◌∙◌, arith, append-nil}
-use Rattle.std.specs.List.{All, AllByRecursion, cons_option, enumerate_from, last_or}
+use Rattle.std.proofs.Common.{◌≡◌, ℕ, zero, suc, ℤ, pos, ◌+◌, ◌<◌, ◌≤◌, ◌≤ℤ◌, Bool, true, false, cond, ◌==◌, nat_lt, List, [], ◌∷◌, ◌++◌, fold, length, Option, Some, None, IfSome, inl, inr, ⊎_elim, nat_le, slice_set, refl, ap, sym, subst, ◌∙◌, arith, append-nil}
+use Rattle.std.specs.List.{All, AllByRecursion, enumerate_from}
 use Rattle.std.proofs.lemmas.Int.{ints}
 use Rattle.std.proofs.lemmas.Bool.{leb-true}
 use Rattle.std.proofs.lemmas.List.{length-set, map-append}
@@ -27,6 +27,7 @@ use Rattle.line_search.proofs.Levels.{fewer_above, fewer_below}
 use Rattle.line_search.proofs.LowerFirst.{IsFirstOpen, first_open_first, lower_first}
 use Rattle.line_search.proofs.Said.{IsOneConcept, said}
 use Rattle.line_search.proofs.Visited.{CostsUpTo, IsFoundIn, IsVisited, StandsFirst, both_visited, least_inside, lower_inside, never_before_self, upper_inside}
+use Rattle.line_search.proofs.VisitsInTurn.{best_behind as best_append}
 
 -- ---- the multipliers of a region are within the costs of its open lines
 
@@ -69,18 +70,6 @@ from_each P (x ∷ xs) all zero d h = all.0
 from_each P (x ∷ xs) all (suc k) d h = from_each P xs all.1 k d (omega (arith, h))
 
 -- ---- the entries of a region
-
-best_append : (best : Option (List ℕ)) (front back : List Entry)
-    → best_after best (front ++ back) ≡ best_after (best_after best front) back
-best_append best [] back = refl
-best_append best (entry ∷ front) back = by entry.found best (λ best. best_append best front back)
-  where
-    by : (found best : Option (List ℕ))
-        → ((best : Option (List ℕ)) → last_or best (filter_map (λ entry. entry.found) (front ++ back)) ≡ last_or (last_or best (filter_map (λ entry. entry.found) front)) (filter_map (λ entry. entry.found) back))
-        → last_or best (cons_option found (filter_map (λ entry. entry.found) (front ++ back)))
-        ≡ last_or (last_or best (cons_option found (filter_map (λ entry. entry.found) front))) (filter_map (λ entry. entry.found) back)
-    by None best rest = rest best
-    by (Some concept) best rest = rest (Some concept)
 
 up_to : (cost : ℤ) (a b : ℕ) → cost ≤ℤ pos a → a ≤ b → cost ≤ℤ pos b
 up_to cost a b h k = omega (arith, ints, h, k)

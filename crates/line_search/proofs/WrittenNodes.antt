@@ -1,9 +1,9 @@
 -- The nodes of a listing can be written.
-use Rattle.std.proofs.Common.{◌≡◌, ℕ, zero, suc, ◌+◌, ◌≤◌, ◌<◌, ◌==◌, true, false, cond, nat_lt}
+use Rattle.std.proofs.Common.{◌≡◌, ℕ, zero, suc, ◌+◌, ◌≤◌, ◌<◌, ◌==◌, true, false, cond, nat_lt, inl, inr}
 use Rattle.std.proofs.Common.{List, [], ◌∷◌, ◌++◌, fold, length, Option, None, IfSome, All}
-use Rattle.std.proofs.Common.{Bool, arith, refl, sym, subst, ◌∙◌}
+use Rattle.std.proofs.Common.{arith, sym, subst, ◌∙◌}
 use Rattle.std.specs.List.{AllByRecursion, enumerate_from}
-use Rattle.std.proofs.lemmas.Bool.{eqb-false}
+use Rattle.std.proofs.lemmas.Bool.{eqb-false, cases_Bool}
 use Rattle.std.proofs.lemmas.List.{append-nil, length-map, length-set}
 use Rattle.std.proofs.lemmas.List.Elements.{All-nil, All-cons, All-append, All-set}
 use Rattle.std.proofs.lemmas.Option.{slice_get_within}
@@ -39,23 +39,20 @@ module _ (problem : ProblemParts) (region : List LineRange)
 
     one_more : (n amount : ℕ) (before : List Multiplier) → amount ≤ 1000000000000000000
         → AreBefore n before → AreBefore (n + 1) (before ++ unless_zero n amount)
-    one_more n amount before little own = by (amount == 0) refl
-      where
-        one : Multiplier
-        one = record { edge = n; amount = amount }
-
-        by : (b : Bool) → (amount == 0) ≡ b
-            → AreBefore (n + 1) (before ++ cond b [] (record { edge = n; amount = amount } ∷ []))
-        by true is =
-            subst (AreBefore (n + 1)) (sym (append-nil before)) (own.0, λ k d h. omega (arith, own.1 k d h))
-        by false is = (
-          multipliers_push before n amount own.0
-              (record { some = omega (arith, eqb-false amount 0 is); few = little }) own.1,
-          All-append (λ (one : Multiplier). one.edge < n + 1) before (one ∷ [])
-              (λ k d h. omega (arith, own.1 k d h))
-              (All-cons (λ (one : Multiplier). one.edge < n + 1) one [] (omega arith)
-              (All-nil (λ (one : Multiplier). one.edge < n + 1))),
-        )
+    one_more n amount before little own =
+        let one : Multiplier = record { edge = n; amount = amount } in
+        elim (cases_Bool (amount == 0)) [
+          | inl is ↦ rw is (subst (AreBefore (n + 1)) (sym (append-nil before))
+              (own.0, λ k d h. omega (arith, own.1 k d h)))
+          | inr is ↦ rw is (
+            multipliers_push before n amount own.0
+                (record { some = omega (arith, eqb-false amount 0 is); few = little }) own.1,
+            All-append (λ (one : Multiplier). one.edge < n + 1) before (one ∷ [])
+                (λ k d h. omega (arith, own.1 k d h))
+                (All-cons (λ (one : Multiplier). one.edge < n + 1) one [] (omega arith)
+                (All-nil (λ (one : Multiplier). one.edge < n + 1))),
+          )
+        ]
 
     next_few : (before : List Multiplier) (at : ℕ × BoundedEdge)
         → next_multiplier problem region before at ≤ 1000000000000000000

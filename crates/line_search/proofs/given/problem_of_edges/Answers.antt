@@ -2,8 +2,8 @@ use Rattle.std.proofs.Common.{ℤ, ◌<ℤ◌, [], ◌∷◌, ◌++◌, ap, sym,
 use Rattle.std.specs.List.{All}
 use Rattle.line_cost_model.specs.declared.edge.BoundedEdge.{BoundedEdge}
 use Rattle.line_cost_model.specs.Problems.{ProblemParts, IsBoundedEdge, IsId}
+use Rattle.line_cost_model.proofs.Proving.{holds_at as held}
 use Rattle.line_search.specs.GivenProblems.{bounded_by}
-use Rattle.line_search.proofs.Lists.{held}
 use Rattle.line_search.proofs.PushedEdges.{edges_below, edges_more, edges_whole, is_bounded, told_edge, told_id}
 use Rattle.line_search.proofs.given.problem_of_edges.Goals as goal
 
