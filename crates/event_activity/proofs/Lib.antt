@@ -9,7 +9,6 @@ mod EanCells
 pub mod EanMakes
 pub mod EanNames
 pub mod EanReads
-mod Given
 mod InTurn
 mod Joined
 mod KeepsRules

@@ -1,6 +1,6 @@
 use Rattle.std.proofs.Common.{◌≡◌, ◌∙◌, ap, arith, length}
+use Rattle.std.proofs.lemmas.Result.{IfOk-weaker}
 use Rattle.event_activity.specs.Activities.{with_numbers, concept_activities}
-use Rattle.event_activity.proofs.Given.{if_made}
 use Rattle.event_activity.proofs.Joined.{activities_few, activities_told}
 use Rattle.event_activity.proofs.activities.concept_activities.Goals as goal
 
@@ -17,9 +17,8 @@ with_numbers-requires c =
 
 pub returns : goal.returns
 returns c =
-    if_made (λ numbered. numbered.items ≡ with_numbers c.deref.result.now)
+    IfOk-weaker c.with_numbers.result (λ numbered. numbered.items ≡ with_numbers c.deref.result.now)
     (λ numbered. numbered.items ≡ concept_activities c.args.settings.now c.args.events.now)
-    c.with_numbers.result
     (λ numbered is. activities_told c.args.settings.now c.args.events.now
     c.joinings-joining-items.result.now c.joinings-joining-items.ensures.all
     c.loop-joining.joining-index (omega (arith, c.loop-joining-test.false))

@@ -1,7 +1,7 @@
 use Rattle.std.proofs.Common.{◌≡◌, ◌∙◌, ap, arith, length, map}
 use Rattle.std.specs.List.{enumerate_from}
+use Rattle.std.proofs.lemmas.Result.{IfOk-weaker}
 use Rattle.event_activity.specs.Runs.{with_id, concept_events}
-use Rattle.event_activity.proofs.Given.{if_made}
 use Rattle.event_activity.proofs.LineEvents.{events_few, events_told}
 use Rattle.event_activity.proofs.runs.concept_events.Goals as goal
 
@@ -17,9 +17,9 @@ with_ids-requires c =
 pub returns : goal.returns
 returns c =
     let events = c.loop-line.events.items in
-    if_made (λ numbered. numbered.items ≡ map with_id (enumerate_from 1 c.deref.result.now))
+    IfOk-weaker c.with_ids.result
+    (λ numbered. numbered.items ≡ map with_id (enumerate_from 1 c.deref.result.now))
     (λ numbered. numbered.items ≡ concept_events c.args.network.now c.args.pool.now)
-    c.with_ids.result
     (λ numbered is. events_told c.args.network.now c.args.pool.now events numbered.items
     c.loop-line.line (omega arith) c.loop-line.invariant (is ∙ ap (λ some. map with_id
     (enumerate_from 1 some)) c.deref.ensures.value)) c.with_ids.ensures
