@@ -58,12 +58,6 @@ module _ (network : NetworkParts) (from : ℕ) where
       }
 
   module _ (stops : List FarStop) (are : AreByDistance network from stops) where
-    pub stop_at : (place : ℕ) → place < length stops
-        → (get_or stops place no_stop).stop < length network.stops
-    stop_at place h =
-        (All-get_or (λ far. (far.stop < length network.stops)
-        × (far.distance ≡ distance network from far.stop)) stops place no_stop h are.right).0
-
     -- a later stop is no nearer
     pub no_nearer : (place later : ℕ) → place ≤ later → later < length stops
         → distance network from (get_or stops place no_stop).stop

@@ -7,6 +7,7 @@ use Rattle.std.specs.Ordering.{int_eq, int_cmp}
 use Rattle.std.proofs.lemmas.Float.{T_from_true}
 use Rattle.std.proofs.lemmas.Int.{ints}
 use Rattle.std.proofs.lemmas.List.Elements.{All-head, All-tail}
+use Rattle.std.proofs.lemmas.Bool.{false_from_ne_true}
 use Rattle.giv_files.specs.declared.file_id.FileId.TheVariants as file
 use Rattle.giv_files.specs.declared.row_why.RowWhy.TheVariants as why
 use Rattle.giv_files.specs.Columns.{load_columns}
@@ -22,11 +23,9 @@ use Rattle.ptn_network.proofs.LoadRows.{fits}
 use Rattle.demand_load.specs.LoadTables.{load_rows}
 
 not_below : (least most : ℤ) → least ≤ℤ most → int_lt most least ≡ false
-not_below least most order = by (int_lt most least) refl
-  where
-    by : (b : Bool) → int_lt most least ≡ b → b ≡ false
-    by true is = let less : most <ℤ least = lt_z_yes (T_from_true _ is) in absurd (omega (arith, ints))
-    by false is = refl
+not_below least most order = false_from_ne_true (int_lt most least) (λ is.
+    let less : most <ℤ least = lt_z_yes (T_from_true _ is) in
+    omega (arith, ints))
 
 -- an edge that is there is found
 is_known : (edges : List Edge) (id : ℤ) → list_any (λ edge. int_eq id edge.id) edges ≡ true

@@ -1,11 +1,12 @@
 -- The definitions on small datasets.
-use Rattle.std.proofs.Common.{◌≡◌, ℕ, List, [], ◌∷◌, ◌++◌, refl, pos, codes, Ok, Err}
+use Rattle.std.proofs.Common.{◌≡◌, ℕ, List, [], ◌∷◌, ◌++◌, map, refl, pos, codes, Result, Ok, Err}
 use Rattle.std.specs.Fmt.{digits}
 use Rattle.giv_files.specs.declared.counted.Counted.TheVariants as counted
 use Rattle.giv_files.specs.declared.file_id.FileId.TheVariants as file
 use Rattle.giv_files.specs.declared.key.Key.TheVariants as key
 use Rattle.giv_files.specs.declared.made.Made.{Made}
 use Rattle.giv_files.specs.declared.row_why.RowWhy.TheVariants as why
+use Rattle.giv_files.specs.declared.refusal.Refusal.{Refusal}
 use Rattle.giv_files.specs.declared.refusal.Refusal.TheVariants as refusal
 use Rattle.giv_files.specs.declared.stage.Stage.TheVariants as stage
 use Rattle.giv_files.specs.Inputs.{input_faults, row_faults}
@@ -40,19 +41,6 @@ square = record {
   edges = edge 1 0 1 1000000 ∷ edge 2 1 3 1000000 ∷ edge 3 0 2 1000000 ∷ edge 4 2 3 1000000 ∷ [];
 }
 
-there : path square 0 3 ≡ 0 ∷ 1 ∷ []
-unfolding path_within least_sum walks_within least_of
-there = refl
-
--- the way back is another one, since the least last edge decides
-back : path square 3 0 ≡ 1 ∷ 0 ∷ []
-unfolding path_within least_sum walks_within least_of
-back = refl
-
-nowhere : path square 2 2 ≡ []
-unfolding path_within least_sum walks_within least_of
-nowhere = refl
-
 -- the same ways, where the first edges of the one have greater ids than those of the other, but its
 -- last one a lesser id
 abbrev turned : NetworkParts
@@ -62,9 +50,11 @@ turned = record {
       ∷ edge 5 1 0 1000000 ∷ [];
 }
 
-by_last : path turned 0 3 ≡ 2 ∷ 1 ∷ []
+-- the way there and the way back differ, since the least last edge decides; no way from a stop to itself
+ways_found : path square 0 3 ∷ path square 3 0 ∷ path square 2 2 ∷ path turned 0 3 ∷ []
+    ≡ (0 ∷ 1 ∷ []) ∷ (1 ∷ 0 ∷ []) ∷ [] ∷ (2 ∷ 1 ∷ []) ∷ []
 unfolding path_within least_sum walks_within least_of
-by_last = refl
+ways_found = refl
 
 -- ---- the stage
 
@@ -83,57 +73,41 @@ four = codes "1;;;;;\n2;;;;;\n3;;;;;\n4;;;;;\n"
 abbrev ways : List ℕ
 ways = codes "1; 1; 2; 1; 1; 1\n2; 2; 4; 1; 1; 1\n3; 1; 3; 1; 1; 1\n4; 3; 4; 1; 1; 1\n"
 
-abbrev made : List ℕ → Made
-made table = record {
+abbrev made : List ℕ → List ℕ → Made
+made table report = record {
   files = record { file = file.Load; text = load_header ++ 10 ∷ table } ∷ [];
-  report = codes "load: 4 edges";
+  report = report;
 }
 
-demand : load_stage (bundle 0 (four ∷ ways ∷ codes "1; 4; 150.5\n" ∷ []))
-    ≡ Ok (made (codes "1; 150.5; 3; 6\n2; 150.5; 3; 6\n3; 0; 0; 3\n4; 0; 0; 3\n"))
+-- two stops, and two edges between them
+abbrev two : List ℕ
+two = codes "1;;;;;\n2;;;;;\n"
+
+abbrev pair : List ℕ
+pair = codes "7; 1; 2; 1; 1; 1\n5; 1; 2; 1; 1; 1\n"
+
+-- bundles by demand and by given loads, each with what the stage gives
+abbrev staged : List (Result Made Refusal × Result Made Refusal)
+staged = (
+  load_stage (bundle 0 (four ∷ ways ∷ codes "1; 4; 150.5\n" ∷ [])),
+  Ok (made (codes "1; 150.5; 3; 6\n2; 150.5; 3; 6\n3; 0; 0; 3\n4; 0; 0; 3\n") (codes "load: 4 edges")),
+) ∷ (
+  load_stage (bundle 0 (four ∷ ways ∷ codes "1; 4; 70000\n" ∷ [])),
+  Err (refusal.TooMany counted.Frequency 1003),
+) ∷ (
+  load_stage (bundle 0 (two ∷ [] ∷ codes "1; 1; 5\n1; 2; 0\n1; 2; 1\n" ∷ [])),
+  Err (refusal.BadRow file.Od 3 why.NoPath),
+) ∷ (
+  load_stage (bundle 1 (two ∷ pair ∷ codes "7; 140; 2; 5\n5; 0.25; 1; 1\n" ∷ [])),
+  Ok (made (codes "5; 0.25; 1; 1\n7; 140; 2; 5\n") (codes "load: 2 edges")),
+) ∷ (
+  load_stage (bundle 1 (two ∷ pair ∷ codes "7; 140; 2; 5\n" ∷ [])),
+  Err (refusal.BadRow file.LoadGiven 0 why.MissingEdge),
+) ∷ []
+
+each_stage_gives : map (λ at. at.0) staged ≡ map (λ at. at.1) staged
 unfolding digits digits_at load_stage loads_by loads_of text_faults path_within least_sum
     walks_within least_of network_of network_faults stops_of input_faults row_faults faults by_id
     table_of cells_from cell_of values errors row_whys rows cleaned spelling_of value_of value_at
     fixed_of whole_of cell_text cell_texts joined table_text
-demand = refl
-
-too_often : load_stage (bundle 0 (four ∷ ways ∷ codes "1; 4; 70000\n" ∷ []))
-    ≡ Err (refusal.TooMany counted.Frequency 1003)
-unfolding digits digits_at load_stage loads_by loads_of text_faults path_within least_sum
-    walks_within least_of network_of network_faults stops_of input_faults row_faults faults by_id
-    table_of cells_from cell_of values errors row_whys rows cleaned spelling_of value_of value_at
-    fixed_of whole_of
-too_often = refl
-
-no_way : load_stage (bundle 0 (codes "1;;;;;\n2;;;;;\n" ∷ [] ∷ codes "1; 1; 5\n1; 2; 0\n1; 2; 1\n"
-    ∷ [])) ≡ Err (refusal.BadRow file.Od 3 why.NoPath)
-unfolding digits digits_at load_stage loads_by loads_of text_faults path_within least_sum
-    walks_within least_of network_of network_faults stops_of input_faults row_faults faults by_id
-    table_of cells_from cell_of values errors row_whys rows cleaned spelling_of value_of value_at
-    fixed_of whole_of
-no_way = refl
-
-given : load_stage (bundle 1
-    (codes "1;;;;;\n2;;;;;\n" ∷ codes "7; 1; 2; 1; 1; 1\n5; 1; 2; 1; 1; 1\n"
-    ∷ codes "7; 140; 2; 5\n5; 0.25; 1; 1\n" ∷ []))
-    ≡ Ok (record {
-      files = record {
-        file = file.Load;
-        text = load_header ++ 10
-            ∷ codes "5; 0.25; 1; 1\n7; 140; 2; 5\n";
-      } ∷ [];
-      report = codes "load: 2 edges";
-    })
-unfolding digits digits_at load_stage loads_by loads_of text_faults network_of network_faults
-    stops_of input_faults row_faults faults by_id table_of cells_from cell_of values errors row_whys
-    rows cleaned spelling_of value_of value_at fixed_of whole_of cell_text cell_texts joined
-    table_text
-given = refl
-
-missing : load_stage (bundle 1 (codes "1;;;;;\n2;;;;;\n"
-    ∷ codes "7; 1; 2; 1; 1; 1\n5; 1; 2; 1; 1; 1\n" ∷ codes "7; 140; 2; 5\n" ∷ []))
-    ≡ Err (refusal.BadRow file.LoadGiven 0 why.MissingEdge)
-unfolding digits digits_at load_stage loads_by loads_of text_faults network_of network_faults
-    stops_of input_faults row_faults faults by_id table_of cells_from cell_of values errors row_whys
-    rows cleaned spelling_of value_of value_at fixed_of whole_of
-missing = refl
+each_stage_gives = refl

@@ -1,15 +1,10 @@
 -- The lists of customers who want to go, by the stop where they start.
-use Rattle.std.proofs.Common.{◌≡◌, ℕ, ◌+◌, ◌<◌, ◌≤◌, Bool, true, false, cond, List, [], ◌∷◌, length, get_or, set, replicate, refl, ap, ◌∙◌, arith, inl, inr, get_or-set_other, get_or-set_same}
+use Rattle.std.proofs.Common.{◌≡◌, ℕ, ◌+◌, ◌<◌, ◌≤◌, Bool, true, false, cond, List, [], length, get_or, set, replicate, refl, ap, ◌∙◌, arith, inl, inr, get_or-set_other, get_or-set_same}
 use Rattle.std.proofs.lemmas.Bool.{cases_eq}
 use Rattle.std.proofs.lemmas.List.{length-set}
 use Rattle.ptn_network.specs.Networks.{NetworkParts}
 use Rattle.demand_load.specs.Wanted.{sum_where, sum_between, everyone, AreWanted}
 use Rattle.demand_load.proofs.WantedSums.{sum_where-set, sum_where-one, sum_where-zeros, sum_between-set, sum_between-one}
-
--- a list without length has nothing
-pub none_in : (amounts : List ℕ) → length amounts ≡ 0 → amounts ≡ []
-none_in [] e = refl
-none_in (amount ∷ amounts) e = absurd (omega arith)
 
 module _ (network : NetworkParts) (wanted : List (List ℕ)) (from : ℕ)
     (are : AreWanted network wanted) (within : from < length network.stops) where

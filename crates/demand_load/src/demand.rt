@@ -1,6 +1,7 @@
 // The loads of edges by demand.
-ghost use Rattle.std.specs.Prelude.{ℕ, pos, ◌≡◌, ◌+◌, ◌<◌, ◌≤◌, ◌≤ℤ◌, ◌^◌, [], length, slice_get, unsigned_abs, IfNone, IfOk, OnOk};
+ghost use Rattle.std.specs.Prelude.{ℕ, pos, ◌≡◌, ◌+◌, ◌<◌, ◌≤◌, ◌≤ℤ◌, ◌^◌, [], length, position, slice_get, unsigned_abs, IfNone, IfOk, OnOk};
 ghost use Rattle.std.specs.List.{All};
+ghost use Rattle.std.specs.Ordering.{int_eq};
 ghost use Rattle.giv_files.specs.Columns.{od_columns};
 ghost use Rattle.giv_files.specs.Inputs.{input_faults, records, records_of, table_row_faults, table_faults, broken_whys, UnlessFault};
 ghost use Rattle.giv_files.specs.Writing.{InColumns};
@@ -104,10 +105,10 @@ fn note_row(
         ≡ sum_between (goes_over network.now index) 0 wanted.old
         + row_load network.now index row.now)) }
 {
-    let Some(left) = network.stop_index(row.left) else {
+    let Some(left) = stop_at(network, &row.left) else {
         return Ok(Some(RowWhy::UnknownStop));
     };
-    let Some(right) = network.stop_index(row.right) else {
+    let Some(right) = stop_at(network, &row.right) else {
         return Ok(Some(RowWhy::UnknownStop));
     };
     if !row.has_customers() {
@@ -116,6 +117,20 @@ fn note_row(
     if !known.joins(alloc, network, left, right)? {
         return Ok(Some(RowWhy::NoPath));
     }
-    wanted.add(alloc, network, left, right, row.customers.unsigned_abs())?;
+    wanted.add(alloc, network, left, right, amount(&row.customers))?;
     Ok(None)
+}
+
+// The index of the stop of an id.
+fn stop_at(network: &Network, id: &i64) -> Option<usize>
+    ensures { result ≡ position (int_eq id.now) network.now.stops }
+{
+    network.stop_index(*id)
+}
+
+// How many customers there are; no row has fewer than none.
+fn amount(customers: &i64) -> u64
+    ensures { result ≡ unsigned_abs customers.now }
+{
+    customers.unsigned_abs()
 }

@@ -1,7 +1,7 @@
 use Rattle.std.proofs.Common.{◌≡◌, ◌≤◌, [], get_or, ap, sym, ◌∙◌, arith}
 use Rattle.std.proofs.lemmas.Bool.{eqb-true}
+use Rattle.std.proofs.lemmas.List.{nil_from_length as none_in}
 use Rattle.demand_load.specs.Wanted.{everyone, goes_over, sum_where, sum_between}
-use Rattle.demand_load.proofs.WantedLists.{none_in}
 use Rattle.demand_load.proofs.WantedSums.{sum_where-nil, sum_between-one, sum_between-le, sum_between-drop, sum_between-end}
 use Rattle.demand_load.proofs.on_edges.loads_of_wanted.Goals as goal
 
