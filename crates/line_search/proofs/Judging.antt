@@ -1,5 +1,5 @@
 -- The rules of a concept, from what is found of its text.
-use Rattle.std.proofs.Common.{◌≡◌, ℕ, not, Bool, true, false, cond, List, [], ◌∷◌, length, map, refl, ap, sym, ◌∙◌, arith, Option, Some, None, IfNone, IfSome, IfOk, Result, Ok, Err}
+use Rattle.std.proofs.Common.{◌≡◌, ℕ, not, Bool, true, false, cond, List, [], ◌∷◌, length, map, refl, ap, sym, ◌∙◌, arith, Option, Some, None, IfNone, IfSome}
 use Rattle.std.specs.Option.{option_or}
 use Rattle.std.proofs.lemmas.Bool.{ne_eqb}
 use Rattle.std.proofs.lemmas.Option.{same_Some}
@@ -98,9 +98,3 @@ pub none_then : {P Q : Type 0} (answer : Option ConceptFault) → (P → Q) → 
     → IfNone answer Q
 none_then None then h = then h
 none_then (Some x) then h = tt
-
--- what follows of an answer that is given
-pub ok_then : {A E : Type 0} (P Q : A → Type 0) (result : Result A E) → ((x : A) → P x → Q x)
-    → IfOk result P → IfOk result Q
-ok_then P Q (Ok x) then h = then x h
-ok_then P Q (Err error) then h = tt

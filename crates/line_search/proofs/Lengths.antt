@@ -1,6 +1,7 @@
 -- A listing is no longer than twice the concepts of its region, less one.
 use Rattle.std.proofs.Common.{◌≡◌, ℕ, zero, suc, ◌+◌, ◌-◌, ◌*◌, ◌/◌, ◌≤◌, ◌<◌, Bool, true, false, cond, nat_le, List, [], ◌∷◌, length, map, filter, find, zip, refl, arith, Option, Some, None, option_map, unwrap_or, IfSome, sym, subst, length-append}
 use Rattle.std.proofs.lemmas.Bool.{ltb-true}
+use Rattle.std.proofs.lemmas.Option.{IfSome_then}
 use Rattle.std.specs.List.{AllByRecursion, enumerate_from}
 use Rattle.line_cost_model.specs.declared.multipliers.Multiplier.{Multiplier}
 use Rattle.line_cost_model.specs.declared.edge.BoundedEdge.{BoundedEdge}
@@ -74,38 +75,6 @@ upper_ordered (range ∷ region) zero at ordered high = (omega (arith, high), or
 upper_ordered (range ∷ region) (suc line) at ordered high =
     (ordered.0, upper_ordered region line at ordered.1 high)
 
--- what holds of each thing that may be said of a region holds of what is said
-pub node_cases : (problem : ProblemParts) (region : List LineRange) (best : Option (List ℕ))
-    (P : Node → Type 0) → ((e : ℕ) (s : Side) → P (node.Empty e s))
-    → ((ms : List Multiplier) → P (node.Bound ms)) → P node.Point
-    → IfSome (first_open problem region) (λ line. P (node.Split line (middle (range_of region line))))
-    → P (node_at problem region best)
-node_cases problem region best P empty bound point split =
-    elim (empty_edge problem region) as
-    (λ e. P (unwrap_or (first_of (option_map (λ at. node.Empty at.0 at.1) e ∷ as_bound problem region best
-    ∷ as_split problem region ∷ [])) node.Point)) [
-      | Some at ↦ empty at.0 at.1
-      | None ↦ elim best as (λ b. P
-          (unwrap_or (first_of (as_bound problem region b ∷ as_split problem region ∷ [])) node.Point)) [
-            | Some f ↦ elim (nat_le (cost_of problem f) (dual_bound problem region)) as
-                (λ b. P (unwrap_or (first_of (cond b (Some (node.Bound (multipliers_of problem region))) None
-                ∷ as_split problem region ∷ [])) node.Point)) [
-                  | true ↦ bound _
-                  | false ↦ last
-                ]
-            | None ↦ last
-          ]
-    ]
-  where
-    last : P (unwrap_or (first_of (as_split problem region ∷ [])) node.Point)
-    last = elim (first_open problem region) as
-        (λ o. IfSome o (λ line. P (node.Split line (middle (range_of region line))))
-        → P (unwrap_or (first_of (option_map (λ line. node.Split line (middle (range_of region line))) o
-        ∷ [])) node.Point)) [
-          | Some line ↦ λ s. s
-          | None ↦ λ _. point
-        ] split
-
 pub all_map : {X : Type 0} (P Q : X → Type 0) (xs : List X) → ((x : X) → P x → Q x) → AllByRecursion P xs
     → AllByRecursion Q xs
 all_map P Q [] f all = tt
@@ -164,9 +133,37 @@ first_open_is problem region =
     (all_map (IsOpenFrom 0 region) (λ at. IsOpenAt region at.0) (open_at problem region)
     (from_start region) (all_open 0 problem.lines region)))
 
-pub then_also : (Q P : ℕ → Type 0) (o : Option ℕ) → IfSome o Q → ((line : ℕ) → Q line → P line) → IfSome o P
-then_also Q P None h f = tt
-then_also Q P (Some line) h f = f line h
+-- what holds of each thing that may be said of a region holds of what is said
+pub node_cases : (problem : ProblemParts) (region : List LineRange) (best : Option (List ℕ))
+    (P : Node → Type 0) → ((e : ℕ) (s : Side) → P (node.Empty e s))
+    → ((ms : List Multiplier) → P (node.Bound ms)) → P node.Point
+    → ((line : ℕ) → IsOpenAt region line → P (node.Split line (middle (range_of region line))))
+    → P (node_at problem region best)
+node_cases problem region best P empty bound point split =
+    elim (empty_edge problem region) as
+    (λ e. P (unwrap_or (first_of (option_map (λ at. node.Empty at.0 at.1) e ∷ as_bound problem region best
+    ∷ as_split problem region ∷ [])) node.Point)) [
+      | Some at ↦ empty at.0 at.1
+      | None ↦ elim best as (λ b. P
+          (unwrap_or (first_of (as_bound problem region b ∷ as_split problem region ∷ [])) node.Point)) [
+            | Some f ↦ elim (nat_le (cost_of problem f) (dual_bound problem region)) as
+                (λ b. P (unwrap_or (first_of (cond b (Some (node.Bound (multipliers_of problem region))) None
+                ∷ as_split problem region ∷ [])) node.Point)) [
+                  | true ↦ bound _
+                  | false ↦ last
+                ]
+            | None ↦ last
+          ]
+    ]
+  where
+    last : P (unwrap_or (first_of (as_split problem region ∷ [])) node.Point)
+    last = elim (first_open problem region) as
+        (λ o. IfSome o (λ line. P (node.Split line (middle (range_of region line))))
+        → P (unwrap_or (first_of (option_map (λ line. node.Split line (middle (range_of region line))) o
+        ∷ [])) node.Point)) [
+          | Some line ↦ λ s. s
+          | None ↦ λ _. point
+        ] (IfSome_then (first_open problem region) {P = IsOpenAt region} (first_open_is problem region) split)
 
 pub middle_inside : (lo hi : ℕ) → lo < hi → (lo ≤ (lo + hi) / 2) × ((lo + hi) / 2 < hi)
 middle_inside lo hi h = (omega (arith, h), omega (arith, h))
@@ -204,8 +201,7 @@ listing_short problem (suc levels) region best ordered =
     node_cases problem region best (λ n. length (entries_by (entries_within problem levels) region best n) + 1
     ≤ 2 * concept_count region)
     (λ e s. omega (arith, some)) (λ ms. omega (arith, some)) (omega (arith, some))
-    (then_also (IsOpenAt region) _ (first_open problem region) (first_open_is problem region)
-    (split_short (entries_within problem levels) (listing_short problem levels) region best ordered))
+    (split_short (entries_within problem levels) (listing_short problem levels) region best ordered)
 
 pub root_ordered : (edges : List BoundedEdge) (lines : List CostedLine)
     → AreOrdered (map (λ line. record { lo = 0; hi = most_of edges line }) lines)

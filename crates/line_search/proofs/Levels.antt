@@ -5,8 +5,8 @@ use Rattle.line_cost_model.specs.declared.range.LineRange.{LineRange}
 use Rattle.line_cost_model.specs.Problems.{ProblemParts}
 use Rattle.line_cost_model.specs.Regions.{part_from, part_up_to, range_of}
 use Rattle.branch_certificate.specs.declared.node.Node.TheVariants as node
-use Rattle.line_search.specs.Listings.{Entry, best_after, entries_by, entries_within, first_open, levels_of, middle, visit, node_at}
-use Rattle.line_search.proofs.Lengths.{AreOrdered, IsOpenAt, first_open_is, lower_ordered, middle_inside, node_cases, then_also, upper_ordered}
+use Rattle.line_search.specs.Listings.{Entry, best_after, entries_by, entries_within, levels_of, middle, visit, node_at}
+use Rattle.line_search.proofs.Lengths.{AreOrdered, IsOpenAt, lower_ordered, middle_inside, node_cases, upper_ordered}
 
 abbrev width : LineRange → ℕ
 width range = range.hi - range.lo
@@ -87,10 +87,9 @@ same_levels problem (suc m) (suc n) most hm hn region best ordered few =
     node_cases problem region best (λ at. entries_by (entries_within problem m) region best at ≡ entries_by
     (entries_within problem n) region best at)
     (λ e s. refl) (λ ms. refl) refl
-    (then_also (IsOpenAt region) _ (first_open problem region) (first_open_is problem region)
     (split_agrees (entries_within problem m) (entries_within problem n) (most - 1)
     (same_levels problem m n (most - 1) (omega (arith, hm)) (omega (arith, hn))) region best ordered
-    (omega (arith, few))))
+    (omega (arith, few)))
 
 visit_agrees : (problem : ProblemParts) (most : ℕ) → Agree (entries_within problem most) (visit problem) most
 visit_agrees problem most region best ordered few = same_levels problem most (levels_of region)
@@ -107,6 +106,5 @@ visit_unrolls problem region best ordered =
     (λ at. entries_by (entries_within problem (sum_by width region)) region best at ≡ entries_by
     (visit problem) region best at)
     (λ e s. refl) (λ ms. refl) refl
-    (then_also (IsOpenAt region) _ (first_open problem region) (first_open_is problem region)
     (split_agrees (entries_within problem (sum_by width region)) (visit problem) (sum_by width region)
-    (visit_agrees problem (sum_by width region)) region best ordered (omega arith))))
+    (visit_agrees problem (sum_by width region)) region best ordered (omega arith)))

@@ -12,11 +12,11 @@ use Rattle.branch_certificate.specs.declared.node.Node.{Node}
 use Rattle.branch_certificate.specs.declared.node.Node.TheVariants as node
 use Rattle.branch_certificate.specs.TreeFaults.{splits_outside}
 use Rattle.branch_certificate.specs.Walks.{SplitsOne, behind_node}
-use Rattle.line_search.specs.Listings.{Entry, best_after, entries_by, entry, first_open, listing}
+use Rattle.line_search.specs.Listings.{Entry, best_after, entries_by, entry, listing}
 use Rattle.line_search.specs.Listings.{middle, node_at, visit}
 use Rattle.line_search.specs.Searches.{IsVisited, entry_of, visits}
-use Rattle.line_search.proofs.Lengths.{IsOpenAt, first_open_is, lower_ordered, middle_inside}
-use Rattle.line_search.proofs.Lengths.{node_cases, root_ordered, then_also, upper_ordered}
+use Rattle.line_search.proofs.Lengths.{IsOpenAt, lower_ordered, middle_inside}
+use Rattle.line_search.proofs.Lengths.{node_cases, root_ordered, upper_ordered}
 use Rattle.line_search.proofs.Levels.{visit_unrolls}
 
 -- ---- the best concept behind entries
@@ -72,8 +72,7 @@ pub split_inside : (problem : ProblemParts) (region : List LineRange) (best : Op
     × (splits_outside region (node_at problem region best) ≡ false)
 split_inside problem region best =
     node_cases problem region best (λ at. SplitsOne region at × (splits_outside region at ≡ false))
-    (λ edge side. (tt, refl)) (λ multipliers. (tt, refl)) (tt, refl)
-    (then_also (IsOpenAt region) _ (first_open problem region) (first_open_is problem region) split)
+    (λ edge side. (tt, refl)) (λ multipliers. (tt, refl)) (tt, refl) split
   where
     split : (line : ℕ) → IsOpenAt region line
         → (line < length region)
@@ -92,7 +91,7 @@ visited_behind problem region waiting best all =
     node_cases problem region best
     (λ at. AllByRecursion (IsVisited problem) (behind_node region waiting at))
     (λ edge side. all.1) (λ multipliers. all.1) all.1
-    (then_also (IsOpenAt region) _ (first_open problem region) (first_open_is problem region) split)
+    split
   where
     split : (line : ℕ) → IsOpenAt region line
         → AllByRecursion (IsVisited problem)

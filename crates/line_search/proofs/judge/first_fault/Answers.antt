@@ -1,11 +1,12 @@
 use Rattle.std.proofs.Common.{length, nat_eq, refl, ◌≡◌, Some, IfNone, IfSome, ap, sym, ◌∙◌, subst}
 use Rattle.std.proofs.Common.{option_copied}
 use Rattle.std.proofs.lemmas.List.{length-map}
+use Rattle.std.proofs.lemmas.Result.{IfOk-weaker}
 use Rattle.line_cost_model.specs.Concepts.{IsFeasible, is_feasible, cost_of}
 use Rattle.line_search.specs.ConceptTables.{concept_rows, frequencies_in, frequency_in, row_count}
 use Rattle.line_search.specs.Judged.{Marks, Passes, first_broken, tree_rule}
 use Rattle.line_search.proofs.Judging.{not_read, other_lines, out_of_bounds, by_tree, passes}
-use Rattle.line_search.proofs.Judging.{none_then, ok_then}
+use Rattle.line_search.proofs.Judging.{none_then}
 use Rattle.line_search.proofs.RowCounts.{concept_long, other_cells}
 use Rattle.line_search.proofs.judge.first_fault.Goals as goal
 
@@ -55,10 +56,10 @@ returns-in-Some-tree-clause-first c =
     let problem = c.args.problem.now in
     let fs = c.in_ok-frequencies.frequencies.items in
     let text = c.in-Some-tree.text.now in
-    ok_then (λ answer. answer
+    IfOk-weaker c.tree_fault.result (λ answer. answer
     ≡ tree_rule problem (cost_of problem c.deref-in-Some-tree.result.now) (Some text))
     (λ answer. answer ≡ first_broken problem c.args.concept.now (option_copied c.args.tree))
-    c.tree_fault.result (λ answer is. is
+    (λ answer is. is
     ∙ ap (λ fs. tree_rule problem (cost_of problem fs) (Some text))
     c.deref-in-Some-tree.ensures.value
     ∙ ap (λ tree. tree_rule problem (cost_of problem fs) (option_copied tree))
@@ -76,9 +77,9 @@ returns-in-Some-tree-clause-passes c =
     let problem = c.args.problem.now in
     let fs = c.in_ok-frequencies.frequencies.items in
     let text = c.in-Some-tree.text.now in
-    ok_then (λ answer. IfNone answer (Marks problem c.deref-in-Some-tree.result.now text))
+    IfOk-weaker c.tree_fault.result (λ answer. IfNone answer (Marks problem c.deref-in-Some-tree.result.now text))
     (λ answer. IfNone answer (Passes problem c.args.concept.now (option_copied c.args.tree)))
-    c.tree_fault.result (λ answer. none_then answer (λ marks. passes problem c.args.concept.now
+    (λ answer. none_then answer (λ marks. passes problem c.args.concept.now
     (option_copied c.args.tree) c.in-Some.table
     (sym c.in-Some.is ∙ c.in_ok-table.ensures.read) c.in_ok-frequencies.frequencies.items
     c.in_ok-frequencies.ensures.read c.in_ok-rows_of_concept.field-0
