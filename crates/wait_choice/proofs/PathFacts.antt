@@ -1,14 +1,15 @@
 -- The region of a path, change by change.
 use Rattle.std.proofs.Math.Seq.{take-append_seam}
-use Rattle.std.proofs.Common.{Option, take, ◌-◌, OnOk, OnErr, Result, Ok, Err, slice_get, mul-le-mul_left, ◌≤ℤ◌, ◌≡◌, ◌≢◌, ◌∙◌, ℕ, ℤ, zero, suc, ◌+◌, ◌*◌, ◌<◌, ◌≤◌, ◌&&◌, ◌||◌, not, cond, eqb, nat_eq, nat_lt, Bool, true, false, List, [], ◌∷◌, ◌++◌, length, map, get_or, slice_set, pos, ◌+ℤ◌, Some, None, refl, ap, sym, subst, arith}
+use Rattle.std.proofs.Common.{Option, take, ◌-◌, OnOk, OnErr, Result, Ok, Err, slice_get, mul-le-mul_left, ◌≤ℤ◌, ◌≡◌, ◌∙◌, ℕ, ℤ, zero, suc, ◌+◌, ◌*◌, ◌<◌, ◌≤◌, ◌&&◌, ◌||◌, not, cond, eqb, nat_eq, nat_lt, Bool, true, false, List, [], ◌∷◌, ◌++◌, length, map, get_or, slice_set, pos, ◌+ℤ◌, Some, None, refl, ap, sym, subst, arith, inl, inr}
 use Rattle.std.specs.Prelude.{drop, position, replicate, zip}
 use Rattle.std.specs.List.{enumerate_from, list_any, prefix_len, range_with_len}
-use Rattle.std.proofs.lemmas.Bool.{both_ways, eqb-false, eqb-true, eq-eqb, ltb-false, ltb-true, ne_eqb}
+use Rattle.std.proofs.lemmas.Bool.{both_ways, eqb-false, eqb-true, eq-eqb, ne_eqb, not-true, cases_Bool, cases_lt}
 use Rattle.std.proofs.lemmas.Int.{ints}
 use Rattle.std.proofs.lemmas.List.{ext_get_or, get_or-map, get_or-set_other, get_or-set_same, length-map, length-replicate, length-set, length_push}
 use Rattle.std.proofs.lemmas.List.FromFn.{get_or-map-range_with_len, length-map-range_with_len}
 use Rattle.std.proofs.lemmas.List.Folds.{list_any-append}
 use Rattle.std.proofs.lemmas.List.Sums.{sum_by-cons}
+use Rattle.std.proofs.Math.Bool.{or-false}
 use Rattle.delay_management.specs.declared.decided.Decided.{Decided}
 use Rattle.delay_management.specs.declared.step.Activity.{Activity}
 use Rattle.delay_management.specs.Lateness.{delay_at, is_broken}
@@ -20,10 +21,6 @@ use Rattle.wait_choice.specs.declared.decision.Decision.TheVariants as decision
 use Rattle.wait_choice.specs.Choices.{dropped_count, times_of}
 use Rattle.wait_choice.specs.Paths.{AreOnce, IsPath, all_but, as_decided, dropped_in, region_in, region_of, regions_in, waiting, waiting_in}
 use Rattle.wait_choice.specs.Regions.{bound_of, decided, first_broken, greatest_set, is_dropped, is_free, is_free_at, is_kept, least_set, times_in}
-
-or-false : (b : Bool) → (b || false) ≡ b
-or-false true = refl
-or-false false = refl
 
 -- ---- what is decided of one change
 
@@ -48,18 +45,16 @@ region_at : (count : ℕ) (path : List Decided) (change : ℕ) → change < coun
 unfolding region_of decision_in
 region_at count [] change inside = replicated count change decision.Free decision.Dropped inside
 region_at count (last ∷ before) change inside =
-    elim (eqb last.change change) as (λ b. eqb last.change change ≡ b
-    → get_or (decided (region_of count before) last.change (as_decided last.kept)) change decision.Dropped
-    ≡ cond b (as_decided last.kept) (decision_in before change)) [
-      | true ↦ λ is. let same = eqb-true last.change change is in
+    elim (cases_Bool (eqb last.change change)) [
+      | inl is ↦ rw is (let same = eqb-true last.change change is in
           ap (λ k. get_or (decided (region_of count before) k (as_decided last.kept)) change decision.Dropped) same
           ∙ get_or-set_same (region_of count before) change (as_decided last.kept) decision.Dropped
-          (omega (arith, inside, region_size count before))
-      | false ↦ λ is.
+          (omega (arith, inside, region_size count before)))
+      | inr is ↦ rw is (
           get_or-set_other (region_of count before) last.change change (as_decided last.kept) decision.Dropped
           (λ e. eqb-false last.change change is (sym e))
-          ∙ region_at count before change inside
-    ] refl
+          ∙ region_at count before change inside)
+    ]
 
 -- what is told of each change of a region
 region_mapped : {X : Type 0} (f : Decision → X) (g : ℕ → X) (count : ℕ) (path : List Decided)
@@ -95,25 +90,22 @@ kept_same : (count : ℕ) (path : List Decided) → AreOnce count path → (chan
 unfolding decision_in AreOnce
 kept_same count [] once change = refl
 kept_same count (last ∷ before) once change =
-    elim (eqb last.change change) as (λ b. eqb last.change change ≡ b
-    → is_kept (cond b (as_decided last.kept) (decision_in before change)) ≡ ((b && last.kept) || kept_in before change)) [
-      | true ↦ λ is. by last.kept (not_kept before change (subst (λ k. is_decided before k ≡ false) (eqb-true last.change change is) once.1))
-      | false ↦ λ is. kept_same count before once.2 change
-    ] refl
+    elim (cases_Bool (eqb last.change change)) [
+      | inl is ↦
+          let none = not_kept before change (subst (λ k. is_decided before k ≡ false) (eqb-true last.change change is) once.1) in
+          elim (cases_Bool last.kept) [
+            | inl keeps ↦ rw (is, keeps) refl
+            | inr drops ↦ rw (is, drops) (sym none)
+          ]
+      | inr is ↦ rw is (kept_same count before once.2 change)
+    ]
   where
-    by : (kept : Bool) → kept_in before change ≡ false → is_kept (as_decided kept) ≡ (kept || kept_in before change)
-    by true none = refl
-    by false none = sym none
-
     not_kept : (path : List Decided) (change : ℕ) → is_decided path change ≡ false → kept_in path change ≡ false
     not_kept [] change none = refl
-    not_kept (last ∷ before) change none = split (eqb last.change change) last.kept none (not_kept before change)
-      where
-        split : (b kept : Bool) → (b || is_decided before change) ≡ false
-            → (is_decided before change ≡ false → kept_in before change ≡ false)
-            → ((b && kept) || kept_in before change) ≡ false
-        split true kept none rest = absurd (both_ways true none refl)
-        split false kept none rest = rest none
+    not_kept (last ∷ before) change none = elim (cases_Bool (eqb last.change change)) [
+      | inl is ↦ absurd (both_ways true (rw is at none) refl)
+      | inr is ↦ rw is (not_kept before change (rw is at none))
+    ]
 
 -- a change that is not decided is not dropped
 not_dropped : (path : List Decided) (change : ℕ) → is_decided path change ≡ false
@@ -121,52 +113,45 @@ not_dropped : (path : List Decided) (change : ℕ) → is_decided path change �
 unfolding dropped_in
 not_dropped [] change none = refl
 not_dropped (last ∷ before) change none =
-    elim (eqb last.change change) as (λ b. eqb last.change change ≡ b → (b || is_decided before change) ≡ false
-    → list_any (nat_eq change) (cond last.kept (dropped_in before) (dropped_in before ++ last.change ∷ [])) ≡ false) [
-      | true ↦ λ is none. absurd (both_ways true none refl)
-      | false ↦ λ is none. by last.kept (not_dropped before change none) is
-    ] refl none
-  where
-    by : (kept : Bool) → list_any (nat_eq change) (dropped_in before) ≡ false → eqb last.change change ≡ false
-        → list_any (nat_eq change) (cond kept (dropped_in before) (dropped_in before ++ last.change ∷ [])) ≡ false
-    by true rest is = rest
-    by false rest is =
-        list_any-append (nat_eq change) (dropped_in before) (last.change ∷ [])
-        ∙ ap (λ b. b || (nat_eq change last.change || false)) rest
-        ∙ ap (λ b. b || false) (ne_eqb change last.change (λ e. eqb-false last.change change is (sym e)))
+    elim (cases_Bool (eqb last.change change)) [
+      | inl is ↦ absurd (both_ways true (rw is at none) refl)
+      | inr is ↦
+          let rest = not_dropped before change (rw is at none) in
+          elim (cases_Bool last.kept) [
+            | inl keeps ↦ rw keeps rest
+            | inr drops ↦ rw drops (
+                list_any-append (nat_eq change) (dropped_in before) (last.change ∷ [])
+                ∙ ap (λ b. b || (nat_eq change last.change || false)) rest
+                ∙ ap (λ b. b || false) (ne_eqb change last.change (λ e. eqb-false last.change change is (sym e))))
+          ]
+    ]
 
 dropped_same : (count : ℕ) (path : List Decided) → AreOnce count path → (change : ℕ)
     → is_dropped (decision_in path change) ≡ list_any (nat_eq change) (dropped_in path)
 unfolding decision_in AreOnce dropped_in
 dropped_same count [] once change = refl
 dropped_same count (last ∷ before) once change =
-    elim (eqb last.change change) as (λ b. eqb last.change change ≡ b
-    → is_dropped (cond b (as_decided last.kept) (decision_in before change))
-    ≡ list_any (nat_eq change) (cond last.kept (dropped_in before) (dropped_in before ++ last.change ∷ []))) [
-      | true ↦ λ is. let same = eqb-true last.change change is in
-          here last.kept (not_dropped before change (subst (λ k. is_decided before k ≡ false) same once.1)) (sym same)
-      | false ↦ λ is. there last.kept (dropped_same count before once.2 change) (λ e. eqb-false last.change change is (sym e))
-    ] refl
-  where
-    pushed : list_any (nat_eq change) (dropped_in before ++ last.change ∷ [])
-        ≡ (list_any (nat_eq change) (dropped_in before) || (nat_eq change last.change || false))
-    pushed = list_any-append (nat_eq change) (dropped_in before) (last.change ∷ [])
-
-    here : (kept : Bool) → list_any (nat_eq change) (dropped_in before) ≡ false → change ≡ last.change
-        → is_dropped (as_decided kept)
-        ≡ list_any (nat_eq change) (cond kept (dropped_in before) (dropped_in before ++ last.change ∷ []))
-    here true none same = sym none
-    here false none same =
-        sym (pushed ∙ ap (λ b. b || (nat_eq change last.change || false)) none
-        ∙ ap (λ b. b || false) (eq-eqb change last.change same))
-
-    there : (kept : Bool) → is_dropped (decision_in before change) ≡ list_any (nat_eq change) (dropped_in before)
-        → change ≢ last.change → is_dropped (decision_in before change)
-        ≡ list_any (nat_eq change) (cond kept (dropped_in before) (dropped_in before ++ last.change ∷ []))
-    there true rest other = rest
-    there false rest other =
-        rest ∙ sym (pushed ∙ ap (λ b. list_any (nat_eq change) (dropped_in before) || (b || false)) (ne_eqb change last.change other)
-        ∙ or-false (list_any (nat_eq change) (dropped_in before)))
+    let pushed = list_any-append (nat_eq change) (dropped_in before) (last.change ∷ []) in
+    elim (cases_Bool (eqb last.change change)) [
+      | inl is ↦
+          let same = eqb-true last.change change is in
+          let none = not_dropped before change (subst (λ k. is_decided before k ≡ false) same once.1) in
+          elim (cases_Bool last.kept) [
+            | inl keeps ↦ rw (is, keeps) (sym none)
+            | inr drops ↦ rw (is, drops)
+                (sym (pushed ∙ ap (λ b. b || (nat_eq change last.change || false)) none
+                ∙ ap (λ b. b || false) (eq-eqb change last.change (sym same))))
+          ]
+      | inr is ↦
+          let rest = dropped_same count before once.2 change in
+          elim (cases_Bool last.kept) [
+            | inl keeps ↦ rw (is, keeps) rest
+            | inr drops ↦ rw (is, drops) (rest ∙ sym (pushed
+                ∙ ap (λ b. list_any (nat_eq change) (dropped_in before) || (b || false))
+                (ne_eqb change last.change (λ e. eqb-false last.change change is (sym e)))
+                ∙ or-false (list_any (nat_eq change) (dropped_in before))))
+          ]
+    ]
 
 -- ---- what is told of a region
 
@@ -200,15 +185,10 @@ pub free_there : (count : ℕ) (path : List Decided) (change : ℕ)
     → is_free_at (region_of count path) change ≡ true
     → (change < count) × (is_decided path change ≡ false)
 free_there count path change free =
-    elim (nat_lt change count) as (λ b. nat_lt change count ≡ b → (change < count) × (is_decided path change ≡ false)) [
-      | true ↦ λ is. let inside : change < count = ltb-true change count is in
-          (inside, not-true (is_decided path change) (sym (free_is count path change inside) ∙ free))
-      | false ↦ λ is. absurd (both_ways (is_free_at (region_of count path) change) (not_free count path change (ltb-false change count is)) free)
-    ] refl
-  where
-    not-true : (b : Bool) → not b ≡ true → b ≡ false
-    not-true false h = refl
-    not-true true h = absurd (both_ways false refl h)
+    elim (cases_lt change count) [
+      | inl inside ↦ (inside, not-true (is_decided path change) (sym (free_is count path change inside) ∙ free))
+      | inr past ↦ absurd (both_ways (is_free_at (region_of count path) change) (not_free count path change past) free)
+    ]
 
 -- how many changes are dropped
 count_set : (region : List Decision) (change : ℕ) (kept : Bool) → is_free_at region change ≡ true
@@ -254,15 +234,12 @@ count_is count [] once = count_none count
 count_is count (last ∷ before) once =
     let free = free_is count before last.change once.0 ∙ ap not once.1 in
     let one = count_set (region_of count before) last.change last.kept free in
-    by last.kept one (count_is count before once.2)
-  where
-    by : (kept : Bool) → dropped_count (greatest_set (decided (region_of count before) last.change (as_decided last.kept)))
-        ≡ dropped_count (greatest_set (region_of count before)) + cond kept 0 1
-        → dropped_count (greatest_set (region_of count before)) ≡ length (dropped_in before)
-        → dropped_count (greatest_set (decided (region_of count before) last.change (as_decided last.kept)))
-        ≡ length (cond kept (dropped_in before) (dropped_in before ++ last.change ∷ []))
-    by true one rest = omega (arith, one, rest)
-    by false one rest = omega (arith, one, rest, length_push (dropped_in before) last.change)
+    let rest = count_is count before once.2 in
+    elim (cases_Bool last.kept) [
+      | inl keeps ↦ rw keeps (omega (arith, rest, rw keeps at one))
+      | inr drops ↦ rw drops
+          (omega (arith, rest, rw drops at one, length_push (dropped_in before) last.change))
+    ]
 
 -- ---- the times, the bound and the change that is broken
 

@@ -1,5 +1,5 @@
 -- What the choice of a waiting decision gives, exit by exit.
-use Rattle.std.proofs.Common.{◌≡◌, ◌∙◌, ℕ, ◌+◌, ◌≤◌, List, [], ◌∷◌, slice_get, Option, Some, None, Err, IfOk, IfSome, ap, sym, subst, arith}
+use Rattle.std.proofs.Common.{◌≡◌, ◌∙◌, ℕ, ◌+◌, ◌≤◌, List, [], ◌∷◌, slice_get, Option, Some, None, Err, ap, sym, subst, arith}
 use Rattle.std.specs.Prelude.{IsSome}
 use Rattle.giv_files.specs.declared.refusal.Refusal.{Refusal}
 use Rattle.giv_files.specs.declared.refusal.StageFault.{StageFault}
@@ -13,7 +13,6 @@ use Rattle.wait_choice.specs.declared.waits.Waits.{Waits}
 use Rattle.wait_choice.specs.Budgets.{entries_listed, spent_by, waits_within}
 use Rattle.wait_choice.specs.ChoiceStage.{FindsSome, IsEnough, IsUnspent, IsWhole, listing_in, outcome_of, waits_in, waits_refusals, waits_work, work_after}
 use Rattle.wait_choice.specs.Listings.{listing}
-use Rattle.wait_choice.specs.RightChoices.{IsRight}
 use Rattle.wait_choice.proofs.Right.{enough_finds, finds_within, whole_marked}
 
 -- ---- the inputs are at fault
@@ -80,14 +79,6 @@ module _ (bundle : BundleParts) (penalty budget : ℕ) where
             (λ waits. waits_in bundle penalty budget ≡ Some waits) (outcome_of budget result)
         by None refused same = ap (λ all. slice_get all 0) refused
         by (Some waits) refused same = (refused, sym same)
-
-    pub end_right : IfSome result (IsRight problem penalty) → IfOk (outcome_of budget result) (IsRight (problem_in bundle) penalty)
-    end_right right = by result (subst (λ p. IfSome result (IsRight p penalty)) is right)
-      where
-        by : (result : Option Waits) → IfSome result (IsRight (problem_in bundle) penalty)
-            → IfOk (outcome_of budget result) (IsRight (problem_in bundle) penalty)
-        by None right = tt
-        by (Some waits) right = right
 
     pub end_finds : FindsSome (problem_in bundle) budget → IsUnspent (outcome_of budget result)
     end_finds enough = by result (subst IsSome (sym here) (finds_within (problem_in bundle) penalty budget enough))

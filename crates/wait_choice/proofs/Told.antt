@@ -1,5 +1,5 @@
 -- Items of lists, one after the other.
-use Rattle.std.proofs.Common.{◌-◌, ◌≡◌, ◌∙◌, ℕ, zero, suc, ◌+◌, ◌<◌, ◌≤◌, ◌==◌, ◌&&◌, nat_lt, Bool, true, false, List, [], ◌∷◌, ◌++◌, length, map, drop, take, get_or, Some, ap, sym, subst, refl, arith, append_assoc}
+use Rattle.std.proofs.Common.{◌-◌, ◌≡◌, ◌∙◌, ℕ, zero, suc, ◌+◌, ◌<◌, ◌≤◌, ◌==◌, ◌&&◌, Bool, true, List, [], ◌∷◌, ◌++◌, length, map, drop, take, get_or, Some, ap, sym, subst, refl, arith, append_assoc, inl, inr}
 use Rattle.std.specs.Prelude.{position, unwrap_or, slice_get, zip, All}
 use Rattle.std.proofs.lemmas.List.Elements.{All-append, All-cons, All-nil}
 use Rattle.std.proofs.lemmas.List.Kept.{AllPairs-from_increasing}
@@ -11,7 +11,7 @@ use Rattle.wait_choice.specs.Judged.{are_choices, is_choice, is_node}
 use Rattle.wait_choice.proofs.PathFacts.{position_alike}
 use Rattle.std.specs.List.{list_all}
 use Rattle.std.specs.List.Sorted.{IsStrictlyIncreasing}
-use Rattle.std.proofs.lemmas.Bool.{eq-eqb, ne_eqb, ltb-true, ltb-false, le-leb, lt-leb}
+use Rattle.std.proofs.lemmas.Bool.{eq-eqb, ne_eqb, le-leb, cases_lt}
 use Rattle.std.proofs.lemmas.List.{drop_all, drop_more, get_or-map, length-drop, length-map, take_all, take_more}
 use Rattle.delay_management.specs.declared.step.Activity.{Activity}
 
@@ -48,11 +48,12 @@ module _ (ids : List ℕ) (rise : IsStrictlyIncreasing ids) (id : ℕ) where
 
   pub never_falls : (i j : ℕ) → i ≤ j → j < length ids → get_or ids i 0 ≤ get_or ids j 0
   never_falls i j most inside =
-      elim (nat_lt i j) as (λ b. nat_lt i j ≡ b → get_or ids i 0 ≤ get_or ids j 0) [
-        | true ↦ λ is. let less : get_or ids i 0 < get_or ids j 0 = far i j (ltb-true i j is) inside in omega (arith, less)
-        | false ↦ λ is. let past : j ≤ i = ltb-false i j is in let same : i ≡ j = omega (arith, most, past) in
-            omega (arith, ap (λ k. get_or ids k 0) same)
-      ] refl
+      elim (cases_lt i j) [
+        | inl before ↦
+            let less : get_or ids i 0 < get_or ids j 0 = far i j before inside in omega (arith, less)
+        | inr past ↦
+            let same : i ≡ j = omega (arith, most, past) in omega (arith, ap (λ k. get_or ids k 0) same)
+      ]
 
   pub found_at : (i : ℕ) → i < length ids → get_or ids i 0 ≡ id → i ≡ unwrap_or (position (λ other. other == id) ids) (length ids)
   found_at i inside is =
@@ -66,10 +67,10 @@ module _ (ids : List ℕ) (rise : IsStrictlyIncreasing ids) (id : ℕ) where
   not_there i below above =
       ap (λ o. unwrap_or o (length ids))
       (none_found (λ other. other == id) ids 0
-      (λ k inside. elim (nat_lt k i) as (λ b. nat_lt k i ≡ b → (get_or ids k 0 == id) ≡ false) [
-        | true ↦ λ is. let low = below k (ltb-true k i is) in ne_eqb (get_or ids k 0) id (λ same. omega (arith, low, same))
-        | false ↦ λ is. let high = above k (ltb-false k i is) inside in ne_eqb (get_or ids k 0) id (λ same. omega (arith, high, same))
-      ] refl))
+      (λ k inside. elim (cases_lt k i) [
+        | inl before ↦ let low = below k before in ne_eqb (get_or ids k 0) id (λ same. omega (arith, low, same))
+        | inr past ↦ let high = above k past inside in ne_eqb (get_or ids k 0) id (λ same. omega (arith, high, same))
+      ]))
 
 -- the index among the ids of changes
 pub index_alike : (ids : List ℕ) (changes : List Activity) (id : ℕ) → ids ≡ map (λ change. change.id) changes
@@ -106,15 +107,6 @@ pub choices_are : (changes : List Activity) (rows : List WaitRow) (fit nodes : B
     → list_all is_node (drop (length changes) rows) ≡ nodes → (fit && nodes) ≡ are_choices changes rows
 choices_are changes rows fit nodes enough one two =
     sym (λ i. (le-leb (length changes) (length rows) enough i && one i) && two i)
-
-pub choices_short : (changes : List Activity) (rows : List WaitRow) → length rows < length changes → false ≡ are_choices changes rows
-choices_short changes rows short =
-    sym (ap (λ b. (b && list_all (λ at. is_choice at.0 at.1) (zip rows changes)) && list_all is_node (drop (length changes) rows))
-    (lt-leb (length changes) (length rows) short))
-
-pub and_false : (a : Bool) → (a && false) ≡ false
-and_false true = refl
-and_false false = refl
 
 -- all that is behind some first items
 pub rest_all : {X : Type 0} (xs : List X) (k : ℕ) → take (length xs - k) (drop k xs) ≡ drop k xs

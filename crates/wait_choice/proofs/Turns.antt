@@ -299,6 +299,3 @@ few_listed budget count i one two = omega (arith, one, two)
 
 pub all_listed : (budget count i : ℕ) → i < budget → count ≡ i + 1 → i + 1 ≡ min budget count
 all_listed budget count i one two = omega (arith, one, two)
-
-pub budget_listed : (budget count : ℕ) → budget ≤ count → budget ≡ min budget count
-budget_listed budget count most = omega (arith, most)

@@ -9,25 +9,19 @@ use Rattle.wait_choice.proofs.StageResults.{end_chosen, end_finds, end_steps, en
 use Rattle.wait_choice.proofs.Unspent.{refused_unspent, refused_whole}
 use Rattle.wait_choice.proofs.choose.choose_waits.Goals as goal
 
-pub returns-in_err-problem-clause-chosen : goal.returns-in_err-problem-clause-chosen
-returns-in_err-problem-clause-chosen g c =
+pub returns-in_err-problem : goal.returns-in_err-problem
+returns-in_err-problem g c =
     let p = err_from_is_err_and c.from_residual.result c.from_residual.ensures.1 in
-    rw (p.1, p.2) (inputs_refused c.args.bundle.now c.args.penalty c.args.budget c.in_err-problem.field-0.0 c.in_err-problem.ensures.read)
-
-pub returns-in_err-problem-clause-finds : goal.returns-in_err-problem-clause-finds
-returns-in_err-problem-clause-finds g c enough =
-    let p = err_from_is_err_and c.from_residual.result c.from_residual.ensures.1 in
-    rw (p.1, p.2) (refused_unspent c.args.bundle.now c.in_err-problem.field-0.0 c.in_err-problem.ensures.read)
-
-pub returns-in_err-problem-clause-whole : goal.returns-in_err-problem-clause-whole
-returns-in_err-problem-clause-whole g c enough =
-    let p = err_from_is_err_and c.from_residual.result c.from_residual.ensures.1 in
-    rw (p.1, p.2) (refused_whole c.args.bundle.now c.in_err-problem.field-0.0 c.in_err-problem.ensures.read)
-
-pub returns-in_err-problem-clause-steps : goal.returns-in_err-problem-clause-steps
-returns-in_err-problem-clause-steps g c =
-    let p = err_from_is_err_and c.from_residual.result c.from_residual.ensures.1 in
-    rw (p.1, p.2) (inputs_steps c.args.bundle.now c.args.penalty c.args.budget _ _ c.in_err-problem.field-0.0 c.in_err-problem.ensures.read c.tick.ensures)
+    let bundle = c.args.bundle.now in
+    let fault = c.in_err-problem.field-0.0 in
+    let read = c.in_err-problem.ensures.read in
+    rw (p.1, p.2) (record {
+      chosen = inputs_refused bundle c.args.penalty c.args.budget fault read;
+      right = tt;
+      finds = λ enough. refused_unspent bundle fault read;
+      whole = λ enough. refused_whole bundle fault read;
+      steps = inputs_steps bundle c.args.penalty c.args.budget _ _ fault read c.tick.ensures;
+    })
 
 pub returns-in_err-found-clause-steps : goal.returns-in_err-found-clause-steps
 returns-in_err-found-clause-steps g c =

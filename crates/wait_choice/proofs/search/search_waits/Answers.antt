@@ -22,34 +22,28 @@ returns-in_err-take_entry-clause-err g c =
     on_err _ c.from_residual-in_err-take_entry.result
     (omega (arith, c.tick.ensures, c.loop-entry.invariant.steps), omega (arith, c.tick.ensures, c.loop-entry.invariant.steps, few))
 
-pub returns-then-not-branch-clause-found : goal.returns-then-not-branch-clause-found
-returns-then-not-branch-clause-found g c =
+pub returns-then-not-branch : goal.returns-then-not-branch
+returns-then-not-branch g c =
     let problem = c.args.problem.now in
-    let takes = subst (TakesEntry c.args.penalty c.loop-entry.search c.take_entry.new.self) c.if-not-branch.true c.in_ok-take_entry.ensures.takes in
-    let last = last_one problem c.args.penalty c.loop-entry._entry c.loop-entry.search c.loop-entry.invariant.behind c.take_entry.new.self takes in
-    outcome_by _ (λ found. found ≡ waits_within c.args.budget (listing problem c.args.penalty)) c.whole.result c.whole.ensures
-    (λ found is. is ∙ whole_within c.args.budget (listing problem c.args.penalty) c.take_entry.new.self.nodes c.take_entry.new.self.best
-    (omega (arith, last.2, c.loop-entry-test.true)) last.0 last.1)
-
-pub returns-then-not-branch-clause-right : goal.returns-then-not-branch-clause-right
-returns-then-not-branch-clause-right g c =
-    let problem = c.args.problem.now in
+    let listed = listing problem c.args.penalty in
+    let nodes = c.take_entry.new.self.nodes in
+    let best = c.take_entry.new.self.best in
     let takes = subst (TakesEntry c.args.penalty c.loop-entry.search c.take_entry.new.self) c.if-not-branch.true c.in_ok-take_entry.ensures.takes in
     let last = last_one problem c.args.penalty c.loop-entry._entry c.loop-entry.search c.loop-entry.invariant.behind c.take_entry.new.self takes in
     let cheap = c.in_ok-take_entry.ensures.cheap c.loop-entry.invariant.cheap in
-    outcome_by _ (λ found. IfSome found (IsRight problem c.args.penalty)) c.whole.result c.whole.ensures
-    (λ found is. found_right problem c.change_count-count.ensures.forward c.args.penalty c.args.budget found
-    (is ∙ whole_within c.args.budget (listing problem c.args.penalty) c.take_entry.new.self.nodes c.take_entry.new.self.best
-    (omega (arith, last.2, c.loop-entry-test.true)) last.0 last.1)
-    (subst (λ w. IfSome w (λ waits. IsWritable waits.cost)) (sym is) (still_cheap _ c.take_entry.new.self.best cheap)))
-
-pub returns-then-not-branch-clause-steps : goal.returns-then-not-branch-clause-steps
-returns-then-not-branch-clause-steps g c =
-    let problem = c.args.problem.now in
-    let takes = subst (TakesEntry c.args.penalty c.loop-entry.search c.take_entry.new.self) c.if-not-branch.true c.in_ok-take_entry.ensures.takes in
-    let last = last_one problem c.args.penalty c.loop-entry._entry c.loop-entry.search c.loop-entry.invariant.behind c.take_entry.new.self takes in
-    let all = all_listed c.args.budget (length (listing problem c.args.penalty)) c.loop-entry._entry c.loop-entry-test.true last.2 in
-    on_ok _ c.whole.result (omega (arith, c.tick.ensures, c.loop-entry.invariant.steps, all))
+    let whole = whole_within c.args.budget listed nodes best (omega (arith, last.2, c.loop-entry-test.true)) last.0 last.1 in
+    let all = all_listed c.args.budget (length listed) c.loop-entry._entry c.loop-entry-test.true last.2 in
+    record {
+      found = outcome_by _ (λ found. found ≡ waits_within c.args.budget listed) c.whole.result c.whole.ensures (λ found is. is ∙ whole);
+      right = outcome_by _ (λ found. IfSome found (IsRight problem c.args.penalty)) c.whole.result c.whole.ensures
+          (λ found is. found_right problem c.change_count-count.ensures.forward c.args.penalty c.args.budget found (is ∙ whole)
+          (subst (λ w. IfSome w (λ waits. IsWritable waits.cost)) (sym is) (still_cheap _ best cheap)));
+      steps = on_ok _ c.whole.result (omega (arith, c.tick.ensures, c.loop-entry.invariant.steps, all));
+      err = on_err _ c.whole.result (
+        omega (arith, c.tick.ensures, c.loop-entry.invariant.steps),
+        omega (arith, c.tick.ensures, c.loop-entry.invariant.steps, all),
+      );
+    }
 
 pub loop-entry-preserved : goal.loop-entry-preserved
 loop-entry-preserved g c =
