@@ -1,5 +1,5 @@
 -- The stops of a line's walk, and what stands along a line.
-use Rattle.std.proofs.Common.{◌≡◌, ℕ, pos, ◌-◌, ◌<◌, arith, All, true, false, cond, eqb, List, [], ◌∷◌, length, get_or, refl, subst, sym, ◌∙◌, Option, Some, None, option_map, option_and_then}
+use Rattle.std.proofs.Common.{◌≡◌, ℕ, pos, ◌-◌, ◌<◌, arith, inl, inr, All, List, [], ◌∷◌, length, get_or, refl, subst, sym, ◌∙◌, Option, Some, None}
 use Rattle.std.specs.List.{cons_option}
 use Rattle.std.proofs.lemmas.List.{get_or-reverse, length-reverse}
 use Rattle.std.proofs.lemmas.List.Elements.{All-nil, All-cons, All-head, All-tail, All-get_or}
@@ -12,6 +12,7 @@ use Rattle.ptn_network.specs.Networks.{NetworkParts, IsEdge, IsNetwork}
 use Rattle.ptn_network.specs.Paths.{edges_at}
 use Rattle.ptn_network.specs.Walks.{across}
 use Rattle.event_activity.specs.Runs.{along}
+use Rattle.event_activity.proofs.Crossings.{across_ends, step_of}
 
 -- what holds of all things holds of those along a line, in each direction
 pub all_along : (P : ℕ → Type 0) (way : Direction) (things : List ℕ) → All P things
@@ -30,17 +31,10 @@ length-along direction.Backward things = length-reverse things
 -- the stop across an edge is one of its ends
 across_inside : (count stop next : ℕ) (edge : Edge) → IsEdge count edge
     → across edge stop ≡ Some next → next < count
-across_inside count stop next edge is goes =
-    elim (eqb edge.left stop) as (λ left. cond left (Some edge.right)
-    (cond (eqb edge.right stop) (Some edge.left) None) ≡ Some next → next < count) [
-      | true ↦ λ e. let same : edge.right ≡ next = same_Some _ _ e in omega (arith, same, is.right)
-      | false ↦ λ e. elim (eqb edge.right stop) as (λ right. cond right (Some edge.left) None
-          ≡ Some next → next < count) [
-            | true ↦ λ f. let same : edge.left ≡ next = same_Some _ _ f in
-                omega (arith, same, is.left)
-            | false ↦ λ f. cc
-          ] e
-    ] goes
+across_inside count stop next edge is goes = elim (across_ends edge stop next goes) [
+  | inl ends ↦ omega (arith, ends.1, is.right)
+  | inr ends ↦ omega (arith, ends.1, is.left)
+]
 
 module _ (count : ℕ) where
   abbrev Inside : ℕ → Type 0
@@ -53,19 +47,10 @@ module _ (count : ℕ) where
   walk_inside [] stop stops all from e =
       subst (All Inside) (same_Some _ _ e) (All-cons Inside stop [] from (All-nil Inside))
   walk_inside (edge ∷ edges) stop stops all from e =
-      elim (across edge stop) as (λ to. across edge stop ≡ to → option_and_then
-      (λ next. option_map (λ more. stop ∷ more) (walk_from next edges)) to ≡ Some stops
-      → All Inside stops) [
-        | None ↦ λ a h. cc
-        | Some next ↦ λ a h. elim (walk_from next edges) as (λ walk. walk_from next edges ≡ walk
-            → option_map (λ more. stop ∷ more) walk ≡ Some stops → All Inside stops) [
-              | None ↦ λ w k. cc
-              | Some rest ↦ λ w k. subst (All Inside) (same_Some _ _ k)
-                  (All-cons Inside stop rest from
-                  (walk_inside edges next rest (All-tail (IsEdge count) edge edges all)
-                  (across_inside count stop next edge (All-head (IsEdge count) edge edges all) a) w))
-            ] refl h
-      ] refl e
+      let step = step_of edge edges stop stops e in
+      subst (All Inside) step.are (All-cons Inside stop step.rest from
+      (walk_inside edges step.next step.rest (All-tail (IsEdge count) edge edges all)
+      (across_inside count stop step.next edge (All-head (IsEdge count) edge edges all) step.goes) step.walk))
 
   walk_of_inside : (edges : List Edge) (stops : List ℕ) → All (IsEdge count) edges
       → walk_of edges ≡ Some stops → All Inside stops

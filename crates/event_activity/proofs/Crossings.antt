@@ -1,9 +1,9 @@
 -- Each drive of a run goes over its edge, from the one of its ends to the other.
-use Rattle.std.proofs.Common.{◌≡◌, ℕ, zero, suc, ◌+◌, ◌*◌, ◌-◌, ◌/◌, ◌%◌, ◌<◌, arith, eqb, eqb-true, ◌⊎◌, inl, inr, All, List, [], ◌∷◌, length, get_or, refl, ap, subst, sym, ◌∙◌, Some, None, option_map, option_and_then}
+use Rattle.std.proofs.Common.{◌≡◌, ℕ, zero, suc, ◌+◌, ◌*◌, ◌-◌, ◌/◌, ◌%◌, ◌<◌, arith, eqb, eqb-true, ◌⊎◌, inl, inr, All, List, [], ◌∷◌, length, get_or, refl, ap, subst, sym, ◌∙◌, Some, None, option_map}
 use Rattle.std.specs.List.{cons_option}
 use Rattle.std.proofs.lemmas.List.{get_or-reverse}
 use Rattle.std.proofs.lemmas.List.Elements.{All-head, All-tail}
-use Rattle.std.proofs.lemmas.Option.{slice_get-get_or, same_Some}
+use Rattle.std.proofs.lemmas.Option.{option_and_then_some, slice_get-get_or, same_Some}
 use Rattle.std.proofs.lemmas.Bool.{cases_Bool}
 use Rattle.event_tables.specs.declared.direction.Direction.{Direction}
 use Rattle.event_tables.specs.declared.direction.Direction.TheVariants as direction
@@ -24,7 +24,7 @@ turned : (edge : Edge) (from to : ℕ) → AreEnds edge from to → AreEnds edge
 turned edge from to (inl ends) = inr (ends.1, ends.0)
 turned edge from to (inr ends) = inl (ends.1, ends.0)
 
-across_ends : (edge : Edge) (stop next : ℕ) → across edge stop ≡ Some next → AreEnds edge stop next
+pub across_ends : (edge : Edge) (stop next : ℕ) → across edge stop ≡ Some next → AreEnds edge stop next
 across_ends edge stop next goes =
     elim (cases_Bool (eqb edge.left stop)) [
       | inl left ↦ inl (sym (eqb-true edge.left stop left), sym (same_Some _ _ (rw left at goes)))
@@ -36,33 +36,29 @@ across_ends edge stop next goes =
     ]
 
 -- a walk over an edge and others
-record IsStep (edge : Edge) (edges : List Edge) (stop : ℕ) (stops : List ℕ) : Type 0 where
-  next : ℕ
-  rest : List ℕ
-  goes : across edge stop ≡ Some next
-  walk : walk_from next edges ≡ Some rest
-  are : stop ∷ rest ≡ stops
+pub record IsStep (edge : Edge) (edges : List Edge) (stop : ℕ) (stops : List ℕ) : Type 0 where
+  pub next : ℕ
+  pub rest : List ℕ
+  pub goes : across edge stop ≡ Some next
+  pub walk : walk_from next edges ≡ Some rest
+  pub are : stop ∷ rest ≡ stops
 
-step_of : (edge : Edge) (edges : List Edge) (stop : ℕ) (stops : List ℕ)
+pub step_of : (edge : Edge) (edges : List Edge) (stop : ℕ) (stops : List ℕ)
     → walk_from stop (edge ∷ edges) ≡ Some stops → IsStep edge edges stop stops
 unfolding walk_from
 step_of edge edges stop stops e =
-    elim (across edge stop) as (λ to. across edge stop ≡ to → option_and_then
-    (λ next. option_map (λ more. stop ∷ more) (walk_from next edges)) to ≡ Some stops
-    → IsStep edge edges stop stops) [
-      | None ↦ λ a h. cc
-      | Some next ↦ λ a h. elim (walk_from next edges) as (λ walk. walk_from next edges ≡ walk
-          → option_map (λ more. stop ∷ more) walk ≡ Some stops → IsStep edge edges stop stops) [
-            | None ↦ λ w k. cc
-            | Some rest ↦ λ w k. record {
-              next = next;
-              rest = rest;
-              goes = a;
-              walk = w;
-              are = same_Some _ _ k;
-            }
-          ] refl h
-    ] refl e
+    option_and_then_some (λ next. option_map (λ more. stop ∷ more) (walk_from next edges)) (across edge stop) stops e
+    (λ next a h. elim (walk_from next edges) as (λ walk. walk_from next edges ≡ walk
+    → option_map (λ more. stop ∷ more) walk ≡ Some stops → IsStep edge edges stop stops) [
+      | None ↦ λ w k. cc
+      | Some rest ↦ λ w k. record {
+        next = next;
+        rest = rest;
+        goes = a;
+        walk = w;
+        are = same_Some _ _ k;
+      }
+    ] refl h)
 
 -- it begins at its stop
 begins : (edges : List Edge) (stop : ℕ) (stops : List ℕ) (d : ℕ) → walk_from stop edges ≡ Some stops

@@ -1,9 +1,9 @@
 -- The settings of a bundle that fits are in order and within their ranges.
-use Rattle.std.proofs.Common.{◌≡◌, ℤ, pos, negsuc, ◌*◌, ◌*ℤ◌, ◌≤◌, ◌≤ℤ◌, int_le, arith, Bool, eqb-true, true, false, cond, List, [], ◌∷◌, unsigned_abs, refl, ap, subst, sym, ◌∙◌, Option, Some, option_map, unwrap_or}
+use Rattle.std.proofs.Common.{◌≡◌, ℤ, pos, negsuc, ◌*◌, ◌*ℤ◌, ◌≤◌, ◌≤ℤ◌, int_le, arith, Bool, eqb-true, true, List, [], ◌∷◌, unsigned_abs, refl, ap, subst, sym, ◌∙◌, Option, Some, unwrap_or, inl, inr}
 use Rattle.std.specs.Option.{option_map_or}
 use Rattle.std.specs.Int.Signed.{le_z_yes}
-use Rattle.std.specs.List.{find, list_all}
-use Rattle.std.proofs.lemmas.Bool.{and_parts}
+use Rattle.std.specs.List.{list_all}
+use Rattle.std.proofs.lemmas.Bool.{and_parts, cases_Bool}
 use Rattle.std.proofs.lemmas.Float.{T_from_true}
 use Rattle.std.proofs.lemmas.Int.{ints}
 use Rattle.std.proofs.lemmas.Option.{same_Some}
@@ -26,17 +26,14 @@ value_uncrossed : (all settings : List Setting) (k : Key) (value : ℤ)
 value_uncrossed all [] k value kept is = cc
 value_uncrossed all (first ∷ settings) k value kept is =
     let parts = and_parts (is_uncrossed all first) (list_all (is_uncrossed all) settings) kept in
-    elim (is_key k first.key) as (λ b. is_key k first.key ≡ b
-    → option_map (λ setting. setting.value)
-    (cond b (Some first) (find (λ setting. is_key k setting.key) settings)) ≡ Some value
-    → keeps_rule (value_of all) k value ≡ true) [
-      | true ↦ λ own given.
-          let same : first.value ≡ value = same_Some _ _ given in
+    elim (cases_Bool (is_key k first.key)) [
+      | inl own ↦
+          let same : first.value ≡ value = same_Some _ _ (rw own at is) in
           subst (λ j. keeps_rule (value_of all) j value ≡ true)
           (same_key first.key k (eqb-true _ _ own))
           (ap (keeps_rule (value_of all) first.key) (sym same) ∙ parts.0)
-      | false ↦ λ other later. value_uncrossed all settings k value parts.1 later
-    ] refl is
+      | inr other ↦ value_uncrossed all settings k value parts.1 (rw other at is)
+    ]
 
 order : (low high : ℤ) → pos 0 ≤ℤ low → low ≤ℤ high → unsigned_abs low ≤ unsigned_abs high
 order (pos m) (pos n) some goes = omega (arith, ints)
