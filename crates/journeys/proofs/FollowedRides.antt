@@ -1,8 +1,8 @@
 -- Links that are followed from the first one on get to the end of a list of events exactly where it is
 -- a ride.
-use Rattle.std.proofs.Common.{◌≡◌, ℕ, suc, ◌≤◌, ◌&&◌, ◌||◌, ◌==◌, nat_le, Bool, true, false, cond, List, [], ◌∷◌, length, get_or, All, refl, sym, ap, ◌∙◌, subst, arith}
+use Rattle.std.proofs.Common.{◌≡◌, ℕ, suc, ◌≤◌, ◌&&◌, ◌==◌, nat_le, Bool, true, false, List, [], ◌∷◌, length, get_or, All, refl, sym, ap, ◌∙◌, subst, arith, inl, inr}
 use Rattle.std.specs.List.{list_all, list_any}
-use Rattle.std.proofs.lemmas.Bool.{and_from, and_parts, both_ways, le-leb, leb-true, false_from_ne_true}
+use Rattle.std.proofs.lemmas.Bool.{and_from, and_parts, both_ways, le-leb, leb-true, false_from_ne_true, cases_Bool}
 use Rattle.std.proofs.lemmas.Bool.Decides.{Decides-eqb}
 use Rattle.std.proofs.lemmas.List.Elements.{All-head, All-tail}
 use Rattle.std.proofs.lemmas.List.Folds.{Any-from_list_any, list_any_at}
@@ -46,10 +46,8 @@ module _ (test : ℕ → ℕ → Bool) where
   few_left (link ∷ links) [] pass few = refl
   few_left (link ∷ links) (event ∷ []) pass few = refl
   few_left (link ∷ links) (event ∷ next ∷ more) pass few =
-      elim (joins event next link) as (λ b. joins event next link ≡ b
-      → length (followed links (cond b (next ∷ more) (event ∷ next ∷ more))) ≤ 1
-      → all_pass test (event ∷ next ∷ more) ≡ true) [
-        | true ↦ λ is less.
+      elim (cases_Bool (joins event next link)) [
+        | inl is ↦
             let parts = and_parts (link.from == event) (link.to == next) is in
             let from = (Decides-eqb link.from event).0 parts.0 in
             let to = (Decides-eqb link.to next).0 parts.1 in
@@ -58,11 +56,11 @@ module _ (test : ℕ → ℕ → Bool) where
             (subst (λ e. test link.from e ≡ true) to
             (All-head (λ link. test link.from link.to ≡ true) link links pass)))
             (few_left links (next ∷ more)
-            (All-tail (λ link. test link.from link.to ≡ true) link links pass) less)
-        | false ↦ λ is less.
+            (All-tail (λ link. test link.from link.to ≡ true) link links pass) (rw is at few))
+        | inr is ↦
             few_left links (event ∷ next ∷ more)
-            (All-tail (λ link. test link.from link.to ≡ true) link links pass) less
-      ] refl few
+            (All-tail (λ link. test link.from link.to ≡ true) link links pass) (rw is at few)
+      ]
 
 -- ---- of a ride few events are left
 
@@ -107,13 +105,11 @@ ride_left (link ∷ links) (event ∷ next ∷ more) turn all =
     let parts = and_parts (linked (link ∷ links) event next)
     (all_pass (linked (link ∷ links)) (next ∷ more)) all in
     let rest = later link links event next more turn parts.0 parts.1 in
-    elim (joins event next link) as (λ b. joins event next link ≡ b
-    → (b || linked links event next) ≡ true
-    → length (followed links (cond b (next ∷ more) (event ∷ next ∷ more))) ≤ 1) [
-      | true ↦ λ is some. ride_left links (next ∷ more) (turn_tail link links turn) rest
-      | false ↦ λ is some. ride_left links (event ∷ next ∷ more) (turn_tail link links turn)
-          (and_from (linked links event next) (all_pass (linked links) (next ∷ more)) some rest)
-    ] refl parts.0
+    elim (cases_Bool (joins event next link)) [
+      | inl is ↦ rw is (ride_left links (next ∷ more) (turn_tail link links turn) rest)
+      | inr is ↦ rw is (ride_left links (event ∷ next ∷ more) (turn_tail link links turn)
+          (and_from (linked links event next) (all_pass (linked links) (next ∷ more)) (rw is at parts.0) rest))
+    ]
 
 -- ---- both
 

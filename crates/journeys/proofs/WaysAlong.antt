@@ -1,7 +1,7 @@
 -- One pass along the links finds the way into each event that can be reached, and the first one.
 use Rattle.std.proofs.Common.{◌≡◌, ◌≢◌, ◌∙◌, ℕ, ℤ, ◌<◌, ◌≤◌, ◌⊎◌, ◌==◌, inl, inr, nat_le, true, false, eqb, List, [], ◌∷◌, length, map, get_or, slice_get, slice_set, All, Some, None, refl, ap, sym, subst, arith}
 use Rattle.std.specs.Option.{option_map_or}
-use Rattle.std.proofs.lemmas.Bool.{and_from, both_ways, cond_both, eqb-false, eqb-true, le-leb, leb-false, leb-true}
+use Rattle.std.proofs.lemmas.Bool.{and_from, both_ways, cond_both, eqb-false, eqb-true, le-leb, leb-false, leb-true, cases_Bool}
 use Rattle.std.proofs.lemmas.Bool.Decides.{Decides-eqb}
 use Rattle.std.proofs.lemmas.List.{get_or-map, get_or-set_other, get_or-set_same, get_or_past, length-map, length-set}
 use Rattle.std.proofs.lemmas.List.Elements.{All-contains, All-cons, All-head, All-nil, All-tail}
@@ -72,18 +72,15 @@ at_event : (Q : Way → Type 0) (ways : List Way) (link : Link) (event : ℕ)
     → Q (or_by (way_at ways link.to) link.index)) → Q (way_at (go_by ways link) event)
 at_event Q ways link event joins old new =
     by_link (λ all. Q (way_at all event)) ways link
-    (λ goes. elim (eqb event link.to) as (λ b. eqb event link.to ≡ b
-    → Q (way_at (slice_set ways link.to (or_by (way_at ways link.to) link.index)) event)) [
-      | true ↦ λ is. let same : event ≡ link.to = eqb-true event link.to is in
-          let put = or_by (way_at ways link.to) link.index in
+    (λ goes. let put = or_by (way_at ways link.to) link.index in
+    elim (cases_Bool (eqb event link.to)) [
+      | inl is ↦ let same : event ≡ link.to = eqb-true event link.to is in
           subst (λ e. Q (way_at (slice_set ways link.to put) e)) (sym same)
           (subst Q (sym (get_or-set_same ways link.to put way.Unreached joins.1))
           (new (sym same) goes))
-      | false ↦ λ is.
-          let put = or_by (way_at ways link.to) link.index in
-          subst Q (sym (get_or-set_other ways link.to event put way.Unreached
+      | inr is ↦ subst Q (sym (get_or-set_other ways link.to event put way.Unreached
           (eqb-false event link.to is))) old
-    ] refl)
+    ])
     (λ stays. old)
 
 each_kept : (ways : List Way) (link : Link) → length (go_by ways link) ≡ length ways
