@@ -14,6 +14,10 @@ passes_below test (suc n) k low is = elim (cases_eq k n) [
   | inr other ↦ or_left _ (test n) (passes_below test n k (omega (arith, low, other)) is)
 ]
 
+pub or_none : (x y : Bool) → y ≡ false → (x || y) ≡ x
+or_none true y is = refl
+or_none false y is = is
+
 pub some_below : (test : ℕ → Bool) (n : ℕ) → any_below test n ≡ true
     → (k : ℕ) × (k < n) × (test k ≡ true)
 unfolding any_below
@@ -24,10 +28,6 @@ some_below test (suc n) some = elim (cases_Bool (test n)) [
       let rest = some_below test n (sym (or_none (any_below test n) (test n) not) ∙ some) in
       (rest.0, (let low = rest.1 in omega (arith, low)), rest.2)
 ]
-  where
-    or_none : (x y : Bool) → y ≡ false → (x || y) ≡ x
-    or_none true y is = refl
-    or_none false y is = is
 
 -- none does
 pub none_below : (test : ℕ → Bool) (n k : ℕ) → any_below test n ≡ false → k < n → test k ≡ false

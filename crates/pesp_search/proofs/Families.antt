@@ -1,9 +1,10 @@
 -- Sets of times by a test of events and times, and rounds on them.
-use Rattle.std.proofs.Common.{◌≡◌, ◌∙◌, ℕ, zero, suc, ◌+◌, ◌-◌, ◌<◌, ◌≤◌, Bool, true}
-use Rattle.std.proofs.Common.{cond, false, ◌&&◌}
+use Rattle.std.proofs.Common.{◌≡◌, ◌∙◌, ℕ, zero, suc, ◌+◌, ◌-◌, ◌<◌, ◌≤◌, Bool, inl, inr}
+use Rattle.std.proofs.Common.{cond, ◌&&◌}
 use Rattle.std.proofs.Common.{List, [], ◌∷◌, map, filter, refl, ap, arith}
 use Rattle.std.specs.List.{enumerate_from, range_with_len}
 use Rattle.std.proofs.lemmas.List.FromFn.{get_or-map-range_with_len}
+use Rattle.std.proofs.lemmas.Bool.{cases_Bool}
 use Rattle.pesp_model.specs.Timetables.{Problem}
 use Rattle.pesp_search.specs.Marks.{Marks, family, is_left, sets_of}
 use Rattle.pesp_search.specs.Revising.{Left}
@@ -25,14 +26,10 @@ same_filter test other from (suc n) same =
 pub filter_twice : (test other : ℕ → Bool) (xs : List ℕ)
     → filter other (filter test xs) ≡ filter (λ x. test x && other x) xs
 filter_twice test other [] = refl
-filter_twice test other (x ∷ xs) =
-    let both : List ℕ = filter (λ x. test x && other x) xs in
-    let rest = filter_twice test other xs in
-    elim (test x) as (λ b. filter other (cond b (x ∷ filter test xs) (filter test xs))
-    ≡ cond (b && other x) (x ∷ both) both) [
-      | true ↦ λ i. cond (other x) (x ∷ rest i) (rest i)
-      | false ↦ rest
-    ]
+filter_twice test other (x ∷ xs) = elim (cases_Bool (test x)) [
+  | inl is ↦ rw is (ap (λ rest. cond (other x) (x ∷ rest) rest) (filter_twice test other xs))
+  | inr is ↦ rw is (filter_twice test other xs)
+]
 
 -- ---- families
 

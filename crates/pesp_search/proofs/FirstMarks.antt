@@ -22,11 +22,8 @@ pub filter_none : (test : ℕ → Bool) (from n : ℕ)
     → filter test (range_with_len from n) ≡ []
 filter_none test from zero none = refl
 filter_none test from (suc n) none =
-    left_out test test from (range_with_len (from + 1) n) (none from (omega arith) (omega arith))
-    ∙ filter_none test (from + 1) n (λ x low high. none x (omega (arith, low)) (omega (
-      arith,
-      high,
-    )))
+    rw (none from (omega arith) (omega arith)) (filter_none test (from + 1) n
+    (λ x low high. none x (omega (arith, low)) (omega (arith, high))))
 
 pub filter_all : (test : ℕ → Bool) (from n : ℕ)
     → ((x : ℕ) → from ≤ x → x < from + n → test x ≡ true)

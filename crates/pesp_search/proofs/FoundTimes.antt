@@ -6,6 +6,7 @@ use Rattle.std.specs.List.{AllByRecursion, list_all, list_any}
 use Rattle.std.proofs.lemmas.Bool.{and_parts, eq-eqb, eqb-true, ltb-true, ltb-false, or_parts, or_right}
 use Rattle.std.proofs.lemmas.List.{get_or_default, length-map, length-set}
 use Rattle.std.proofs.lemmas.List.Sums.{AllPass-from_list_all}
+use Rattle.std.proofs.lemmas.List.Folds.{Any-from_list_any}
 use Rattle.pesp_model.specs.declared.activity.PespActivity.{PespActivity}
 use Rattle.pesp_model.specs.Timetables.{IsActivity, IsKept, IsProblem, IsTimetable, Problem, keeps}
 use Rattle.pesp_model.specs.Timetables.{time_of}
@@ -38,17 +39,10 @@ filter_below period test (x ∷ xs) h =
 
 below_of : (period x : ℕ) (xs : List ℕ) → is_in x xs ≡ true → are_below period xs ≡ true
     → nat_lt x period ≡ true
-below_of period x [] is h = absurd (cc)
-below_of period x (y ∷ xs) is h =
-    by (nat_eq x y) refl is (and_parts (nat_lt y period) (are_below period xs) h)
-    (λ is h. below_of period x xs is h)
-  where
-    by : (b : Bool) → nat_eq x y ≡ b → (b || is_in x xs) ≡ true
-        → (nat_lt y period ≡ true) × (are_below period xs ≡ true)
-        → (is_in x xs ≡ true → are_below period xs ≡ true → nat_lt x period ≡ true)
-        → nat_lt x period ≡ true
-    by true same is parts rest = ap (λ x. nat_lt x period) (eqb-true x y same) ∙ parts.0
-    by false other is parts rest = rest is parts.1
+below_of period x xs is h =
+    let at = Any-from_list_any (nat_eq x) xs is in
+    ap (λ x. nat_lt x period) (eqb-true x at.1 at.4 ∙ sym at.3)
+    ∙ AllPass-from_list_all (λ x. nat_lt x period) xs h at.0 at.1 at.2
 
 settled_below : (period : ℕ) (sets : List (List ℕ)) (event time : ℕ) → nat_lt time period ≡ true
     → AreBelow period sets → AreBelow period (with_time sets event time)

@@ -1,9 +1,9 @@
 -- What a listing finds is a timetable, and it finds nothing only where there is none.
-use Rattle.std.proofs.Common.{◌≡◌, ◌∙◌, ℕ, zero, suc, ◌+◌, ◌<◌, nat_eq, Bool, true, false}
+use Rattle.std.proofs.Common.{◌≡◌, ◌∙◌, ℕ, zero, suc, ◌+◌, ◌<◌, nat_eq, Bool, true, false, inl, inr}
 use Rattle.std.proofs.Common.{cond, ◌||◌, List, [], ◌∷◌, filter, length, position}
 use Rattle.std.proofs.Common.{Option, Some, None, is_some, refl, ap, sym, arith}
 use Rattle.std.specs.List.{list_any}
-use Rattle.std.proofs.lemmas.Bool.{eq-eqb, eqb-true, ne_eqb}
+use Rattle.std.proofs.lemmas.Bool.{eq-eqb, eqb-true, ne_eqb, cases_Bool}
 use Rattle.std.proofs.lemmas.List.Quantifiers.{position-Some}
 use Rattle.pesp_model.specs.Timetables.{IsProblem, IsTimetable, Problem}
 use Rattle.pesp_model.specs.Timetables.{time_of}
@@ -65,13 +65,11 @@ fewer_settled (set ∷ sets) zero time inside several =
     ap_less : suc (several_in sets) ≡ several_in (set ∷ sets) → several_in sets < several_in (set ∷ sets)
     ap_less is = omega (arith, is)
 fewer_settled (set ∷ sets) (suc event) time inside several =
-    by (has_several set) (fewer_settled sets event time (omega (arith, inside)) several)
-  where
-    by : (b : Bool) → several_in (with_time sets event time) < several_in sets
-        → length (cond b (set ∷ filter has_several (with_time sets event time)) (filter has_several (with_time sets event time)))
-        < length (cond b (set ∷ filter has_several sets) (filter has_several sets))
-    by true rest = omega (arith, rest)
-    by false rest = rest
+    let rest = fewer_settled sets event time (omega (arith, inside)) several in
+    elim (cases_Bool (has_several set)) [
+      | inl is ↦ rw is (omega (arith, rest))
+      | inr is ↦ rw is rest
+    ]
 
 held_length : (sets : List (List ℕ)) (times : List ℕ) → Holds sets times → length sets ≡ length times
 held_length [] [] h = refl

@@ -5,6 +5,7 @@ use Rattle.std.proofs.Common.{arith}
 use Rattle.std.specs.List.{AllByRecursion, range_with_len}
 use Rattle.std.proofs.lemmas.Bool.{lt-ltb}
 use Rattle.std.proofs.lemmas.List.{length-map}
+use Rattle.std.proofs.lemmas.List.FromFn.{length-range_with_len as range_length}
 use Rattle.pesp_model.specs.Timetables.{IsProblem, IsTimetable, Problem}
 use Rattle.pesp_search.specs.Listings.{ListingIsRight, Tells, first_sets, has_several, listing, most_entries}
 use Rattle.pesp_search.specs.Listings.{several_in, times_at_first}
@@ -12,10 +13,6 @@ use Rattle.pesp_search.proofs.FoundTimes.{AreBelow, are_below, found_is}
 use Rattle.pesp_search.proofs.ListedTimes.{found_from}
 use Rattle.pesp_search.proofs.ShortListings.{AreFew, most, most_grows, short_from}
 use Rattle.pesp_search.proofs.TurnedTimes.{has_first}
-
-range_length : (from count : ℕ) → length (range_with_len from count) ≡ count
-range_length from zero = refl
-range_length from (suc count) = ap suc (range_length (from + 1) count)
 
 range_below : (period from count : ℕ) → from + count ≤ period
     → are_below period (range_with_len from count) ≡ true

@@ -2,7 +2,7 @@
 use Rattle.std.proofs.Common.{get_or, slice_set, ◌⊎◌}
 use Rattle.std.proofs.Common.{◌≡◌, ◌∙◌, inl, inr, ℕ, zero, suc, ◌+◌, ◌-◌, ◌*◌, ◌/◌, ◌%◌, ◌^◌, ◌<◌}
 use Rattle.std.proofs.Common.{◌≤◌}
-use Rattle.std.proofs.Common.{cond, nat_lt, count_ones, Bool, true, false, ◌&&◌, List, ◌∷◌}
+use Rattle.std.proofs.Common.{cond, nat_lt, count_ones, Bool, false, ◌&&◌, List}
 use Rattle.std.proofs.Common.{length, filter}
 use Rattle.std.proofs.Common.{refl, ap, sym, arith}
 use Rattle.std.specs.Int.{bit_at}
@@ -17,10 +17,7 @@ use Rattle.pesp_search.specs.Marks.{word_of, words_of}
 use Rattle.pesp_search.specs.Revising.{count_below}
 use Rattle.pesp_search.proofs.MarkBits.{bit_there}
 use Rattle.pesp_search.proofs.WordBits.{set_is, unset_is}
-
-count_start : (test : ℕ → Bool) → count_below test 0 ≡ 0
-unfolding count_below
-count_start test = refl
+use Rattle.pesp_search.proofs.WindowSums.{count_start}
 
 count_next : (test : ℕ → Bool) (n : ℕ)
     → count_below test (suc n) ≡ count_below test n + cond (test n) 1 0
@@ -114,24 +111,10 @@ filtered left test from (suc n) same =
     let first = ap (count_below test) own in
     let last = count_next test from in
     let bit = ap (λ (b : Bool). cond {A = ℕ} b 1 0) (same from (omega arith)) in
-    one (left from) refl rest all first last bit
-  where
-    one : (b : Bool) → left from ≡ b
-        → count_below test (from + 1) + length (filter left (range_with_len (from + 1) n)) ≡
-        count_below test (from + 1 + n)
-        → count_below test (from + 1 + n) ≡ count_below test (from + suc n)
-        → count_below test (from + 1) ≡ count_below test (suc from)
-        → count_below test (suc from) ≡ count_below test from + cond (test from) 1 0
-        → cond {A = ℕ} (left from) 1 0 ≡ cond {A = ℕ} (test from) 1 0
-        → count_below test from + length (cond b (from ∷ filter left (range_with_len (from + 1)
-        n)) (filter left (range_with_len (from + 1) n)))
-        ≡ count_below test (from + suc n)
-    one true is rest all first last bit =
-        let own = ap (λ (b : Bool). cond {A = ℕ} b 1 0) is in
-        omega (arith, own, rest, all, first, last, bit)
-    one false is rest all first last bit =
-        let own = ap (λ (b : Bool). cond {A = ℕ} b 1 0) is in
-        omega (arith, own, rest, all, first, last, bit)
+    elim (cases_Bool (left from)) [
+      | inl is ↦ rw is (omega (arith, rw is at bit, rest, all, first, last))
+      | inr is ↦ rw is (omega (arith, rw is at bit, rest, all, first, last))
+    ]
 
 pub all_counted : (sets : Marks) (event index count : ℕ) → AreMarks sets → event < sets.events
     → index ≡ words_of sets.period → count ≡ count_below (bit_there sets event) (64 * index)

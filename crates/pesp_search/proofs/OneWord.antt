@@ -8,7 +8,8 @@ use Rattle.std.proofs.lemmas.List.{get_or-set_other, get_or-set_same, get_or_pas
 use Rattle.pesp_search.specs.Marks.{AreMarks, Marks, has_bit, is_left, marked, word_of, words_of}
 use Rattle.pesp_search.specs.Revising.{IsClear, turned_to}
 use Rattle.pesp_search.proofs.WordBits.{high_bit, or_bit, shl_high, shl_low, shr_bit, zero_bit}
-use Rattle.pesp_search.proofs.WordTurns.{IsWide, no_bits, or_false, wide_begun, zeros}
+use Rattle.pesp_search.proofs.WordTurns.{IsWide, no_bits, wide_begun, zeros}
+use Rattle.pesp_search.proofs.AnyBelow.{or_none as or_false}
 
 pub in_word : (word time : ℕ) → time < 64 → marked (word ∷ []) time ≡ has_bit word time
 in_word word time low =

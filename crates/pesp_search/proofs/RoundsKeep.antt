@@ -1,10 +1,11 @@
 -- Rounds lose no timetable.
-use Rattle.std.proofs.Common.{◌≡◌, ◌∙◌, ℕ, zero, suc, ◌+◌, ◌<◌, ◌==◌, nat_eq, Bool, true, false, cond}
+use Rattle.std.proofs.Common.{◌≡◌, ◌∙◌, ℕ, zero, suc, ◌+◌, ◌<◌, ◌==◌, nat_eq, Bool, true, false, inl, inr}
 use Rattle.std.proofs.Common.{not, ◌&&◌, ◌||◌, List, [], ◌∷◌, filter, get_or, length, map, refl, ap, sym}
 use Rattle.std.proofs.Common.{subst, arith}
 use Rattle.std.specs.List.{AllZip, enumerate_from, list_any}
-use Rattle.std.proofs.lemmas.Bool.{eqb-true, or_left, or_right}
+use Rattle.std.proofs.lemmas.Bool.{eqb-true, or_right, cases_Bool}
 use Rattle.std.proofs.lemmas.List.Sums.{list_all-from_AllPass}
+use Rattle.std.proofs.lemmas.List.Folds.{Any-from_list_any, list_any_at}
 use Rattle.pesp_model.specs.declared.activity.PespActivity.{PespActivity}
 use Rattle.pesp_model.specs.Timetables.{IsActivity, IsProblem, IsTimetable, Problem, keeps}
 use Rattle.pesp_model.specs.Timetables.{keeps_in, time_of}
@@ -22,28 +23,23 @@ Holds sets times = AllZip (λ time left. is_in time left ≡ true) times sets
 
 pub any_of : (test : ℕ → Bool) (x : ℕ) (xs : List ℕ) → is_in x xs ≡ true → test x ≡ true
     → list_any test xs ≡ true
-any_of test x [] is holds = absurd (cc)
-any_of test x (y ∷ xs) is holds = by (nat_eq x y) refl is (λ is. any_of test x xs is holds)
-  where
-    by : (b : Bool) → nat_eq x y ≡ b → (b || is_in x xs) ≡ true
-        → (is_in x xs ≡ true → list_any test xs ≡ true) → (test y || list_any test xs) ≡ true
-    by true same is rest = or_left (test y) (list_any test xs) (ap test (sym (eqb-true x y same)) ∙ holds)
-    by false other is rest = or_right (test y) (list_any test xs) (rest is)
+any_of test x xs is holds =
+    let at = Any-from_list_any (nat_eq x) xs is in
+    list_any_at test xs at.0 at.1 at.2 (ap test (at.3 ∙ sym (eqb-true x at.1 at.4)) ∙ holds)
 
 filter_keeps : (test : ℕ → Bool) (x : ℕ) (xs : List ℕ) → is_in x xs ≡ true → test x ≡ true
     → is_in x (filter test xs) ≡ true
 filter_keeps test x [] is holds = absurd (cc)
-filter_keeps test x (y ∷ xs) is holds = by (test y) refl (nat_eq x y) refl is (λ is. filter_keeps test x xs is holds)
-  where
-    by : (kept : Bool) → test y ≡ kept → (b : Bool) → nat_eq x y ≡ b → (b || is_in x xs) ≡ true
-        → (is_in x xs ≡ true → is_in x (filter test xs) ≡ true)
-        → is_in x (cond kept (y ∷ filter test xs) (filter test xs)) ≡ true
-    by true own true same is rest = ap (λ b. b || is_in x (filter test xs)) same
-    by true own false other is rest = or_right (nat_eq x y) (is_in x (filter test xs)) (rest is)
-    by false own false other is rest = rest is
-    by false own true same is rest =
-        let both : true ≡ false = sym holds ∙ ap test (eqb-true x y same) ∙ own in
-        absurd (cc)
+filter_keeps test x (y ∷ xs) is holds = elim (cases_Bool (nat_eq x y)) [
+  | inl same ↦ rw (ap test (sym (eqb-true x y same)) ∙ holds)
+      (ap (λ b. b || is_in x (filter test xs)) same)
+  | inr other ↦
+      let rest = filter_keeps test x xs (rw other at is) holds in
+      elim (cases_Bool (test y)) [
+        | inl own ↦ rw own (or_right (nat_eq x y) (is_in x (filter test xs)) rest)
+        | inr own ↦ rw own rest
+      ]
+]
 
 -- the time of an event is left to it
 pub held_at : (sets : List (List ℕ)) (times : List ℕ) (event : ℕ) → Holds sets times
@@ -79,28 +75,24 @@ module _ (problem : Problem) (sound : IsProblem problem) (times : List ℕ)
         at event inside = held_at sets times event holds (omega (arith, inside, is.each))
 
         first : (not (activity.from == event) || has_second problem.period sets (time_of times event) activity) ≡ true
-        first = by (activity.from == event) refl
-          where
-            by : (b : Bool) → (activity.from == event) ≡ b
-                → (not b || has_second problem.period sets (time_of times event) activity) ≡ true
-            by false other = refl
-            by true same =
-                ap (λ event. has_second problem.period sets (time_of times event) activity)
-                (sym (eqb-true activity.from event same))
-                ∙ any_of (keeps problem.period activity (time_of times activity.from)) (time_of times activity.to)
-                (left_to sets activity.to) (at activity.to sound.to) kept
+        first = elim (cases_Bool (activity.from == event)) [
+          | inr other ↦ rw other refl
+          | inl same ↦ rw same (
+              ap (λ event. has_second problem.period sets (time_of times event) activity)
+              (sym (eqb-true activity.from event same))
+              ∙ any_of (keeps problem.period activity (time_of times activity.from)) (time_of times activity.to)
+              (left_to sets activity.to) (at activity.to sound.to) kept)
+        ]
 
         second : second_part ≡ true
-        second = by (activity.to == event) refl
-          where
-            by : (b : Bool) → (activity.to == event) ≡ b
-                → (not b || has_first problem.period sets (time_of times event) activity) ≡ true
-            by false other = refl
-            by true same =
-                ap (λ event. has_first problem.period sets (time_of times event) activity)
-                (sym (eqb-true activity.to event same))
-                ∙ any_of (λ other. keeps problem.period activity other (time_of times activity.to))
-                (time_of times activity.from) (left_to sets activity.from) (at activity.from sound.from) kept
+        second = elim (cases_Bool (activity.to == event)) [
+          | inr other ↦ rw other refl
+          | inl same ↦ rw same (
+              ap (λ event. has_first problem.period sets (time_of times event) activity)
+              (sym (eqb-true activity.to event same))
+              ∙ any_of (λ other. keeps problem.period activity other (time_of times activity.to))
+              (time_of times activity.from) (left_to sets activity.from) (at activity.from sound.from) kept)
+        ]
 
     partners_there : (event : ℕ) → has_partners problem sets event (time_of times event) ≡ true
     partners_there event =

@@ -1,33 +1,24 @@
 -- Sets of times that rounds make smaller, until one removes nothing.
-use Rattle.std.proofs.Common.{◌≡◌, ◌∙◌, ℕ, zero, suc, ◌+◌, ◌<◌, ◌≤◌, nat_eq, Bool, true, false}
-use Rattle.std.proofs.Common.{cond, ◌&&◌, List, [], ◌∷◌, filter, get_or, length, map, refl, ap}
+use Rattle.std.proofs.Common.{◌≡◌, ◌∙◌, ℕ, zero, suc, ◌+◌, ◌<◌, ◌≤◌, nat_eq, Bool, true, false, inl, inr}
+use Rattle.std.proofs.Common.{List, [], ◌∷◌, filter, get_or, length, map, refl, ap}
 use Rattle.std.proofs.Common.{subst, arith}
 use Rattle.std.specs.List.{AllByRecursion, enumerate_from, list_all}
-use Rattle.std.proofs.lemmas.Bool.{eqb-true, eqb-false, ltb-true, ltb-false}
-use Rattle.std.proofs.lemmas.List.Sums.{sum_by-cons}
+use Rattle.std.proofs.lemmas.Bool.{eqb-true, eqb-false, ltb-true, ltb-false, cases_Bool}
+use Rattle.std.proofs.lemmas.List.Sums.{sum_by-cons, length-filter, count_by-le-length}
 use Rattle.pesp_model.specs.Timetables.{Problem}
 use Rattle.pesp_search.specs.Listings.{has_several, several_in}
 use Rattle.pesp_search.specs.TimeSets.{has_partners, left_to, reduced, round, rounds, times_left}
 
 pub filter_short : (test : ℕ → Bool) (xs : List ℕ) → length (filter test xs) ≤ length xs
-filter_short test [] = omega arith
-filter_short test (x ∷ xs) =
-    let rest = filter_short test xs in
-    elim (test x) as (λ b. length (cond b (x ∷ filter test xs) (filter test xs)) ≤ suc (length xs)) [
-      | true ↦ omega (arith, rest)
-      | false ↦ omega (arith, rest)
-    ]
+filter_short test xs = omega (arith, length-filter test xs, count_by-le-length test xs)
 
 filter_all : (test : ℕ → Bool) (xs : List ℕ) → length xs ≤ length (filter test xs)
     → list_all test xs ≡ true
 filter_all test [] long = refl
-filter_all test (x ∷ xs) long = by (test x) refl long (filter_all test xs)
-  where
-    by : (b : Bool) → test x ≡ b → suc (length xs) ≤ length (cond b (x ∷ filter test xs) (filter test xs))
-        → (length xs ≤ length (filter test xs) → list_all test xs ≡ true)
-        → (test x && list_all test xs) ≡ true
-    by true is long rest = ap (λ b. b && list_all test xs) is ∙ rest (omega (arith, long))
-    by false is long rest = absurd (omega (arith, long, filter_short test xs))
+filter_all test (x ∷ xs) long = elim (cases_Bool (test x)) [
+  | inl is ↦ rw is (filter_all test xs (omega (arith, rw is at long)))
+  | inr is ↦ absurd (omega (arith, rw is at long, filter_short test xs))
+]
 
 module _ (problem : Problem) where
   module _ (sets : List (List ℕ)) where
@@ -82,20 +73,23 @@ module _ (problem : Problem) where
     fewer_several : (n : ℕ) (left : List (List ℕ)) → several_in (rounded n left) ≤ several_in left
     fewer_several n [] = omega arith
     fewer_several n (set ∷ left) =
-        by (has_several (filter test set)) refl (has_several set) refl (fewer_several (n + 1) left)
-      where
-        test : ℕ → Bool
-        test = has_partners problem sets n
-
-        by : (b : Bool) → has_several (filter test set) ≡ b → (c : Bool) → has_several set ≡ c
-            → several_in (rounded (n + 1) left) ≤ several_in left
-            → length (cond b (filter test set ∷ filter has_several (rounded (n + 1) left)) (filter has_several (rounded (n + 1) left)))
-            ≤ length (cond c (set ∷ filter has_several left) (filter has_several left))
-        by true some true many rest = omega (arith, rest)
-        by true some false few rest =
-            absurd (omega (arith, ltb-true 1 (length (filter test set)) some, ltb-false 1 (length set) few, filter_short test set))
-        by false some true many rest = omega (arith, rest)
-        by false some false few rest = rest
+        let test = has_partners problem sets n in
+        let rest = fewer_several (n + 1) left in
+        elim (cases_Bool (has_several (filter test set))) [
+          | inl some ↦ elim (cases_Bool (has_several set)) [
+            | inl many ↦ rw (some, many) (omega (arith, rest))
+            | inr few ↦ absurd (omega (
+              arith,
+              ltb-true 1 (length (filter test set)) some,
+              ltb-false 1 (length set) few,
+              filter_short test set,
+            ))
+          ]
+          | inr none ↦ elim (cases_Bool (has_several set)) [
+            | inl many ↦ rw (none, many) (omega (arith, rest))
+            | inr few ↦ rw (none, few) rest
+          ]
+        ]
 
     rounded_length : (n : ℕ) (left : List (List ℕ)) → length (rounded n left) ≡ length left
     rounded_length n [] = refl

@@ -1,8 +1,8 @@
 -- A timetable may be turned, so that its first event is at time 0.
-use Rattle.std.proofs.Common.{◌≡◌, ◌∙◌, ℕ, zero, suc, ◌+◌, ◌-◌, ◌%◌, ◌<◌, ◌≤◌, nat_eq, Bool, true, false}
+use Rattle.std.proofs.Common.{◌≡◌, ◌∙◌, ℕ, zero, suc, ◌+◌, ◌-◌, ◌%◌, ◌<◌, ◌≤◌, nat_eq, true, false, inl, inr}
 use Rattle.std.proofs.Common.{cond, ◌||◌, List, [], ◌∷◌, get_or, length, map, All, refl, ap, sym, subst, arith}
 use Rattle.std.specs.List.{range_with_len}
-use Rattle.std.proofs.lemmas.Bool.{eq-eqb, eqb-false, ne_eqb, or_right}
+use Rattle.std.proofs.lemmas.Bool.{eq-eqb, eqb-false, ne_eqb, cases_Bool}
 use Rattle.std.proofs.lemmas.List.{get_or_default, length-map}
 use Rattle.std.proofs.Math.Nat.{add-mod_right, mod-add-mod, mod-eq_of_lt, mod-lt}
 use Rattle.pesp_model.specs.declared.activity.PespActivity.{PespActivity}
@@ -69,15 +69,11 @@ module _ (problem : Problem) (sound : IsProblem problem) (times : List ℕ)
 pub in_range : (time from count : ℕ) → from ≤ time → time < from + count
     → is_in time (range_with_len from count) ≡ true
 in_range time from zero low high = absurd (omega (arith, low, high))
-in_range time from (suc count) low high =
-    by (nat_eq time from) refl (λ low. in_range time (from + 1) count low (omega (arith, high)))
-  where
-    by : (b : Bool) → nat_eq time from ≡ b
-        → (from + 1 ≤ time → is_in time (range_with_len (from + 1) count) ≡ true)
-        → (nat_eq time from || is_in time (range_with_len (from + 1) count)) ≡ true
-    by true same rest = ap (λ b. b || is_in time (range_with_len (from + 1) count)) same
-    by false other rest =
-        or_right (nat_eq time from) _ (rest (omega (arith, low, eqb-false time from other)))
+in_range time from (suc count) low high = elim (cases_Bool (nat_eq time from)) [
+  | inl same ↦ rw same refl
+  | inr other ↦ rw other (in_range time (from + 1) count
+      (omega (arith, low, eqb-false time from other)) (omega (arith, high)))
+]
 
 later_hold : (period n : ℕ) (times : List ℕ) → 1 ≤ n → All (λ time. time < period) times
     → Holds (map (times_at_first period) (range_with_len n (length times))) times

@@ -1,7 +1,7 @@
 -- Sums over a period that is gone through twice, and the windows in which they differ.
 use Rattle.std.proofs.Common.{◌≡◌, ◌∙◌, inl, inr, ℕ, zero, suc, ◌+◌, ◌-◌, ◌%◌, ◌<◌, ◌≤◌, ◌==◌}
 use Rattle.std.proofs.Common.{cond}
-use Rattle.std.proofs.Common.{Bool, true, false, not, ◌||◌, ◌∷◌, filter, length}
+use Rattle.std.proofs.Common.{Bool, true, false, not, ◌||◌, filter, length}
 use Rattle.std.proofs.Common.{refl, ap, sym, arith}
 use Rattle.std.specs.List.{range_with_len}
 use Rattle.std.proofs.Math.Nat.{add-mod_left, mod-add-mod, mod-eq_of_lt, mod-lt}
@@ -131,21 +131,10 @@ module _ (period : ℕ) (left : ℕ → Bool) where
       let next : from + 1 + n ≡ from + suc n = omega arith in
       let end = ap (count_below shown) next in
       let own : shown from ≡ left from = ap left (mod-eq_of_lt (omega (arith, few))) in
-      one (left from) refl rest end own
-    where
-      one : (b : Bool) → left from ≡ b
-          → count_below shown (from + 1) + length (filter left (range_with_len (from + 1) n)) ≡
-          count_below shown (from + 1 + n)
-          → count_below shown (from + 1 + n) ≡ count_below shown (from + suc n)
-          → shown from ≡ left from
-          → count_below shown from
-          + length (cond b (from ∷ filter left (range_with_len (from + 1) n)) (filter left
-          (range_with_len (from + 1) n)))
-          ≡ count_below shown (from + suc n)
-      one true is rest end own = let more = count_more shown from (own ∙ is) in
-          omega (arith, rest, end, more)
-      one false is rest end own = let same = count_same shown from (own ∙ is) in
-          omega (arith, rest, end, same)
+      elim (cases_Bool (left from)) [
+        | inl is ↦ rw is (omega (arith, rest, end, count_more shown from (own ∙ is)))
+        | inr is ↦ rw is (omega (arith, rest, end, count_same shown from (own ∙ is)))
+      ]
 
   pub crowded : (width : ℕ) → 1 ≤ period → width < period
       → period ≤ length (filter left (range_with_len 0 period)) + width → (offset time : ℕ)

@@ -19,6 +19,7 @@ use Rattle.std.proofs.lemmas.Nat.Bits.{bit_at-pow_other, bit_at-pow_same, bit_at
 use Rattle.std.proofs.lemmas.Nat.Bits.{bit_at_ones_above, bit_at_or, bit_at_set_other}
 use Rattle.std.proofs.lemmas.Nat.Bits.{bit_at_set_same, bit_at-trailing_zeros}
 use Rattle.pesp_search.specs.Marks.{IsFirstBit, IsLastBit, has_bit, marked, one_bit, with_bit}
+use Rattle.pesp_search.proofs.AnyBelow.{or_none as or_false}
 
 -- ---- a bit as a number
 
@@ -229,10 +230,6 @@ module _ (word rest end : ℕ)
           ∙ div-mul-add 1 (2 ^ top) (rest - 2 ^ top) part)
 
 -- ---- the bits from a place on
-
-or_false : (x y : Bool) → y ≡ false → (x || y) ≡ x
-or_false true y is = refl
-or_false false y is = is
 
 pub joined_bit : (first second past bit : ℕ) → first < 2 ^ 64 → past < 64 → bit < 64
     → has_bit (bit_or (first / 2 ^ past) (second * 2 ^ (64 - past) % 2 ^ 64)) bit

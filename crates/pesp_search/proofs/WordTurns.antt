@@ -7,15 +7,12 @@ use Rattle.std.proofs.Common.{refl, ap, sym, subst, arith}
 use Rattle.std.proofs.Math.Nat.{add-mod_left, mod-add-mod, mod-eq_of_lt, mod-lt}
 use Rattle.std.proofs.lemmas.Bool.{cases_eq, cases_lt, eq-eqb, lt-ltb, le-ltb, ne_eqb}
 use Rattle.std.proofs.lemmas.List.{get_or-set_other, get_or-set_same, get_or-replicate, get_or_past}
+use Rattle.std.proofs.Math.Bool.{and-false as and_none}
 use Rattle.pesp_search.specs.Marks.{Marks, has_bit, is_left, marked, one_bit, words_of}
 use Rattle.pesp_search.specs.Revising.{IsClear, reaches, turned_to}
 use Rattle.pesp_search.specs.Marks.{any_below}
-use Rattle.pesp_search.proofs.AnyBelow.{any_one, any_same, joined_below}
+use Rattle.pesp_search.proofs.AnyBelow.{any_one, any_same, joined_below, or_none as or_false}
 use Rattle.pesp_search.proofs.WordBits.{bit_of_one, or_bit, shl_high, shl_low, zero_bit}
-
-pub or_false : (x y : Bool) → y ≡ false → (x || y) ≡ x
-or_false true y is = refl
-or_false false y is = is
 
 -- ---- the bits from a time on
 
@@ -79,10 +76,6 @@ pub all_added : (period by index : ℕ) (old times : List ℕ) (time : ℕ) → 
 all_added period by index old times time all = ap (λ b. marked old time
     || b) (inside (cases_lt time period))
   where
-    and_none : (x : Bool) → (x && false) ≡ false
-    and_none true = refl
-    and_none false = refl
-
     inside : (time < period) ⊎ (period ≤ time)
         → (nat_lt time (64 * index)
         && turned_to period times by time) ≡ turned_to period times by time

@@ -7,7 +7,7 @@ ghost use Rattle.giv_files.specs.Keys.{has_key};
 ghost use Rattle.giv_files.specs.Settings.{Fits};
 ghost use Rattle.giv_files.specs.StageCalls.{StageGives, TakesSteps};
 ghost use Rattle.pesp_search.specs.RightTimetables.{IsNeverSpent, SaysNone, TimetableIsRight};
-ghost use Rattle.pesp_search.specs.TimetableStage.{period_in, problem_in, timetable_faults};
+ghost use Rattle.pesp_search.specs.TimetableStage.{budget_in, period_in, problem_in, timetable_faults};
 ghost use Rattle.pesp_search.specs.TimetableStage.{timetable_stage, timetable_work};
 
 use crate::files::times_made;
@@ -49,8 +49,7 @@ fn searched_timetable<L: Ledger>(
     steps.tick();
     let pesp = read_pesp(alloc, bundle)?;
     let period = period_of(bundle);
-    let budget = bundle.settings().amount(Key::TimetableBudget);
-    let found = search_times(alloc, &pesp, period, budget, steps)?;
+    let found = search_times(alloc, &pesp, period, budget_of(bundle), steps)?;
     Ok(times_made(alloc, &found)?)
 }
 
@@ -75,4 +74,13 @@ pub(crate) fn period_of(bundle: &Bundle) -> u32
     ensures few { result ≤ 720 }
 {
     bundle.settings().amount(Key::PeriodLength) as u32
+}
+
+// How many entries a search may take.
+fn budget_of(bundle: &Bundle) -> u64
+    requires stage { bundle.now.stage ≡ stages.Timetable }
+    requires fits { Fits bundle.now }
+    ensures { result ≡ budget_in bundle.now }
+{
+    bundle.settings().amount(Key::TimetableBudget)
 }

@@ -19,60 +19,46 @@ returns-in_err-times-clause-steps g c =
       omega (arith, c.tick.ensures, so.steps, within),
     )
 
-pub returns-in-Found-clause-found : goal.returns-in-Found-clause-found
-returns-in-Found-clause-found g c =
+pub returns-in-Found : goal.returns-in-Found
+returns-in-Found g c =
     let taken = subst (TakesEntry c.args.pesp.now c.loop-entry.sets c.take_entry.new.sets
     c.take_entry.new.changed)
     c.in-Found.is
     c.in_ok-times.ensures in
-    (search_ended c.args.pesp.now c.loop-entry.sets c.loop-entry.entry c.args.budget
-    (Some c.in-Found.times.items) c.loop-entry.invariant.searched c.loop-entry-test.true taken).0
+    let ended = search_ended c.args.pesp.now c.loop-entry.sets c.loop-entry.entry c.args.budget
+    (Some c.in-Found.times.items) c.loop-entry.invariant.searched c.loop-entry-test.true taken in
+    let listed = ended.1 in
+    record {
+      found = ended.0;
+      steps = omega (arith, c.tick.ensures, c.loop-entry.invariant.steps, listed);
+    }
 
-pub returns-in-Found-clause-steps : goal.returns-in-Found-clause-steps
-returns-in-Found-clause-steps g c =
-    let taken = subst (TakesEntry c.args.pesp.now c.loop-entry.sets c.take_entry.new.sets
-    c.take_entry.new.changed)
-    c.in-Found.is
-    c.in_ok-times.ensures in
-    let listed = (search_ended c.args.pesp.now c.loop-entry.sets c.loop-entry.entry c.args.budget
-    (Some c.in-Found.times.items) c.loop-entry.invariant.searched c.loop-entry-test.true taken).1 in
-    omega (arith, c.tick.ensures, c.loop-entry.invariant.steps, listed)
-
-pub returns-in-Last-clause-found : goal.returns-in-Last-clause-found
-returns-in-Last-clause-found g c =
+pub returns-in-Last : goal.returns-in-Last
+returns-in-Last g c =
     let taken = subst (TakesEntry c.args.pesp.now c.loop-entry.sets c.take_entry.new.sets
     c.take_entry.new.changed)
     c.in-Last.is
     c.in_ok-times.ensures in
-    (search_ended c.args.pesp.now c.loop-entry.sets c.loop-entry.entry c.args.budget None
-    c.loop-entry.invariant.searched c.loop-entry-test.true taken).0
+    let ended = search_ended c.args.pesp.now c.loop-entry.sets c.loop-entry.entry c.args.budget
+    None c.loop-entry.invariant.searched c.loop-entry-test.true taken in
+    let listed = ended.1 in
+    record {
+      found = ended.0;
+      steps = omega (arith, c.tick.ensures, c.loop-entry.invariant.steps, listed);
+    }
 
-pub returns-in-Last-clause-steps : goal.returns-in-Last-clause-steps
-returns-in-Last-clause-steps g c =
-    let taken = subst (TakesEntry c.args.pesp.now c.loop-entry.sets c.take_entry.new.sets
-    c.take_entry.new.changed)
-    c.in-Last.is
-    c.in_ok-times.ensures in
-    let listed = (search_ended c.args.pesp.now c.loop-entry.sets c.loop-entry.entry c.args.budget
-    None
-    c.loop-entry.invariant.searched c.loop-entry-test.true taken).1 in
-    omega (arith, c.tick.ensures, c.loop-entry.invariant.steps, listed)
-
-pub returns-clause-found : goal.returns-clause-found
-returns-clause-found g c =
+pub returns : goal.returns
+returns g c =
     let spent : c.loop-entry.entry ≡ c.args.budget =
     omega (arith, c.loop-entry-test.false, c.loop-entry.auto.entry-end) in
-    (search_spent c.args.pesp.now c.loop-entry.sets c.args.budget
-    (subst (IsSearched c.args.pesp.now c.loop-entry.sets) spent c.loop-entry.invariant.searched)).0
-
-pub returns-clause-steps : goal.returns-clause-steps
-returns-clause-steps g c =
-    let spent : c.loop-entry.entry ≡ c.args.budget =
-    omega (arith, c.loop-entry-test.false, c.loop-entry.auto.entry-end) in
-    let listed = (search_spent c.args.pesp.now c.loop-entry.sets c.args.budget
+    let ended = search_spent c.args.pesp.now c.loop-entry.sets c.args.budget
     (subst (IsSearched c.args.pesp.now c.loop-entry.sets) spent
-    c.loop-entry.invariant.searched)).1 in
-    omega (arith, c.loop-entry.invariant.steps, listed, spent)
+    c.loop-entry.invariant.searched) in
+    let listed = ended.1 in
+    record {
+      found = ended.0;
+      steps = omega (arith, c.loop-entry.invariant.steps, listed, spent);
+    }
 
 pub loop-entry-init : goal.loop-entry-init
 loop-entry-init g c = record {
