@@ -3,7 +3,7 @@ use Rattle.std.proofs.Common.{◌≡◌, ℕ, ℤ, zero, suc, pos, ◌+◌, ◌�
 use Rattle.std.proofs.Common.{Bool, true, false, cond, nat_lt, int_lt, int_le, List, [], ◌∷◌, ◌++◌}
 use Rattle.std.proofs.Common.{length, map, filter, find, fold, drop, zip, slice_get, refl, arith}
 use Rattle.std.proofs.Common.{ap, sym, subst, ◌∙◌, Option, Some, None, option_map}
-use Rattle.std.proofs.lemmas.Bool.{lt-ltb, le-ltb, ne_eqb}
+use Rattle.std.proofs.lemmas.Bool.{lt-ltb, le-ltb, ne_eqb, false_from_ne_true}
 use Rattle.std.proofs.lemmas.Int.{ints}
 use Rattle.std.proofs.lemmas.List.{append_assoc, drop_all}
 use Rattle.std.specs.Bool.{⊤}
@@ -231,10 +231,7 @@ not_before_first other line most id =
     (λ i. not (greater i || ((line.cost == other.cost) && id i))) ∙ ap not (never (line.cost == other.cost))
 
 not_less : (x y : ℤ) → (x <ℤ y → ⊥) → int_lt x y ≡ false
-not_less x y never = elim (int_lt x y) as (λ b. int_lt x y ≡ b → b ≡ false) [
-  | true ↦ λ is. absurd (never (omega (arith, ints, is)))
-  | false ↦ λ _. refl
-] refl
+not_less x y never = false_from_ne_true (int_lt x y) (λ is. never (omega (arith, ints, is)))
 
 -- the dearer line stands before
 before_cheaper : (other line : CostedLine) → line.cost < other.cost

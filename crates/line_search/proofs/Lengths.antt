@@ -1,6 +1,6 @@
 -- A listing is no longer than twice the concepts of its region, less one.
-use Rattle.std.proofs.Common.{◌≡◌, ℕ, zero, suc, ◌+◌, ◌-◌, ◌*◌, ◌/◌, ◌≤◌, ◌<◌, Bool, true, false, cond, nat_le, List, [], ◌∷◌, length, map, filter, find, zip, refl, arith, Option, Some, None, option_map, unwrap_or, IfSome, sym, subst, length-append}
-use Rattle.std.proofs.lemmas.Bool.{ltb-true}
+use Rattle.std.proofs.Common.{◌≡◌, ℕ, zero, suc, ◌+◌, ◌-◌, ◌*◌, ◌/◌, ◌≤◌, ◌<◌, Bool, true, false, cond, nat_le, List, [], ◌∷◌, length, map, filter, find, zip, arith, Option, Some, None, option_map, unwrap_or, IfSome, sym, subst, length-append, inl, inr}
+use Rattle.std.proofs.lemmas.Bool.{ltb-true, cases_Bool}
 use Rattle.std.proofs.lemmas.Option.{IfSome_then}
 use Rattle.std.specs.List.{AllByRecursion, enumerate_from}
 use Rattle.line_cost_model.specs.declared.multipliers.Multiplier.{Multiplier}
@@ -105,17 +105,13 @@ all_open n (line ∷ lines) [] = tt
 all_open n (line ∷ lines) (range ∷ region) =
     let rest = all_map (IsOpenFrom (n + 1) region) (IsOpenFrom n (range ∷ region))
     (open_from (n + 1) lines region) (one_behind n range region) (all_open (n + 1) lines region) in
-    elim (has_several range) as (λ b. has_several range ≡ b → AllByRecursion (IsOpenFrom n (range ∷ region))
-    (map (λ at. (at.0, at.1.0))
-    (cond b ((n, (line, range))
-    ∷ filter (λ at. has_several at.1.1) (enumerate_from (n + 1) (zip lines region)))
-    (filter (λ at. has_several at.1.1) (enumerate_from (n + 1) (zip lines region)))))) [
-      | true ↦ λ several. (
+    elim (cases_Bool (has_several range)) [
+      | inl several ↦ rw several (
         (omega arith, first_is_open n range region (ltb-true range.lo range.hi several)),
         rest,
       )
-      | false ↦ λ _. rest
-    ] refl
+      | inr single ↦ rw single rest
+    ]
 
 from_start : (region : List LineRange) (at : ℕ × CostedLine) → IsOpenFrom 0 region at → IsOpenAt region at.0
 from_start region at h = let e : at.0 - 0 ≡ at.0 = omega arith in subst (IsOpenAt region) e h.1
