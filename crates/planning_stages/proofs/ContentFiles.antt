@@ -1,5 +1,5 @@
--- Files of a stage, where they stand in a folder: which are there, where none lacks; and those that are to
--- be what their stage makes of its inputs.
+-- Files of a stage, where they stand in a folder: which are there, where none lacks; and those that
+-- are to be what their stage makes of its inputs.
 use Rattle.std.proofs.Common.{◌≡◌, ℕ, Bool, true, false, cond, not, is_some, ◌&&◌, ◌||◌, List, [], ◌∷◌, Option, Some, None, Result, Ok, Err, refl, ap, subst, sym, ◌∙◌, arith}
 use Rattle.std.specs.List.{Contains, list_all, list_any}
 use Rattle.std.specs.Option.{ok_or}

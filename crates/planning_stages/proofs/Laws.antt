@@ -74,8 +74,8 @@ content_clause bundle others fits (Ok None) found lists makes =
     content_right bundle.stage lists (planning.IsRight bundle.stage bundle) others (planning.run bundle)
     (λ made is. (planning_laws.makes bundle made is, planning_laws.right bundle made fits is)) makes (sym found)
 
--- where people may give what is made in a place, its judge says of files that the plain stage may make what
--- holds of those that the stage there may make
+-- what a judge says of files that the stage of a place may make holds of those that the stage that runs
+-- there may make, where these are the same
 pub passes_at : {E : Type 0} (values : List ℤ) (bundle : BundleParts) (others : List MadeFile) (at : Stage)
     → at ≡ bundle.stage → (result : Result (Option Finding) E)
     → (MakesAs (planning.placed values at) (ids_of others) → MakesAs at (ids_of others))

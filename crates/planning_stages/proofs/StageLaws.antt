@@ -39,10 +39,10 @@ IsMadeOver values look at made = ((stage_model at).run (bundle_over values look 
     × (stage_model at).IsRight (bundle_over values look at) made.files
 
 -- A stage makes files that it may make, and they are right. Where the stages before it are right over
--- one look of texts, it refuses over it no row of a file but those that people write; where it does not
--- search, all that it refuses is a row of an input, or a limit. Where no file of its place lacks that has
--- to be there, and nothing is found of those that are, they are some that the stage there may make.
--- Nothing is found of what that one makes.
+-- one look of texts, it refuses over it no row of a file but those that people write; where it does
+-- not search, all that it refuses is a row of an input, or a limit. Where no file of its place lacks
+-- that has to be there, and nothing is found of those that are, they are some that the stage there may
+-- make. Nothing is found of what that one makes.
 pub record StageLaws (at : Stage) : Type 0 where
   pub makes : (bundle : BundleParts) (made : Made) → (stage_model at).run bundle ≡ Ok made
       → MakesAs at (ids_of made.files)

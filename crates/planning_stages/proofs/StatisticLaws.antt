@@ -1,5 +1,5 @@
--- What the stage of the statistic owes to the chain: all plans that earlier stages made have no fault as
--- it reads them.
+-- What the stage of the statistic owes to the chain: all plans that earlier stages made have no fault
+-- as it reads them.
 use Rattle.std.proofs.Common.{◌≡◌, ℕ, ℤ, inr, List, [], None, refl, subst}
 use Rattle.giv_files.specs.declared.file_id.FileId.{FileId}
 use Rattle.giv_files.specs.declared.file_id.FileId.TheVariants as file
