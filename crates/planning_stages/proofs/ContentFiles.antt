@@ -1,30 +1,28 @@
--- Files that are to be what their stage makes of its inputs, where they stand in a folder.
-use Rattle.std.proofs.Common.{◌≡◌, ℕ, suc, ◌≤◌, Bool, true, false, cond, not, is_some, ◌&&◌, ◌||◌}
-use Rattle.std.proofs.Common.{List, [], ◌∷◌, length, Option, Some, None, Result, Ok, Err, refl, ap}
-use Rattle.std.proofs.Common.{subst, sym, ◌∙◌, arith}
-use Rattle.std.specs.List.{Contains, list_any}
+-- Files of a stage, where they stand in a folder: which are there, where none lacks; and those that
+-- are to be what their stage makes of its inputs.
+use Rattle.std.proofs.Common.{◌≡◌, ℕ, Bool, true, false, cond, not, is_some, ◌&&◌, ◌||◌, List, [], ◌∷◌, Option, Some, None, Result, Ok, Err, refl, ap, subst, sym, ◌∙◌, arith}
+use Rattle.std.specs.List.{Contains, list_all, list_any}
 use Rattle.std.specs.Option.{ok_or}
 use Rattle.std.specs.FinMap as map
-use Rattle.std.proofs.lemmas.Bool.{true≢false}
-use Rattle.std.proofs.lemmas.List.{length-map}
+use Rattle.std.proofs.lemmas.Bool.{and_from, and_parts, true≢false}
 use Rattle.plan_files.specs.Folder.{Folder}
 use Rattle.giv_files.specs.declared.file_id.FileId.{FileId}
 use Rattle.giv_files.specs.declared.made.Made.{Made}
 use Rattle.giv_files.specs.declared.made.MadeFile.{MadeFile}
 use Rattle.giv_files.specs.declared.refusal.Refusal.{Refusal}
+use Rattle.giv_files.specs.declared.file_id.FileId.TheVariants as file
 use Rattle.giv_files.specs.declared.stage.Stage.{Stage}
+use Rattle.giv_files.specs.declared.stage.Stage.TheVariants as stage
 use Rattle.giv_files.specs.FileNames.{file_name}
 use Rattle.giv_files.specs.MadeLists.{MakesAs, ids_of, made_lists}
-use Rattle.giv_files.specs.Settings.{BundleParts}
 use Rattle.giv_files.specs.Stages.{stage_makes}
 use Rattle.stage_chain.specs.declared.cause.Cause.TheVariants as cause
 use Rattle.stage_chain.specs.declared.finding.Finding.{Finding}
-use Rattle.planning_stages.specs.Verdicts.{content_found}
-use Rattle.stage_chain.specs.Checks.{is_certificate, is_lacking, lacks_file}
-use Rattle.planning_stages.specs.Verdicts.{same_texts}
-use Rattle.stage_chain.specs.Checks.{standing}
+use Rattle.planning_stages.specs.Verdicts.{content_found, same_texts}
+use Rattle.stage_chain.specs.Checks.{is_certificate, is_lacking, lacks_file, standing}
 use Rattle.stage_chain.specs.Right.{files_by, found_file, made_in}
-use Rattle.stage_chain.proofs.MadeLists.{only_one}
+use Rattle.stage_chain.specs.StageLists.{always_made}
+use Rattle.stage_chain.proofs.MadeLists.{made_list, only_one}
 use Rattle.planning_stages.proofs.SameTexts.{own_texts, same_files}
 
 -- ---- files that are found
@@ -43,27 +41,25 @@ module _ (folder : Folder) where
   abbrev with_one : FileId → Option (List ℕ) → List FileId → List MadeFile
   with_one file found files = found_file file (ok_or found (cause.Missing file)) (there files)
 
-  few_found : (files : List FileId) → length (there files) ≤ length files
-  few_found [] = omega arith
-  few_found (file ∷ files) = by (text file) (few_found files)
-    where
-      by : (found : Option (List ℕ)) → length (there files) ≤ length files
-          → length (with_one file found files) ≤ suc (length files)
-      by (Some bytes) few = omega (arith, few)
-      by None few = omega (arith, few)
+  abbrev is_there : FileId → Bool
+  is_there file = is_some (text file)
 
-  -- where as many are found as are looked for, none lacks
-  none_lacks : (files : List FileId) → length (there files) ≡ length files → lacks files ≡ false
-  none_lacks [] all = refl
-  none_lacks (file ∷ files) all = by (text file) all (few_found files) (none_lacks files)
+  -- those that are found are there
+  found_there : (files : List FileId) → list_all is_there (ids_of (there files)) ≡ true
+  found_there [] = refl
+  found_there (file ∷ files) = by (text file) refl (found_there files)
     where
-      by : (found : Option (List ℕ))
-          → length (with_one file found files) ≡ suc (length files)
-          → length (there files) ≤ length files
-          → (length (there files) ≡ length files → lacks files ≡ false)
-          → (is_lacking file found || lacks files) ≡ false
-      by (Some bytes) all few rest = rest (omega (arith, all))
-      by None all few rest = absurd (omega (arith, all, few))
+      by : (found : Option (List ℕ)) → text file ≡ found → list_all is_there (ids_of (there files)) ≡ true
+          → list_all is_there (ids_of (with_one file found files)) ≡ true
+      by (Some bytes) is rest = and_from _ _ (ap is_some is) rest
+      by None is rest = rest
+
+  -- where all are there, none lacks
+  none_lacks : (files : List FileId) → list_all is_there files ≡ true → lacks files ≡ false
+  none_lacks [] all = refl
+  none_lacks (file ∷ files) all =
+      let parts = and_parts _ _ all in
+      ap (λ b. (not b && not (is_certificate file)) || lacks files) parts.0 ∙ none_lacks files parts.1
 
   -- where none lacks, and none may be left out, all are found
   all_found : (files : List FileId) → list_any is_certificate files ≡ false → lacks files ≡ false
@@ -82,47 +78,92 @@ module _ (folder : Folder) where
       by (Some bytes) false needed none rest = ap (λ ids. file ∷ ids) (rest needed none)
       by None false needed none rest = absurd (true≢false none)
 
+  -- where the first of two is there, and the second one is a certificate, none lacks
+  first_there : (first second : FileId) → is_certificate second ≡ true
+      → list_all is_there (first ∷ []) ≡ true → lacks (first ∷ second ∷ []) ≡ false
+  first_there first second may_lack all =
+      ap (λ b. (not b && not (is_certificate first)) || lacks (second ∷ [])) (and_parts _ _ all).0
+      ∙ by (is_there second)
+    where
+      by : (here : Bool) → ((not here && not (is_certificate second)) || false) ≡ false
+      by true = refl
+      by false = ap (λ b. not b || false) may_lack
+
+  -- where none of two lacks, of which the first one has to be there, they are both, or that one
+  pub either_stand : (first second : FileId) → is_certificate first ≡ false → lacks (first ∷ second ∷ []) ≡ false
+      → Contains ((first ∷ second ∷ []) ∷ (first ∷ []) ∷ []) (ids_of (there (first ∷ second ∷ [])))
+  either_stand first second needed = by (text first) (text second)
+    where
+      by : (one other : Option (List ℕ)) → (is_lacking first one || (is_lacking second other || false)) ≡ false
+          → Contains ((first ∷ second ∷ []) ∷ (first ∷ []) ∷ []) (ids_of (found_file first (ok_or one (cause.Missing first)) (found_file second (ok_or other (cause.Missing second)) [])))
+      by (Some bytes) (Some more) none = (0, omega arith, refl)
+      by (Some bytes) None none = (1, omega arith, refl)
+      by None other none = absurd (true≢false (ap (λ b. not b || (is_lacking second other || false)) (sym needed) ∙ none))
+
+  -- where something is found of the first one alone, and nothing of what is there, they are both
+  pub both_stand : (first second : FileId) → is_certificate first ≡ false → lacks (first ∷ second ∷ []) ≡ false
+      → (verdict : List MadeFile → Option Finding)
+      → ((bytes : List ℕ) → verdict (record { file = first; text = bytes } ∷ []) ≡ None → ⊥)
+      → verdict (there (first ∷ second ∷ [])) ≡ None
+      → Contains ((first ∷ second ∷ []) ∷ []) (ids_of (there (first ∷ second ∷ [])))
+  both_stand first second needed lacking verdict alone = by (text first) (text second) lacking
+    where
+      by : (one other : Option (List ℕ)) → (is_lacking first one || (is_lacking second other || false)) ≡ false
+          → verdict (found_file first (ok_or one (cause.Missing first)) (found_file second (ok_or other (cause.Missing second)) [])) ≡ None
+          → Contains ((first ∷ second ∷ []) ∷ []) (ids_of (found_file first (ok_or one (cause.Missing first)) (found_file second (ok_or other (cause.Missing second)) [])))
+      by (Some bytes) (Some more) none found = (0, omega arith, refl)
+      by (Some bytes) None none found = absurd (alone bytes found)
+      by None other none found = absurd (true≢false (ap (λ b. not b || (is_lacking second other || false)) (sym needed) ∙ none))
+
+-- where files stand that a stage may make, none lacks
+all_own : (at : Stage) (folder : Folder) → MakesAs at (ids_of (standing folder at)) → lacks_file folder at ≡ false
+all_own at folder makes =
+    by at ((made_list at (ids_of (standing folder at)) makes).always (is_there folder) (found_there folder (stage_makes at)))
+  where
+    by : (at : Stage) → list_all (is_there folder) (always_made at) ≡ true → lacks_file folder at ≡ false
+    by stage.Concept all = first_there folder file.Concept file.Tree refl all
+    by stage.PinnedConcept all = first_there folder file.Concept file.Tree refl all
+    by stage.PinnedVehicles all = first_there folder file.Schedule file.Potential refl all
+    by at all = none_lacks folder (stage_makes at) all
+
+-- the same of files in the place of a stage that makes the same
+pub all_there : (at : Stage) (folder : Folder) (files : List FileId) → stage_makes at ≡ files
+    → MakesAs at (ids_of (files_by (made_in folder) files))
+    → list_any (λ file. is_lacking file (map.get folder (file_name file))) files ≡ false
+all_there at folder files is =
+    subst (λ files. MakesAs at (ids_of (files_by (made_in folder) files)) → list_any (λ file. is_lacking file (map.get folder (file_name file))) files ≡ false)
+    is (all_own at folder)
+
 -- ---- a stage whose files are judged by their contents
+
+-- in a folder where none lacks, and none may be left out, they are those that it may make
+pub content_stands : (at : Stage) → made_lists at ≡ stage_makes at ∷ []
+    → list_any is_certificate (stage_makes at) ≡ false → (folder : Folder) → lacks_file folder at ≡ false
+    → MakesAs at (ids_of (standing folder at))
+content_stands at lists needed folder none =
+    subst (λ lists. Contains lists (ids_of (standing folder at))) (sym lists)
+    (0, omega arith, sym (all_found folder (stage_makes at) needed none))
+
+-- nothing is found of those that it made
+pub content_none : (at : Stage) (told : Result Made Refusal) (made : Made) → told ≡ Ok made
+    → content_found at told made.files ≡ None
+content_none at told made is = rw (is, own_texts made.files) refl
 
 none_of : (same : Bool) (found : Finding) → cond same None (Some found) ≡ None → same ≡ true
 none_of true found is = refl
 none_of false found is = absurd (cc)
 
-module _ (at : Stage) (run : BundleParts → Result Made Refusal) (lists : made_lists at ≡ stage_makes at ∷ []) where
-  the_files : (ids : List FileId) → MakesAs at ids → stage_makes at ≡ ids
-  the_files ids makes =
-      only_one (stage_makes at) ids (subst (λ lists. Contains lists ids) lists makes)
-
-  -- in a folder where none lacks, and none may be left out, they are those that it may make
-  pub content_stands : list_any is_certificate (stage_makes at) ≡ false → (folder : Folder)
-      → lacks_file folder at ≡ false → MakesAs at (ids_of (standing folder at))
-  content_stands needed folder none =
-      subst (λ lists. Contains lists (ids_of (standing folder at))) (sym lists)
-      (0, omega arith, sym (all_found folder (stage_makes at) needed none))
-
-  -- where those that it made stand, nothing is found of them
-  pub content_passes : (folder : Folder) (bundle : BundleParts) (made : Made) → run bundle ≡ Ok made
-      → MakesAs at (ids_of made.files) → standing folder at ≡ made.files
-      → (lacks_file folder at ≡ false)
-      × (content_found at (run bundle) (standing folder at) ≡ None)
-  content_passes folder bundle made solved makes found =
-      let ids : ids_of (standing folder at) ≡ stage_makes at =
-      ap ids_of found ∙ sym (the_files (ids_of made.files) makes) in
-      let size : length (standing folder at) ≡ length (stage_makes at) =
-      sym (length-map (standing folder at) (λ (file : MadeFile). file.file)) ∙ ap length ids in (
-        none_lacks folder (stage_makes at) size,
-        rw (solved, found, own_texts made.files) refl,
-      )
-
-  -- files that are what their stage makes are right as those are
-  pub content_right : (IsRight : List MadeFile → Type 0) (others : List MadeFile)
-      (told : Result Made Refusal)
-      → ((made : Made) → told ≡ Ok made → MakesAs at (ids_of made.files) × IsRight made.files)
-      → MakesAs at (ids_of others) → content_found at told others ≡ None → IsRight others
-  content_right IsRight others (Err reason) made_right makes none = absurd (cc)
-  content_right IsRight others (Ok made) made_right makes none =
-      let own = made_right made refl in
-      let same : made.files ≡ others =
-      same_files made.files others (none_of (same_texts made.files others) _ none)
-      (sym (the_files (ids_of made.files) own.0) ∙ the_files (ids_of others) makes) in
-      subst IsRight same own.1
+-- files that are what their stage makes are right as those are
+pub content_right : (at : Stage) → made_lists at ≡ stage_makes at ∷ [] → (IsRight : List MadeFile → Type 0)
+    (others : List MadeFile) (told : Result Made Refusal)
+    → ((made : Made) → told ≡ Ok made → MakesAs at (ids_of made.files) × IsRight made.files)
+    → MakesAs at (ids_of others) → content_found at told others ≡ None → IsRight others
+content_right at lists IsRight others (Err reason) made_right makes none = absurd (cc)
+content_right at lists IsRight others (Ok made) made_right makes none =
+    let own = made_right made refl in
+    let same = same_files made.files others (none_of (same_texts made.files others) _ none)
+    (sym (the_files (ids_of made.files) own.0) ∙ the_files (ids_of others) makes) in
+    subst IsRight same own.1
+  where
+    the_files : (ids : List FileId) → MakesAs at ids → stage_makes at ≡ ids
+    the_files ids makes = only_one (stage_makes at) ids (subst (λ lists. Contains lists ids) lists makes)

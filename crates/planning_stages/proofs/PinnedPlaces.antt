@@ -1,25 +1,27 @@
 -- The stages that run in the places of the planning chain make up a list that can run.
-use Rattle.std.proofs.Common.{ℤ, Bool, true, false, cond, List, [], ◌∷◌, refl}
+use Rattle.std.proofs.Common.{◌≡◌, ℤ, Bool, true, false, cond, List, [], ◌∷◌, map, refl, subst}
+use Rattle.std.specs.List.{Contains}
 use Rattle.giv_files.specs.declared.file_id.FileId.{FileId}
 use Rattle.giv_files.specs.declared.file_id.FileId.TheVariants as file
-use Rattle.giv_files.specs.MadeLists.{MakesAs}
+use Rattle.giv_files.specs.MadeLists.{MakesAs, made_lists}
 use Rattle.giv_files.specs.declared.key.Key.TheVariants as key
 use Rattle.giv_files.specs.declared.stage.Stage.{Stage}
 use Rattle.giv_files.specs.declared.stage.Stage.TheVariants as stage
+use Rattle.giv_files.specs.Stages.{places}
 use Rattle.stage_chain.specs.Hand.{is_hand}
 use Rattle.stage_chain.specs.StageLists.{CanRunIn, IsStageList, is_earlier, rising}
 use Rattle.stage_chain.specs.StageParts.{staged}
 use Rattle.planning_stages.specs.Places.{in_place, is_pinned}
 use Rattle.planning_stages.specs.Planning.{planning}
 
--- the stages by which of the places are pinned
-abbrev staged_by : Bool → Bool → Bool → List Stage
-staged_by concept times vehicles =
-    stage.Load ∷ stage.Cost ∷ cond concept stage.PinnedConcept stage.Concept ∷ stage.Ean
-    ∷ cond times stage.PinnedTimetable stage.Timetable ∷ stage.Rollout
-    ∷ cond vehicles stage.PinnedVehicles stage.Vehicles ∷ stage.Disposition ∷ stage.Statistic ∷ []
+-- the stage that runs in a place, by which of the places are pinned
+abbrev placed_by : Bool → Bool → Bool → Stage → Stage
+placed_by concept times vehicles stage.Concept = cond concept stage.PinnedConcept stage.Concept
+placed_by concept times vehicles stage.Timetable = cond times stage.PinnedTimetable stage.Timetable
+placed_by concept times vehicles stage.Vehicles = cond vehicles stage.PinnedVehicles stage.Vehicles
+placed_by concept times vehicles at = at
 
-list_by : (concept times vehicles : Bool) → IsStageList (staged_by concept times vehicles)
+list_by : (concept times vehicles : Bool) → IsStageList (map (placed_by concept times vehicles) places)
 unfolding rising is_earlier is_hand
 list_by true true true = record { rise = refl; given = refl; files_differ = refl; keeps_differ = refl; no_keep = refl; no_hand = refl }
 list_by true true false = record { rise = refl; given = refl; files_differ = refl; keeps_differ = refl; no_keep = refl; no_hand = refl }
@@ -53,22 +55,28 @@ unfolding planning
 can_run values stage.Concept = concept_runs (is_pinned values key.PinConcept)
 can_run values stage.Timetable = times_run (is_pinned values key.PinTimetable)
 can_run values stage.Vehicles = vehicles_run (is_pinned values key.PinVehicles)
-can_run values stage.Load = record { point = refl; makes = refl; more = []; inputs = refl }
 can_run values _ = record { point = refl; makes = refl; more = []; inputs = refl }
 
 -- a concept and a timetable are made of the same files, whoever gives them
+pub concept_lists : (values : List ℤ) → made_lists (in_place values stage.Concept) ≡ made_lists stage.Concept
+concept_lists values = by (is_pinned values key.PinConcept)
+  where
+    by : (pinned : Bool) → made_lists (cond pinned stage.PinnedConcept stage.Concept) ≡ made_lists stage.Concept
+    by true = refl
+    by false = refl
+
+pub times_lists : (values : List ℤ) → made_lists (in_place values stage.Timetable) ≡ made_lists stage.Timetable
+times_lists values = by (is_pinned values key.PinTimetable)
+  where
+    by : (pinned : Bool) → made_lists (cond pinned stage.PinnedTimetable stage.Timetable) ≡ made_lists stage.Timetable
+    by true = refl
+    by false = refl
+
+-- so what is left in such a place is what the plain stage may make
 pub concept_list : (values : List ℤ) (ids : List FileId) → MakesAs (in_place values stage.Concept) ids
     → MakesAs stage.Concept ids
-concept_list values ids makes = by (is_pinned values key.PinConcept) makes
-  where
-    by : (pinned : Bool) → MakesAs (cond pinned stage.PinnedConcept stage.Concept) ids → MakesAs stage.Concept ids
-    by true makes = makes
-    by false makes = makes
+concept_list values ids makes = subst (λ lists. Contains lists ids) (concept_lists values) makes
 
 pub times_list : (values : List ℤ) (ids : List FileId) → MakesAs (in_place values stage.Timetable) ids
     → MakesAs stage.Timetable ids
-times_list values ids makes = by (is_pinned values key.PinTimetable) makes
-  where
-    by : (pinned : Bool) → MakesAs (cond pinned stage.PinnedTimetable stage.Timetable) ids → MakesAs stage.Timetable ids
-    by true makes = makes
-    by false makes = makes
+times_list values ids makes = subst (λ lists. Contains lists ids) (times_lists values) makes

@@ -1,6 +1,5 @@
 -- How a search ends that has a solution or none, within its budget or beyond it.
-use Rattle.std.proofs.Common.{◌≡◌, ◌<◌, ◌⊎◌, inl, inr, ⊎_elim, ℕ, Bool, true, false, cond, nat_le, nat_lt, List, [], ◌∷◌}
-use Rattle.std.proofs.Common.{length, take, Option, Some, None, Result, Ok, Err, refl, ap, sym, subst, ◌∙◌, arith, option_map}
+use Rattle.std.proofs.Common.{◌≡◌, ◌<◌, ◌⊎◌, inl, inr, ⊎_elim, ℕ, Bool, true, false, cond, nat_le, nat_lt, List, [], ◌∷◌, length, take, Option, Some, None, Result, Ok, Err, refl, ap, sym, subst, ◌∙◌, arith, option_map}
 use Rattle.std.specs.Prelude.{ok_or}
 use Rattle.std.proofs.lemmas.Bool.{leb-false, leb-true, lt-ltb, ltb-true}
 use Rattle.giv_files.specs.declared.made.Made.{Made}
@@ -22,17 +21,16 @@ use Rattle.line_search.specs.Listings.{Entry, best_after, listing}
 use Rattle.line_search.proofs.ConceptNames.{input_faults_only}
 use Rattle.line_search.proofs.Lengths.{listing_bound}
 use Rattle.line_search.proofs.NoConcepts.{none_told as no_concept}
-use Rattle.pesp_search.specs.Listings.{Listing, listing as times_listed, result_within as times_within}
-use Rattle.pesp_search.specs.Listings.{whole_result as whole_times}
-use Rattle.pesp_search.specs.TimetableStage.{after_faults as after_times, budget_in, problem_in}
-use Rattle.pesp_search.specs.TimetableStage.{search_made as times_made, timetable_faults, timetable_stage}
+use Rattle.pesp_search.specs.Listings.{Listing, listing as times_listed, result_within as times_within, whole_result as whole_times}
+use Rattle.pesp_search.specs.TimetableStage.{after_faults as after_times, budget_in, problem_in, search_made as times_made, timetable_faults, timetable_stage}
 use Rattle.pesp_search.proofs.ListingRight.{listing_right}
 use Rattle.pesp_search.proofs.TimetableEnds.{none_told as no_timetable}
 use Rattle.pesp_search.proofs.TimetableMakes.{timetable_faults_name}
 use Rattle.pesp_search.proofs.TimetableReads.{is_problem}
 use Rattle.planning_stages.specs.Planning.{stage_model}
 use Rattle.planning_stages.specs.Searches.{CanBeFound, HasNoSolution, IsSpent}
-use Rattle.planning_stages.proofs.InputFaults.{any, input_refused}
+use Rattle.planning_stages.proofs.Laws.{stage_laws}
+use Rattle.planning_stages.proofs.StageLaws.{any}
 
 -- ---- a stage answers as its function says
 
@@ -168,7 +166,7 @@ module _ (bundle : BundleParts) where
     ends_none stage.Timetable own is =
         let fine = times_fine refusal.NoSolution (λ h. h) is in
         (fine, (no_timetable bundle own fits (Err (fault.Refused refusal.NoSolution)) is fine).only refl)
-    ends_none at own is = ⊎_elim (λ searches. absurd searches) (λ input. absurd input) (input_refused at bundle refusal.NoSolution is)
+    ends_none at own is = ⊎_elim (λ searches. absurd searches) (λ input. absurd input) ((stage_laws at).names bundle refusal.NoSolution is)
 
     -- and where there is none it says so
     pub none_ends : (at : Stage) → bundle.stage ≡ at → HasNoSolution at bundle
@@ -193,7 +191,7 @@ module _ (bundle : BundleParts) where
     ends_spent stage.Timetable own entries is =
         let fine = times_fine (refusal.Spent entries) (λ h. h) is in
         (fine, times_spent_by (budget_in bundle) (times_listed (problem_in bundle)) entries (sym (times_outcome fine) ∙ is))
-    ends_spent at own entries is = ⊎_elim (λ searches. absurd searches) (λ input. absurd input) (input_refused at bundle (refusal.Spent entries) is)
+    ends_spent at own entries is = ⊎_elim (λ searches. absurd searches) (λ input. absurd input) ((stage_laws at).names bundle (refusal.Spent entries) is)
 
     pub spent_ends_so : (at : Stage) → bundle.stage ≡ at → IsSpent at bundle
         → (entries : ℕ) × (told at ≡ Err (refusal.Spent entries))

@@ -1,16 +1,15 @@
 -- The files of costs and of a line concept that were made have no fault as the statistic reads them.
-use Rattle.std.proofs.Common.{◌≡◌, ℕ, ℤ, pos, ◌≤◌, Bool, true, false, not, ◌||◌, cond, is_some, List}
-use Rattle.std.proofs.Common.{[], ◌∷◌, ◌++◌, length, map, filter, zip, get_or, unsigned_abs}
-use Rattle.std.proofs.Common.{Some, refl, ap, subst, sym, ◌∙◌, arith}
-use Rattle.std.specs.List.{All, AllByRecursion, IsDistinct, enumerate_from, find, flat_map, list_any}
+use Rattle.std.proofs.Common.{◌≡◌, ◌≢◌, ℕ, ℤ, suc, pos, ◌≤◌, Bool, true, false, not, ◌||◌, cond, is_some, List, [], ◌∷◌, ◌++◌, length, map, filter, zip, get_or, unsigned_abs, Some, refl, ap, subst, sym, ◌∙◌, arith}
+use Rattle.std.specs.List.{All, AllByRecursion, AllPairs, enumerate_from, find, flat_map, list_any}
 use Rattle.std.specs.Ordering.{int_eq}
 use Rattle.std.specs.Set.{is_member}
-use Rattle.std.proofs.lemmas.Bool.{eq-eqb}
+use Rattle.std.proofs.lemmas.Bool.{eq-eqb, true≢false}
 use Rattle.std.proofs.lemmas.Bool.Decides.{Decides-int_eq}
 use Rattle.std.proofs.lemmas.Cmp.{int_eq_equiv}
 use Rattle.std.proofs.lemmas.List.{length-map, map_push}
-use Rattle.std.proofs.lemmas.List.Elements.{All-cons, All-contains, All-nil}
-use Rattle.std.proofs.lemmas.Map.Made.{is_member-Decides, length-le_from_is_member}
+use Rattle.std.proofs.lemmas.List.Elements.{All-cons, All-contains, All-filter, All-map, All-nil, All-weaker, filter_passes}
+use Rattle.std.proofs.lemmas.List.Kept.{AllPairs-cons, AllPairs-filter}
+use Rattle.std.proofs.lemmas.Map.Made.{IsDistinct-from_AllPairs, is_member-Decides, length-le_from_is_member}
 use Rattle.giv_files.specs.declared.file_id.FileId.{FileId}
 use Rattle.giv_files.specs.declared.file_id.FileId.TheVariants as file
 use Rattle.giv_files.specs.declared.row_why.RowWhy.TheVariants as why
@@ -21,8 +20,7 @@ use Rattle.giv_files.specs.Tables.{TableRow}
 use Rattle.giv_files.specs.Writing.{ReadsBack}
 use Rattle.giv_files.proofs.Accepted.{each_known}
 use Rattle.giv_files.proofs.Found.{any_mapped}
-use Rattle.giv_files.proofs.Inputs.{faults_of_table, limit_kept, no_faults, parts_sound, rule_kept}
-use Rattle.giv_files.proofs.Inputs.{rules_sound, table_sound, whole_rule_sound}
+use Rattle.giv_files.proofs.Inputs.{faults_of_table, limit_kept, no_faults, parts_sound, rule_kept, rules_sound, table_sound, whole_rule_sound}
 use Rattle.giv_files.proofs.Ranges.{back_none, front_none, unmapped}
 use Rattle.ptn_network.specs.declared.edge.Edge.{Edge}
 use Rattle.ptn_network.specs.Ids.{known_edge}
@@ -98,72 +96,46 @@ module _ {X Y : Type 0} (file : FileId) (rules : List (RowRule X)) (others : Lis
 -- ---- the first row of each line
 
 module _ {X : Type 0} (key : X → ℤ) where
-  all_kept : (P : ℤ → Type 0) (test : X → Bool) (xs : List X) → AllByRecursion P (map key xs)
-      → AllByRecursion P (map key (filter test xs))
-  all_kept P test [] each = tt
-  all_kept P test (x ∷ xs) each = by (test x) (all_kept P test xs each.1)
-    where
-      by : (b : Bool) → AllByRecursion P (map key (filter test xs))
-          → AllByRecursion P (map key (cond b (x ∷ filter test xs) (filter test xs)))
-      by true rest = (each.0, rest)
-      by false rest = rest
+  -- the first rows have different keys, and each is one of all rows
+  abbrev Differ : X → X → Type 0
+  Differ x y = key x ≢ key y
 
-  others_apart : (id : ℤ) (xs : List X)
-      → AllByRecursion (λ other. int_eq id other ≡ false) (map key (filter (λ other. not (int_eq id (key other))) xs))
-  others_apart id [] = tt
-  others_apart id (x ∷ xs) = by (int_eq id (key x)) refl (others_apart id xs)
-    where
-      test : X → Bool
-      test other = not (int_eq id (key other))
+  abbrev others : X → X → Bool
+  others row other = not (int_eq (key row) (key other))
 
-      by : (b : Bool) → int_eq id (key x) ≡ b
-          → AllByRecursion (λ other. int_eq id other ≡ false) (map key (filter test xs))
-          → AllByRecursion (λ other. int_eq id other ≡ false) (map key (cond (not b) (x ∷ filter test xs) (filter test xs)))
-      by true is rest = rest
-      by false is rest = (is, rest)
-
-  still_apart : (test : X → Bool) (xs : List X) → IsDistinct int_eq (map key xs)
-      → IsDistinct int_eq (map key (filter test xs))
-  unfolding IsDistinct
-  still_apart test [] apart = tt
-  still_apart test (x ∷ xs) apart =
-      by (test x) (all_kept (λ other. int_eq (key x) other ≡ false) test xs apart.0) (still_apart test xs apart.1)
-    where
-      by : (b : Bool) → AllByRecursion (λ other. int_eq (key x) other ≡ false) (map key (filter test xs))
-          → IsDistinct int_eq (map key (filter test xs))
-          → IsDistinct int_eq (map key (cond b (x ∷ filter test xs) (filter test xs)))
-      by true new rest = (new, rest)
-      by false new rest = rest
-
-  firsts_apart : (rows : List X) → IsDistinct int_eq (map key (firsts key rows))
-  unfolding firsts IsDistinct
-  firsts_apart [] = tt
-  firsts_apart (row ∷ rows) = (
-    others_apart (key row) (firsts key rows),
-    still_apart (λ other. not (int_eq (key row) (key other))) (firsts key rows) (firsts_apart rows),
-  )
-
-  firsts_kept : (P : ℤ → Type 0) (rows : List X) → AllByRecursion P (map key rows)
-      → AllByRecursion P (map key (firsts key rows))
+  firsts_apart : (rows : List X) → AllPairs Differ (firsts key rows)
   unfolding firsts
-  firsts_kept P [] each = tt
-  firsts_kept P (row ∷ rows) each =
-      (each.0, all_kept P (λ other. not (int_eq (key row) (key other))) (firsts key rows) (firsts_kept P rows each.1))
+  firsts_apart [] = λ i j d lt within. absurd (omega (arith, within))
+  firsts_apart (row ∷ rows) =
+      let more = firsts key rows in
+      AllPairs-cons Differ row (filter (others row) more)
+      (All-weaker (λ x. others row x ≡ true) (Differ row) (λ x passes same. true≢false (sym passes ∙ ap not ((Decides-int_eq (key row) (key x)).1 same))) (filter (others row) more) (filter_passes (others row) more))
+      (AllPairs-filter Differ (others row) more (firsts_apart rows))
 
-  each_of : (P : ℤ → Type 0) (ids : List ℤ) → AllByRecursion P ids → All P ids
-  each_of P [] each = All-nil P
-  each_of P (id ∷ ids) each = All-cons P id ids each.0 (each_of P ids each.1)
+  firsts_kept : (P : X → Type 0) (rows : List X) → All P rows → All P (firsts key rows)
+  unfolding firsts
+  firsts_kept P [] each = each
+  firsts_kept P (row ∷ rows) each =
+      All-cons P row (filter (others row) (firsts key rows)) (each 0 row (omega arith))
+      (All-filter (others row) P (firsts key rows) (firsts_kept P rows (λ k d h. each (suc k) d (omega (arith, h)))))
+
+  keys_apart : (xs : List X) → AllPairs Differ xs → AllPairs (λ (x y : ℤ). x ≢ y) (map key xs)
+  keys_apart [] apart = λ i j d lt within. absurd (omega (arith, within))
+  keys_apart (x ∷ xs) apart =
+      AllPairs-cons (λ (x y : ℤ). x ≢ y) (key x) (map key xs)
+      (All-map (λ y. key x ≢ y) key xs (λ k d h. apart 0 (suc k) d (omega arith) (omega (arith, h))))
+      (keys_apart xs (λ i j d lt within. apart (suc i) (suc j) d (omega (arith, lt)) (omega (arith, within))))
 
   -- there are not more of them than ids that they have
   few_firsts : (ids : List ℤ) (rows : List X)
-      → AllByRecursion (λ id. is_member int_eq ids id ≡ true) (map key rows)
+      → All (λ row. is_member int_eq ids (key row) ≡ true) rows
       → length (firsts key rows) ≤ length ids
   few_firsts ids rows each =
       let some = map key (firsts key rows) in
-      let few = length-le_from_is_member int_eq_equiv some ids (firsts_apart rows)
-      (λ id is. All-contains (λ id. is_member int_eq ids id ≡ true) some id
-      (each_of (λ id. is_member int_eq ids id ≡ true) some (firsts_kept (λ id. is_member int_eq ids id ≡ true) rows each))
-      ((is_member-Decides Decides-int_eq some id).0 is)) in
+      let known = All-map (λ id. is_member int_eq ids id ≡ true) key (firsts key rows) (firsts_kept (λ row. is_member int_eq ids (key row) ≡ true) rows each) in
+      let few = length-le_from_is_member int_eq_equiv some ids
+      (IsDistinct-from_AllPairs Decides-int_eq some (keys_apart (firsts key rows) (firsts_apart rows)))
+      (λ id is. All-contains (λ id. is_member int_eq ids id ≡ true) some id known ((is_member-Decides Decides-int_eq some id).0 is)) in
       omega (arith, few, length-map (firsts key rows) key)
 
 -- ---- what holds of the ids of lines holds of the rows of a concept
@@ -200,9 +172,10 @@ module _ (P : ℤ → Type 0) where
 
   -- the same of rows that were read
   each_row : (rows : List TableRow) → AllByRecursion Good (cells_of rows)
-      → AllByRecursion P (map (λ (row : LineRow). row.line) (map (λ row. line_row row.cells) rows))
-  each_row [] good = tt
-  each_row (row ∷ rows) good = (good.0, each_row rows good.1)
+      → All (λ (row : LineRow). P row.line) (map (λ row. line_row row.cells) rows)
+  each_row [] good = All-nil (λ (row : LineRow). P row.line)
+  each_row (row ∷ rows) good =
+      All-cons (λ (row : LineRow). P row.line) (line_row row.cells) (map (λ row. line_row row.cells) rows) good.0 (each_row rows good.1)
 
   read_good : (problem : ProblemParts) (lines : List LineParts) (costs : List ℤ) (frequencies text : List ℕ)
       → problem.lines ≡ map (λ at. costed_by at.0 at.1) (zip lines costs)

@@ -1,7 +1,5 @@
 -- Periodic events that are made are at stops of their dataset.
-use Rattle.std.proofs.Common.{◌≡◌, ℕ, ℤ, zero, suc, pos, negsuc, ◌<◌, ◌≤ℤ◌, Bool, true, false, ◌||◌}
-use Rattle.std.proofs.Common.{All, Contains, List, [], ◌∷◌, length, map, get_or, unsigned_abs, Some, lit<}
-use Rattle.std.proofs.Common.{refl, ap, ◌∙◌, arith}
+use Rattle.std.proofs.Common.{◌≡◌, ℕ, ℤ, zero, suc, pos, negsuc, ◌<◌, ◌≤ℤ◌, Bool, true, false, ◌||◌, All, Contains, List, [], ◌∷◌, length, map, get_or, unsigned_abs, Some, lit<, refl, ap, ◌∙◌, arith}
 use Rattle.std.specs.List.{list_any}
 use Rattle.std.specs.Ordering.{int_eq}
 use Rattle.std.proofs.lemmas.Cmp.{int_eq_equiv}

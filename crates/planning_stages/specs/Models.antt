@@ -10,7 +10,6 @@ use Rattle.pesp_search.specs.Judged.{Passes as KeepsRules}
 use Rattle.pesp_search.specs.TimetableStage.{problem_in, timetable_faults}
 use Rattle.delay_management.specs.DispositionStage.{disposition_faults}
 use Rattle.delay_management.specs.Judged.{Passes as PassesBy}
-use Rattle.std.specs.Prelude.{ℕ, ◌≡◌, List, [], ◌∷◌, Option}
 
 -- A concept from any hand passes over its inputs: these have no fault, and its text is the table of
 -- frequencies which keep the bounds of each edge. Where a tree stands beside it, that marks it: no

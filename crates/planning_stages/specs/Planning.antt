@@ -35,8 +35,7 @@ use Rattle.stage_chain.specs.declared.finding.Finding.{Finding}
 use Rattle.stage_chain.specs.StageParts.{StageParts}
 use Rattle.planning_stages.specs.Models.{ConceptPasses, DispositionPasses, TimetablePasses}
 use Rattle.planning_stages.specs.Places.{in_place, is_pinned}
-use Rattle.planning_stages.specs.Verdicts.{bare_verdict, concept_verdict, content_found, disposition_verdict}
-use Rattle.planning_stages.specs.Verdicts.{schedule_verdict, timetable_verdict}
+use Rattle.planning_stages.specs.Verdicts.{bare_verdict, concept_verdict, content_found, disposition_verdict, schedule_verdict, timetable_verdict}
 
 -- What is found of files from any hand in a place, and when such files satisfy its model.
 pub record PlaceModel : Type 1 where
@@ -44,12 +43,12 @@ pub record PlaceModel : Type 1 where
   pub Satisfies : BundleParts → List MadeFile → Type 0
 
 -- What a stage makes of what it is given, or why it refuses that; how many steps that takes; when its
--- own files are right; and how files are judged in the place that has its name.
+-- own files are right; and how files are judged, under settings, in the place that has its name.
 pub record StageModel : Type 1 where
   pub run : BundleParts → Result Made Refusal
   pub work : BundleParts → ℕ
   pub IsRight : BundleParts → List MadeFile → Type 0
-  pub judged : PlaceModel
+  pub judged : List ℤ → PlaceModel
 
 -- a stage of one step whose files are judged by what it makes
 abbrev pub by_content : Stage → (BundleParts → Result Made Refusal)
@@ -58,7 +57,7 @@ by_content stage run IsRight = record {
   run = run;
   work = λ bundle. 1;
   IsRight = IsRight;
-  judged = record {
+  judged = λ values. record {
     verdict = λ bundle others. content_found stage (run bundle) others;
     Satisfies = IsRight;
   };
@@ -72,7 +71,7 @@ by_hand run IsRight = record {
   run = run;
   work = λ bundle. 1;
   IsRight = IsRight;
-  judged = record { verdict = λ bundle others. None; Satisfies = λ bundle others. ⊤ };
+  judged = λ values. record { verdict = λ bundle others. None; Satisfies = λ bundle others. ⊤ };
 }
 
 -- how a vehicle schedule is judged: one that people give needs no certificate
@@ -80,45 +79,53 @@ abbrev pub schedule_judged : Bool → PlaceModel
 schedule_judged true = record { verdict = bare_verdict; Satisfies = ScheduleIsRight }
 schedule_judged false = record { verdict = schedule_verdict; Satisfies = VehiclesAreRight }
 
--- each stage
-unfoldable pub stage_model : Stage → StageModel
-stage_model stage.Load = by_content stage.Load load_stage LoadFilesAreRight
-stage_model stage.Cost = by_content stage.Cost cost_stage CostFilesAreRight
-stage_model stage.Concept = record {
+-- the stages whose files are judged by rules of their own
+abbrev pub concept_model : StageModel
+concept_model = record {
   run = concept_stage;
   work = concept_work;
   IsRight = ConceptFilesAreRight;
-  judged = record { verdict = concept_verdict; Satisfies = ConceptPasses };
+  judged = λ values. record { verdict = concept_verdict; Satisfies = ConceptPasses };
 }
-stage_model stage.Ean = by_content stage.Ean ean_stage EanFilesAreRight
-stage_model stage.Timetable = record {
+
+abbrev pub timetable_model : StageModel
+timetable_model = record {
   run = timetable_stage;
   work = timetable_work;
   IsRight = TimetableFilesAreRight;
-  judged = record { verdict = timetable_verdict; Satisfies = TimetablePasses };
+  judged = λ values. record { verdict = timetable_verdict; Satisfies = TimetablePasses };
 }
-stage_model stage.Rollout = by_content stage.Rollout rollout_stage RolloutFilesAreRight
-stage_model stage.Vehicles = record {
+
+abbrev pub vehicles_model : StageModel
+vehicles_model = record {
   run = vehicles_stage;
   work = λ bundle. 1;
   IsRight = VehicleFilesAreRight;
-  judged = schedule_judged false;
+  judged = λ values. schedule_judged (is_pinned values key.PinVehicles);
 }
-stage_model stage.Disposition = record {
+
+abbrev pub disposition_model : StageModel
+disposition_model = record {
   run = disposition_stage;
   work = λ bundle. 1;
   IsRight = DispositionFilesAreRight;
-  judged = record { verdict = disposition_verdict; Satisfies = DispositionPasses };
+  judged = λ values. record { verdict = disposition_verdict; Satisfies = DispositionPasses };
 }
+
+-- the list of the stages
+unfoldable pub stage_model : Stage → StageModel
+stage_model stage.Load = by_content stage.Load load_stage LoadFilesAreRight
+stage_model stage.Cost = by_content stage.Cost cost_stage CostFilesAreRight
+stage_model stage.Concept = concept_model
+stage_model stage.Ean = by_content stage.Ean ean_stage EanFilesAreRight
+stage_model stage.Timetable = timetable_model
+stage_model stage.Rollout = by_content stage.Rollout rollout_stage RolloutFilesAreRight
+stage_model stage.Vehicles = vehicles_model
+stage_model stage.Disposition = disposition_model
 stage_model stage.Statistic = by_content stage.Statistic statistic_stage StatisticFilesAreRight
 stage_model stage.PinnedConcept = by_hand pinned_concept_stage ConceptIsRight
 stage_model stage.PinnedTimetable = by_hand pinned_timetable_stage TimetableFilesAreRight
 stage_model stage.PinnedVehicles = by_hand pinned_vehicles_stage PinnedScheduleIsRight
-
--- how the files of a place are judged under settings
-unfoldable pub place_model : List ℤ → Stage → PlaceModel
-place_model values stage.Vehicles = schedule_judged (is_pinned values key.PinVehicles)
-place_model values place = (stage_model place).judged
 
 -- the chain of them, in the order of their places
 unfoldable pub planning : StageParts
@@ -127,7 +134,7 @@ planning = record {
   placed = in_place;
   run = λ bundle. (stage_model bundle.stage).run bundle;
   work = λ bundle. (stage_model bundle.stage).work bundle;
-  verdict = λ values bundle. (place_model values bundle.stage).verdict bundle;
+  verdict = λ values bundle. ((stage_model bundle.stage).judged values).verdict bundle;
   IsRight = λ stage. (stage_model stage).IsRight;
-  Satisfies = λ values bundle. (place_model values bundle.stage).Satisfies bundle;
+  Satisfies = λ values bundle. ((stage_model bundle.stage).judged values).Satisfies bundle;
 }

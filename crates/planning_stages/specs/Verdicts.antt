@@ -1,6 +1,5 @@
 -- What a check of a folder finds: the files of each stage are judged over the files that stand there.
-use Rattle.std.specs.Prelude.{ℕ, ◌&&◌, if◌then◌else◌, Bool}
-use Rattle.std.specs.Prelude.{List, [], ◌∷◌, ◌==◌, length, zip, Option, Some, None, Result, Ok, Err}
+use Rattle.std.specs.Prelude.{ℕ, ◌&&◌, if◌then◌else◌, Bool, List, [], ◌∷◌, ◌==◌, length, zip, Option, Some, None, Result, Ok, Err}
 use Rattle.std.specs.List.{list_all}
 use Rattle.std.specs.Option.{option_map}
 use Rattle.std.specs.Str.{bytes_eq}
@@ -24,9 +23,8 @@ use Rattle.stage_chain.specs.declared.finding.Finding.{Finding}
 use Rattle.stage_chain.specs.declared.finding.Finding.TheVariants.{Broken}
 use Rattle.stage_chain.specs.declared.rule.Rule.{Rule}
 use Rattle.stage_chain.specs.declared.rule.Rule.TheVariants as rule
-use Rattle.planning_stages.specs.Rules.{bare_rule, concept_rule, reason_rule}
+use Rattle.planning_stages.specs.Rules.{bare_rule, concept_rule, reason_rule, schedule_rule, timetable_rule}
 use Rattle.stage_chain.specs.Findings.{finding_of}
-use Rattle.planning_stages.specs.Rules.{schedule_rule, timetable_rule}
 
 -- files have the same texts as others
 unfoldable pub same_texts : List MadeFile → List MadeFile → Bool

@@ -2,11 +2,11 @@
 //! judge of the files there.
 #![tactic(auto)]
 
+mod contents;
 mod places;
 mod rules;
 mod stages;
 mod verdicts;
 
 pub use places::in_place;
-pub use stages::{make_stage, planning_places};
-pub use verdicts::verdict;
+pub use stages::{make_stage, planning_places, verdict};

@@ -1,7 +1,6 @@
-// The judge of files over what their stage is given.
-ghost use Rattle.std.specs.Prelude.{◌≡◌, [], IfOk, IfNone, option_copied, zip};
-ghost use Rattle.std.specs.List.{list_all};
-ghost use Rattle.std.specs.Str.{bytes_eq};
+// The judges of files by rules of their own, over what their stage is given.
+ghost use Rattle.std.specs.Prelude.{◌≡◌, [], IfOk, IfNone, None, option_copied};
+ghost use Rattle.giv_files.specs.declared.key.Key.TheVariants as keys;
 ghost use Rattle.giv_files.specs.declared.stage.Stage.TheVariants as stages;
 ghost use Rattle.giv_files.specs.MadeLists.{MakesAs, ids_of};
 ghost use Rattle.giv_files.specs.Settings.{Fits};
@@ -10,135 +9,29 @@ ghost use Rattle.delay_management.specs.Judged.{Passes};
 ghost use Rattle.vehicle_flow.specs.RightSchedules.{ScheduleIsRight};
 ghost use Rattle.vehicle_flow.specs.RightVehicles.{VehiclesAreRight};
 ghost use Rattle.planning_stages.specs.Models.{ConceptPasses, DispositionPasses, TimetablePasses};
-ghost use Rattle.planning_stages.specs.Places.{in_place};
-ghost use Rattle.planning_stages.specs.Planning.{place_model, planning};
+ghost use Rattle.planning_stages.specs.Places.{in_place, is_pinned};
+ghost use Rattle.planning_stages.specs.Planning.{schedule_judged};
 ghost use Rattle.planning_stages.specs.Verdicts.{bare_found, bare_verdict, concept_verdict};
-ghost use Rattle.planning_stages.specs.Verdicts.{content_found};
-ghost use Rattle.planning_stages.specs.Verdicts.{disposition_verdict, files_found, first_text};
-ghost use Rattle.planning_stages.specs.Verdicts.{reasons_found, same_texts, schedule_verdict};
+ghost use Rattle.planning_stages.specs.Verdicts.{disposition_verdict, first_text};
+ghost use Rattle.planning_stages.specs.Verdicts.{reasons_found, schedule_verdict};
 ghost use Rattle.planning_stages.specs.Verdicts.{timetable_verdict};
 
 use crate::places::is_pinned;
 use crate::rules::{bare_rule, concept_rule, reason_rule, schedule_rule, timetable_rule};
-use crate::stages::make_stage;
 use config_keys::Config;
 use delay_management::check_reasons;
 use giv_files::{Bundle, Key, MadeFile, Stage, StageFault};
 use line_search::check_concept;
 use pesp_search::check_timetable;
-use plan_num::{NoMemory, Silent, Steps};
+use plan_num::NoMemory;
 use stage_chain::{Cause, Finding, Rule};
 use std::alloc::Global;
 use vehicle_flow::{ScheduleFault, check_schedule};
 
-/// What is found under the settings of a dataset of files from any hand in a place, over what the
-/// place is given.
-#[tactic(auto, unfolding(crate::specs::Planning::planning))]
-pub fn verdict(
+/// What is found of a concept, with the tree that may stand behind it.
+pub(crate) fn judge_concept(
     alloc: Global,
-    config: &Config,
-    bundle: &Bundle,
-    there: &[MadeFile],
-) -> Result<Option<Finding>, NoMemory>
-    requires fits { Fits bundle.now }
-    ensures found { IfOk result (λ found. found ≡ planning.verdict config.now bundle.now there.now) }
-    ensures passes { MakesAs (planning.placed config.now bundle.now.stage) (ids_of there.now)
-        → IfOk result (λ found.
-        IfNone found (planning.Satisfies config.now bundle.now there.now)) }
-{
-    place_verdict(alloc, config, bundle, bundle.stage(), there)
-}
-
-// The same in the place of a stage.
-fn place_verdict(
-    alloc: Global,
-    config: &Config,
-    bundle: &Bundle,
-    place: Stage,
-    there: &[MadeFile],
-) -> Result<Option<Finding>, NoMemory>
-    requires fits { Fits bundle.now }
-    requires stage { bundle.now.stage ≡ place }
-    ensures found { IfOk result (λ found.
-        found ≡ (place_model config.now place).verdict bundle.now there.now) }
-    ensures passes { MakesAs (in_place config.now place) (ids_of there.now) → IfOk result (λ found.
-        IfNone found ((place_model config.now place).Satisfies bundle.now there.now)) }
-{
-    match place {
-        Stage::Load => content_found(alloc, bundle, place, there),
-        Stage::Cost => content_found(alloc, bundle, place, there),
-        Stage::Concept => concept_verdict(alloc, bundle, there),
-        Stage::Ean => content_found(alloc, bundle, place, there),
-        Stage::Timetable => timetable_verdict(alloc, bundle, there),
-        Stage::Rollout => content_found(alloc, bundle, place, there),
-        Stage::Vehicles => vehicles_verdict(alloc, config, bundle, there),
-        Stage::Disposition => disposition_verdict(alloc, bundle, there),
-        Stage::Statistic => content_found(alloc, bundle, place, there),
-        Stage::PinnedConcept => Ok(None),
-        Stage::PinnedTimetable => Ok(None),
-        Stage::PinnedVehicles => Ok(None),
-    }
-}
-
-// What is found of files that are to be those that their stage makes of what it is given.
-fn content_found(
-    alloc: Global,
-    bundle: &Bundle,
-    stage: Stage,
-    there: &[MadeFile],
-) -> Result<Option<Finding>, NoMemory>
-    requires fits { Fits bundle.now }
-    ensures { IfOk result (λ found. found
-        ≡ content_found stage (planning.run bundle.now) there.now) }
-{
-    let mut steps = Steps::new(Silent);
-    match make_stage(alloc, bundle, &mut steps) {
-        Ok(made) => Ok(files_found(stage, &made.files.into_vec(), there)),
-        Err(StageFault::Refused(refusal)) => {
-            Ok(Some(Finding::of(stage, Cause::Refused(stage, refusal))))
-        }
-        Err(StageFault::NoMemory) => Err(NoMemory),
-    }
-}
-
-// What is found of files that are to be those that their stage makes.
-fn files_found(stage: Stage, made: &[MadeFile], there: &[MadeFile]) -> Option<Finding>
-    ensures { result ≡ files_found stage made.now there.now }
-{
-    if same_texts(made, there) {
-        None
-    } else {
-        Some(Finding::Broken(stage, Rule::Content))
-    }
-}
-
-// Whether files have the same texts as others.
-#[tactic(auto, unfolding(crate::specs::Verdicts::same_texts))]
-fn same_texts(made: &[MadeFile], others: &[MadeFile]) -> bool
-    ensures { result ≡ same_texts made.now others.now }
-{
-    made.len() == others.len() && same_each(made, others)
-}
-
-// Whether each file has the same text as the other one at its place.
-fn same_each(made: &[MadeFile], others: &[MadeFile]) -> bool
-    ensures { result ≡ list_all (λ at. bytes_eq at.0.text at.1.text) (zip made.now others.now) }
-{
-    made.iter()
-        .zip(others)
-        .all(|(file, other)| same_text(file, other))
-}
-
-// Whether a file has the same text as another one.
-fn same_text(file: &MadeFile, other: &MadeFile) -> bool
-    ensures { result ≡ bytes_eq file.now.text other.now.text }
-{
-    file.text.as_bytes() == other.text.as_bytes()
-}
-
-// What is found of a concept, with the tree that may stand behind it.
-fn concept_verdict(
-    alloc: Global,
+    _config: &Config,
     bundle: &Bundle,
     there: &[MadeFile],
 ) -> Result<Option<Finding>, NoMemory>
@@ -162,9 +55,10 @@ fn concept_verdict(
     }
 }
 
-// What is found of a timetable.
-fn timetable_verdict(
+/// What is found of a timetable.
+pub(crate) fn judge_timetable(
     alloc: Global,
+    _config: &Config,
     bundle: &Bundle,
     there: &[MadeFile],
 ) -> Result<Option<Finding>, NoMemory>
@@ -188,9 +82,8 @@ fn timetable_verdict(
     }
 }
 
-// What is found of a vehicle schedule: one that people give needs no potentials.
-#[tactic(auto, unfolding(crate::specs::Planning::place_model, crate::specs::Planning::stage_model))]
-fn vehicles_verdict(
+/// What is found of a vehicle schedule: one that people give needs no potentials.
+pub(crate) fn judge_vehicles(
     alloc: Global,
     config: &Config,
     bundle: &Bundle,
@@ -198,11 +91,12 @@ fn vehicles_verdict(
 ) -> Result<Option<Finding>, NoMemory>
     requires fits { Fits bundle.now }
     requires stage { bundle.now.stage ≡ stages.Vehicles }
-    ensures found { IfOk result (λ found.
-        found ≡ (place_model config.now stages.Vehicles).verdict bundle.now there.now) }
+    ensures found { IfOk result (λ found. found
+        ≡ (schedule_judged (is_pinned config.now keys.PinVehicles)).verdict bundle.now there.now) }
     ensures passes { MakesAs (in_place config.now stages.Vehicles) (ids_of there.now)
         → IfOk result (λ found.
-        IfNone found ((place_model config.now stages.Vehicles).Satisfies bundle.now there.now)) }
+        IfNone found ((schedule_judged (is_pinned config.now keys.PinVehicles)).Satisfies
+        bundle.now there.now)) }
 {
     if is_pinned(config, Key::PinVehicles) {
         bare_verdict(alloc, bundle, there)
@@ -263,9 +157,10 @@ fn bare_verdict(
     }
 }
 
-// What is found of a disposition, with the reasons that may stand behind it.
-fn disposition_verdict(
+/// What is found of a disposition, with the reasons that may stand behind it.
+pub(crate) fn judge_disposition(
     alloc: Global,
+    _config: &Config,
     bundle: &Bundle,
     there: &[MadeFile],
 ) -> Result<Option<Finding>, NoMemory>
@@ -335,4 +230,16 @@ fn first_text(files: &[MadeFile]) -> Option<&[u8]>
         [first, ..] => Some(first.text.as_bytes()),
         [] => None,
     }
+}
+
+/// Nothing is found of files that have no place.
+pub(crate) fn judge_nothing(
+    _alloc: Global,
+    _config: &Config,
+    _bundle: &Bundle,
+    _there: &[MadeFile],
+) -> Result<Option<Finding>, NoMemory>
+    ensures { IfOk result (λ found. found ≡ None) }
+{
+    Ok(None)
 }

@@ -74,13 +74,4 @@ made_list stage.PinnedConcept files at = two_lists stage.PinnedConcept file.Conc
 made_list stage.PinnedVehicles files at = two_lists stage.PinnedVehicles file.Schedule files at
     (record { within = λ p h. h; always = λ p h. and_from _ _ (and_parts _ _ h).0 refl; differ = refl; kept = refl })
     (record { within = λ p h. and_from _ _ (and_parts _ _ h).0 refl; always = λ p h. h; differ = refl; kept = refl })
-made_list stage.Load files at = the_list stage.Load files at (λ p h. h) refl refl
-made_list stage.Cost files at = the_list stage.Cost files at (λ p h. h) refl refl
-made_list stage.Ean files at = the_list stage.Ean files at (λ p h. h) refl refl
-made_list stage.Timetable files at = the_list stage.Timetable files at (λ p h. h) refl refl
-made_list stage.Rollout files at = the_list stage.Rollout files at (λ p h. h) refl refl
-made_list stage.Vehicles files at = the_list stage.Vehicles files at (λ p h. h) refl refl
-made_list stage.Disposition files at = the_list stage.Disposition files at (λ p h. h) refl refl
-made_list stage.Statistic files at = the_list stage.Statistic files at (λ p h. h) refl refl
-made_list stage.PinnedTimetable files at =
-    the_list stage.PinnedTimetable files at (λ p h. h) refl refl
+made_list at files makes = the_list at files makes (λ p h. h) refl refl

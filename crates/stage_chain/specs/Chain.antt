@@ -17,7 +17,7 @@ use Rattle.giv_files.specs.declared.stage.Stage.{Stage}
 use Rattle.giv_files.specs.declared.stage.Stage.TheVariants as stage
 use Rattle.giv_files.specs.FileNames.{file_name}
 use Rattle.giv_files.specs.Settings.{BundleParts}
-use Rattle.giv_files.specs.Stages.{stage_inputs}
+use Rattle.giv_files.specs.Stages.{stage_inputs, stage_tag}
 use Rattle.config_keys.specs.Config.{value_at, part_of, last_stage_of}
 use Rattle.config_keys.specs.Items.{look_in}
 use Rattle.stage_chain.specs.declared.origin.Origin.{Origin}
@@ -181,20 +181,13 @@ handed_end (Some halt) = handed_last halt.given
 abbrev pub handed : Trace → List BundleParts
 handed trace = map (λ visit. visit.bundle) trace.visits ++ handed_end trace.halt
 
--- the place of a stage in the order of places; a pinned stage runs in that of the plain one
+-- the place of a stage in the order of places, which is that of the enum; a pinned stage runs in that of
+-- the plain one
 abbrev pub stage_place : Stage → ℕ
-stage_place stage.Load = 0
-stage_place stage.Cost = 1
-stage_place stage.Concept = 2
-stage_place stage.Ean = 3
-stage_place stage.Timetable = 4
-stage_place stage.Rollout = 5
-stage_place stage.Vehicles = 6
-stage_place stage.Disposition = 7
-stage_place stage.Statistic = 8
-stage_place stage.PinnedConcept = 2
-stage_place stage.PinnedTimetable = 4
-stage_place stage.PinnedVehicles = 6
+stage_place stage.PinnedConcept = stage_tag stage.Concept
+stage_place stage.PinnedTimetable = stage_tag stage.Timetable
+stage_place stage.PinnedVehicles = stage_tag stage.Vehicles
+stage_place at = stage_tag at
 
 -- a stage is to run: it does not come after the last stage that the settings name
 abbrev pub is_to_run : List ℤ → Stage → Bool

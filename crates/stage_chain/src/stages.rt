@@ -64,15 +64,10 @@ pub(crate) fn place_of(stage: Stage) -> usize
     ensures { result ≡ stage_place stage }
 {
     match stage {
-        Stage::Load => 0,
-        Stage::Cost => 1,
-        Stage::Concept | Stage::PinnedConcept => 2,
-        Stage::Ean => 3,
-        Stage::Timetable | Stage::PinnedTimetable => 4,
-        Stage::Rollout => 5,
-        Stage::Vehicles | Stage::PinnedVehicles => 6,
-        Stage::Disposition => 7,
-        Stage::Statistic => 8,
+        Stage::PinnedConcept => Stage::Concept.place(),
+        Stage::PinnedTimetable => Stage::Timetable.place(),
+        Stage::PinnedVehicles => Stage::Vehicles.place(),
+        other => other.place(),
     }
 }
 

@@ -1,12 +1,12 @@
 -- A vehicle schedule that a run leaves is marked where none is pinned.
-use Rattle.std.proofs.Common.{◌≡◌, ℕ, ℤ, Bool, true, false, ◌||◌, is_some, List, [], ◌∷◌, ◌++◌, map, length}
-use Rattle.std.proofs.Common.{Option, Some, None, IfSome, IfOk, Result, Ok, Err, Contains, refl, ap, sym, ◌∙◌, arith, nat_cmp}
+use Rattle.std.proofs.Common.{◌≡◌, ℕ, ℤ, Bool, true, false, not, is_some, List, [], ◌∷◌, ◌++◌, map, length, Option, Some, None, IfSome, IfOk, Result, Ok, Err, Contains, ◌⊎◌, inl, inr, ⊎_elim, refl, ap, subst, sym, ◌∙◌, arith, nat_cmp}
 use Rattle.std.specs.Cmp.Lexicographic.{slice_cmp}
 use Rattle.std.specs.FinMap as files
 use Rattle.std.specs.List.{list_all}
 use Rattle.std.specs.Option.{ok_or}
 use Rattle.std.specs.Str.{bytes_eq}
-use Rattle.std.proofs.lemmas.Bool.{false≢true}
+use Rattle.std.proofs.lemmas.Bool.{and_from, and_parts, false≢true}
+use Rattle.std.proofs.lemmas.List.{map-append}
 use Rattle.std.proofs.lemmas.List.Elements.{All-contains}
 use Rattle.std.proofs.lemmas.List.Sums.{AllPass-from_list_all}
 use Rattle.plan_files.specs.Folder.{Folder}
@@ -31,7 +31,9 @@ use Rattle.stage_chain.specs.Chain.{Visit}
 use Rattle.stage_chain.specs.Hand.{hand_of, is_among, names_made_by}
 use Rattle.stage_chain.specs.Right.{AllStandRight, files_by, found_file, text_in}
 use Rattle.stage_chain.specs.Runs.{name_of, with_files}
+use Rattle.stage_chain.specs.StageLists.{differs_from}
 use Rattle.stage_chain.specs.StageParts.{staged}
+use Rattle.stage_chain.proofs.Differing.{all_both, not_among}
 use Rattle.stage_chain.proofs.Left.{other_with}
 use Rattle.stage_chain.proofs.LeftRight.{files_are}
 use Rattle.planning_stages.specs.Places.{is_pinned}
@@ -67,27 +69,21 @@ not_pinned values plain runs =
 
 -- ---- files that are found
 
-passes_on : (here : Bool) {first second : Bool} → (first ≡ true → second ≡ true)
-    → (here || first) ≡ true → (here || second) ≡ true
-passes_on true goes is = refl
-passes_on false goes is = goes is
+-- a name differs from those of some files
+abbrev NoneHas : List ℕ → List MadeFile → Type 0
+NoneHas name some = differs_from (map name_of some) name ≡ true
 
-kept_true : (here : Bool) {there : Bool} → there ≡ true → (here || there) ≡ true
-kept_true true is = refl
-kept_true false is = is
-
--- what is among the files that are found was sought
-found_sought : (look : FileId → Result (List ℕ) Cause) (name : List ℕ) (some : List FileId)
-    → is_among name (map name_of (files_by look some)) ≡ true → is_among name (map file_name some) ≡ true
-found_sought look name [] is = is
-found_sought look name (file ∷ some) is = by (look file) (found_sought look name some) is
+-- a name that is none of those that are sought is none of those that are found
+found_differ : (look : FileId → Result (List ℕ) Cause) (name : List ℕ) (some : List FileId)
+    → differs_from (map file_name some) name ≡ true → NoneHas name (files_by look some)
+found_differ look name [] differ = refl
+found_differ look name (file ∷ some) differ =
+    by (look file) (found_differ look name some (and_parts _ _ differ).1)
   where
-    by : (found : Result (List ℕ) Cause)
-        → (is_among name (map name_of (files_by look some)) ≡ true → is_among name (map file_name some) ≡ true)
-        → is_among name (map name_of (found_file file found (files_by look some))) ≡ true
-        → (bytes_eq name (file_name file) || is_among name (map file_name some)) ≡ true
-    by (Ok text) rest is = passes_on (bytes_eq name (file_name file)) rest is
-    by (Err why) rest is = kept_true (bytes_eq name (file_name file)) (rest is)
+    by : (found : Result (List ℕ) Cause) → NoneHas name (files_by look some)
+        → NoneHas name (found_file file found (files_by look some))
+    by (Ok text) rest = and_from _ _ (and_parts _ _ differ).0 rest
+    by (Err why) rest = rest
 
 both_there : (schedule potentials : Option (List ℕ)) (text other : List ℕ)
     → found_file file.Schedule (ok_or schedule (cause.Missing file.Schedule)) (found_file file.Potential (ok_or potentials (cause.Missing file.Potential)) [])
@@ -99,65 +95,36 @@ both_there (Some schedule) None text other is = absurd (omega (arith, ap length 
 both_there None None text other is = absurd (omega (arith, ap length is))
 
 module _ (folder : Folder) (values : List ℤ) (plain : is_pinned values key.PinVehicles ≡ false) where
-  -- a stage that made a schedule made potentials, too
-  marked_at : (at : Stage) (bundle : BundleParts) (files : List MadeFile)
-      → Contains (staged planning values) at → files_by (text_in folder) (stage_makes at) ≡ files
-      → planning.IsRight at bundle files
-      → is_among (file_name file.Schedule) (map name_of files) ≡ true
-      → is_there folder file.Potential ≡ true
-  unfolding planning stage_model
-  marked_at stage.Vehicles bundle some runs found right is =
-      let files_right : VehicleFilesAreRight bundle some = right in
-      both_there (files.get folder (file_name file.Schedule)) (files.get folder (file_name file.Potential)) files_right.right.schedule files_right.right.potentials (found ∙ files_right.right.both)
-  marked_at stage.PinnedVehicles bundle some runs found right is = absurd (not_pinned values plain runs)
-  marked_at stage.Load bundle some runs found right is =
-      absurd (false≢true (found_sought (text_in folder) (file_name file.Schedule) (stage_makes stage.Load) (ap (λ some. is_among (file_name file.Schedule) (map name_of some)) found ∙ is)))
-  marked_at stage.Cost bundle some runs found right is =
-      absurd (false≢true (found_sought (text_in folder) (file_name file.Schedule) (stage_makes stage.Cost) (ap (λ some. is_among (file_name file.Schedule) (map name_of some)) found ∙ is)))
-  marked_at stage.Concept bundle some runs found right is =
-      absurd (false≢true (found_sought (text_in folder) (file_name file.Schedule) (stage_makes stage.Concept) (ap (λ some. is_among (file_name file.Schedule) (map name_of some)) found ∙ is)))
-  marked_at stage.Ean bundle some runs found right is =
-      absurd (false≢true (found_sought (text_in folder) (file_name file.Schedule) (stage_makes stage.Ean) (ap (λ some. is_among (file_name file.Schedule) (map name_of some)) found ∙ is)))
-  marked_at stage.Timetable bundle some runs found right is =
-      absurd (false≢true (found_sought (text_in folder) (file_name file.Schedule) (stage_makes stage.Timetable) (ap (λ some. is_among (file_name file.Schedule) (map name_of some)) found ∙ is)))
-  marked_at stage.Rollout bundle some runs found right is =
-      absurd (false≢true (found_sought (text_in folder) (file_name file.Schedule) (stage_makes stage.Rollout) (ap (λ some. is_among (file_name file.Schedule) (map name_of some)) found ∙ is)))
-  marked_at stage.Disposition bundle some runs found right is =
-      absurd (false≢true (found_sought (text_in folder) (file_name file.Schedule) (stage_makes stage.Disposition) (ap (λ some. is_among (file_name file.Schedule) (map name_of some)) found ∙ is)))
-  marked_at stage.Statistic bundle some runs found right is =
-      absurd (false≢true (found_sought (text_in folder) (file_name file.Schedule) (stage_makes stage.Statistic) (ap (λ some. is_among (file_name file.Schedule) (map name_of some)) found ∙ is)))
-  marked_at stage.PinnedConcept bundle some runs found right is =
-      absurd (false≢true (found_sought (text_in folder) (file_name file.Schedule) (stage_makes stage.PinnedConcept) (ap (λ some. is_among (file_name file.Schedule) (map name_of some)) found ∙ is)))
-  marked_at stage.PinnedTimetable bundle some runs found right is =
-      absurd (false≢true (found_sought (text_in folder) (file_name file.Schedule) (stage_makes stage.PinnedTimetable) (ap (λ some. is_among (file_name file.Schedule) (map name_of some)) found ∙ is)))
+  -- potentials are there, or none of some files is a schedule
+  abbrev IsMarked : List MadeFile → Type 0
+  IsMarked some = (is_there folder file.Potential ≡ true) ⊎ NoneHas (file_name file.Schedule) some
 
-  among_both : (name : List ℕ) (first second : List MadeFile)
-      → is_among name (map name_of (first ++ second)) ≡ true
-      → is_among name (map name_of first) ≡ false → is_among name (map name_of second) ≡ true
-  among_both name [] second is none = is
-  among_both name (file ∷ first) second is none =
-      by (bytes_eq name (name_of file)) (among_both name first second) is none
-    where
-      by : (here : Bool)
-          → (is_among name (map name_of (first ++ second)) ≡ true → is_among name (map name_of first) ≡ false → is_among name (map name_of second) ≡ true)
-          → (here || is_among name (map name_of (first ++ second))) ≡ true
-          → (here || is_among name (map name_of first)) ≡ false → is_among name (map name_of second) ≡ true
-      by true rest is none = absurd (false≢true (sym none))
-      by false rest is none = rest is none
+  -- a stage that made a schedule made potentials, too
+  marked_at : (at : Stage) (bundle : BundleParts) (some : List MadeFile)
+      → Contains (staged planning values) at → files_by (text_in folder) (stage_makes at) ≡ some
+      → planning.IsRight at bundle some → IsMarked some
+  unfolding planning stage_model
+  marked_at stage.Vehicles bundle some runs found right =
+      let made : VehicleFilesAreRight bundle some = right in
+      inl (both_there (files.get folder (file_name file.Schedule)) (files.get folder (file_name file.Potential)) made.right.schedule made.right.potentials (found ∙ made.right.both))
+  marked_at stage.PinnedVehicles bundle some runs found right = absurd (not_pinned values plain runs)
+  marked_at at bundle some runs found right =
+      inr (subst (NoneHas (file_name file.Schedule)) found (found_differ (text_in folder) (file_name file.Schedule) (stage_makes at) refl))
 
   visits_marked : (visits : List Visit) → AllStandRight planning (text_in folder) values visits
-      → is_among (file_name file.Schedule) (map name_of (files_of visits)) ≡ true
-      → is_there folder file.Potential ≡ true
-  visits_marked [] right is = absurd (false≢true is)
-  visits_marked (visit ∷ visits) right is =
-      by (is_among (file_name file.Schedule) (map name_of visit.made.files)) (visits_marked visits right.1) refl
+      → IsMarked (files_of visits)
+  visits_marked [] right = inr refl
+  visits_marked (visit ∷ visits) right =
+      both_marked visit.made.files (files_of visits)
+      (marked_at visit.bundle.stage visit.bundle visit.made.files right.0.runs right.0.found right.0.right)
+      (visits_marked visits right.1)
     where
-      by : (here : Bool)
-          → (is_among (file_name file.Schedule) (map name_of (files_of visits)) ≡ true → is_there folder file.Potential ≡ true)
-          → is_among (file_name file.Schedule) (map name_of visit.made.files) ≡ here
-          → is_there folder file.Potential ≡ true
-      by true rest own = marked_at visit.bundle.stage visit.bundle visit.made.files right.0.runs right.0.found right.0.right own
-      by false rest own = rest (among_both (file_name file.Schedule) visit.made.files (files_of visits) is own)
+      both_marked : (some others : List MadeFile) → IsMarked some → IsMarked others → IsMarked (some ++ others)
+      both_marked some others (inl there) rest = inl there
+      both_marked some others (inr none) (inl there) = inl there
+      both_marked some others (inr none) (inr other) =
+          inr (subst (λ names. differs_from names (file_name file.Schedule) ≡ true) (sym (map-append name_of some others))
+          (all_both (λ other. not (bytes_eq (file_name file.Schedule) other)) (map name_of some) (map name_of others) none other))
 
 -- ---- the folder that is left
 
@@ -192,5 +159,7 @@ always_marked read (Some folder) same right = by (effective (look_in folder)) ri
         → IfOk settings (λ values. is_pinned values key.PinVehicles ≡ false → is_there folder file.Schedule ≡ true → is_there folder file.Potential ≡ true)
     by (Err reason) right = tt
     by (Ok values) right = λ plain there.
-        visits_marked folder values plain (trace_of planning (hand_of read)).visits right
-        (ap (λ some. is_among (file_name file.Schedule) (map name_of some)) (sym all) ∙ schedule_made (made (hand_of read)).files folder same there)
+        ⊎_elim (λ potentials. potentials)
+        (λ none. absurd (false≢true (sym (not_among (map name_of (files_of (trace_of planning (hand_of read)).visits)) (file_name file.Schedule) none)
+        ∙ ap (λ some. is_among (file_name file.Schedule) (map name_of some)) (sym all) ∙ schedule_made (made (hand_of read)).files folder same there)))
+        (visits_marked folder values plain (trace_of planning (hand_of read)).visits right)

@@ -23,9 +23,7 @@ use Rattle.stage_chain.proofs.MadeParts as made_parts
 use Rattle.stage_chain.proofs.Refusing as refusing
 use Rattle.planning_stages.specs.Planning.{planning}
 use Rattle.planning_stages.proofs.Laws.{planning_laws}
-use Rattle.stage_driver.specs.PlanningChain.{FreshKeeps, IsFromScratch, IsKeptHonest, MadeFilesAreRight}
-use Rattle.stage_driver.specs.PlanningChain.{RefusesHand, RunsPass, TellsNext, check_of, entries_over}
-use Rattle.stage_driver.specs.PlanningChain.{Trusts, made, made_part, run_over, writes_of}
+use Rattle.stage_driver.specs.PlanningChain.{FreshKeeps, IsFromScratch, IsKeptHonest, MadeFilesAreRight, RefusesHand, RunsPass, TellsNext, check_of, entries_over, Trusts, made, made_part, run_over, writes_of}
 
 -- a run over what it may trust makes what is made from scratch
 pub both_scratch : (by : Mode) (folder : Folder) → Trusts by folder

@@ -1,0 +1,67 @@
+-- What the stage of the periodic network owes to the chain, and what later stages take of it.
+use Rattle.std.proofs.Common.{◌≡◌, ℕ, ℤ, List, [], Some, inr, refl, subst, sym}
+use Rattle.giv_files.specs.declared.file_id.FileId.{FileId}
+use Rattle.giv_files.specs.declared.file_id.FileId.TheVariants as file
+use Rattle.giv_files.specs.declared.stage.Stage.TheVariants as stage
+use Rattle.giv_files.specs.Inputs.{input_faults}
+use Rattle.giv_files.specs.StageCalls.{input_text}
+use Rattle.giv_files.proofs.Named.{names_only}
+use Rattle.giv_files.proofs.Ranges.{front_none}
+use Rattle.ptn_network.specs.Inputs.{stop_input}
+use Rattle.ptn_network.specs.Networks.{network_faults, network_of, stops_of}
+use Rattle.event_activity.specs.EanStage.{events_in, network_in}
+use Rattle.event_activity.specs.RightEan.{EanFilesAreRight, EanIsAccepted}
+use Rattle.event_activity.proofs.EanMakes.{ean_stage_makes}
+use Rattle.event_activity.proofs.EanNames.{concept_names, ean_stage_names}
+use Rattle.event_activity.proofs.EanReads.{ean_is_right}
+use Rattle.pesp_model.specs.PespTexts.{events_of, problem_faults}
+use Rattle.pesp_search.specs.TimetableStage.{timetable_faults}
+use Rattle.roll_out.specs.RightRollout.{AtStops}
+use Rattle.stage_chain.specs.Hand.{is_hand, is_hand_file}
+use Rattle.stage_chain.specs.Laws.{IsRightOver, bundle_over, files_over}
+use Rattle.planning_stages.specs.Planning.{planning, stage_model}
+use Rattle.planning_stages.proofs.ConceptLaws.{concept_accepted}
+use Rattle.planning_stages.proofs.ContentFiles.{content_none, content_stands}
+use Rattle.planning_stages.proofs.OneLook.{both_own}
+use Rattle.planning_stages.proofs.StageLaws.{StageLaws, any, fine}
+use Rattle.planning_stages.proofs.StopsThere.{rows_at_stops}
+
+pub ean_laws : StageLaws stage.Ean
+unfolding planning stage_model is_hand
+ean_laws = record {
+  makes = ean_stage_makes;
+  right = ean_is_right;
+  refuses = λ values look reason was is. names_only is_hand_file reason (ean_stage_names is_hand_file refl refl (bundle_over values look stage.Ean) reason (fine (concept_accepted values look (was stage.Concept refl))) is);
+  names = λ bundle reason is. inr (ean_stage_names any refl refl bundle reason (concept_names any refl (network_in bundle) (input_text bundle 2)) is);
+  stand = λ values folder bundle lacks none. content_stands stage.Ean refl refl folder lacks;
+  unbroken = λ values look made own. content_none stage.Ean _ made own.0;
+}
+
+module _ (values : List ℤ) (look : FileId → List ℕ) (ean : IsRightOver planning values look stage.Ean) where
+  made_right : EanFilesAreRight (bundle_over values look stage.Ean) (files_over look ean.ids)
+  unfolding planning stage_model
+  made_right = ean.right
+
+  -- its two files have no fault
+  pub network_accepted : EanIsAccepted (look file.EventsP) (look file.ActivitiesP)
+  network_accepted =
+      let right = made_right in
+      let both = both_own look file.EventsP file.ActivitiesP ean.ids right.events right.activities right.both in
+      subst (λ text. EanIsAccepted text (look file.ActivitiesP)) both.0 (subst (EanIsAccepted right.events) both.1 right.accepted)
+
+  pub periodic_accepted : timetable_faults (bundle_over values look stage.Timetable) ≡ []
+  unfolding problem_faults events_of
+  periodic_accepted = rw (network_accepted.events_fine, network_accepted.activities_fine) refl
+
+  -- the periodic events are at stops
+  pub at_stops : AtStops (Some (stops_of (look file.Stop))) (events_of (look file.EventsP))
+  unfolding network_of network_faults events_of
+  at_stops =
+      let bundle = bundle_over values look stage.Ean in
+      let right = made_right in
+      let both = both_own look file.EventsP file.ActivitiesP ean.ids right.events right.activities right.both in
+      let network_none : network_faults (look file.Stop) (look file.Edge) ≡ [] = front_none _ _ right.inputs in
+      let none : input_faults stop_input (look file.Stop) ≡ [] = front_none _ _ network_none in
+      subst (λ text. AtStops (Some (stops_of (look file.Stop))) (events_of text)) both.0
+      (subst (AtStops (Some (stops_of (look file.Stop)))) (sym right.reads_events.1)
+      (rows_at_stops (events_in bundle) (λ event. event.row) (look file.Stop) none right.network.at_stops))
