@@ -83,6 +83,14 @@ module _ (links : Links) (plan : List (Option ℕ)) (drops : DropParts) (known :
           let fact = subst (IsRaised from gain to) none r in
           omega (arith, ints, fact, from_is, to_is)
 
+-- where no gain is more than a number, it raises nothing that is as high
+pub not_raised : (gain : Option ℤ) (from high to : ℕ) (told : Option ℕ) → IfSome gain (λ gain. gain ≤ℤ pos high)
+    → from + high ≤ to → told ≡ None → MatchOption gain (told ≡ None) (λ gain. IsRaised from gain to told)
+not_raised None from high to told most low none = none
+not_raised (Some gain) from high to told most low none =
+    let below : (pos from +ℤ gain) ≤ℤ pos to = omega (arith, ints, most, low) in
+    subst (IsRaised from gain to) (sym none) below
+
 -- what is asked of numbers over arcs
 pub pair_asks : (trips : TripsParts) (plan : List (Option ℕ)) (drops : DropParts) → AreTrips trips
     → IsSearched (links_of trips) plan drops → (i j from : ℕ) → from ≡ get_or drops.left i 0

@@ -31,6 +31,6 @@ pub fn potentials(
     let _ = valid.len();
     let mut drops = Drops::new(alloc, trips.len())?;
     drops.walk(alloc, trips, plan, valid)?;
-    drops.settle(trips, plan);
+    drops.settle(trips, plan, valid);
     drops.into_potentials(alloc, trips, plan)
 }

@@ -1,5 +1,5 @@
 // How far below 0 walks of the residual graph go.
-ghost use Rattle.std.specs.Prelude.{map, ◌-◌, ◌≡◌, ◌<◌, ◌≤◌, ◌+ℤ◌, ◌-ℤ◌, ◌≤ℤ◌, ◌||◌, pos, neg_ℤ, true, false, length, replicate, slice_set, get_or, is_some, MatchOption, Some, None, IfOk, IfSome};
+ghost use Rattle.std.specs.Prelude.{map, ◌+◌, ◌-◌, ◌≡◌, ◌<◌, ◌≤◌, ◌+ℤ◌, ◌-ℤ◌, ◌≤ℤ◌, ◌||◌, pos, neg_ℤ, true, false, length, replicate, slice_set, get_or, is_some, MatchOption, Some, None, IfOk, IfSome};
 ghost use Rattle.flow_potentials.specs.Canonical.{AreCanonical};
 ghost use Rattle.flow_potentials.specs.Drops.{PairKept, PairsKept, LinkKept, NextKept, RootKept, TripKept, AreKept, IsSearched, IsStep, IsRaised, potentials_by};
 ghost use Rattle.flow_potentials.specs.Potentials.{AreValid};
@@ -47,8 +47,16 @@ impl Drops {
     }
 
     // The link from a trip to another may make a better walk.
-    fn relax_pair(&mut self, trips: &Trips, plan: &Plan, i: usize, j: usize) -> bool
+    fn relax_pair(
+        &mut self,
+        trips: &Trips,
+        plan: &Plan,
+        valid: &Potentials,
+        i: usize,
+        j: usize,
+    ) -> bool
         requires known { IsSearched (links_of trips.now) plan.now self.old }
+        requires valid { AreValid (links_of trips.now) plan.now valid.now }
         requires from { i < length trips.now.trips }
         requires to { j < length trips.now.trips }
         ensures step { IsStep (links_of trips.now) plan.now self.old self.new result }
@@ -56,7 +64,7 @@ impl Drops {
     {
         let _ = trips.len();
         let _ = plan.len();
-        match over_pair(trips, i, j, self.left(i), self.right(j)) {
+        match over_pair(trips, i, j, self.left(i), self.right(j), valid.both(i, j)) {
             Some(number) => {
                 self.set_right(j, number);
                 true
@@ -199,8 +207,15 @@ impl Drops {
     }
 
     /// The links from a trip to all others may make better walks.
-    pub(crate) fn relax_pairs(&mut self, trips: &Trips, plan: &Plan, i: usize) -> bool
+    pub(crate) fn relax_pairs(
+        &mut self,
+        trips: &Trips,
+        plan: &Plan,
+        valid: &Potentials,
+        i: usize,
+    ) -> bool
         requires known { IsSearched (links_of trips.now) plan.now self.old }
+        requires valid { AreValid (links_of trips.now) plan.now valid.now }
         requires within { i < length trips.now.trips }
         ensures step { IsStep (links_of trips.now) plan.now self.old self.new result }
         ensures kept { result ≡ false → PairsKept (links_of trips.now) self.old i
@@ -208,49 +223,52 @@ impl Drops {
     {
         let mut changed = false;
         for j in 0..trips.len() {
-            let better = self.relax_pair(trips, plan, i, j);
+            let better = self.relax_pair(trips, plan, valid, i, j);
             changed = either(changed, better);
         }
         changed
     }
 
     // All arcs that leave the left node of a trip, or join its nodes to a link or to the root.
-    fn relax_trip(&mut self, trips: &Trips, plan: &Plan, i: usize) -> bool
+    fn relax_trip(&mut self, trips: &Trips, plan: &Plan, valid: &Potentials, i: usize) -> bool
         requires known { IsSearched (links_of trips.now) plan.now self.old }
+        requires valid { AreValid (links_of trips.now) plan.now valid.now }
         requires within { i < length trips.now.trips }
         ensures step { IsStep (links_of trips.now) plan.now self.old self.new result }
         ensures kept { result ≡ false → TripKept (links_of trips.now) plan.now self.old i }
     {
         let next = self.relax_next(trips, plan, i);
-        let pairs = self.relax_pairs(trips, plan, i);
+        let pairs = self.relax_pairs(trips, plan, valid, i);
         let root = self.relax_root(trips, plan, i);
         either(either(next, pairs), root)
     }
 
     // All arcs.
-    fn relax_all(&mut self, trips: &Trips, plan: &Plan) -> bool
-        requires { IsSearched (links_of trips.now) plan.now self.old }
+    fn relax_all(&mut self, trips: &Trips, plan: &Plan, valid: &Potentials) -> bool
+        requires known { IsSearched (links_of trips.now) plan.now self.old }
+        requires valid { AreValid (links_of trips.now) plan.now valid.now }
         ensures step { IsStep (links_of trips.now) plan.now self.old self.new result }
         ensures kept { result ≡ false → AreKept (links_of trips.now) plan.now self.old }
     {
         let mut changed = false;
         for i in 0..trips.len() {
-            let better = self.relax_trip(trips, plan, i);
+            let better = self.relax_trip(trips, plan, valid, i);
             changed = either(changed, better);
         }
         changed
     }
 
     /// Looks for better walks until there are none.
-    pub(crate) fn settle(&mut self, trips: &Trips, plan: &Plan)
-        requires { IsSearched (links_of trips.now) plan.now self.old }
+    pub(crate) fn settle(&mut self, trips: &Trips, plan: &Plan, valid: &Potentials)
+        requires known { IsSearched (links_of trips.now) plan.now self.old }
+        requires valid { AreValid (links_of trips.now) plan.now valid.now }
         ensures known { IsSearched (links_of trips.now) plan.now self.new }
         ensures kept { AreKept (links_of trips.now) plan.now self.new }
     {
         let _ = trips.len();
         let mut changed = true;
         while changed {
-            changed = self.relax_all(trips, plan);
+            changed = self.relax_all(trips, plan, valid);
         }
     }
 
@@ -329,15 +347,21 @@ impl Drops {
     }
 }
 
-// A number and what the link from a trip to another gains, where they are more than another number.
-fn over_pair(trips: &Trips, i: usize, j: usize, from: u64, to: u64) -> Option<u64>
+// A number and what the link from a trip to another gains, where they are more than another number. What
+// it gains at most spares most looks at it.
+#[tactic(auto, using(crate::proofs::Steps::not_raised))]
+fn over_pair(trips: &Trips, i: usize, j: usize, from: u64, to: u64, high: u64) -> Option<u64>
     requires i { i < length trips.now.trips }
     requires j { j < length trips.now.trips }
+    requires high { IfSome ((links_of trips.now).gain i j) (λ gain. gain ≤ℤ pos high) }
     requires most { IfSome ((links_of trips.now).gain i j)
         (λ gain. (pos from +ℤ gain) ≤ℤ pos 2000000000000000) }
     ensures { MatchOption ((links_of trips.now).gain i j) (result ≡ None)
         (λ gain. IsRaised from gain to result) }
 {
+    if is_below(from, high, to) {
+        return None;
+    }
     match trips.link_gain(i, j) {
         Some(gain) => {
             let number = i128::from(from) + gain;
@@ -349,6 +373,13 @@ fn over_pair(trips: &Trips, i: usize, j: usize, from: u64, to: u64) -> Option<u6
         }
         None => None,
     }
+}
+
+// Whether two numbers together are no more than another one.
+fn is_below(a: u64, b: u64, most: u64) -> bool
+    ensures { result ≡ true → a + b ≤ most }
+{
+    a <= most && b <= most - a
 }
 
 // A number without what a link gains, where this is more than another number.

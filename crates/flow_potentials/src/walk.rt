@@ -1,6 +1,7 @@
 // One walk over all nodes of the residual graph of a plan, along potentials that are valid for it.
 ghost use Rattle.std.specs.Prelude.{◌<◌, length, OnOk};
 ghost use Rattle.flow_potentials.specs.Drops.{IsSearched};
+ghost use Rattle.flow_potentials.specs.Potentials.{AreValid};
 ghost use Rattle.vehicle_model.specs.Trips.{links_of};
 
 use crate::drops::Drops;
@@ -38,27 +39,36 @@ impl Drops {
         plan: &Plan,
         valid: &Potentials,
     ) -> Result<(), NoMemory>
-        requires { IsSearched (links_of trips.now) plan.now self.old }
+        requires known { IsSearched (links_of trips.now) plan.now self.old }
+        requires valid { AreValid (links_of trips.now) plan.now valid.now }
         ensures { OnOk result (IsSearched (links_of trips.now) plan.now self.new) }
     {
         let before = before(alloc, plan)?;
         let mut waiting = all_nodes(alloc, valid)?;
         for _turn in 0..waiting.len() {
             if let Some(node) = take_furthest(self, &mut waiting) {
-                self.relax_node(trips, plan, &before, node);
+                self.relax_node(trips, plan, valid, &before, node);
             }
         }
         Ok(())
     }
 
     // The arcs from a node may make better walks.
-    fn relax_node(&mut self, trips: &Trips, plan: &Plan, before: &[usize], node: Node)
-        requires { IsSearched (links_of trips.now) plan.now self.old }
+    fn relax_node(
+        &mut self,
+        trips: &Trips,
+        plan: &Plan,
+        valid: &Potentials,
+        before: &[usize],
+        node: Node,
+    )
+        requires known { IsSearched (links_of trips.now) plan.now self.old }
+        requires valid { AreValid (links_of trips.now) plan.now valid.now }
         ensures { IsSearched (links_of trips.now) plan.now self.new }
     {
         match node {
             Node::Root => self.relax_ends(trips, plan),
-            Node::Left(i) => self.relax_left(trips, plan, i),
+            Node::Left(i) => self.relax_left(trips, plan, valid, i),
             Node::Right(j) => self.relax_right(trips, plan, before, j),
         }
     }
@@ -86,13 +96,14 @@ impl Drops {
 
     // The arcs from the left node of a trip.
     #[tactic(auto, using(crate::proofs::Steps::still_searched))]
-    fn relax_left(&mut self, trips: &Trips, plan: &Plan, i: usize)
-        requires { IsSearched (links_of trips.now) plan.now self.old }
+    fn relax_left(&mut self, trips: &Trips, plan: &Plan, valid: &Potentials, i: usize)
+        requires known { IsSearched (links_of trips.now) plan.now self.old }
+        requires valid { AreValid (links_of trips.now) plan.now valid.now }
         ensures { IsSearched (links_of trips.now) plan.now self.new }
     {
         if i < trips.len() {
             let _next = self.relax_next(trips, plan, i);
-            let _pairs = self.relax_pairs(trips, plan, i);
+            let _pairs = self.relax_pairs(trips, plan, valid, i);
         }
     }
 

@@ -3,7 +3,7 @@ use Rattle.std.proofs.Common.{◌≡◌, ◌⊎◌, inl, inr, ℕ, zero, suc, �
 use Rattle.std.proofs.lemmas.List.{length-set, length-replicate, length_push}
 use Rattle.std.proofs.lemmas.List.Folds.{sum_by-replicate}
 use Rattle.std.proofs.lemmas.List.Sums.{sum_by-set}
-use Rattle.std.proofs.lemmas.Option.{none-some, same_Some}
+use Rattle.std.proofs.lemmas.Option.{none-some, same_Some, slice_get_within}
 use Rattle.vehicle_model.proofs.Linking.{by_number}
 use Rattle.vehicle_flow.specs.declared.claim.Claim.{Claim}
 use Rattle.vehicle_flow.specs.Claims.{ClaimsParts, claim_at, one_if_open, AreClaims}
@@ -40,6 +40,27 @@ pub reset_all : (claims : List (Option Claim)) (size place : ℕ) → AreReset c
 reset_all claims size place are past = all_none claims
     (λ i h. are.none i (omega (arith, h, past, are.each)))
     ∙ ap (λ n. replicate n None) are.each
+
+-- where no place stands in the order, there is no claim
+pub none_claimed : (claims : ClaimsParts) → AreClaims claims → 0 ≡ length claims.order
+    → claims ≡ record { at = replicate (length claims.at) None; order = [] }
+none_claimed claims are empty = ap (λ at. record { at = at; order = claims.order }) (all_none claims.at none)
+    ∙ ap (λ order. record { at = replicate (length claims.at) None; order = order }) (nil claims.order (sym empty))
+  where
+    nil : (xs : List ℕ) → length xs ≡ 0 → xs ≡ []
+    nil [] e = refl
+    nil (x ∷ xs) e = absurd (omega (arith, e))
+
+    none : (i : ℕ) → i < length claims.at → claim_at claims i ≡ None
+    none i inside = split (claim_at claims i) refl
+      where
+        split : (it : Option Claim) → claim_at claims i ≡ it → claim_at claims i ≡ None
+        split None e = e
+        split (Some found) e = absurd (omega (
+          arith,
+          empty,
+          slice_get_within claims.order found.step i (are.placed i found e),
+        ))
 
 abbrev no_claim : Option Claim
 no_claim = None

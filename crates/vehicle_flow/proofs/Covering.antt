@@ -1,61 +1,66 @@
 -- A potential that covers what the links of a trip gain.
-use Rattle.std.proofs.Common.{◌≡◌, ℕ, ℤ, ◌<◌, ◌≤◌, ◌+◌, ◌-◌, max, length, slice_set, is_some, Option, Some, None, IfSome, refl, ap, sym, ◌∙◌, subst, arith, get_or-set_same}
+use Rattle.std.proofs.Common.{◌≡◌, ℕ, ℤ, ◌<◌, ◌≤◌, ◌+◌, ◌-◌, max, List, length, slice_get, slice_set, is_some, Option, Some, None, IfSome, refl, ap, sym, ◌∙◌, subst, arith, get_or-set_same}
+use Rattle.std.proofs.lemmas.Option.{same_Some, slice_get_within}
 use Rattle.vehicle_model.specs.Trips.{TripsParts, Links, links_of}
 use Rattle.vehicle_model.proofs.Following.{links_within}
 use Rattle.vehicle_model.proofs.Linking.{by_number}
 use Rattle.flow_potentials.proofs.Certified.{by_bound}
 use Rattle.flow_potentials.specs.Potentials.{PotentialParts, at}
+use Rattle.vehicle_flow.specs.declared.link_table.Link.{Link}
+use Rattle.vehicle_flow.specs.LinkRows.{link_to, IsRow}
 use Rattle.vehicle_flow.specs.Slacks.{worth, Covers}
 
--- a number covers the links of a trip to those before a place
-pub record CoversBefore (links : Links) (potentials : PotentialParts) (i most place : ℕ) : Type 0 where
+-- a number covers the first links of a list
+pub record CoversLinks (row : List Link) (potentials : PotentialParts) (most done : ℕ) : Type 0 where
   pub small : most ≤ 1000000000000
-  pub covers : (j : ℕ) → j < place
-      → IfSome (worth (links.gain i j)) (λ gain. gain ≤ most + at potentials.v j)
+  pub covers : (k : ℕ) (link : Link) → k < done → slice_get row k ≡ Some link
+      → link.gain ≤ most + at potentials.v link.to
 
-module _ (links : Links) (potentials : PotentialParts) (i most place : ℕ) (are : CoversBefore links potentials i most place) where
-  -- a greater number still does
-  higher : (more : ℕ) → most ≤ more → (j : ℕ) → j < place
-      → IfSome (worth (links.gain i j)) (λ gain. gain ≤ more + at potentials.v j)
-  higher more less j before = split (worth (links.gain i j)) (are.covers j before)
+pub covers_none : (row : List Link) (potentials : PotentialParts) → CoversLinks row potentials 0 0
+covers_none row potentials = record {
+  small = omega arith;
+  covers = λ k link before e. absurd (omega (arith, before));
+}
+
+module _ (links : Links) (potentials : PotentialParts) (i most done : ℕ) (row : List Link)
+    (is : IsRow links i links.count row) (are : CoversLinks row potentials most done) where
+  -- a link more
+  pub covers_more : (link : Link) (more : ℕ) → slice_get row done ≡ Some link
+      → more ≡ max most (link.gain - at potentials.v link.to) → CoversLinks row potentials more (done + 1)
+  covers_more link more here most_is = record {
+    small = omega (arith, are.small, (is.right done link here).small, most_is);
+    covers = λ k other before e. by_number k done
+        (λ same.
+        let gain_is : link.gain ≡ other.gain = ap (λ x. x.gain) (link_is other k same e) in
+        let to_is : at potentials.v link.to ≡ at potentials.v other.to =
+        ap (λ x. at potentials.v x.to) (link_is other k same e) in
+        omega (arith, most_is, gain_is, to_is))
+        (λ apart.
+        let low : other.gain ≤ most + at potentials.v other.to =
+        are.covers k other (omega (arith, before, apart)) e in
+        omega (arith, most_is, low));
+  }
     where
-      split : (at_j : Option ℕ) → IfSome at_j (λ gain. gain ≤ most + at potentials.v j)
-          → IfSome at_j (λ gain. gain ≤ more + at potentials.v j)
-      split None h = tt
-      split (Some gain) h = omega (arith, h, less)
-
-  -- a link more that is not worth it
-  pub covers_none : worth (links.gain i place) ≡ None → CoversBefore links potentials i most (place + 1)
-  covers_none none = record {
-    small = are.small;
-    covers = λ j before. by_number j place
-        (λ same. subst (λ at_j. IfSome at_j (λ gain. gain ≤ most + at potentials.v j))
-        (sym none ∙ ap (λ k. worth (links.gain i k)) (sym same)) tt)
-        (λ apart. are.covers j (omega (arith, before, apart)));
-  }
-
-  -- or one that is
-  pub covers_some : (gain more : ℕ) → worth (links.gain i place) ≡ Some gain → gain ≤ 1000000000000
-      → more ≡ max most (gain - at potentials.v place) → CoversBefore links potentials i more (place + 1)
-  covers_some gain more is small most_is = record {
-    small = omega (arith, are.small, small, most_is);
-    covers = λ j before. by_number j place
-        (λ same. subst (λ at_j. IfSome at_j (λ other. other ≤ more + at potentials.v j))
-        (sym is ∙ ap (λ k. worth (links.gain i k)) (sym same))
-        (subst (λ k. gain ≤ more + at potentials.v k) (sym same) (omega (arith, most_is))))
-        (λ apart. higher more (omega (arith, most_is)) j (omega (arith, before, apart)));
-  }
+      link_is : (other : Link) (k : ℕ) → k ≡ done → slice_get row k ≡ Some other → link ≡ other
+      link_is other k same e = same_Some link other (sym here ∙ ap (slice_get row) (sym same) ∙ e)
 
   -- the potential of the trip covers all its links, where none is to a trip that is not there
-  pub covers_all : ((j : ℕ) → links.count ≤ j → worth (links.gain i j) ≡ None) → links.count ≤ place
+  pub covers_all : ((j : ℕ) → links.count ≤ j → worth (links.gain i j) ≡ None) → length row ≤ done
       → i < length potentials.u → Covers links (record { u = slice_set potentials.u i most; v = potentials.v }) i
   covers_all none past inside j = subst (λ own. IfSome (worth (links.gain i j)) (λ gain. gain ≤ own + at potentials.v j))
-      (sym (get_or-set_same potentials.u i most 0 inside)) (covered j)
+      (sym (get_or-set_same potentials.u i most 0 inside)) (by_bound j links.count
+      (λ within. split within (worth (links.gain i j)) refl)
+      (λ behind. subst (λ it. IfSome it (λ gain. gain ≤ most + at potentials.v j)) (sym (none j behind)) tt))
     where
-      covered : (k : ℕ) → IfSome (worth (links.gain i k)) (λ gain. gain ≤ most + at potentials.v k)
-      covered k = by_bound k place (λ before. are.covers k before)
-          (λ behind. subst (λ at_k. IfSome at_k (λ gain. gain ≤ most + at potentials.v k))
-          (sym (none k (omega (arith, past, behind)))) tt)
+      split : j < links.count → (it : Option ℕ) → worth (links.gain i j) ≡ it
+          → IfSome (worth (links.gain i j)) (λ gain. gain ≤ most + at potentials.v j)
+      split within None e = subst (λ it. IfSome it (λ gain. gain ≤ most + at potentials.v j)) (sym e) tt
+      split within (Some gain) e =
+          let found = is.all j gain within e in
+          let there : found.0 < length row = slice_get_within row found.0 (link_to j gain) found.1 in
+          let low : gain ≤ most + at potentials.v j =
+          are.covers found.0 (link_to j gain) (omega (arith, there, past)) found.1 in
+          subst (λ it. IfSome it (λ gain. gain ≤ most + at potentials.v j)) (sym e) low
 
 -- no link is to a trip that is not there
 pub none_past : (trips : TripsParts) (i j : ℕ) → length trips.trips ≤ j

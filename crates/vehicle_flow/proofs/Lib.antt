@@ -1,4 +1,5 @@
 mod Below
+pub mod Bidding
 pub mod ChosenIsOne
 pub mod ChosenThere
 pub mod Claimed
@@ -19,6 +20,9 @@ mod HandingOn
 mod Hands
 mod Late
 pub mod LeastPotentials
+pub mod LinkLooks
+pub mod LinkRows
+pub mod LinkTies
 pub mod Moves
 pub mod NearPlaces
 pub mod Refused

@@ -254,15 +254,21 @@ pub record AreTakenIn (links : Links) (potentials : PotentialParts) (plan : List
   pub near_each : length near_places ≡ links.count + 1
 
 -- no trip is taken in yet
+pub none_taken_in : (links : Links) (n : ℕ) (potentials : PotentialParts) (plan : List (Option ℕ))
+    → n ≡ links.count → plan ≡ replicate n None
+    → potentials ≡ record { u = replicate n 0; v = replicate n 0 } → IsTaken links potentials plan
+none_taken_in links n potentials plan size plan_is potentials_is =
+    subst (λ p. IsTaken links p plan) (sym potentials_is)
+    (subst (IsTaken links (record { u = replicate n 0; v = replicate n 0 })) (sym plan_is)
+    (none_taken links n size))
+
+-- no step was taken yet
 pub begun : (links : Links) (n : ℕ) (potentials : PotentialParts) (plan : List (Option ℕ)) (claims : ClaimsParts)
-    (near_places : List (Option Near)) → n ≡ links.count → plan ≡ replicate n None
-    → potentials ≡ record { u = replicate n 0; v = replicate n 0 }
+    (near_places : List (Option Near)) → n ≡ links.count → IsTaken links potentials plan
     → claims ≡ record { at = replicate (n + 1) None; order = [] } → length near_places ≡ links.count + 1
     → AreTakenIn links potentials plan 0 claims near_places
-begun links n potentials plan claims near_places size plan_is potentials_is claims_is each = record {
-  is = subst (λ p. IsTaken links p plan) (sym potentials_is)
-      (subst (IsTaken links (record { u = replicate n 0; v = replicate n 0 })) (sym plan_is)
-      (none_taken links n size));
+begun links n potentials plan claims near_places size is claims_is each = record {
+  is = is;
   covered = λ i early. absurd (omega (arith, early));
   places = ap (λ x. length x.at) claims_is ∙ length-replicate (n + 1) no_one ∙ ap (λ k. k + 1) size;
   near_each = each;

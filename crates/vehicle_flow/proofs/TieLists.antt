@@ -1,10 +1,12 @@
 -- Lists of places in rising order, one place after another.
-use Rattle.std.proofs.Common.{◌≡◌, ℕ, ◌+◌, ◌<◌, List, [], ◌∷◌, ◌++◌, length, map, get_or, refl, ap, sym, ◌∙◌, subst, arith, length-append}
+use Rattle.std.proofs.Common.{◌≡◌, ℕ, ◌+◌, ◌<◌, ◌≤◌, nat_eq, Bool, true, false, cond, List, [], ◌∷◌, ◌++◌, length, map, get_or, refl, ap, sym, ◌∙◌, subst, arith, length-append, eq-eqb}
+use Rattle.std.proofs.lemmas.Bool.{false≢true, eqb-true}
 use Rattle.std.proofs.lemmas.List.{get_or_append_left}
 use Rattle.std.proofs.Math.Seq.{get_or-append_seam}
 use Rattle.vehicle_model.proofs.Linking.{by_number}
 use Rattle.flow_potentials.specs.Potentials.{at}
-use Rattle.vehicle_flow.specs.Choices.{ArePlaces}
+use Rattle.flow_potentials.proofs.Certified.{by_bound}
+use Rattle.vehicle_flow.specs.Choices.{and_place, ArePlaces}
 
 module _ (P : ℕ → Type 0) (below : ℕ) (places : List ℕ) (are : ArePlaces P below places) where
   -- the next place is none of them
@@ -63,13 +65,35 @@ module _ (P : ℕ → Type 0) (below : ℕ) (places : List ℕ) (are : ArePlaces
         (k.0, (omega (arith, k.1.0, size), front k.0 k.1.0 ∙ k.1.1)));
   }
 
+-- one place more, where a slack is 0 there
+pub places_step : (P : ℕ → Type 0) (below : ℕ) (places : List ℕ) → ArePlaces P below places → (slack : ℕ)
+    → (slack ≡ 0 → P below) → (P below → slack ≡ 0) → ArePlaces P (below + 1) (and_place places below slack)
+places_step P below places are slack exact none = split (nat_eq slack 0) refl
+  where
+    split : (b : Bool) → nat_eq slack 0 ≡ b
+        → ArePlaces P (below + 1) (cond b (places ++ below ∷ []) places)
+    split true e = places_more P below places are (exact (eqb-true slack 0 e))
+    split false e = places_kept P below places are
+        (λ here. false≢true (sym e ∙ eq-eqb slack 0 (none here)))
+
+-- some places more, none of which is one
+pub places_up : (P : ℕ → Type 0) (below more : ℕ) (places : List ℕ) → ArePlaces P below places
+    → below ≤ more → ((j : ℕ) → below ≤ j → j < more → P j → ⊥) → ArePlaces P more places
+places_up P below more places are up none = record {
+  rising = are.rising;
+  right = are.right;
+  within = λ k bound. let low : at places k < below = are.within k bound in omega (arith, low, up);
+  all = λ place bound h. by_bound place below (λ before. are.all place before h)
+      (λ past. absurd (none place past bound h));
+}
+
 -- one trip's list more
-pub lists_more : {X : Type 0} (items : X → List ℕ) (Q : ℕ → List ℕ → Type 0) (lists : List X)
+pub lists_more : {X Y : Type 0} (items : X → List Y) (Q : ℕ → List Y → Type 0) (lists : List X)
     (list : X) (new : List X)
     (n : ℕ) → new ≡ lists ++ list ∷ [] → length (map items lists) ≡ n
     → ((i : ℕ) → i < n → Q i (get_or (map items lists) i [])) → Q n (items list)
     → (length (map items new) ≡ n + 1) × ((i : ℕ) → i < n + 1 → Q i (get_or (map items new) i []))
-lists_more {X} items Q lists list new n new_is size each one = (
+lists_more {X} {Y} items Q lists list new n new_is size each one = (
   ap length whole ∙ length-append (map items lists) (items list ∷ []) ∙ ap (λ k. k + 1) size,
   (λ i bound. subst (λ all. Q i (get_or all i [])) (sym whole) (at_number i bound)),
 )

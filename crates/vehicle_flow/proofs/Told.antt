@@ -2,6 +2,7 @@
 -- the others are as before.
 use Rattle.std.proofs.Common.{◌≡◌, ℕ, ◌<◌, ◌≤◌, ◌+◌, List, length, get_or, slice_set, refl, ap, sym, ◌∙◌, arith, get_or-set_same, get_or-set_other}
 use Rattle.std.proofs.lemmas.List.{length-set}
+use Rattle.flow_potentials.proofs.Certified.{by_bound}
 use Rattle.vehicle_model.proofs.Linking.{by_number}
 
 pub record IsTold {X : Type 0} (none : X) (told : ℕ → X) (old now : List X) (done : ℕ) : Type 0 where
@@ -51,4 +52,15 @@ told_at none step old now after done are each others here = record {
       ∙ ap (λ k. step k (get_or old k none)) (sym same))
       (λ apart. others i apart ∙ are.is i (omega (arith, h, apart)));
   left = λ i h. others i (λ same. omega (arith, h, same)) ∙ are.left i (omega (arith, h));
+}
+
+-- some places more at which nothing has to be written
+pub told_up : {X : Type 0} (none : X) (told : ℕ → X) (old now : List X) (done more : ℕ)
+    → IsTold none told old now done → done ≤ more
+    → ((i : ℕ) → done ≤ i → i < more → told i ≡ get_or old i none)
+    → IsTold none told old now more
+told_up none told old now done more are up same = record {
+  each = are.each;
+  is = λ i h. by_bound i done (are.is i) (λ past. are.left i past ∙ sym (same i past h));
+  left = λ i h. are.left i (omega (arith, h, up));
 }

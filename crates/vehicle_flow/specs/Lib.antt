@@ -1,7 +1,9 @@
 pub mod AcceptedSchedules
+pub mod Bids
 pub mod Choices
 pub mod Claims
 pub mod Growing
+pub mod LinkRows
 pub mod Places
 pub mod RightVehicles
 pub mod ScheduleChecks

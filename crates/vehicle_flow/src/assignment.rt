@@ -141,9 +141,9 @@ impl Assignment {
         }
     }
 
-    // Takes the place of a trip away.
+    /// Takes the place of a trip away.
     #[tactic(auto, using(crate::proofs::Moves::own_inside, crate::proofs::Moves::taken_away))]
-    fn take_away(&mut self, trip: usize)
+    pub(crate) fn take_away(&mut self, trip: usize)
         requires { trip < length self.old }
         ensures { self.new ≡ slice_set self.old trip None }
     {

@@ -11,15 +11,20 @@ ghost use Rattle.vehicle_flow.specs.Searches.{IsHandedOn, IsLeft, IsTightBy, Sea
 use crate::assignment::Assignment;
 use crate::claim::Claims;
 use crate::handing::hand_on;
+use crate::link_table::LinkTable;
 use crate::solved::Solved;
 use crate::ties::Ties;
 use flow_potentials::Potentials;
 use plan_num::NoMemory;
 use std::alloc::Global;
-use vehicle_model::{Plan, Trips};
+use vehicle_model::Plan;
 
 /// The chosen plan, from any plan of least cost with potentials that are valid for it.
-pub(crate) fn chosen_plan(alloc: Global, trips: &Trips, solved: &Solved) -> Result<Plan, NoMemory>
+pub(crate) fn chosen_plan(
+    alloc: Global,
+    trips: &LinkTable,
+    solved: &Solved,
+) -> Result<Plan, NoMemory>
     requires plan { IsPlan (links_of trips.now) solved.now.plan }
     requires valid { AreValid (links_of trips.now) solved.now.plan solved.now.potentials }
     ensures { IfOk result (IsChosen trips.now) }
@@ -43,7 +48,7 @@ pub(crate) fn chosen_plan(alloc: Global, trips: &Trips, solved: &Solved) -> Resu
 // Gives a trip the first place that it has in a plan of least cost that keeps what is decided. The
 // trips and the potentials are those that the contract speaks of.
 fn settle(
-    _trips: &Trips,
+    _trips: &LinkTable,
     _potentials: &Potentials,
     ties: &Ties,
     trip: usize,

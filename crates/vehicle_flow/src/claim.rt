@@ -55,10 +55,13 @@ impl Claims {
     }
 
     /// Takes all claims back.
-    #[tactic(auto, using(crate::proofs::Flags::none_flagged))]
+    #[tactic(auto, using(crate::proofs::Flags::none_flagged, crate::proofs::ClaimLists::none_claimed))]
     pub(crate) fn clear(&mut self)
         ensures { self.new ≡ record { at = replicate (length self.old.at) None; order = [] } }
     {
+        if self.count() == 0 {
+            return;
+        }
         reset(&mut self.claims);
         self.order.clear();
         unset(&mut self.flags);

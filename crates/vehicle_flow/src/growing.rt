@@ -7,17 +7,17 @@ ghost use Rattle.vehicle_model.specs.Trips.{links_of};
 use crate::assignment::Assignment;
 use crate::claim::Claims;
 use crate::hints::Hints;
+use crate::link_table::LinkTable;
 use crate::near::{Near, look, shift_nears};
 use crate::nearest::nearest;
 use crate::shift::shift;
 use flow_potentials::Potentials;
 use plan_num::NoMemory;
-use vehicle_model::Trips;
 
 /// Claims the nearest place of a tree. Where a trip has it the tree grows by this trip, which may find a
 /// place without one; where none has it the place is the answer.
 pub(crate) fn grow(
-    trips: &Trips,
+    trips: &LinkTable,
     trip: usize,
     assignment: &Assignment,
     potentials: &mut Potentials,
@@ -65,7 +65,7 @@ pub(crate) fn grow(
 
 /// Looks from a trip of a tree, and claims the place without a trip that is found, if there is one.
 pub(crate) fn look_from(
-    trips: &Trips,
+    trips: &LinkTable,
     trip: usize,
     assignment: &Assignment,
     potentials: &Potentials,

@@ -3,6 +3,7 @@
 #![tactic(auto)]
 
 mod assignment;
+mod bid;
 mod cheapest;
 mod check;
 mod chosen;
@@ -12,6 +13,7 @@ mod growing;
 mod handing;
 mod hints;
 mod judge;
+mod link_table;
 mod made;
 mod near;
 mod nearest;

@@ -7,8 +7,9 @@ ghost use Rattle.vehicle_flow.specs.VehicleStage.{vehicles_made};
 ghost use Rattle.vehicle_model.specs.Plans.{chosen_plan, IsPlan};
 ghost use Rattle.vehicle_model.specs.Trips.{links_of};
 
-use crate::cheapest::cheapest_plan;
+use crate::cheapest::cheapest_of;
 use crate::chosen::chosen_plan;
+use crate::link_table::LinkTable;
 use crate::report::vehicles_line;
 use crate::solved::Solved;
 use flow_potentials::{potentials, write_potentials};
@@ -47,8 +48,9 @@ fn chosen_solution(alloc: Global, trips: &Trips) -> Result<Solved, NoMemory>
     ensures potentials { IfOk result (λ chosen.
         chosen.potentials ≡ canonical (links_of trips.now) chosen.plan) }
 {
-    let solved = cheapest_plan(alloc, trips)?;
-    let plan = chosen_plan(alloc, trips, &solved)?;
+    let table = LinkTable::new(alloc, trips)?;
+    let solved = cheapest_of(alloc, &table)?;
+    let plan = chosen_plan(alloc, &table, &solved)?;
     let potentials = potentials(alloc, trips, &plan, &solved.potentials)?;
     Ok(Solved { plan, potentials })
 }

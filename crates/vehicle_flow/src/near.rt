@@ -2,17 +2,17 @@
 ghost use Rattle.std.specs.Prelude.{ℕ, ◌≡◌, ◌+◌, ◌<◌, true, false, length, get_or, replicate, Some, None, MatchOption};
 ghost use Rattle.flow_potentials.specs.Potentials.{AreOver};
 ghost use Rattle.vehicle_flow.specs.Claims.{claim_at};
-ghost use Rattle.vehicle_flow.specs.Growing.{looked, nearer, is_nearer, shifted, AreAsBefore, AreLooked, IsFreeAt};
+ghost use Rattle.vehicle_flow.specs.Growing.{looked, is_nearer, shifted, AreAsBefore, AreLooked, IsFreeAt};
 ghost use Rattle.vehicle_model.specs.Plans.{is_next};
-ghost use Rattle.vehicle_flow.specs.Slacks.{slack_to, Covers};
+ghost use Rattle.vehicle_flow.specs.Slacks.{Covers};
 ghost use Rattle.vehicle_model.specs.Trips.{links_of};
 
 use crate::assignment::Assignment;
 use crate::claim::Claims;
 use crate::hints::Hints;
-use crate::slack::slack;
+use crate::link_table::LinkTable;
+use crate::slack::{link_slack, of_trip};
 use flow_potentials::Potentials;
-use vehicle_model::Trips;
 
 /// How near a place is: the least slack at it of the trips of the tree, the trip that has it, and the
 /// place that this would leave.
@@ -38,9 +38,8 @@ pub(crate) fn forget(nears: &mut Vec<Option<Near>>)
 
 /// Looks from a trip that comes to the tree, at each place without a claim, up to one without a trip at
 /// which its slack is 0.
-#[tactic(auto, using(crate::proofs::Told::told_start, crate::proofs::Told::told_more))]
 pub(crate) fn look(
-    trips: &Trips,
+    trips: &LinkTable,
     potentials: &Potentials,
     claims: &Claims,
     assignment: &Assignment,
@@ -59,75 +58,52 @@ pub(crate) fn look(
         (AreLooked (links_of trips.now) potentials.now claims.now by from nears.old.items nears.new.items)
         (IsFreeAt (links_of trips.now) potentials.now assignment.now claims.now by) }
 {
-    for place in 0..nears.len() {
-        if look_at(
-            trips, potentials, claims, assignment, nears, hints, place, by, from,
-        ) {
-            return Some(place);
+    let own = of_trip(potentials, by);
+    let links = trips.row(by);
+    for link in links {
+        let slack = link_slack(own, potentials, *link);
+        let near = Near { slack, by, from };
+        if bring(claims, assignment, nears, hints, link.to, near) {
+            return Some(link.to);
         }
+    }
+    let last = trips.len();
+    let near = Near {
+        slack: own,
+        by,
+        from,
+    };
+    if bring(claims, assignment, nears, hints, last, near) {
+        return Some(last);
     }
     None
 }
 
-// The same at one place: tells whether it has no trip, and the slack is 0.
-fn look_at(
-    trips: &Trips,
-    potentials: &Potentials,
-    claims: &Claims,
-    assignment: &Assignment,
-    nears: &mut Vec<Option<Near>>,
-    hints: &mut Hints,
-    place: usize,
-    by: usize,
-    from: Option<usize>,
-) -> bool
-    requires each { AreOver (length trips.now.trips) potentials.now }
-    requires trip { by < length trips.now.trips }
-    requires covered { Covers (links_of trips.now) potentials.now by }
-    requires places { length claims.now.at ≡ length trips.now.trips + 1 }
-    requires place { place < length claims.now.at }
-    requires nears { length nears.old.items ≡ length claims.now.at }
-    ensures others { AreAsBefore place nears.old.items nears.new.items }
-    ensures here { result ≡ false → get_or nears.new.items place None
-        ≡ looked (claim_at claims.now place) (slack_to (links_of trips.now) potentials.now by place) by from
-        (get_or nears.old.items place None) }
-    ensures found { result ≡ true
-        → IsFreeAt (links_of trips.now) potentials.now assignment.now claims.now by place }
-{
-    if claims.is_claimed(place) {
-        return false;
-    }
-    match slack(trips, potentials, by, place) {
-        Some(slack) => bring(assignment, nears, hints, place, Near { slack, by, from }),
-        None => false,
-    }
-}
-
-// Brings a trip to a place where it is nearer than the nearest one so far: tells whether the place has
-// no trip, and the slack is 0.
+// Brings a trip to a place without a claim where it is nearer than the nearest one so far: tells whether
+// the place has no trip, and the slack is 0.
 fn bring(
+    claims: &Claims,
     assignment: &Assignment,
     nears: &mut Vec<Option<Near>>,
     hints: &mut Hints,
     place: usize,
     near: Near,
 ) -> bool
-    requires { place < length nears.old.items }
+    requires place { place < length claims.now.at }
+    requires nears { length nears.old.items ≡ length claims.now.at }
     ensures others { AreAsBefore place nears.old.items nears.new.items }
     ensures here { get_or nears.new.items place None
-        ≡ Some (nearer near.slack near.by near.from (get_or nears.old.items place None)) }
+        ≡ looked (claim_at claims.now place) (Some near.slack) near.by near.from
+        (get_or nears.old.items place None) }
+    ensures open_place { result ≡ true → claim_at claims.now place ≡ None }
     ensures exact { result ≡ true → near.slack ≡ 0 }
     ensures free { result ≡ true → is_next assignment.now place ≡ false }
 {
-    if !is_nearer(nears, place, near.slack) {
+    if !is_nearer(nears, place, near.slack) || claims.is_claimed(place) {
         return false;
     }
     nears[place] = Some(near);
-    if near.slack == 0 {
-        is_free_or_hint(assignment, hints, place)
-    } else {
-        false
-    }
+    near.slack == 0 && is_free_or_hint(assignment, hints, place)
 }
 
 // Whether a slack is less than that of the nearest trip so far.

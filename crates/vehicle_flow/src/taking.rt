@@ -11,15 +11,15 @@ use crate::claim::Claims;
 use crate::growing::{grow, look_from};
 use crate::handing::hand_on;
 use crate::hints::Hints;
+use crate::link_table::LinkTable;
 use crate::near::{Near, forget};
 use crate::slack::cover;
 use flow_potentials::Potentials;
 use plan_num::NoMemory;
-use vehicle_model::Trips;
 
 /// Takes one trip more into a plan that is cheapest among the trips so far.
 pub(crate) fn take_in(
-    trips: &Trips,
+    trips: &LinkTable,
     trip: usize,
     assignment: &mut Assignment,
     potentials: &mut Potentials,
@@ -48,7 +48,7 @@ pub(crate) fn take_in(
 // Finds a place without a trip that can be handed on to a trip.
 #[tactic(auto, using(crate::proofs::TakenIn::few_claimed))]
 fn find_place(
-    trips: &Trips,
+    trips: &LinkTable,
     trip: usize,
     assignment: &Assignment,
     potentials: &mut Potentials,
@@ -79,7 +79,7 @@ fn find_place(
 
 // Hands the place that was found on to the trip.
 fn finish(
-    _trips: &Trips,
+    _trips: &LinkTable,
     _potentials: &Potentials,
     _trip: usize,
     claims: &Claims,
@@ -96,7 +96,7 @@ fn finish(
 // Begins a tree with a trip that has no next one. Where it finds a place without a trip at once, this
 // is the answer.
 fn start(
-    trips: &Trips,
+    trips: &LinkTable,
     trip: usize,
     assignment: &Assignment,
     potentials: &mut Potentials,

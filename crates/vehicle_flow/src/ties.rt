@@ -1,17 +1,17 @@
 // The places at which trips are tight.
-ghost use Rattle.std.specs.Prelude.{ℕ, ◌≡◌, ◌+◌, ◌<◌, ◌≤◌, [], List, length, get_or, true, Some, None, IfOk};
+ghost use Rattle.std.specs.Prelude.{ℕ, ◌≡◌, ◌+◌, ◌<◌, ◌≤◌, [], List, length, get_or, true, Some, None, IfOk, OnOk};
 ghost use Rattle.flow_potentials.specs.Potentials.{AreOver, at};
 ghost use Rattle.vehicle_model.specs.Trips.{links_of};
-ghost use Rattle.vehicle_flow.specs.Choices.{AreTies, ArePlaces};
+ghost use Rattle.vehicle_flow.specs.Choices.{and_place, AreTies, ArePlaces};
 ghost use Rattle.vehicle_flow.specs.Searches.{IsTightBy};
 ghost use Rattle.vehicle_flow.specs.Slacks.{Covers};
 
-use crate::slack::slack;
+use crate::link_table::LinkTable;
+use crate::slack::{link_slack, of_trip};
 use flow_potentials::Potentials;
 use plan_num::NoMemory;
 use std::alloc::Global;
 use std::marker::Model;
-use vehicle_model::Trips;
 
 /// For each trip the places at which it is tight, and those that need no trip.
 #[derive(Drop)]
@@ -36,7 +36,7 @@ impl Ties {
     /// The ties of trips under potentials that cover their links.
     pub(crate) fn new(
         alloc: Global,
-        trips: &Trips,
+        trips: &LinkTable,
         potentials: &Potentials,
     ) -> Result<Ties, NoMemory>
         requires each { AreOver (length trips.now.trips) potentials.now }
@@ -70,7 +70,7 @@ impl Ties {
 // The places at which a trip is tight.
 fn places_of(
     alloc: Global,
-    trips: &Trips,
+    trips: &LinkTable,
     potentials: &Potentials,
     trip: usize,
 ) -> Result<Vec<usize>, NoMemory>
@@ -81,34 +81,31 @@ fn places_of(
         (λ place. IsTightBy (links_of trips.now) potentials.now place (Some trip))
         (length trips.now.trips + 1) made.items) }
 {
+    let own = of_trip(potentials, trip);
+    let links = trips.row(trip);
     let mut places = Vec::new(alloc);
-    for place in 0..trips.len() + 1 {
-        if is_tight(trips, potentials, trip, place) {
-            places.push(place)?;
-        }
+    for link in links {
+        let slack = link_slack(own, potentials, *link);
+        push_if_exact(&mut places, link.to, slack)?;
     }
+    push_if_exact(&mut places, trips.len(), own)?;
     Ok(places)
 }
 
-// Whether a trip is tight at a place.
-fn is_tight(trips: &Trips, potentials: &Potentials, trip: usize, place: usize) -> bool
-    requires each { AreOver (length trips.now.trips) potentials.now }
-    requires trip { trip < length trips.now.trips }
-    requires place { place ≤ length trips.now.trips }
-    requires covered { Covers (links_of trips.now) potentials.now trip }
-    ensures yes { result ≡ true → IsTightBy (links_of trips.now) potentials.now place (Some trip) }
-    ensures no { IsTightBy (links_of trips.now) potentials.now place (Some trip) → result ≡ true }
+// Adds a place, where a slack is 0.
+fn push_if_exact(places: &mut Vec<usize>, place: usize, slack: u64) -> Result<(), NoMemory>
+    ensures { OnOk result (places.new.items ≡ and_place places.old.items place slack) }
 {
-    match slack(trips, potentials, trip, place) {
-        Some(slack) => slack == 0,
-        None => false,
+    if slack == 0 {
+        places.push(place)?;
     }
+    Ok(())
 }
 
 // The places that need no trip.
 fn places_alone(
     alloc: Global,
-    trips: &Trips,
+    trips: &LinkTable,
     potentials: &Potentials,
 ) -> Result<Vec<usize>, NoMemory>
     requires each { AreOver (length trips.now.trips) potentials.now }
@@ -126,7 +123,7 @@ fn places_alone(
 }
 
 // Whether a place needs no trip.
-fn needs_none(trips: &Trips, potentials: &Potentials, place: usize) -> bool
+fn needs_none(trips: &LinkTable, potentials: &Potentials, place: usize) -> bool
     requires each { AreOver (length trips.now.trips) potentials.now }
     requires place { place ≤ length trips.now.trips }
     ensures yes { result ≡ true → at potentials.now.v place ≡ 0 }

@@ -3,8 +3,8 @@ use Rattle.flow_potentials.proofs.Rounds.{told_canonical}
 use Rattle.flow_potentials.proofs.Settled.{searched_first}
 use Rattle.flow_potentials.proofs.canonical.potentials.Goals as goal
 
-pub walk-requires : goal.walk-requires
-walk-requires c = searched_first (links_of c.args.trips.now) c.args.plan.now c.args.valid.now
+pub walk-requires-clause-known : goal.walk-requires-clause-known
+walk-requires-clause-known c = searched_first (links_of c.args.trips.now) c.args.plan.now c.args.valid.now
     c.requires.plan c.requires.valid c.len-2.result c.len-2.ensures.count c.in_ok-drops.drops
     c.in_ok-drops.ensures
 

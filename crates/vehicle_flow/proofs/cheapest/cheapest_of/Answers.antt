@@ -3,13 +3,17 @@ use Rattle.flow_potentials.specs.Potentials.{AreValid}
 use Rattle.flow_potentials.proofs.Certified.{certified_cheapest}
 use Rattle.vehicle_model.specs.Plans.{IsPlan}
 use Rattle.vehicle_model.specs.Trips.{links_of}
-use Rattle.vehicle_flow.proofs.TakenIn.{begun, taken_step, all_plan, all_valid}
-use Rattle.vehicle_flow.proofs.cheapest.cheapest_plan.Goals as goal
+use Rattle.vehicle_flow.proofs.TakenIn.{begun, none_taken_in, taken_step, all_plan, all_valid}
+use Rattle.vehicle_flow.proofs.cheapest.cheapest_of.Goals as goal
+
+pub bid_all-requires : goal.bid_all-requires
+bid_all-requires c = none_taken_in (links_of c.args.trips.now) c.len-count.result c.in_ok-potentials.potentials
+    c.in_ok-assignment.assignment c.len-count.ensures.count c.in_ok-assignment.ensures c.in_ok-potentials.ensures
 
 pub loop-step-init : goal.loop-step-init
-loop-step-init c = begun (links_of c.args.trips.now) c.len-count.result c.in_ok-potentials.potentials
-    c.in_ok-assignment.assignment c.in_ok-claims.claims c.in_ok-nears.nears.items c.len-count.ensures.count
-    c.in_ok-assignment.ensures c.in_ok-potentials.ensures c.in_ok-claims.ensures
+loop-step-init c = begun (links_of c.args.trips.now) c.len-count.result c.bid_all.new.potentials
+    c.bid_all.new.assignment c.in_ok-claims.claims c.in_ok-nears.nears.items c.len-count.ensures.count
+    c.bid_all.ensures c.in_ok-claims.ensures
     (c.in_ok-nears.ensures ∙ ap (λ n. n + 1) c.len-count.ensures.count)
 
 pub loop-step-preserved : goal.loop-step-preserved

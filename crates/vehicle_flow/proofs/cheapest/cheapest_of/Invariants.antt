@@ -1,7 +1,7 @@
 -- The trips of the steps so far are taken in.
 use Rattle.vehicle_model.specs.Trips.{links_of}
 use Rattle.vehicle_flow.proofs.TakenIn.{AreTakenIn}
-use Rattle.vehicle_flow.proofs.cheapest.cheapest_plan.Given as goal
+use Rattle.vehicle_flow.proofs.cheapest.cheapest_of.Given as goal
 
 abbrev pub invariant-loop-step : goal.invariant-loop-step
 invariant-loop-step l =

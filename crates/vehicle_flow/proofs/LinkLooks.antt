@@ -1,0 +1,75 @@
+-- A look from a trip along its links, up to the place that the next link leads to.
+use Rattle.std.proofs.Common.{◌≡◌, ℕ, ◌<◌, ◌≤◌, ◌+◌, ◌-◌, List, length, slice_get, get_or, Option, Some, None, refl, ap, sym, ◌∙◌, subst, arith}
+use Rattle.vehicle_model.specs.Trips.{Links}
+use Rattle.flow_potentials.specs.Potentials.{PotentialParts, at}
+use Rattle.vehicle_flow.specs.declared.link_table.Link.{Link}
+use Rattle.vehicle_flow.specs.declared.near.Near.{Near}
+use Rattle.vehicle_flow.specs.Claims.{ClaimsParts, claim_at}
+use Rattle.vehicle_flow.specs.Growing.{looked, AreAsBefore, AreLooked}
+use Rattle.vehicle_flow.specs.LinkRows.{end_of, reached, IsRow}
+use Rattle.vehicle_flow.specs.Slacks.{slack_to}
+use Rattle.vehicle_flow.proofs.LinkRows.{gap_first, gap_next, gap_slack, link_slack, reached_last, reached_next, reached_within}
+use Rattle.vehicle_flow.proofs.Shifting.{slack_past}
+use Rattle.vehicle_flow.proofs.Told.{IsTold, told_at, told_start, told_up}
+
+module _ (links : Links) (potentials : PotentialParts) (claims : ClaimsParts) (i : ℕ) (from : Option ℕ)
+    (row : List Link) (is : IsRow links i links.count row) (before : List (Option Near)) where
+  abbrev step : ℕ → Option Near → Option Near
+  step place old = looked (claim_at claims place) (slack_to links potentials i place) i from old
+
+  abbrev told : ℕ → Option Near
+  told place = step place (get_or before place None)
+
+  -- at a place to which no link leads nothing is nearer
+  told_gap : (place : ℕ) → place < links.count → slack_to links potentials i place ≡ None
+      → told place ≡ get_or before place None
+  told_gap place within none = ap (λ slack. looked (claim_at claims place) slack i from (get_or before place None)) none
+      ∙ unlooked (claim_at claims place)
+    where
+      unlooked : (claim : Option _) → looked claim None i from (get_or before place None) ≡ get_or before place None
+      unlooked None = refl
+      unlooked (Some found) = refl
+
+  pub looked_start : IsTold None told before before (reached links.count row 0)
+  looked_start = told_up None told before before 0 (reached links.count row 0) (told_start None told before)
+      (omega arith)
+      (λ place low high.
+      let within : place < links.count = omega (arith, high, reached_within links i row is 0) in
+      told_gap place within
+      (gap_slack links i row is potentials place within (gap_first links i row is place high)))
+
+  -- a link more
+  pub looked_more : (now after : List (Option Near)) (k : ℕ) (link : Link)
+      → IsTold None told before now (reached links.count row k) → slice_get row k ≡ Some link
+      → AreAsBefore link.to now after
+      → get_or after link.to None ≡ looked (claim_at claims link.to)
+      (Some (at potentials.u i + at potentials.v link.to - link.gain)) i from (get_or now link.to None)
+      → IsTold None told before after (reached links.count row (k + 1))
+  looked_more now after k link are e others here = told_up None told before after (link.to + 1)
+      (reached links.count row (k + 1))
+      (told_at None step before now after link.to
+      (subst (λ n. IsTold None told before now n) (ap (end_of links.count) e) are) others.each others.others
+      (here ∙ ap (λ slack. looked (claim_at claims link.to) slack i from (get_or now link.to None))
+      (sym (link_slack links i row is potentials k link e))))
+      (reached_next links i row is k link e)
+      (λ place low high.
+      let within : place < links.count = omega (arith, high, reached_within links i row is (k + 1)) in
+      told_gap place within
+      (gap_slack links i row is potentials place within
+      (gap_next links i row is k link e place (omega (arith, low)) high)))
+
+  -- and the place behind all trips
+  pub looked_all : (now after : List (Option Near)) (k last : ℕ)
+      → IsTold None told before now (reached links.count row k) → length row ≤ k → last ≡ links.count
+      → length before ≡ links.count + 1 → AreAsBefore last now after
+      → get_or after last None
+      ≡ looked (claim_at claims last) (Some (at potentials.u i)) i from (get_or now last None)
+      → AreLooked links potentials claims i from before after
+  looked_all now after k last are past last_is size others here place within = all.is place (omega (arith, within, size, last_is))
+    where
+      all : IsTold None told before after (last + 1)
+      all = told_at None step before now after last
+          (subst (λ n. IsTold None told before now n)
+          (reached_last links i row is k past ∙ sym last_is) are) others.each others.others
+          (here ∙ ap (λ slack. looked (claim_at claims last) slack i from (get_or now last None))
+          (sym (slack_past links potentials i last (omega (arith, last_is)))))
