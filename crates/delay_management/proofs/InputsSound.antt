@@ -23,8 +23,9 @@ use Rattle.event_tables.specs.ExpandedFiles.{AreExpandedActivities, AreExpandedE
 use Rattle.event_tables.specs.Schedules.{AreScheduleRows, is_empty_row, schedule_input}
 use Rattle.event_tables.proofs.SoundFiles.{expanded_activities_sound, expanded_events_sound}
 use Rattle.event_tables.proofs.SoundTrips.{delays_sound, schedule_rows_sound}
-use Rattle.delay_management.specs.DispositionStage.{activities_in, activity_delays_in, delay_faults, disposition_faults, event_delays_in, events_in, made_faults, problem_in, schedule_in, turnover_in}
+use Rattle.delay_management.specs.DispositionStage.{activities_in, activity_delay_faults, activity_delays_in, activity_faults, delay_faults, disposition_faults, event_delay_faults, event_delays_in, event_faults, events_in, made_faults, problem_in, schedule_faults, schedule_in, turnover_in}
 use Rattle.delay_management.specs.Problems.{IsForward, activities_of, delay_of, delayed, earliest_of, is_of, minutes, steps_with, turn_of}
+use Rattle.delay_management.proofs.SoonInputs.{delay_below}
 use Rattle.delay_management.proofs.ForwardInputs.{inputs_go_forward, some_ids}
 use Rattle.delay_management.proofs.PassIsLeast.{steps_all}
 
@@ -41,11 +42,11 @@ unfolding disposition_faults events_in activities_in schedule_in event_delays_in
 are_inputs bundle none =
     let made = front_none (made_faults bundle) (delay_faults bundle) none in
     let delays = back_none (made_faults bundle) (delay_faults bundle) none in
-    let A = input_faults expanded_event_input (input_text bundle 0) in
-    let B = input_faults (expanded_activity_input (events_in bundle)) (input_text bundle 1) in
-    let C = input_faults (schedule_input (events_in bundle)) (input_text bundle 2) in
-    let D = input_faults (event_delay_input (expanded_event_ids (events_in bundle))) (input_text bundle 3) in
-    let E = input_faults (activity_delay_input (expanded_activity_ids (activities_in bundle))) (input_text bundle 4) in
+    let A = event_faults bundle in
+    let B = activity_faults bundle in
+    let C = schedule_faults bundle in
+    let D = event_delay_faults bundle in
+    let E = activity_delay_faults bundle in
     let events = expanded_events_sound (input_text bundle 0) (front_none A (B ++ C) made) in
     let behind = back_none A (B ++ C) made in
     let activities = expanded_activities_sound (events_in bundle) (input_text bundle 1) events.numbered (front_none B C behind) in
@@ -62,18 +63,6 @@ are_inputs bundle none =
     }
 
 -- ---- numbers that are not too great
-
-delay_below : (rows : List DelayRow) → All (λ row. InColumns delays_columns (delay_cells row)) rows → (id : ℕ)
-    → delay_of rows id ≤ 1000000
-unfolding delay_of
-delay_below [] fit id = omega arith
-delay_below (row ∷ rows) fit id =
-    let here = fit 0 row (omega arith) in
-    let rest = delay_below rows (λ k d h. fit (suc k) d (omega (arith, h))) id in
-    elim (eqb row.id id) as (λ b. cond b row.delay (delay_of rows id) ≤ 1000000) [
-      | true ↦ omega (arith, ints, here.1.0.1)
-      | false ↦ rest
-    ]
 
 module _ (bundle : BundleParts) (are : AreInputs bundle) where
   abbrev events : List ExpandedEvent

@@ -1,4 +1,5 @@
 -- The definitions on small datasets.
+use Rattle.std.specs.Prelude.{⊤}
 use Rattle.std.proofs.Common.{◌≡◌, ℕ, ℤ, List, [], ◌∷◌, ◌++◌, refl, pos, negsuc, codes, Ok, Option, Some, None, true, false}
 use Rattle.std.specs.Fmt.{digits}
 use Rattle.giv_files.specs.declared.file_id.FileId.TheVariants as file
@@ -23,6 +24,14 @@ use Rattle.delay_management.specs.LeastTimes.{pushed_often, least_times}
 use Rattle.delay_management.specs.Problems.{delay_of}
 use Rattle.delay_management.specs.Reasons.{canonical_reasons}
 use Rattle.delay_management.specs.Waiting.{chosen_changes, kept_changes}
+
+-- what computes on the texts of a small dataset
+unfoldable on_texts : ⊤
+unfolding digits digits_at disposition_stage problem_in events_in activities_in schedule_in event_delays_in
+    activity_delays_in disposition_faults disposed_of kept_changes least_times pushed_often canonical_reasons
+    delay_of first_broken_rule input_faults row_faults faults table_of cells_from cell_of values errors row_whys
+    rows cleaned spelling_of value_of value_at fixed_of whole_of cell_text cell_texts joined table_text
+on_texts = tt
 
 -- what is wrong with two texts over a bundle
 abbrev fault_over : BundleParts → List ℕ → List ℕ → Option ReasonFault
@@ -72,31 +81,19 @@ gone = made (codes "1; 5\n2; 13\n3; 13\n4; 20\n")
     (codes "disposition: delay 3, 1 missed, optimal")
 
 waits_two : disposition_stage (bundle (pos 2)) ≡ Ok waited
-unfolding digits digits_at disposition_stage problem_in events_in activities_in schedule_in event_delays_in
-    activity_delays_in disposition_faults disposed_of kept_changes least_times pushed_often canonical_reasons
-    delay_of first_broken_rule input_faults row_faults faults table_of cells_from cell_of values errors row_whys
-    rows cleaned spelling_of value_of value_at fixed_of whole_of cell_text cell_texts joined table_text
+unfolding on_texts
 waits_two = refl
 
 waits_one : disposition_stage (bundle (pos 1)) ≡ Ok gone
-unfolding digits digits_at disposition_stage problem_in events_in activities_in schedule_in event_delays_in
-    activity_delays_in disposition_faults disposed_of kept_changes least_times pushed_often canonical_reasons
-    delay_of first_broken_rule input_faults row_faults faults table_of cells_from cell_of values errors row_whys
-    rows cleaned spelling_of value_of value_at fixed_of whole_of cell_text cell_texts joined table_text
+unfolding on_texts
 waits_one = refl
 
 waits_for_all : disposition_stage (bundle (negsuc 0)) ≡ Ok waited
-unfolding digits digits_at disposition_stage problem_in events_in activities_in schedule_in event_delays_in
-    activity_delays_in disposition_faults disposed_of kept_changes least_times pushed_often canonical_reasons
-    delay_of first_broken_rule input_faults row_faults faults table_of cells_from cell_of values errors row_whys
-    rows cleaned spelling_of value_of value_at fixed_of whole_of cell_text cell_texts joined table_text
+unfolding on_texts
 waits_for_all = refl
 
 waits_for_none : disposition_stage (bundle (negsuc 1)) ≡ Ok gone
-unfolding digits digits_at disposition_stage problem_in events_in activities_in schedule_in event_delays_in
-    activity_delays_in disposition_faults disposed_of kept_changes least_times pushed_often canonical_reasons
-    delay_of first_broken_rule input_faults row_faults faults table_of cells_from cell_of values errors row_whys
-    rows cleaned spelling_of value_of value_at fixed_of whole_of cell_text cell_texts joined table_text
+unfolding on_texts
 waits_for_none = refl
 
 -- ---- times and reasons from any hand
@@ -109,77 +106,47 @@ reasons = codes "1; source; 9\n2; activity; 1\n3; activity; 3\n4; activity; 2\n"
 
 -- the third cell of a source is not looked at
 passes : fault_over (bundle (pos 2)) times reasons ≡ None
-unfolding digits digits_at disposition_stage problem_in events_in activities_in schedule_in event_delays_in
-    activity_delays_in disposition_faults disposed_of kept_changes least_times pushed_often canonical_reasons
-    delay_of first_broken_rule input_faults row_faults faults table_of cells_from cell_of values errors row_whys
-    rows cleaned spelling_of value_of value_at fixed_of whole_of cell_text cell_texts joined table_text
+unfolding on_texts
 passes = refl
 
 late : fault_over (bundle (pos 2)) (codes "1; 5\n2; 13\n3; 15\n4; 23\n") reasons ≡ Some (fault.Reason 3)
-unfolding digits digits_at disposition_stage problem_in events_in activities_in schedule_in event_delays_in
-    activity_delays_in disposition_faults disposed_of kept_changes least_times pushed_often canonical_reasons
-    delay_of first_broken_rule input_faults row_faults faults table_of cells_from cell_of values errors row_whys
-    rows cleaned spelling_of value_of value_at fixed_of whole_of cell_text cell_texts joined table_text
+unfolding on_texts
 late = refl
 
 -- an event is early, and another is late
 early : fault_over (bundle (pos 2)) (codes "1; 5\n2; 13\n3; 14\n4; 22\n") reasons ≡ Some (fault.Early 2)
-unfolding digits digits_at disposition_stage problem_in events_in activities_in schedule_in event_delays_in
-    activity_delays_in disposition_faults disposed_of kept_changes least_times pushed_often canonical_reasons
-    delay_of first_broken_rule input_faults row_faults faults table_of cells_from cell_of values errors row_whys
-    rows cleaned spelling_of value_of value_at fixed_of whole_of cell_text cell_texts joined table_text
+unfolding on_texts
 early = refl
 
 early_as_planned : fault_over (bundle (pos 2)) (codes "1; 4\n2; 13\n3; 15\n4; 22\n") reasons ≡ Some
     (fault.Early 0)
-unfolding digits digits_at disposition_stage problem_in events_in activities_in schedule_in event_delays_in
-    activity_delays_in disposition_faults disposed_of kept_changes least_times pushed_often canonical_reasons
-    delay_of first_broken_rule input_faults row_faults faults table_of cells_from cell_of values errors row_whys
-    rows cleaned spelling_of value_of value_at fixed_of whole_of cell_text cell_texts joined table_text
+unfolding on_texts
 early_as_planned = refl
 
 no_table : fault_over (bundle (pos 2)) (codes "1; 5\n2; x\n") reasons ≡ Some fault.TimesRow
-unfolding digits digits_at disposition_stage problem_in events_in activities_in schedule_in event_delays_in
-    activity_delays_in disposition_faults disposed_of kept_changes least_times pushed_often canonical_reasons
-    delay_of first_broken_rule input_faults row_faults faults table_of cells_from cell_of values errors row_whys
-    rows cleaned spelling_of value_of value_at fixed_of whole_of cell_text cell_texts joined table_text
+unfolding on_texts
 no_table = refl
 
 few_times : fault_over (bundle (pos 2)) (codes "1; 5\n2; 13\n3; 15\n") reasons ≡ Some fault.Events
-unfolding digits digits_at disposition_stage problem_in events_in activities_in schedule_in event_delays_in
-    activity_delays_in disposition_faults disposed_of kept_changes least_times pushed_often canonical_reasons
-    delay_of first_broken_rule input_faults row_faults faults table_of cells_from cell_of values errors row_whys
-    rows cleaned spelling_of value_of value_at fixed_of whole_of cell_text cell_texts joined table_text
+unfolding on_texts
 few_times = refl
 
 swapped_times : fault_over (bundle (pos 2)) (codes "2; 13\n1; 5\n3; 15\n4; 22\n") reasons ≡ Some fault.Events
-unfolding digits digits_at disposition_stage problem_in events_in activities_in schedule_in event_delays_in
-    activity_delays_in disposition_faults disposed_of kept_changes least_times pushed_often canonical_reasons
-    delay_of first_broken_rule input_faults row_faults faults table_of cells_from cell_of values errors row_whys
-    rows cleaned spelling_of value_of value_at fixed_of whole_of cell_text cell_texts joined table_text
+unfolding on_texts
 swapped_times = refl
 
 no_reasons : fault_over (bundle (pos 2)) times [] ≡ Some fault.ReasonsRow
-unfolding digits digits_at disposition_stage problem_in events_in activities_in schedule_in event_delays_in
-    activity_delays_in disposition_faults disposed_of kept_changes least_times pushed_often canonical_reasons
-    delay_of first_broken_rule input_faults row_faults faults table_of cells_from cell_of values errors row_whys
-    rows cleaned spelling_of value_of value_at fixed_of whole_of cell_text cell_texts joined table_text
+unfolding on_texts
 no_reasons = refl
 
 other_activity : fault_over (bundle (pos 2)) times
     (codes "1; source; 0\n2; activity; 1\n3; activity; 2\n4; activity; 2\n") ≡ Some (fault.Reason 2)
-unfolding digits digits_at disposition_stage problem_in events_in activities_in schedule_in event_delays_in
-    activity_delays_in disposition_faults disposed_of kept_changes least_times pushed_often canonical_reasons
-    delay_of first_broken_rule input_faults row_faults faults table_of cells_from cell_of values errors row_whys
-    rows cleaned spelling_of value_of value_at fixed_of whole_of cell_text cell_texts joined table_text
+unfolding on_texts
 other_activity = refl
 
 -- a change that is not kept is no reason
 not_kept : fault_over (bundle (pos 1)) (codes "1; 5\n2; 13\n3; 15\n4; 22\n") reasons ≡ Some (fault.Reason 2)
-unfolding digits digits_at disposition_stage problem_in events_in activities_in schedule_in event_delays_in
-    activity_delays_in disposition_faults disposed_of kept_changes least_times pushed_often canonical_reasons
-    delay_of first_broken_rule input_faults row_faults faults table_of cells_from cell_of values errors row_whys
-    rows cleaned spelling_of value_of value_at fixed_of whole_of cell_text cell_texts joined table_text
+unfolding on_texts
 not_kept = refl
 
 -- ---- the least times of a set of changes
@@ -187,19 +154,13 @@ not_kept = refl
 with_the_change : let problem =
     problem_in (bundle (pos 1)) in least_times problem (chosen_changes problem (true ∷ [])) ≡ 5 ∷ 13
     ∷ 15 ∷ 22 ∷ []
-unfolding digits digits_at disposition_stage problem_in events_in activities_in schedule_in event_delays_in
-    activity_delays_in disposition_faults disposed_of kept_changes least_times pushed_often canonical_reasons
-    delay_of first_broken_rule input_faults row_faults faults table_of cells_from cell_of values errors row_whys
-    rows cleaned spelling_of value_of value_at fixed_of whole_of cell_text cell_texts joined table_text
+unfolding on_texts
 with_the_change = refl
 
 without_the_change : let problem =
     problem_in (bundle (pos 2)) in least_times problem (chosen_changes problem (false ∷ [])) ≡ 5 ∷ 13
     ∷ 13 ∷ 20 ∷ []
-unfolding digits digits_at disposition_stage problem_in events_in activities_in schedule_in event_delays_in
-    activity_delays_in disposition_faults disposed_of kept_changes least_times pushed_often canonical_reasons
-    delay_of first_broken_rule input_faults row_faults faults table_of cells_from cell_of values errors row_whys
-    rows cleaned spelling_of value_of value_at fixed_of whole_of cell_text cell_texts joined table_text
+unfolding on_texts
 without_the_change = refl
 
 -- ---- one vehicle, whose empty ride between the two trips takes one minute and its turnover five; the
@@ -214,10 +175,7 @@ turns : disposition_stage (bundle_of (negsuc 1)
     (events ∷ activities ∷ one_vehicle ∷ codes "1; 5\n" ∷ [] ∷ [])) ≡ Ok (made
     (codes "1; 5\n2; 13\n3; 19\n4; 26\n") (codes "1; source; 0\n2; activity; 1\n3; turn; 0\n4; activity; 2\n")
     (codes "disposition: delay 9, 0 missed, optimal"))
-unfolding digits digits_at disposition_stage problem_in events_in activities_in schedule_in event_delays_in
-    activity_delays_in disposition_faults disposed_of kept_changes least_times pushed_often canonical_reasons
-    delay_of first_broken_rule input_faults row_faults faults table_of cells_from cell_of values errors row_whys
-    rows cleaned spelling_of value_of value_at fixed_of whole_of cell_text cell_texts joined table_text
+unfolding on_texts
 turns = refl
 
 late_change : disposition_stage
@@ -225,46 +183,31 @@ late_change : disposition_stage
     ∷ [])) ≡ Ok (made (codes "1; 5\n2; 15\n3; 18\n4; 25\n")
     (codes "1; source; 0\n2; activity; 1\n3; activity; 3\n4; activity; 2\n")
     (codes "disposition: delay 10, 0 missed, optimal"))
-unfolding digits digits_at disposition_stage problem_in events_in activities_in schedule_in event_delays_in
-    activity_delays_in disposition_faults disposed_of kept_changes least_times pushed_often canonical_reasons
-    delay_of first_broken_rule input_faults row_faults faults table_of cells_from cell_of values errors row_whys
-    rows cleaned spelling_of value_of value_at fixed_of whole_of cell_text cell_texts joined table_text
+unfolding on_texts
 late_change = refl
 
 -- ---- what is refused
 
 fine : disposition_faults (bundle_of (pos 2) (events ∷ activities ∷ one_vehicle ∷ [] ∷ [] ∷ [])) ≡ []
-unfolding digits digits_at disposition_stage problem_in events_in activities_in schedule_in event_delays_in
-    activity_delays_in disposition_faults disposed_of kept_changes least_times pushed_often canonical_reasons
-    delay_of first_broken_rule input_faults row_faults faults table_of cells_from cell_of values errors row_whys
-    rows cleaned spelling_of value_of value_at fixed_of whole_of cell_text cell_texts joined table_text
+unfolding on_texts
 fine = refl
 
 event_gap : disposition_faults (bundle_of (pos 2)
     (codes "1; 1; departure; 0; 1\n3; 2; arrival; 10; 2\n" ∷ [] ∷ [] ∷ [] ∷ []
     ∷ [])) ≡ refusal.BadRow file.EventsX 2 why.OrderGap ∷ []
-unfolding digits digits_at disposition_stage problem_in events_in activities_in schedule_in event_delays_in
-    activity_delays_in disposition_faults disposed_of kept_changes least_times pushed_often canonical_reasons
-    delay_of first_broken_rule input_faults row_faults faults table_of cells_from cell_of values errors row_whys
-    rows cleaned spelling_of value_of value_at fixed_of whole_of cell_text cell_texts joined table_text
+unfolding on_texts
 event_gap = refl
 
 sync : disposition_faults (bundle_of (pos 2)
     (events ∷ codes "1; 1; sync; 1; 2; 8; 10\n" ∷ schedule ∷ [] ∷ []
     ∷ [])) ≡ refusal.BadRow file.ActivitiesX 1 why.StraySync ∷ []
-unfolding digits digits_at disposition_stage problem_in events_in activities_in schedule_in event_delays_in
-    activity_delays_in disposition_faults disposed_of kept_changes least_times pushed_often canonical_reasons
-    delay_of first_broken_rule input_faults row_faults faults table_of cells_from cell_of values errors row_whys
-    rows cleaned spelling_of value_of value_at fixed_of whole_of cell_text cell_texts joined table_text
+unfolding on_texts
 sync = refl
 
 crossed : disposition_faults (bundle_of (pos 2)
     (events ∷ codes "1; 1; drive; 1; 2; 8; 7\n" ∷ schedule ∷ [] ∷ []
     ∷ [])) ≡ refusal.BadRow file.ActivitiesX 1 why.BoundsCrossed ∷ []
-unfolding digits digits_at disposition_stage problem_in events_in activities_in schedule_in event_delays_in
-    activity_delays_in disposition_faults disposed_of kept_changes least_times pushed_often canonical_reasons
-    delay_of first_broken_rule input_faults row_faults faults table_of cells_from cell_of values errors row_whys
-    rows cleaned spelling_of value_of value_at fixed_of whole_of cell_text cell_texts joined table_text
+unfolding on_texts
 crossed = refl
 
 back : disposition_faults (bundle_of (pos 2)
@@ -272,10 +215,7 @@ back : disposition_faults (bundle_of (pos 2)
     ∷ [] ∷ []
     ∷ [])) ≡ refusal.BadRow file.ActivitiesX 2 why.Backward ∷ refusal.BadRow file.ActivitiesX 3 why.Backward
     ∷ []
-unfolding digits digits_at disposition_stage problem_in events_in activities_in schedule_in event_delays_in
-    activity_delays_in disposition_faults disposed_of kept_changes least_times pushed_often canonical_reasons
-    delay_of first_broken_rule input_faults row_faults faults table_of cells_from cell_of values errors row_whys
-    rows cleaned spelling_of value_of value_at fixed_of whole_of cell_text cell_texts joined table_text
+unfolding on_texts
 back = refl
 
 -- the first of these is what is refused
@@ -283,10 +223,7 @@ no_event : disposition_faults (bundle_of (pos 2)
     (events ∷ codes "1; 1; drive; 1; 5; 8; 10\n" ∷ schedule ∷ [] ∷ []
     ∷ [])) ≡ refusal.BadRow file.ActivitiesX 1 why.UnknownEvent
     ∷ refusal.BadRow file.ActivitiesX 1 why.Backward ∷ []
-unfolding digits digits_at disposition_stage problem_in events_in activities_in schedule_in event_delays_in
-    activity_delays_in disposition_faults disposed_of kept_changes least_times pushed_often canonical_reasons
-    delay_of first_broken_rule input_faults row_faults faults table_of cells_from cell_of values errors row_whys
-    rows cleaned spelling_of value_of value_at fixed_of whole_of cell_text cell_texts joined table_text
+unfolding on_texts
 no_event = refl
 
 -- at one time arrivals stand before departures, and then lesser ids before greater ones
@@ -294,64 +231,43 @@ arrivals_first : disposition_faults
     (bundle_of (pos 2) (codes "1; 1; departure; 10; 2\n2; 2; arrival; 10; 2\n3; 3; departure; 10; 2\n"
     ∷ codes "1; 1; change; 2; 1; 0; 0\n2; 1; wait; 1; 3; 0; 0\n3; 1; wait; 3; 1; 0; 0\n" ∷ [] ∷ [] ∷ []
     ∷ [])) ≡ refusal.BadRow file.ActivitiesX 3 why.Backward ∷ []
-unfolding digits digits_at disposition_stage problem_in events_in activities_in schedule_in event_delays_in
-    activity_delays_in disposition_faults disposed_of kept_changes least_times pushed_often canonical_reasons
-    delay_of first_broken_rule input_faults row_faults faults table_of cells_from cell_of values errors row_whys
-    rows cleaned spelling_of value_of value_at fixed_of whole_of cell_text cell_texts joined table_text
+unfolding on_texts
 arrivals_first = refl
 
 no_event_of_a_trip : disposition_faults
     (bundle_of (pos 2) (events ∷ activities ∷ codes "1; 1; 1; TRIP; 1; 1; 1; 9; 5; 2; 2; 3; 1\n" ∷ [] ∷ []
     ∷ [])) ≡ refusal.BadRow file.Schedule 1 why.UnknownEvent ∷ []
-unfolding digits digits_at disposition_stage problem_in events_in activities_in schedule_in event_delays_in
-    activity_delays_in disposition_faults disposed_of kept_changes least_times pushed_often canonical_reasons
-    delay_of first_broken_rule input_faults row_faults faults table_of cells_from cell_of values errors row_whys
-    rows cleaned spelling_of value_of value_at fixed_of whole_of cell_text cell_texts joined table_text
+unfolding on_texts
 no_event_of_a_trip = refl
 
 trips_are_not_backward : disposition_faults
     (bundle_of (pos 2) (events ∷ activities ∷ codes "1; 1; 1; TRIP; 2; 1; 1; 9; 1; 2; 2; 3; 1\n" ∷ [] ∷ []
     ∷ [])) ≡ []
-unfolding digits digits_at disposition_stage problem_in events_in activities_in schedule_in event_delays_in
-    activity_delays_in disposition_faults disposed_of kept_changes least_times pushed_often canonical_reasons
-    delay_of first_broken_rule input_faults row_faults faults table_of cells_from cell_of values errors row_whys
-    rows cleaned spelling_of value_of value_at fixed_of whole_of cell_text cell_texts joined table_text
+unfolding on_texts
 trips_are_not_backward = refl
 
 ends_before_start : disposition_faults
     (bundle_of (pos 2) (events ∷ activities ∷ codes "1; 1; 2; EMPTY; 2; 2; 2; 10; 3; 3; 2; 9; 0\n" ∷ [] ∷ []
     ∷ [])) ≡ refusal.BadRow file.Schedule 1 why.Backward ∷ []
-unfolding digits digits_at disposition_stage problem_in events_in activities_in schedule_in event_delays_in
-    activity_delays_in disposition_faults disposed_of kept_changes least_times pushed_often canonical_reasons
-    delay_of first_broken_rule input_faults row_faults faults table_of cells_from cell_of values errors row_whys
-    rows cleaned spelling_of value_of value_at fixed_of whole_of cell_text cell_texts joined table_text
+unfolding on_texts
 ends_before_start = refl
 
 no_room : disposition_faults (bundle_of (pos 2)
     (events ∷ activities ∷ codes "1; 1; 2; EMPTY; 2; 2; 2; 10; 3; 3; 2; 14; 0\n" ∷ [] ∷ []
     ∷ [])) ≡ refusal.BadRow file.Schedule 1 why.Backward ∷ []
-unfolding digits digits_at disposition_stage problem_in events_in activities_in schedule_in event_delays_in
-    activity_delays_in disposition_faults disposed_of kept_changes least_times pushed_often canonical_reasons
-    delay_of first_broken_rule input_faults row_faults faults table_of cells_from cell_of values errors row_whys
-    rows cleaned spelling_of value_of value_at fixed_of whole_of cell_text cell_texts joined table_text
+unfolding on_texts
 no_room = refl
 
 some_room : disposition_faults (bundle_of (pos 2)
     (events ∷ activities ∷ codes "1; 1; 2; EMPTY; 2; 2; 2; 10; 3; 3; 2; 13; 0\n" ∷ [] ∷ [] ∷ [])) ≡ []
-unfolding digits digits_at disposition_stage problem_in events_in activities_in schedule_in event_delays_in
-    activity_delays_in disposition_faults disposed_of kept_changes least_times pushed_often canonical_reasons
-    delay_of first_broken_rule input_faults row_faults faults table_of cells_from cell_of values errors row_whys
-    rows cleaned spelling_of value_of value_at fixed_of whole_of cell_text cell_texts joined table_text
+unfolding on_texts
 some_room = refl
 
 not_before : disposition_faults
     (bundle_of (pos 2) (codes "1; 1; departure; 10; 2\n2; 2; arrival; 10; 2\n" ∷ []
     ∷ codes "1; 1; 2; EMPTY; 1; 2; 2; 10; 2; 3; 2; 10; 0\n" ∷ [] ∷ []
     ∷ [])) ≡ refusal.BadRow file.Schedule 1 why.Backward ∷ []
-unfolding digits digits_at disposition_stage problem_in events_in activities_in schedule_in event_delays_in
-    activity_delays_in disposition_faults disposed_of kept_changes least_times pushed_often canonical_reasons
-    delay_of first_broken_rule input_faults row_faults faults table_of cells_from cell_of values errors row_whys
-    rows cleaned spelling_of value_of value_at fixed_of whole_of cell_text cell_texts joined table_text
+unfolding on_texts
 not_before = refl
 
 delays : disposition_faults (bundle_of (pos 2)
@@ -359,19 +275,13 @@ delays : disposition_faults (bundle_of (pos 2)
     ∷ [])) ≡ refusal.BadRow file.EventDelays 2 why.UnknownEvent
     ∷ refusal.BadRow file.EventDelays 3 why.RepeatedId
     ∷ refusal.BadRow file.ActivityDelays 1 why.UnknownActivity ∷ []
-unfolding digits digits_at disposition_stage problem_in events_in activities_in schedule_in event_delays_in
-    activity_delays_in disposition_faults disposed_of kept_changes least_times pushed_often canonical_reasons
-    delay_of first_broken_rule input_faults row_faults faults table_of cells_from cell_of values errors row_whys
-    rows cleaned spelling_of value_of value_at fixed_of whole_of cell_text cell_texts joined table_text
+unfolding on_texts
 delays = refl
 
 too_late : disposition_faults (bundle_of (pos 2)
     (events ∷ activities ∷ schedule ∷ codes "1; 1000001\n" ∷ []
     ∷ [])) ≡ refusal.BadRow file.EventDelays 1 (why.OutOfRange 2) ∷ []
-unfolding digits digits_at disposition_stage problem_in events_in activities_in schedule_in event_delays_in
-    activity_delays_in disposition_faults disposed_of kept_changes least_times pushed_often canonical_reasons
-    delay_of first_broken_rule input_faults row_faults faults table_of cells_from cell_of values errors row_whys
-    rows cleaned spelling_of value_of value_at fixed_of whole_of cell_text cell_texts joined table_text
+unfolding on_texts
 too_late = refl
 
 -- ---- a day of four vehicles and eight trips, of two lines with changes between them
@@ -441,10 +351,7 @@ day_as_planned : disposition_stage (day (pos 3) (codes "") (codes "")) ≡ Ok
     ++ codes "15; source; 0\n16; source; 0\n17; source; 0\n18; source; 0\n19; source; 0\n"
     ++ codes "20; source; 0\n21; source; 0\n22; source; 0\n23; source; 0\n24; source; 0\n"))
     (codes "disposition: delay 0, 0 missed, optimal"))
-unfolding digits digits_at disposition_stage problem_in events_in activities_in schedule_in event_delays_in
-    activity_delays_in disposition_faults disposed_of kept_changes least_times pushed_often canonical_reasons
-    delay_of first_broken_rule input_faults row_faults faults table_of cells_from cell_of values errors row_whys
-    rows cleaned spelling_of value_of value_at fixed_of whole_of cell_text cell_texts joined table_text
+unfolding on_texts
 day_as_planned = refl
 
 -- delays that go on by drives, waits, turns and changes
@@ -459,10 +366,7 @@ day_late : disposition_stage (day (pos 3) (codes "1; 10\n18; 1\n") (codes "4; 2\
     ++ codes "19; source; 0\n20; source; 0\n21; source; 0\n22; source; 0\n23; source; 0\n"
     ++ codes "24; source; 0\n"))
     (codes "disposition: delay 31, 0 missed, optimal"))
-unfolding digits digits_at disposition_stage problem_in events_in activities_in schedule_in event_delays_in
-    activity_delays_in disposition_faults disposed_of kept_changes least_times pushed_often canonical_reasons
-    delay_of first_broken_rule input_faults row_faults faults table_of cells_from cell_of values errors row_whys
-    rows cleaned spelling_of value_of value_at fixed_of whole_of cell_text cell_texts joined table_text
+unfolding on_texts
 day_late = refl
 
 -- the same where every change waits, and one of them takes longer
@@ -477,8 +381,5 @@ day_waits : disposition_stage (day (negsuc 0) (codes "1; 10\n18; 1\n") (codes "4
     ++ codes "19; source; 0\n20; source; 0\n21; source; 0\n22; source; 0\n23; source; 0\n"
     ++ codes "24; source; 0\n"))
     (codes "disposition: delay 36, 0 missed, optimal"))
-unfolding digits digits_at disposition_stage problem_in events_in activities_in schedule_in event_delays_in
-    activity_delays_in disposition_faults disposed_of kept_changes least_times pushed_often canonical_reasons
-    delay_of first_broken_rule input_faults row_faults faults table_of cells_from cell_of values errors row_whys
-    rows cleaned spelling_of value_of value_at fixed_of whole_of cell_text cell_texts joined table_text
+unfolding on_texts
 day_waits = refl

@@ -51,19 +51,33 @@ activity_delays_in bundle =
     records_of (activity_delay_input (expanded_activity_ids (activities_in bundle)))
     (input_text bundle 4)
 
+-- the faults of each input
+abbrev pub event_faults : BundleParts → List Refusal
+event_faults bundle = input_faults expanded_event_input (input_text bundle 0)
+
+abbrev pub activity_faults : BundleParts → List Refusal
+activity_faults bundle =
+    input_faults (expanded_activity_input (events_in bundle)) (input_text bundle 1)
+
+abbrev pub schedule_faults : BundleParts → List Refusal
+schedule_faults bundle = input_faults (schedule_input (events_in bundle)) (input_text bundle 2)
+
+abbrev pub event_delay_faults : BundleParts → List Refusal
+event_delay_faults bundle =
+    input_faults (event_delay_input (expanded_event_ids (events_in bundle))) (input_text bundle 3)
+
+abbrev pub activity_delay_faults : BundleParts → List Refusal
+activity_delay_faults bundle =
+    input_faults (activity_delay_input (expanded_activity_ids (activities_in bundle)))
+    (input_text bundle 4)
+
 -- the faults of the files that earlier stages make, and of those of delays, in the order of the
 -- inputs
 abbrev pub made_faults : BundleParts → List Refusal
-made_faults bundle =
-    input_faults expanded_event_input (input_text bundle 0)
-    ++ (input_faults (expanded_activity_input (events_in bundle)) (input_text bundle 1)
-    ++ input_faults (schedule_input (events_in bundle)) (input_text bundle 2))
+made_faults bundle = event_faults bundle ++ (activity_faults bundle ++ schedule_faults bundle)
 
 abbrev pub delay_faults : BundleParts → List Refusal
-delay_faults bundle =
-    input_faults (event_delay_input (expanded_event_ids (events_in bundle))) (input_text bundle 3)
-    ++ input_faults (activity_delay_input (expanded_activity_ids (activities_in bundle)))
-    (input_text bundle 4)
+delay_faults bundle = event_delay_faults bundle ++ activity_delay_faults bundle
 
 -- every fault of the texts of a bundle, in the order of its inputs
 unfoldable pub disposition_faults : BundleParts → List Refusal

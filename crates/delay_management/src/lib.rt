@@ -9,6 +9,7 @@ mod early;
 mod ends;
 mod fault;
 mod files;
+mod inputs;
 mod judge;
 mod lateness;
 mod links;

@@ -7,22 +7,22 @@ ghost use Rattle.giv_files.specs.Settings.{Fits};
 ghost use Rattle.event_tables.specs.Delays.{AreDelays};
 ghost use Rattle.event_tables.specs.ExpandedFiles.{AreExpandedActivities, AreExpandedEvents};
 ghost use Rattle.event_tables.specs.Schedules.{AreScheduleRows};
-ghost use Rattle.delay_management.specs.DispositionStage.{disposition_faults, problem_in, turnover_in};
+ghost use Rattle.delay_management.specs.DispositionStage.{disposition_faults, problem_in};
 ghost use Rattle.delay_management.specs.LeastTimes.{IsLeast, least_times};
 ghost use Rattle.delay_management.specs.Links.{IsLinked};
 ghost use Rattle.delay_management.specs.Problems.{IsForward, Joins, earliest_at, planned_at, problem_over};
 ghost use Rattle.delay_management.specs.Waiting.{chosen_changes};
 
 use crate::delays::{delayed_activities, earliest_times};
+use crate::inputs::{
+    activities_of, activity_delays_of, event_delays_of, events_of, schedule_of, turnover_of,
+};
 use crate::links::{Link, links_in_order};
 use crate::pass::pushed_along;
 use crate::step::{Activity, Step};
 use crate::turns::turns_of;
-use event_tables::{
-    DelayRow, ExpandedActivity, ExpandedEvent, ScheduleRow, activity_delays, event_delays,
-    expanded_activities, expanded_events, schedule_rows,
-};
-use giv_files::{Bundle, Key, StageFault};
+use event_tables::{DelayRow, ExpandedActivity, ExpandedEvent, ScheduleRow};
+use giv_files::{Bundle, StageFault};
 use plan_num::NoMemory;
 use std::alloc::Global;
 use std::marker::Model;
@@ -70,11 +70,11 @@ impl Propagation {
         ensures read { UnlessFault (disposition_faults bundle.now)
             (λ problem. problem ≡ problem_in bundle.now) result }
     {
-        let events = expanded_events(alloc, bundle.input(0))?;
-        let activities = expanded_activities(alloc, &events, bundle.input(1))?;
-        let schedule = schedule_rows(alloc, &events, bundle.input(2))?;
-        let event_rows = event_delays(alloc, &events, bundle.input(3))?;
-        let activity_rows = activity_delays(alloc, &activities, bundle.input(4))?;
+        let events = events_of(alloc, bundle)?;
+        let activities = activities_of(alloc, bundle, &events)?;
+        let schedule = schedule_of(alloc, bundle, &events)?;
+        let event_rows = event_delays_of(alloc, bundle, &events)?;
+        let activity_rows = activity_delays_of(alloc, bundle, &activities)?;
         let turnover = turnover_of(bundle);
         let problem = Propagation::of_rows(
             alloc,
@@ -188,14 +188,4 @@ impl Propagation {
     {
         &self.turns
     }
-}
-
-// The turnover time of a bundle of the stage, in minutes.
-fn turnover_of(bundle: &Bundle) -> u32
-    requires stage { bundle.now.stage ≡ stages.Disposition }
-    requires fits { Fits bundle.now }
-    ensures minutes { result ≡ turnover_in bundle.now }
-    ensures few { result ≤ 10000 }
-{
-    bundle.settings().amount(Key::VsTurnOverTime) as u32
 }

@@ -2,7 +2,7 @@ use Rattle.std.proofs.Common.{◌≤◌, ◌∙◌, ap, sym, subst}
 use Rattle.giv_files.specs.declared.key.Key.TheVariants as key
 use Rattle.giv_files.specs.Settings.{amount}
 use Rattle.delay_management.proofs.InputsSound.{turnover_few}
-use Rattle.delay_management.proofs.propagation.turnover_of.Goals as goal
+use Rattle.delay_management.proofs.inputs.turnover_of.Goals as goal
 
 pub returns-clause-few : goal.returns-clause-few
 returns-clause-few c =
