@@ -84,103 +84,31 @@ number_units n h = (omega (arith, ints), omega (arith, ints, h))
 
 pub value_printable : (all : Statistic) → IsSmall all → (m : Measure) → IsPrintable (value_of all m)
 value_printable all small measure.LineCost = (omega (arith, ints), omega (arith, ints, small.lines))
-value_printable all small measure.RunningLines = (
-  omega (arith, ints),
-  omega (
-    arith,
-    ints,
-    small.running,
-  ),
-)
-value_printable all small measure.PeriodicEvents = (
-  omega (arith, ints),
-  omega (
-    arith,
-    ints,
-    small.events,
-  ),
-)
-value_printable all small measure.PeriodicActivities = (
-  omega (arith, ints),
-  omega (
-    arith,
-    ints,
-    small.activities,
-  ),
-)
-value_printable all small measure.DriveMinutes = (
-  omega (arith, ints),
-  omega (
-    arith,
-    ints,
-    small.drive,
-  ),
-)
-value_printable all small measure.WaitMinutes = (
-  omega (arith, ints),
-  omega (
-    arith,
-    ints,
-    small.wait,
-  ),
-)
-value_printable all small measure.ChangeMinutes = (
-  omega (arith, ints),
-  omega (
-    arith,
-    ints,
-    small.change,
-  ),
-)
+value_printable all small measure.RunningLines =
+    (omega (arith, ints), omega (arith, ints, small.running))
+value_printable all small measure.PeriodicEvents =
+    (omega (arith, ints), omega (arith, ints, small.events))
+value_printable all small measure.PeriodicActivities =
+    (omega (arith, ints), omega (arith, ints, small.activities))
+value_printable all small measure.DriveMinutes =
+    (omega (arith, ints), omega (arith, ints, small.drive))
+value_printable all small measure.WaitMinutes =
+    (omega (arith, ints), omega (arith, ints, small.wait))
+value_printable all small measure.ChangeMinutes =
+    (omega (arith, ints), omega (arith, ints, small.change))
 value_printable all small measure.Trips = (omega (arith, ints), omega (arith, ints, small.trips))
-value_printable all small measure.Vehicles = (
-  omega (arith, ints),
-  omega (
-    arith,
-    ints,
-    small.vehicles,
-  ),
-)
-value_printable all small measure.EmptyMinutes = (
-  omega (arith, ints),
-  omega (
-    arith,
-    ints,
-    small.empty,
-  ),
-)
-value_printable all small measure.ScheduleCost = (
-  omega (arith, ints),
-  omega (
-    arith,
-    ints,
-    small.schedule,
-  ),
-)
-value_printable all small measure.TotalDelay = (
-  omega (arith, ints, small.early),
-  omega (
-    arith,
-    ints,
-    small.late,
-  ),
-)
-value_printable all small measure.GreatestDelay = (
-  omega (arith, ints),
-  omega (
-    arith,
-    ints,
-    small.greatest,
-  ),
-)
-value_printable all small measure.MissedChanges = (
-  omega (arith, ints),
-  omega (
-    arith,
-    ints,
-    small.missed,
-  ),
-)
+value_printable all small measure.Vehicles =
+    (omega (arith, ints), omega (arith, ints, small.vehicles))
+value_printable all small measure.EmptyMinutes =
+    (omega (arith, ints), omega (arith, ints, small.empty))
+value_printable all small measure.ScheduleCost =
+    (omega (arith, ints), omega (arith, ints, small.schedule))
+value_printable all small measure.TotalDelay =
+    (omega (arith, ints, small.early), omega (arith, ints, small.late))
+value_printable all small measure.GreatestDelay =
+    (omega (arith, ints), omega (arith, ints, small.greatest))
+value_printable all small measure.MissedChanges =
+    (omega (arith, ints), omega (arith, ints, small.missed))
 
 -- ---- lines
 

@@ -9,10 +9,7 @@ use Rattle.evaluators.proofs.concept.broken_rule.Goals as goal
 pub unreachable-requires : goal.unreachable-requires
 unreachable-requires c =
     let own = to_z-of_z w64 c.read-row.result.line (record {
-      sfits = omega (
-        arith,
-        c.read-row.type_inv,
-      );
+      sfits = omega (arith, c.read-row.type_inv);
     }) in
     row_there c.args.costs.now c.args.table.now c.args.index c.requires.there c.args.lines.now
     c.requires.lines c.read-row.result c.read-row.ensures
@@ -22,10 +19,7 @@ unreachable-requires c =
 pub returns : goal.returns
 returns c =
     let own = to_z-of_z w64 c.read-row.result.line (record {
-      sfits = omega (
-        arith,
-        c.read-row.type_inv,
-      );
+      sfits = omega (arith, c.read-row.type_inv);
     }) in
     c.broken_by.ensures
     ∙ row_tells c.args.costs.now c.args.table.now c.args.index c.requires.there c.args.lines.now
