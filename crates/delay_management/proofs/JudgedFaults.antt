@@ -7,7 +7,7 @@ use Rattle.giv_files.specs.Reading.{table_of}
 use Rattle.giv_files.specs.Settings.{BundleParts}
 use Rattle.giv_files.specs.Tables.{TableRow}
 use Rattle.event_tables.specs.Cells.{disposed_time}
-use Rattle.event_tables.specs.RowsOfTables.{records_by}
+use Rattle.giv_files.specs.RowsOfTables.{records_by}
 use Rattle.delay_management.specs.declared.fault.ReasonFault.{ReasonFault}
 use Rattle.delay_management.specs.declared.fault.ReasonFault.TheVariants as fault
 use Rattle.delay_management.specs.declared.reason.Reason.{Reason}

@@ -10,7 +10,7 @@ use Rattle.giv_files.specs.Reading.{faults}
 use Rattle.giv_files.proofs.Ranges.{back_none, front_none, unmapped}
 use Rattle.event_tables.specs.declared.disposed_time.DisposedTime.{DisposedTime}
 use Rattle.event_tables.specs.Cells.{disposed_time}
-use Rattle.event_tables.specs.RowsOfTables.{ReadsAs}
+use Rattle.giv_files.specs.RowsOfTables.{ReadsAs}
 use Rattle.delay_management.specs.declared.fault.ReasonFault.{ReasonFault}
 use Rattle.delay_management.specs.declared.fault.ReasonFault.TheVariants as fault
 use Rattle.delay_management.specs.declared.reason.Reason.{Reason}

@@ -10,7 +10,7 @@ use Rattle.event_tables.specs.declared.delay_row.DelayRow.{DelayRow}
 use Rattle.event_tables.specs.declared.expanded_activity.ExpandedActivity.{ExpandedActivity}
 use Rattle.event_tables.specs.declared.expanded_event.ExpandedEvent.{ExpandedEvent}
 use Rattle.event_tables.specs.declared.schedule_row.ScheduleRow.{ScheduleRow}
-use Rattle.event_tables.specs.RowsOfTables.{ReadsFile}
+use Rattle.giv_files.specs.RowsOfTables.{ReadsFile}
 use Rattle.delay_management.specs.DispositionStage.{activities_in, activity_delay_faults, activity_delays_in, activity_faults, delay_faults, disposition_faults, event_delay_faults, event_delays_in, event_faults, events_in, made_faults, problem_in, schedule_faults, schedule_in, turnover_in}
 use Rattle.delay_management.specs.Problems.{problem_over}
 

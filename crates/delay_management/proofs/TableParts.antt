@@ -4,7 +4,7 @@ use Rattle.std.specs.List.{enumerate_from, list_all}
 use Rattle.std.proofs.lemmas.List.{drop_all, drop_more, get_or-map, length-map, take_all, take_more}
 use Rattle.std.proofs.lemmas.Simd.{map-map}
 use Rattle.giv_files.specs.Tables.{TableRow, no_row}
-use Rattle.event_tables.specs.RowsOfTables.{records_by}
+use Rattle.giv_files.specs.RowsOfTables.{records_by}
 
 module _ {X Y : Type 0} (of : List ℤ → X) (part : X → Y) (table : List TableRow) (i : ℕ) where
   abbrev whole : TableRow → Y

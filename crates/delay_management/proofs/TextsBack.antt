@@ -22,7 +22,7 @@ use Rattle.event_tables.specs.Cells.{disposed_time, disposed_time_cells}
 use Rattle.event_tables.specs.DisposedTimes.{disposed_time_input, disposed_time_rules}
 use Rattle.event_tables.specs.Headers.{disposed_time_header}
 use Rattle.event_tables.specs.Places.{is_none_of}
-use Rattle.event_tables.specs.RowsOfTables.{ReadsAs, records_by, rows_by}
+use Rattle.giv_files.specs.RowsOfTables.{ReadsAs, records_by, rows_by}
 use Rattle.event_tables.proofs.CellFacts.{columns_written}
 use Rattle.event_tables.proofs.Numbering.{none_of_places, some_missing}
 use Rattle.delay_management.specs.declared.reason.Reason.{Reason}

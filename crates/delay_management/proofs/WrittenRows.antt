@@ -10,7 +10,7 @@ use Rattle.giv_files.specs.Tables.{TableRow}
 use Rattle.giv_files.specs.Writing.{InColumns}
 use Rattle.event_tables.specs.declared.disposed_time.DisposedTime.{DisposedTime}
 use Rattle.event_tables.specs.Cells.{disposed_time_cells}
-use Rattle.event_tables.specs.RowsOfTables.{rows_by}
+use Rattle.giv_files.specs.RowsOfTables.{rows_by}
 use Rattle.delay_management.specs.declared.reason.Reason.{Reason}
 use Rattle.delay_management.specs.declared.reason.Reason.TheVariants as reason
 use Rattle.delay_management.specs.DispositionStage.{ReasonRow}

@@ -20,7 +20,7 @@ use Rattle.event_tables.specs.Cells.{disposed_time_cells}
 use Rattle.event_tables.specs.Delays.{event_delay_input, activity_delay_input}
 use Rattle.event_tables.specs.ExpandedFiles.{expanded_event_input, expanded_activity_input, expanded_event_ids, expanded_activity_ids}
 use Rattle.event_tables.specs.Headers.{disposed_time_header}
-use Rattle.event_tables.specs.RowsOfTables.{file_text}
+use Rattle.giv_files.specs.RowsOfTables.{file_text}
 use Rattle.event_tables.specs.Schedules.{schedule_input}
 use Rattle.delay_management.specs.declared.reason.Reason.{Reason}
 use Rattle.delay_management.specs.declared.reason.Reason.TheVariants as reason

@@ -7,7 +7,7 @@ use Rattle.giv_files.specs.Reading.{faults, table_of}
 use Rattle.giv_files.specs.Settings.{BundleParts}
 use Rattle.event_tables.specs.declared.disposed_time.DisposedTime.{DisposedTime}
 use Rattle.event_tables.specs.Cells.{disposed_time, number_in}
-use Rattle.event_tables.specs.RowsOfTables.{ReadsAs, records_by}
+use Rattle.giv_files.specs.RowsOfTables.{ReadsAs, records_by}
 use Rattle.delay_management.specs.declared.fault.ReasonFault.{ReasonFault}
 use Rattle.delay_management.specs.declared.fault.ReasonFault.TheVariants as fault
 use Rattle.delay_management.specs.declared.reason.Reason.{Reason}

@@ -9,7 +9,7 @@ use Rattle.giv_files.specs.Settings.{BundleParts}
 use Rattle.event_tables.specs.Cells.{disposed_time}
 use Rattle.event_tables.specs.DisposedTimes.{disposed_time_input}
 use Rattle.event_tables.specs.ExpandedFiles.{expanded_event_ids}
-use Rattle.event_tables.specs.RowsOfTables.{ReadsAs}
+use Rattle.giv_files.specs.RowsOfTables.{ReadsAs}
 use Rattle.delay_management.specs.declared.reason.Reason.{Reason}
 use Rattle.delay_management.specs.DispositionStage.{disposition_faults, events_in, kept_in, problem_in, reason_rows, time_rows}
 use Rattle.delay_management.specs.Judged.{first_broken_rule, reason_row}

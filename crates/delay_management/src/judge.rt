@@ -4,7 +4,7 @@ ghost use Rattle.giv_files.specs.Columns.{disposed_columns, reasons_columns};
 ghost use Rattle.giv_files.specs.Reading.{table_of};
 ghost use Rattle.giv_files.specs.Writing.{InColumns};
 ghost use Rattle.event_tables.specs.Cells.{disposed_time};
-ghost use Rattle.event_tables.specs.RowsOfTables.{records_by};
+ghost use Rattle.giv_files.specs.RowsOfTables.{records_by};
 ghost use Rattle.delay_management.specs.declared.step.Activity.{Activity};
 ghost use Rattle.delay_management.specs.Judged.{broken_reasons, broken_rows, broken_times, first_broken_rule, is_table, reason_faults, reason_row};
 ghost use Rattle.delay_management.specs.Problems.{Joins};

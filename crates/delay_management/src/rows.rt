@@ -4,7 +4,7 @@ ghost use Rattle.giv_files.specs.Columns.{disposed_columns, reasons_columns};
 ghost use Rattle.giv_files.specs.Tables.{no_row};
 ghost use Rattle.giv_files.specs.Writing.{InColumns};
 ghost use Rattle.event_tables.specs.Cells.{disposed_time, number_in};
-ghost use Rattle.event_tables.specs.RowsOfTables.{records_by};
+ghost use Rattle.giv_files.specs.RowsOfTables.{records_by};
 ghost use Rattle.delay_management.specs.Judged.{are_all, reason_at, reason_row};
 
 use crate::reason::Reason;

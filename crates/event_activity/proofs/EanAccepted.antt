@@ -14,7 +14,7 @@ use Rattle.event_tables.specs.declared.periodic_event.PeriodicEvent.{PeriodicEve
 use Rattle.event_tables.specs.Cells.{periodic_event_cells, periodic_activity_cells}
 use Rattle.event_tables.specs.PeriodicFiles.{periodic_event_input, periodic_activity_input, IsPeriodicActivity}
 use Rattle.event_tables.specs.Places.{own_place, known_ends, bounds_in_order, is_none_of, AreNumbered, IsOneOf}
-use Rattle.event_tables.specs.RowsOfTables.{rows_by}
+use Rattle.giv_files.specs.RowsOfTables.{rows_by}
 use Rattle.event_tables.proofs.CellsBack.{periodic_event_same, periodic_activity_same}
 use Rattle.event_tables.proofs.Numbering.{none_of_places}
 use Rattle.event_activity.proofs.Refused.{under_limit}

@@ -20,7 +20,7 @@ use Rattle.event_tables.specs.declared.periodic_event.PeriodicEvent.{PeriodicEve
 use Rattle.event_tables.specs.Cells.{periodic_event, periodic_activity, periodic_event_cells, periodic_activity_cells}
 use Rattle.event_tables.specs.Headers.{periodic_event_header, periodic_activity_header}
 use Rattle.event_tables.specs.PeriodicFiles.{periodic_event_input, periodic_activity_input, periodic_event_ids, IsPeriodicActivity}
-use Rattle.event_tables.specs.RowsOfTables.{ReadsAs, rows_by, file_text}
+use Rattle.giv_files.specs.RowsOfTables.{ReadsAs, rows_by, file_text}
 use Rattle.event_tables.specs.RunRules.{KeepRunRules}
 use Rattle.event_activity.specs.declared.run_event.RunEvent.{RunEvent}
 use Rattle.event_activity.specs.EanStage.{network_in, lines_in, events_in, activities_in, ean_faults, ean_stage, rows_of, too_many}

@@ -17,7 +17,7 @@ use Rattle.event_tables.specs.declared.periodic_event.PeriodicEvent.{PeriodicEve
 use Rattle.event_tables.specs.Cells.{periodic_event_cells, periodic_activity_cells}
 use Rattle.event_tables.specs.Headers.{periodic_event_header, periodic_activity_header}
 use Rattle.event_tables.specs.Places.{AreNumbered}
-use Rattle.event_tables.specs.RowsOfTables.{ReadsAs, records_by, rows_by, file_text}
+use Rattle.giv_files.specs.RowsOfTables.{ReadsAs, records_by, rows_by, file_text}
 use Rattle.event_tables.proofs.CellFacts.{columns_written}
 use Rattle.event_activity.specs.declared.run_event.RunEvent.{RunEvent}
 use Rattle.event_activity.specs.Activities.{joined_events, joinings, with_number, concept_activities}

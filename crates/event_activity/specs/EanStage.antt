@@ -14,7 +14,7 @@ use Rattle.event_tables.specs.declared.periodic_activity.PeriodicActivity.{Perio
 use Rattle.event_tables.specs.declared.periodic_event.PeriodicEvent.{PeriodicEvent}
 use Rattle.event_tables.specs.Cells.{periodic_event_cells, periodic_activity_cells}
 use Rattle.event_tables.specs.Headers.{periodic_event_header, periodic_activity_header}
-use Rattle.event_tables.specs.RowsOfTables.{file_text}
+use Rattle.giv_files.specs.RowsOfTables.{file_text}
 use Rattle.event_activity.specs.declared.run_event.RunEvent.{RunEvent}
 use Rattle.event_activity.specs.Activities.{concept_activities}
 use Rattle.event_activity.specs.Runs.{concept_events}

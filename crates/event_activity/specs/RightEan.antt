@@ -11,7 +11,7 @@ use Rattle.event_tables.specs.declared.periodic_event.PeriodicEvent.{PeriodicEve
 use Rattle.event_tables.specs.declared.periodic_kind.PeriodicKind.TheVariants as kinds
 use Rattle.event_tables.specs.Cells.{periodic_event, periodic_activity}
 use Rattle.event_tables.specs.PeriodicFiles.{periodic_event_input, periodic_activity_input, periodic_event_ids}
-use Rattle.event_tables.specs.RowsOfTables.{ReadsAs}
+use Rattle.giv_files.specs.RowsOfTables.{ReadsAs}
 use Rattle.event_tables.specs.RunRules.{KeepRunRules}
 use Rattle.event_activity.specs.ActivitiesOfRuns.{AreActivitiesOf, IsDriveOver}
 use Rattle.event_activity.specs.EanStage.{network_in, lines_in, events_in, activities_in, ean_faults, rows_of}

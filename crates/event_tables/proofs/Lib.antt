@@ -1,11 +1,11 @@
+-- Other crates cite lemmas of CellFacts, CellsBack, Numbering, RanksRise, SoundFiles, SoundTimes,
+-- SoundTrips and WrittenRecords.
 pub mod CellFacts
 pub mod CellsBack
-mod Files
 mod Fitting
 pub mod Numbering
 mod OwnRows
 pub mod RanksRise
-mod RowsTested
 mod ScheduleRows
 pub mod SoundFiles
 pub mod SoundTimes

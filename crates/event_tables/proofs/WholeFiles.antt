@@ -11,73 +11,16 @@ use Rattle.giv_files.specs.declared.refusal.StageFault.{StageFault}
 use Rattle.giv_files.specs.declared.refusal.StageFault.TheVariants as stage
 use Rattle.giv_files.specs.Inputs.{Input, RowRule, records, records_of, numbered, cell_faults, limit_faults, table_row_faults, whole_faults, input_faults, or_else, Refuses, UnlessFault}
 use Rattle.giv_files.specs.Reading.{table_of}
-use Rattle.giv_files.proofs.Inputs.{parts_sound, table_sound, faults_of_table, refused_append, refused_whole, no_faults, whole_rule_broken, whole_rule_kept, whole_rule_sound}
+use Rattle.giv_files.proofs.Inputs.{parts_sound, table_sound, whole_rule_sound}
+use Rattle.giv_files.proofs.WholeRules.{without_whole, refused_as_whole, sound_as_whole}
 use Rattle.event_tables.specs.Places.{own_place, all_there, is_none_of, AreNumbered, IsOneOf}
 use Rattle.event_tables.proofs.Numbering.{some_missing, numbered_rows}
-
--- a file without its rules as a whole
-abbrev pub without_whole : {X : Type 0} → Input X → Input X
-without_whole input = record {
-  file = input.file;
-  columns = input.columns;
-  read = input.read;
-  limits = input.limits;
-  row_rules = input.row_rules;
-  table_rules = [];
-}
 
 -- an event is missing where there are fewer rows than events
 missing : {X : Type 0} (event : X → ℕ) (count : ℕ) (rows : List X) → AreNumbered event rows
     → list_any (is_none_of (map event rows)) (range_with_len 1 count) ≡ nat_lt (length rows) count
 missing event count rows are = ap (λ ids. list_any (is_none_of ids) (range_with_len 1 count)) are
     ∙ some_missing (length rows) count
-
-refused_more : (cells some more : List Refusal) (fault : StageFault)
-    → Refuses (or_else cells (some ++ [])) fault → Refuses (or_else cells (some ++ more)) fault
-refused_more [] some more fault h = refused_append some more fault
-    (subst (λ (all : List Refusal). Refuses all fault) (append-nil some) h)
-refused_more (first ∷ cells) some more fault h = h
-
-module _ {X : Type 0} (input : Input X) (text : List ℕ) where
-  -- what refuses it without them refuses it
-  pub refused_without : (fault : StageFault) → Refuses
-      (input_faults (without_whole input) text) fault → Refuses (input_faults input text) fault
-  unfolding input_faults
-  refused_without fault h =
-      let table = table_of input.columns text in
-      refused_more (cell_faults input.file input.columns text) (limit_faults input.limits (records input table) ++ table_row_faults input table) (whole_faults input.file input.table_rules (numbered input table)) fault h
-
-  module _ (event : X → ℕ) (count : ℕ) (whole : input.table_rules
-      ≡ all_there (range_with_len 1 count) event
-      ∷ []) (none : input_faults (without_whole input) text ≡ []) where
-    -- where there are fewer rows than events, this is the first fault
-    pub event_missing : AreNumbered event (records_of input text) → length
-        (records_of input text) < count → slice_get (input_faults input text) 0
-        ≡ Some (refusal.BadRow input.file 0 why.MissingEvent)
-    event_missing are few =
-        let table = table_of input.columns text in
-        let cells = parts_sound (without_whole input) text none in
-        let parts = table_sound (without_whole input) table cells.1 in
-        let broken = whole_rule_broken input table
-        (λ rows. list_any (is_none_of (map event rows)) (range_with_len 1 count)) why.MissingEvent [] (missing event count (records_of input text) are ∙ lt-ltb (length (records_of input text)) count few) in
-        subst (λ (all : List Refusal). slice_get all 0
-        ≡ Some (refusal.BadRow input.file 0 why.MissingEvent)) (faults_of_table input text table cells.0 refl)
-        (refused_whole input table (stage.Refused (refusal.BadRow input.file 0 why.MissingEvent)) parts.0 parts.1
-        (ap (λ rules. slice_get (whole_faults input.file rules (numbered input table)) 0) whole
-        ∙ broken))
-
-    -- and otherwise there is none
-    pub all_events : AreNumbered event (records_of input text) → count ≤ length
-        (records_of input text) → input_faults input text ≡ []
-    all_events are many =
-        let table = table_of input.columns text in
-        let cells = parts_sound (without_whole input) text none in
-        let parts = table_sound (without_whole input) table cells.1 in
-        let kept = whole_rule_kept input table
-        (λ rows. list_any (is_none_of (map event rows)) (range_with_len 1 count)) why.MissingEvent [] (missing event count (records_of input text) are ∙ le-ltb (length (records_of input text)) count many) in
-        sym (faults_of_table input text table cells.0 refl)
-        ∙ no_faults input table parts.0 parts.1
-        (ap (λ rules. whole_faults input.file rules (numbered input table)) whole ∙ kept)
 
 -- there are no more numbered rows than events, where each is of one of them
 few_places : {X : Type 0} (event : X → ℕ) (count : ℕ) (rows : List X) → AreNumbered event rows → All
@@ -99,6 +42,16 @@ few_places event count (row ∷ rows) are one =
 module _ {X : Type 0} (input : Input X) (text : List ℕ) (event : X
     → ℕ) (count : ℕ) (whole : input.table_rules ≡ all_there (range_with_len 1 count) event
     ∷ []) where
+  -- an event has no row
+  abbrev lacks : List X → Bool
+  lacks rows = list_any (is_none_of (map event rows)) (range_with_len 1 count)
+
+  lacking : (rules : List (RowRule X)) → input.row_rules ≡ own_place event ∷ rules
+      → input_faults (without_whole input) text ≡ []
+      → lacks (records_of input text) ≡ nat_lt (length (records_of input text)) count
+  lacking rules own none = missing event count (records_of input text)
+      (numbered_rows (without_whole input) event rules text own none)
+
   -- what is read of it: the rows, or that an event is missing
   pub read_whole : {A : Type 0} (view : A → List X) (rules : List (RowRule X)) (rows : A)
       → input.row_rules ≡ own_place event ∷ rules → input_faults (without_whole input) text ≡ []
@@ -111,12 +64,12 @@ module _ {X : Type 0} (input : Input X) (text : List ℕ) (event : X
   read_whole view rules rows own none is (Ok all) h =
       let many : count ≤ length (records_of input text) = subst
       (λ some. count ≤ length some) is h.1 in
-      (all_events input text event count whole none (numbered_rows (without_whole input) event rules text own none) many, ap view h.0 ∙ is)
+      (sound_as_whole input text lacks why.MissingEvent whole none (lacking rules own none ∙ le-ltb (length (records_of input text)) count many), ap view h.0 ∙ is)
   read_whole view rules rows own none is (Err fault) h =
       let few : length (records_of input text) < count = subst
       (λ some. length some < count) is h.1 in
       subst (λ (told : StageFault). Refuses (input_faults input text) told)
-      (sym h.0) (event_missing input text event count whole none (numbered_rows (without_whole input) event rules text own none) few)
+      (sym h.0) (refused_as_whole input text lacks why.MissingEvent whole none (lacking rules own none ∙ lt-ltb (length (records_of input text)) count few))
 
   -- where it has no fault, there is one row for each event
   pub one_each : input_faults input text ≡ [] → AreNumbered event (records_of input text) → All
@@ -125,9 +78,7 @@ module _ {X : Type 0} (input : Input X) (text : List ℕ) (event : X
   one_each none are one =
       let table = table_of input.columns text in
       let parts = table_sound input table (parts_sound input text none).1 in
-      let rule : List X
-      → Bool = λ rows. list_any (is_none_of (map event rows)) (range_with_len 1 count) in
-      let kept = (whole_rule_sound input table rule why.MissingEvent []
+      let kept = (whole_rule_sound input table lacks why.MissingEvent []
       (ap (λ rules. whole_faults input.file rules (numbered input table)) (sym whole)
       ∙ parts.2)).0 in
       let many : count ≤ length

@@ -1,12 +1,21 @@
 -- Records that are written are read back.
-use Rattle.std.proofs.Common.{◌≡◌, ℕ, ℤ, List, [], ◌∷◌, map, refl, ap, sym, ◌∙◌, Result, Ok, Err, IfOk, All}
+use Rattle.std.proofs.Common.{◌≡◌, ℕ, ℤ, ◌<◌, List, [], ◌∷◌, length, map, refl, ap, subst, sym, ◌∙◌, Result, Ok, Err, IfOk, All}
 use Rattle.std.proofs.lemmas.List.Elements.{All-map}
 use Rattle.std.proofs.lemmas.Simd.{map-map}
 use Rattle.giv_files.specs.declared.column.ColumnKind.{ColumnKind}
 use Rattle.giv_files.specs.Reading.{table_of}
 use Rattle.giv_files.specs.Tables.{TableRow}
-use Rattle.giv_files.specs.Writing.{InColumns, ReadsBack}
-use Rattle.event_tables.specs.RowsOfTables.{ReadsAs, records_by, rows_by}
+use Rattle.giv_files.specs.Writing.{CanWrite, InColumns, IsHeader, ReadsBack}
+use Rattle.giv_files.specs.RowsOfTables.{ReadsAs, file_text, records_by, rows_by}
+use Rattle.giv_files.proofs.WrittenBack.{written_back}
+
+-- the rows for records stand for them
+pub records_back : {X : Type 0} (of : List ℤ → X) (cells_of : X → List ℤ)
+    → ((row : X) → of (cells_of row) ≡ row) → (rows : List X)
+    → records_by of (rows_by cells_of rows) ≡ rows
+records_back of cells_of back [] = refl
+records_back of cells_of back (row ∷ rows) =
+    rw (back row, records_back of cells_of back rows) refl
 
 module _ {X : Type 0} (kinds : List ColumnKind) (of : List ℤ → X) (cells_of : X
     → List ℤ) (rows : List X) where
@@ -16,21 +25,27 @@ module _ {X : Type 0} (kinds : List ColumnKind) (of : List ℤ → X) (cells_of 
   rows_inside inside = All-map (λ (row : TableRow). InColumns kinds row.cells)
       (λ row. record { number = 0; cells = cells_of row }) rows inside
 
-  -- a text of these rows is read as the records
+  -- the text of a file of the records has the cells of these rows
+  pub file_back : (header : List ℕ) → 0 < length kinds → All CanWrite kinds → IsHeader header
+      → All (λ row. InColumns kinds (cells_of row)) rows
+      → ReadsBack kinds (rows_by cells_of rows) (file_text header kinds cells_of rows)
+  file_back header some can plain inside =
+      written_back header kinds (rows_by cells_of rows) some can (rows_inside inside) plain
+
+  -- a text with these cells is read as the records
+  pub text_as : ((row : X) → of (cells_of row) ≡ row) → (text : List ℕ)
+      → ReadsBack kinds (rows_by cells_of rows) text → ReadsAs kinds of rows text
+  text_as back text h = (
+    h.0,
+    sym (map-map of (λ (row : TableRow). row.cells) (table_of kinds text)) ∙ ap (map of) h.1
+        ∙ map-map of (λ (row : TableRow). row.cells) (rows_by cells_of rows)
+        ∙ records_back of cells_of back rows,
+  )
+
+  -- so is one of a table that has these rows
   pub reads_as : {E : Type 0} → ((row : X) → of (cells_of row) ≡ row) → (table : List TableRow)
       → table ≡ rows_by cells_of rows → (written : Result (List ℕ) E)
       → IfOk written (ReadsBack kinds table) → IfOk written (ReadsAs kinds of rows)
   reads_as back table is (Err error) h = tt
-  reads_as back table is (Ok text) h = (
-    h.0,
-    sym (by_cells (table_of kinds text))
-        ∙ ap (map of) (h.1 ∙ ap (map (λ row. row.cells)) is) ∙ by_cells (rows_by cells_of rows)
-        ∙ all_back rows,
-  )
-    where
-      by_cells : (some : List TableRow) → map of (map (λ row. row.cells) some) ≡ records_by of some
-      by_cells some = map-map of (λ (row : TableRow). row.cells) some
-
-      all_back : (some : List X) → records_by of (rows_by cells_of some) ≡ some
-      all_back [] = refl
-      all_back (row ∷ some) = rw (back row, all_back some) refl
+  reads_as back table is (Ok text) h =
+      text_as back text (subst (λ some. ReadsBack kinds some text) is h)

@@ -9,7 +9,6 @@ pub mod Kinds
 pub mod PeriodicFiles
 pub mod PeriodicRuns
 pub mod Places
-pub mod RowsOfTables
 pub mod RunRules
 pub mod Schedules
 pub mod Trips

@@ -3,8 +3,8 @@ ghost use Rattle.std.specs.Prelude.{◌≡◌};
 ghost use Rattle.event_tables.specs.Cells.{delay_row, delay_cells, AreSmall};
 
 use crate::cells::number;
-use crate::record::Record;
-use giv_files::Table;
+use crate::written_record::WrittenRecord;
+use giv_files::{Record, Table};
 
 /// How much later an event or an activity of a day is, in minutes.
 #[derive(Clone, Copy, Debug, PartialEq, Eq)]
@@ -18,14 +18,16 @@ impl Record<2> for DelayRow {
 
     ghost of_cells = { delay_row };
 
-    ghost cells_of = { delay_cells };
-
     fn read(table: &Table<2>, index: usize) -> DelayRow {
         DelayRow {
             id: number(table, index, 0),
             delay: number(table, index, 1),
         }
     }
+}
+
+impl WrittenRecord<2> for DelayRow {
+    ghost cells_of = { delay_cells };
 
     fn cells(&self) -> [i64; 2] {
         [i64::from(self.id), i64::from(self.delay)]

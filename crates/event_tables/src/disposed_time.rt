@@ -4,8 +4,8 @@ ghost use Rattle.giv_files.specs.Columns.{disposed_columns};
 ghost use Rattle.giv_files.specs.Writing.{InColumns};
 ghost use Rattle.event_tables.specs.Cells.{disposed_time, disposed_time_cells};
 
-use crate::record::Record;
-use giv_files::Table;
+use crate::written_record::WrittenRecord;
+use giv_files::{Record, Table};
 
 /// The disposed time of an event of a day, in minutes.
 #[derive(Clone, Copy, Debug, PartialEq, Eq)]
@@ -19,14 +19,16 @@ impl Record<2> for DisposedTime {
 
     ghost of_cells = { disposed_time };
 
-    ghost cells_of = { disposed_time_cells };
-
     fn read(table: &Table<2>, index: usize) -> DisposedTime {
         DisposedTime {
             event: table.cell(index, 0) as u32,
             time: table.cell(index, 1) as u64,
         }
     }
+}
+
+impl WrittenRecord<2> for DisposedTime {
+    ghost cells_of = { disposed_time_cells };
 
     fn cells(&self) -> [i64; 2] {
         [i64::from(self.event), self.time as i64]

@@ -4,8 +4,8 @@ ghost use Rattle.event_tables.specs.Cells.{expanded_activity, expanded_activity_
 
 use crate::activity_kind::ActivityKind;
 use crate::cells::number;
-use crate::record::Record;
-use giv_files::Table;
+use crate::written_record::WrittenRecord;
+use giv_files::{Record, Table};
 use std::mem::size_of;
 
 /// An activity of a day: its id, the id of its periodic activity, its kind, the ids of its two
@@ -38,8 +38,6 @@ impl Record<7> for ExpandedActivity {
 
     ghost of_cells = { expanded_activity };
 
-    ghost cells_of = { expanded_activity_cells };
-
     fn read(table: &Table<7>, index: usize) -> ExpandedActivity {
         ExpandedActivity {
             id: number(table, index, 0),
@@ -51,6 +49,10 @@ impl Record<7> for ExpandedActivity {
             upper: number(table, index, 6),
         }
     }
+}
+
+impl WrittenRecord<7> for ExpandedActivity {
+    ghost cells_of = { expanded_activity_cells };
 
     fn cells(&self) -> [i64; 7] {
         [

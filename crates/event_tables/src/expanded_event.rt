@@ -4,8 +4,8 @@ ghost use Rattle.event_tables.specs.Cells.{expanded_event, expanded_event_cells,
 
 use crate::cells::number;
 use crate::event_kind::EventKind;
-use crate::record::Record;
-use giv_files::Table;
+use crate::written_record::WrittenRecord;
+use giv_files::{Record, Table};
 
 /// An event of a day: its id, the id of its periodic event, its kind, its planned time in minutes,
 /// and its stop.
@@ -23,8 +23,6 @@ impl Record<5> for ExpandedEvent {
 
     ghost of_cells = { expanded_event };
 
-    ghost cells_of = { expanded_event_cells };
-
     fn read(table: &Table<5>, index: usize) -> ExpandedEvent {
         ExpandedEvent {
             id: number(table, index, 0),
@@ -34,6 +32,10 @@ impl Record<5> for ExpandedEvent {
             stop: number(table, index, 4),
         }
     }
+}
+
+impl WrittenRecord<5> for ExpandedEvent {
+    ghost cells_of = { expanded_event_cells };
 
     fn cells(&self) -> [i64; 5] {
         [

@@ -25,10 +25,6 @@ mod periodic_time;
 mod periodic_time_file;
 mod place;
 mod ranks;
-mod record;
-mod records;
-mod row_limit;
-mod row_tests;
 mod schedule_file;
 mod schedule_kind;
 mod schedule_row;
@@ -36,6 +32,7 @@ mod times;
 mod trip;
 mod trip_file;
 mod writing;
+mod written_record;
 
 pub use activity_kind::ActivityKind;
 pub use delay_file::{activity_delays, event_delays};

@@ -4,7 +4,7 @@ ghost use Rattle.giv_files.specs.Columns.{events_p_columns, activities_p_columns
 ghost use Rattle.giv_files.specs.Writing.{InColumns};
 ghost use Rattle.event_tables.specs.Cells.{periodic_event, periodic_activity, periodic_time, expanded_event, expanded_activity, trip, schedule_row, disposed_time, periodic_event_cells, periodic_activity_cells, periodic_time_cells, expanded_event_cells, expanded_activity_cells, trip_cells, schedule_cells, disposed_time_cells};
 ghost use Rattle.event_tables.specs.Headers.{periodic_event_header, periodic_activity_header, periodic_time_header, expanded_event_header, expanded_activity_header, trip_header, schedule_header, disposed_time_header};
-ghost use Rattle.event_tables.specs.RowsOfTables.{ReadsAs, file_text};
+ghost use Rattle.giv_files.specs.RowsOfTables.{ReadsAs, file_text};
 
 use crate::disposed_time::DisposedTime;
 use crate::expanded_activity::ExpandedActivity;

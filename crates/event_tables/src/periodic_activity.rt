@@ -4,8 +4,8 @@ ghost use Rattle.event_tables.specs.Cells.{periodic_activity, periodic_activity_
 
 use crate::cells::number;
 use crate::periodic_kind::PeriodicKind;
-use crate::record::Record;
-use giv_files::Table;
+use crate::written_record::WrittenRecord;
+use giv_files::{Record, Table};
 
 /// A periodic activity: its id, its kind, the ids of its two events, and its bounds in minutes.
 #[derive(Clone, Copy, Debug, PartialEq, Eq)]
@@ -32,8 +32,6 @@ impl Record<6> for PeriodicActivity {
 
     ghost of_cells = { periodic_activity };
 
-    ghost cells_of = { periodic_activity_cells };
-
     fn read(table: &Table<6>, index: usize) -> PeriodicActivity {
         PeriodicActivity {
             id: number(table, index, 0),
@@ -44,6 +42,10 @@ impl Record<6> for PeriodicActivity {
             upper: number(table, index, 5),
         }
     }
+}
+
+impl WrittenRecord<6> for PeriodicActivity {
+    ghost cells_of = { periodic_activity_cells };
 
     fn cells(&self) -> [i64; 6] {
         [

@@ -6,8 +6,8 @@ ghost use Rattle.event_tables.specs.PeriodicRuns.{is_next, same_run};
 use crate::cells::number;
 use crate::direction::Direction;
 use crate::event_kind::EventKind;
-use crate::record::Record;
-use giv_files::Table;
+use crate::written_record::WrittenRecord;
+use giv_files::{Record, Table};
 
 /// A periodic event: its id, its kind, its stop, and the run of the line that it is of. Ids count
 /// from 1, and the events of a run stand together.
@@ -44,8 +44,6 @@ impl Record<6> for PeriodicEvent {
 
     ghost of_cells = { periodic_event };
 
-    ghost cells_of = { periodic_event_cells };
-
     fn read(table: &Table<6>, index: usize) -> PeriodicEvent {
         PeriodicEvent {
             id: number(table, index, 0),
@@ -56,6 +54,10 @@ impl Record<6> for PeriodicEvent {
             repetition: number(table, index, 5),
         }
     }
+}
+
+impl WrittenRecord<6> for PeriodicEvent {
+    ghost cells_of = { periodic_event_cells };
 
     fn cells(&self) -> [i64; 6] {
         [

@@ -3,8 +3,8 @@ ghost use Rattle.std.specs.Prelude.{◌≡◌, nat_le};
 ghost use Rattle.event_tables.specs.Cells.{periodic_time, periodic_time_cells, AreSmall};
 
 use crate::cells::number;
-use crate::record::Record;
-use giv_files::Table;
+use crate::written_record::WrittenRecord;
+use giv_files::{Record, Table};
 
 /// The time of a periodic event in the period, in minutes.
 #[derive(Clone, Copy, Debug, PartialEq, Eq)]
@@ -27,14 +27,16 @@ impl Record<2> for PeriodicTime {
 
     ghost of_cells = { periodic_time };
 
-    ghost cells_of = { periodic_time_cells };
-
     fn read(table: &Table<2>, index: usize) -> PeriodicTime {
         PeriodicTime {
             event: number(table, index, 0),
             time: number(table, index, 1),
         }
     }
+}
+
+impl WrittenRecord<2> for PeriodicTime {
+    ghost cells_of = { periodic_time_cells };
 
     fn cells(&self) -> [i64; 2] {
         [i64::from(self.event), i64::from(self.time)]

@@ -3,10 +3,10 @@ ghost use Rattle.std.specs.Prelude.{◌≡◌};
 ghost use Rattle.event_tables.specs.Cells.{schedule_row, schedule_cells, AreSmall};
 
 use crate::cells::number;
-use crate::record::Record;
 use crate::schedule_kind::ScheduleKind;
 use crate::trip::{Trip, TripEnd};
-use giv_files::Table;
+use crate::written_record::WrittenRecord;
+use giv_files::{Record, Table};
 
 /// A row of a vehicle schedule: its circulation, its vehicle, its number among the rows of the
 /// vehicle, what it is, and the run from one event to another. The line of an empty ride is 0.
@@ -24,8 +24,6 @@ impl Record<13> for ScheduleRow {
 
     ghost of_cells = { schedule_row };
 
-    ghost cells_of = { schedule_cells };
-
     fn read(table: &Table<13>, index: usize) -> ScheduleRow {
         ScheduleRow {
             circulation: number(table, index, 0),
@@ -39,6 +37,10 @@ impl Record<13> for ScheduleRow {
             },
         }
     }
+}
+
+impl WrittenRecord<13> for ScheduleRow {
+    ghost cells_of = { schedule_cells };
 
     fn cells(&self) -> [i64; 13] {
         let (start, end) = (self.run.start, self.run.end);

@@ -4,8 +4,8 @@ ghost use Rattle.giv_files.specs.Tables.{no_row};
 ghost use Rattle.event_tables.specs.Cells.{trip, trip_end, trip_cells, AreSmall};
 
 use crate::cells::number;
-use crate::record::Record;
-use giv_files::Table;
+use crate::written_record::WrittenRecord;
+use giv_files::{Record, Table};
 
 /// The start or the end of a trip: the id of an event of the day, the id of its periodic event, its
 /// stop, and its planned time in minutes.
@@ -56,8 +56,6 @@ impl Record<9> for Trip {
 
     ghost of_cells = { trip };
 
-    ghost cells_of = { trip_cells };
-
     fn read(table: &Table<9>, index: usize) -> Trip {
         Trip {
             start: TripEnd::read(table, index, 0),
@@ -65,6 +63,10 @@ impl Record<9> for Trip {
             line: number(table, index, 8),
         }
     }
+}
+
+impl WrittenRecord<9> for Trip {
+    ghost cells_of = { trip_cells };
 
     fn cells(&self) -> [i64; 9] {
         [

@@ -2,14 +2,11 @@
 ghost use Rattle.std.specs.Prelude.{ℕ, ◌≡◌, nat_eq, option_map, IfOk};
 ghost use Rattle.std.specs.HashSet.{contains};
 ghost use Rattle.std.specs.List.{list_any};
-ghost use Rattle.event_tables.specs.RowsOfTables.{ReadsFile};
+ghost use Rattle.giv_files.specs.RowsOfTables.{ReadsFile};
 ghost use Rattle.event_tables.specs.Trips.{trip_input, trip_rules, is_stop, lacks_stop, AreTrips};
 
-use crate::records::read_file;
-use crate::row_limit::RowLimit;
-use crate::row_tests::RowTests;
 use crate::trip::Trip;
-use giv_files::{Counted, FileId, RowWhy, StageFault, columns};
+use giv_files::{Counted, FileId, RowLimit, RowTests, RowWhy, StageFault, columns, read_file};
 use plan_num::NoMemory;
 use std::alloc::Global;
 use std::collections::HashSet;

@@ -1,15 +1,15 @@
 // Writing records as the text of a table.
 ghost use Rattle.std.specs.Prelude.{ℤ, ◌≡◌, ◌<◌, ◌^◌, List, All, IfOk};
 ghost use Rattle.giv_files.specs.Writing.{CanWrite, InColumns, IsHeader};
-ghost use Rattle.event_tables.specs.RowsOfTables.{ReadsAs, file_text};
+ghost use Rattle.giv_files.specs.RowsOfTables.{ReadsAs, file_text};
 
-use crate::record::Record;
+use crate::written_record::WrittenRecord;
 use giv_files::{ColumnKind, Table, write_table};
 use plan_num::{NoMemory, Text};
 use std::alloc::Global;
 
 /// The text of a file with a row for each record. It is read back to the same records.
-pub(crate) fn write_records<const C: usize, X: Record<C>>(
+pub(crate) fn write_records<const C: usize, X: WrittenRecord<C>>(
     alloc: Global,
     header: &[u8],
     kinds: &[ColumnKind; C],

@@ -1,11 +1,16 @@
+-- Other crates cite lemmas of Accepted, CellFacts, CellTexts, FileFaults, Found, Headers, Inputs,
+-- InTurn, KeyPlaces, Named, PlainBytes, Ranges, RowsLeft, SettingFacts, SettingsTold, StageCalls,
+-- WholeRules, WriteFacts and WrittenBack.
 pub mod Accepted
 pub mod CellFacts
 pub mod CellTexts
 pub mod Failing
 pub mod FieldFacts
+pub mod FileFaults
 pub mod Found
 pub mod Headers
 pub mod Inputs
+pub mod InTurn
 pub mod KeyPlaces
 pub mod Lines
 pub mod LongLines
@@ -25,5 +30,6 @@ pub mod StageCalls
 pub mod StageKeys
 pub mod TableRows
 pub mod ToldFacts
+pub mod WholeRules
 pub mod WriteFacts
 pub mod WrittenBack

@@ -12,6 +12,7 @@ pub mod Names
 pub mod Reading
 pub mod ReportLines
 pub mod Rows
+pub mod RowsOfTables
 pub mod Settings
 pub mod SettingsText
 pub mod Spaced

@@ -12,7 +12,7 @@ use Rattle.giv_files.specs.Reading.{faults, table_of}
 use Rattle.giv_files.specs.Tables.{TableRow}
 use Rattle.event_tables.specs.declared.periodic_time.PeriodicTime.{PeriodicTime}
 use Rattle.event_tables.specs.Cells.{periodic_time}
-use Rattle.event_tables.specs.RowsOfTables.{ReadsAs, records_by}
+use Rattle.giv_files.specs.RowsOfTables.{ReadsAs, records_by}
 use Rattle.pesp_model.specs.Timetables.{IsProblem, IsTimetable, Problem, first_broken}
 use Rattle.pesp_model.proofs.FirstBroken.{first_is, none_is}
 use Rattle.pesp_search.specs.declared.fault.TimetableFault.{TimetableFault}

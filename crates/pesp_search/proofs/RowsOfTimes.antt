@@ -7,7 +7,7 @@ use Rattle.std.proofs.lemmas.List.FromFn.{get_or-enumerate_from, length-enumerat
 use Rattle.giv_files.specs.Tables.{TableRow, no_row}
 use Rattle.event_tables.specs.declared.periodic_time.PeriodicTime.{PeriodicTime}
 use Rattle.event_tables.specs.Cells.{number_in, periodic_time}
-use Rattle.event_tables.specs.RowsOfTables.{records_by}
+use Rattle.giv_files.specs.RowsOfTables.{records_by}
 use Rattle.pesp_search.specs.TimetableStage.{time_rows}
 
 no_time : PeriodicTime

@@ -12,7 +12,7 @@ use Rattle.giv_files.specs.Settings.{BundleParts}
 use Rattle.giv_files.specs.StageCalls.{input_text}
 use Rattle.event_tables.specs.Cells.{periodic_time}
 use Rattle.event_tables.specs.PeriodicFiles.{periodic_event_ids, periodic_time_input}
-use Rattle.event_tables.specs.RowsOfTables.{ReadsAs}
+use Rattle.giv_files.specs.RowsOfTables.{ReadsAs}
 use Rattle.pesp_model.specs.PespTexts.{events_of}
 use Rattle.pesp_model.specs.Timetables.{IsTimetable}
 use Rattle.pesp_search.specs.Judged.{first_broken_rule}

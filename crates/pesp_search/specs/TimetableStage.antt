@@ -12,7 +12,7 @@ use Rattle.giv_files.specs.StageCalls.{input_text}
 use Rattle.event_tables.specs.declared.periodic_time.PeriodicTime.{PeriodicTime}
 use Rattle.event_tables.specs.Cells.{periodic_time_cells}
 use Rattle.event_tables.specs.Headers.{periodic_time_header}
-use Rattle.event_tables.specs.RowsOfTables.{file_text}
+use Rattle.giv_files.specs.RowsOfTables.{file_text}
 use Rattle.pesp_model.specs.PespTexts.{problem_of, problem_faults}
 use Rattle.pesp_model.specs.Timetables.{Problem}
 use Rattle.pesp_search.specs.Listings.{TimesFound, listing, result_within, entries_listed}

@@ -7,7 +7,7 @@ ghost use Rattle.giv_files.specs.Reading.{faults, table_of};
 ghost use Rattle.giv_files.specs.Tables.{no_row};
 ghost use Rattle.giv_files.specs.Writing.{InColumns};
 ghost use Rattle.event_tables.specs.Cells.{number_in, periodic_time};
-ghost use Rattle.event_tables.specs.RowsOfTables.{records_by};
+ghost use Rattle.giv_files.specs.RowsOfTables.{records_by};
 ghost use Rattle.pesp_search.specs.Judged.{are_in_order, broken_rows, first_broken_rule, is_table};
 ghost use Rattle.pesp_search.specs.Judged.{is_time_of};
 

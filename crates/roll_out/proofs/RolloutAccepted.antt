@@ -25,7 +25,7 @@ use Rattle.event_tables.specs.Cells.{expanded_activity_cells, expanded_event_cel
 use Rattle.event_tables.specs.ExpandedFiles.{IsExpandedActivity, expanded_activity_input, expanded_event_ids, expanded_event_input, forward, no_sync}
 use Rattle.event_tables.specs.Headers.{expanded_activity_header, expanded_event_header, trip_header}
 use Rattle.event_tables.specs.Places.{AreNumbered, IsOneOf, bounds_in_order, is_none_of, known_ends, own_place}
-use Rattle.event_tables.specs.RowsOfTables.{ReadsAs, file_text, records_by, rows_by}
+use Rattle.giv_files.specs.RowsOfTables.{ReadsAs, file_text, records_by, rows_by}
 use Rattle.event_tables.specs.Trips.{lacks_stop, trip_input, trip_rules}
 use Rattle.event_tables.proofs.CellFacts.{columns_written}
 use Rattle.event_tables.proofs.CellsBack.{expanded_activity_same, expanded_event_same, trip_same}

@@ -26,7 +26,7 @@ use Rattle.event_tables.specs.Headers.{expanded_activity_header, expanded_event_
 use Rattle.event_tables.specs.PeriodicFiles.{periodic_activity_input, periodic_time_input}
 use Rattle.event_tables.specs.PeriodicRuns.{runs_of}
 use Rattle.event_tables.specs.Places.{AreNumbered}
-use Rattle.event_tables.specs.RowsOfTables.{file_text}
+use Rattle.giv_files.specs.RowsOfTables.{file_text}
 use Rattle.event_tables.specs.RunRules.{KeepRunRules, broken_events, stray_activities, unjoined_events}
 use Rattle.event_tables.specs.Trips.{trip_input}
 use Rattle.event_tables.proofs.SoundFiles.{periodic_activities_sound, periodic_events_sound}

@@ -15,7 +15,7 @@ use Rattle.event_tables.specs.declared.trip.TripEnd.{TripEnd}
 use Rattle.event_tables.specs.Cells.{expanded_event, expanded_activity, trip}
 use Rattle.event_tables.specs.ExpandedFiles.{expanded_event_input, expanded_activity_input}
 use Rattle.event_tables.specs.ForwardOrder.{event_with}
-use Rattle.event_tables.specs.RowsOfTables.{ReadsAs}
+use Rattle.giv_files.specs.RowsOfTables.{ReadsAs}
 use Rattle.event_tables.specs.Trips.{is_stop, trip_input}
 use Rattle.roll_out.specs.DayActivities.{day_changes}
 use Rattle.roll_out.specs.DayInWords.{AreChangesOf, AreTripsOf}

@@ -25,7 +25,7 @@ use Rattle.event_tables.specs.declared.trip.Trip.{Trip}
 use Rattle.event_tables.specs.Cells.{expanded_event_cells, expanded_activity_cells, trip_cells}
 use Rattle.event_tables.specs.Headers.{expanded_event_header, expanded_activity_header, trip_header}
 use Rattle.event_tables.specs.PeriodicFiles.{periodic_event_ids, periodic_time_input}
-use Rattle.event_tables.specs.RowsOfTables.{file_text}
+use Rattle.giv_files.specs.RowsOfTables.{file_text}
 use Rattle.event_tables.specs.RunRules.{broken_events, unjoined_events, stray_activities}
 use Rattle.pesp_model.specs.PespTexts.{events_of, activities_of, problem_faults}
 use Rattle.roll_out.specs.declared.day.Day.{Day}

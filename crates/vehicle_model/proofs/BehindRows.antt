@@ -7,7 +7,7 @@ use Rattle.std.proofs.lemmas.Option.{none-some}
 use Rattle.std.proofs.lemmas.Simd.{map-map}
 use Rattle.event_tables.specs.declared.schedule_row.ScheduleRow.{ScheduleRow}
 use Rattle.event_tables.specs.Cells.{schedule_row}
-use Rattle.event_tables.specs.RowsOfTables.{records_by, numbered_by}
+use Rattle.giv_files.specs.RowsOfTables.{records_by, numbered_by}
 use Rattle.giv_files.specs.Inputs.{Numbered}
 use Rattle.giv_files.specs.Tables.{TableRow, no_row, row_number}
 use Rattle.vehicle_model.specs.declared.plan_fault.PlanFault.{PlanFault}

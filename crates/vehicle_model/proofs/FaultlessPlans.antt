@@ -4,7 +4,7 @@ use Rattle.std.proofs.lemmas.Option.{none-some}
 use Rattle.std.proofs.lemmas.List.{drop_all}
 use Rattle.event_tables.specs.declared.schedule_row.ScheduleRow.{ScheduleRow}
 use Rattle.event_tables.specs.Cells.{schedule_row}
-use Rattle.event_tables.specs.RowsOfTables.{numbered_by, records_by}
+use Rattle.giv_files.specs.RowsOfTables.{numbered_by, records_by}
 use Rattle.giv_files.specs.Columns.{schedule_columns}
 use Rattle.giv_files.specs.Inputs.{Numbered}
 use Rattle.giv_files.specs.Reading.{faults, table_of}

@@ -4,7 +4,7 @@ use Rattle.std.proofs.lemmas.Option.{slice_get-map}
 use Rattle.event_tables.specs.declared.schedule_row.ScheduleRow.{ScheduleRow}
 use Rattle.event_tables.specs.Cells.{schedule_row, schedule_cells}
 use Rattle.event_tables.specs.Headers.{schedule_header}
-use Rattle.event_tables.specs.RowsOfTables.{numbered_by, rows_by, ReadsAs}
+use Rattle.giv_files.specs.RowsOfTables.{numbered_by, rows_by, ReadsAs}
 use Rattle.giv_files.specs.Columns.{schedule_columns}
 use Rattle.giv_files.specs.Inputs.{Numbered}
 use Rattle.giv_files.specs.Reading.{table_of}

@@ -2,7 +2,7 @@
 use Rattle.std.proofs.Common.{◌≡◌, ℕ, List, [], ◌∷◌, length, map, slice_get, Option, Some, All, Result, Err, refl, ap, sym, subst}
 use Rattle.std.proofs.lemmas.Option.{same_Some}
 use Rattle.event_tables.specs.Cells.{schedule_row, AreSmall}
-use Rattle.event_tables.specs.RowsOfTables.{records_by, numbered_by}
+use Rattle.giv_files.specs.RowsOfTables.{records_by, numbered_by}
 use Rattle.event_tables.proofs.CellFacts.{small_cells}
 use Rattle.giv_files.specs.declared.read_fault.ReadFault.{ReadFault}
 use Rattle.giv_files.specs.declared.read_fault.ReadFault.TheVariants as read

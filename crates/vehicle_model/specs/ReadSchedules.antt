@@ -6,7 +6,7 @@ use Rattle.event_tables.specs.declared.schedule_row.ScheduleRow.{ScheduleRow}
 use Rattle.event_tables.specs.declared.trip.Trip.{Trip}
 use Rattle.event_tables.specs.declared.trip.TripEnd.{TripEnd}
 use Rattle.event_tables.specs.Cells.{schedule_row}
-use Rattle.event_tables.specs.RowsOfTables.{records_by, numbered_by}
+use Rattle.giv_files.specs.RowsOfTables.{records_by, numbered_by}
 use Rattle.event_tables.specs.Schedules.{is_trip_row, is_empty_row}
 use Rattle.giv_files.specs.Columns.{schedule_columns}
 use Rattle.giv_files.specs.Inputs.{Numbered}

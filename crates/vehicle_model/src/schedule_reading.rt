@@ -1,7 +1,7 @@
 // Reading plans.
 ghost use Rattle.std.specs.Prelude.{◌≡◌, ◌+◌, ◌<◌, length, slice_get, slice_index_or, option_map, All, IfOk};
 ghost use Rattle.event_tables.specs.Cells.{schedule_row, AreSmall};
-ghost use Rattle.event_tables.specs.RowsOfTables.{records_by, numbered_by};
+ghost use Rattle.giv_files.specs.RowsOfTables.{records_by, numbered_by};
 ghost use Rattle.giv_files.specs.Tables.{no_row};
 ghost use Rattle.vehicle_model.specs.Plans.{IsPlan};
 ghost use Rattle.vehicle_model.specs.ReadSchedules.{plan_faults, plan_of, plan_by, links_in, nothing_read, row_faults, PlanGives};

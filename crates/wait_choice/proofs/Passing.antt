@@ -16,7 +16,7 @@ use Rattle.giv_files.specs.Writing.{InColumns}
 use Rattle.giv_files.proofs.Ranges.{back_none, front_none, table_in_columns}
 use Rattle.event_tables.specs.Cells.{number_in}
 use Rattle.event_tables.proofs.CellFacts.{in_column}
-use Rattle.event_tables.specs.RowsOfTables.{ReadsAs, records_by}
+use Rattle.giv_files.specs.RowsOfTables.{ReadsAs, records_by}
 use Rattle.delay_management.specs.declared.step.Activity.{Activity}
 use Rattle.delay_management.specs.Problems.{DelayProblem, IsForward}
 use Rattle.delay_management.specs.Waiting.{chosen_changes}

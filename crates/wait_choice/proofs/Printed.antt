@@ -6,7 +6,7 @@ use Rattle.std.proofs.lemmas.Simd.{map-map}
 use Rattle.giv_files.specs.Reading.{table_of}
 use Rattle.giv_files.specs.Tables.{TableRow}
 use Rattle.giv_files.specs.Writing.{CanWrite, InColumns, ReadsBack}
-use Rattle.event_tables.specs.RowsOfTables.{ReadsAs, records_by, rows_by}
+use Rattle.giv_files.specs.RowsOfTables.{ReadsAs, records_by, rows_by}
 use Rattle.event_tables.proofs.CellFacts.{columns_written}
 use Rattle.wait_choice.specs.declared.row.WaitRow.{WaitRow}
 use Rattle.wait_choice.specs.declared.row.WaitRow.TheVariants as row

@@ -3,7 +3,7 @@ use Rattle.std.specs.Prelude.{ℕ, ℤ, pos, ◌+◌, ◌≡◌, ◌&&◌, ◌==
 use Rattle.std.specs.List.{list_all}
 use Rattle.std.specs.Ordering.{int_eq}
 use Rattle.giv_files.specs.Reading.{faults, table_of}
-use Rattle.event_tables.specs.RowsOfTables.{ReadsAs, records_by}
+use Rattle.giv_files.specs.RowsOfTables.{ReadsAs, records_by}
 use Rattle.delay_management.specs.declared.step.Activity.{Activity}
 use Rattle.delay_management.specs.Problems.{DelayProblem}
 use Rattle.wait_choice.specs.declared.node.WaitNode.{WaitNode}

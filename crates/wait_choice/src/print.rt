@@ -3,7 +3,7 @@ ghost use Rattle.std.specs.Prelude.{ℕ, ◌≡◌, ◌<◌, ◌++◌, [], get_o
 ghost use Rattle.giv_files.specs.declared.stage.Stage.TheVariants as stages;
 ghost use Rattle.giv_files.specs.Inputs.{UnlessFault};
 ghost use Rattle.giv_files.specs.Settings.{Fits};
-ghost use Rattle.event_tables.specs.RowsOfTables.{ReadsAs};
+ghost use Rattle.giv_files.specs.RowsOfTables.{ReadsAs};
 ghost use Rattle.delay_management.specs.DispositionStage.{disposition_faults, problem_in};
 ghost use Rattle.delay_management.specs.declared.step.Activity.{Activity};
 ghost use Rattle.wait_choice.specs.declared.row.WaitRow.TheVariants as rows;

@@ -4,7 +4,7 @@ ghost use Rattle.giv_files.specs.Reading.{faults, table_of};
 ghost use Rattle.giv_files.specs.Tables.{no_row};
 ghost use Rattle.giv_files.specs.Writing.{InColumns};
 ghost use Rattle.event_tables.specs.Cells.{number_in};
-ghost use Rattle.event_tables.specs.RowsOfTables.{records_by};
+ghost use Rattle.giv_files.specs.RowsOfTables.{records_by};
 ghost use Rattle.wait_choice.specs.WaitTexts.{said_by, wait_row, waits_columns, where_zero};
 
 use crate::columns::waits_columns;

@@ -1,6 +1,6 @@
 // The text of rows of a waiting decision.
 ghost use Rattle.std.specs.Prelude.{◌≡◌, ◌≤◌, All, IfOk};
-ghost use Rattle.event_tables.specs.RowsOfTables.{ReadsAs, file_text, rows_by};
+ghost use Rattle.giv_files.specs.RowsOfTables.{ReadsAs, file_text, rows_by};
 ghost use Rattle.wait_choice.specs.PrintedRows.{RowFits};
 ghost use Rattle.wait_choice.specs.WaitTexts.{cells_with, wait_cells, wait_row, waits_columns, waits_header};
 

@@ -3,10 +3,11 @@ use Rattle.std.specs.List.{range_with_len}
 use Rattle.std.proofs.lemmas.Result.{err_from_is_err_and}
 use Rattle.giv_files.specs.Inputs.{input_faults, records_of, Refuses}
 use Rattle.event_tables.specs.DisposedTimes.{disposed_time_input, AreDisposedTimes}
-use Rattle.event_tables.specs.RowsOfTables.{ReadsFile}
+use Rattle.giv_files.specs.RowsOfTables.{ReadsFile}
 use Rattle.event_tables.proofs.SoundFiles.{sound_read}
 use Rattle.event_tables.proofs.SoundTimes.{disposed_times_sound}
-use Rattle.event_tables.proofs.WholeFiles.{refused_without, read_whole}
+use Rattle.event_tables.proofs.WholeFiles.{read_whole}
+use Rattle.giv_files.proofs.WholeRules.{refused_without}
 use Rattle.event_tables.proofs.disposed_time_file.disposed_times.Goals as goal
 
 pub returns-in_err-rows-clause-read : goal.returns-in_err-rows-clause-read

@@ -1,16 +1,15 @@
-use Rattle.std.proofs.Common.{refl, sym, ◌∙◌, arith}
+use Rattle.std.proofs.Common.{◌≡◌, refl, sym, ◌∙◌, arith}
 use Rattle.std.proofs.lemmas.Result.{err_from_is_err_and}
 use Rattle.std.proofs.lemmas.List.Elements.{All-weaker}
 use Rattle.giv_files.specs.declared.refusal.StageFault.TheVariants as stage
 use Rattle.giv_files.specs.Columns.{schedule_columns}
 use Rattle.giv_files.specs.Inputs.{input_faults, records_of}
 use Rattle.giv_files.specs.Writing.{InColumns}
+use Rattle.giv_files.proofs.FileFaults.{limits_refuse, none_broken, rows_read}
 use Rattle.giv_files.proofs.Inputs.{refused_cells}
 use Rattle.event_tables.specs.Cells.{AreSmall}
 use Rattle.event_tables.specs.Schedules.{schedule_input, AreScheduleRows}
 use Rattle.event_tables.proofs.CellFacts.{small_cells}
-use Rattle.event_tables.proofs.Files.{limits_refuse, rows_read}
-use Rattle.event_tables.proofs.RowsTested.{none_broken}
 use Rattle.event_tables.proofs.SoundFiles.{sound_read}
 use Rattle.event_tables.proofs.SoundTrips.{schedule_rows_sound}
 use Rattle.event_tables.proofs.schedule_file.schedule_rows.Goals as goal
@@ -45,7 +44,7 @@ pub returns-clause-read : goal.returns-clause-read
 returns-clause-read c =
     let read = c.in_ok-table.ensures.table in
     rows_read (schedule_input c.args.events.now) c.args.text.now c.in_ok-table.table read.0 read.1
-    (λ rows. rows.items) refl (none_broken _
+    (λ rows all. rows.items ≡ all) refl (none_broken _
     (sym c.too_many_of_a_kind.ensures
     ∙ c.in_default.is)) c.read_records.result c.read_records.ensures
 
@@ -57,7 +56,7 @@ returns-clause-sound c =
     sound_read (λ rows. rows.items) (input_faults input text)
     (records_of input text) (AreScheduleRows c.args.events.now) c.read_records.result
     (rows_read input text c.in_ok-table.table read.0 read.1
-    (λ rows. rows.items) refl (none_broken _
+    (λ rows all. rows.items ≡ all) refl (none_broken _
     (sym c.too_many_of_a_kind.ensures
     ∙ c.in_default.is)) c.read_records.result c.read_records.ensures)
     (schedule_rows_sound c.args.events.now text c.requires)

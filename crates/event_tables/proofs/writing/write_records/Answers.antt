@@ -1,14 +1,14 @@
 use Rattle.std.proofs.Common.{ap, subst, sym, ◌∙◌, arith, All}
 use Rattle.std.proofs.lemmas.List.{take_all}
 use Rattle.giv_files.specs.Writing.{InColumns}
-use Rattle.event_tables.specs.RowsOfTables.{rows_by}
+use Rattle.giv_files.specs.RowsOfTables.{rows_by}
 use Rattle.event_tables.proofs.WrittenRecords.{rows_inside, reads_as}
 use Rattle.event_tables.proofs.writing.write_records.Goals as goal
 
 pub write_table-requires : goal.write_table-requires
 write_table-requires g c =
     let rows = c.args.rows.now in
-    let cells_of = g.X.Record.cells_of in
+    let cells_of = g.X.WrittenRecord.cells_of in
     let inside = rows_inside c.args.kinds.now g.X.Record.of_cells cells_of rows c.requires.cells in
     let is = c.loop-row.invariant
     ∙ ap (rows_by cells_of) (take_all c.loop-row.row-index rows (omega arith)) in (
@@ -35,7 +35,7 @@ write_table-requires g c =
 pub returns-clause-back : goal.returns-clause-back
 returns-clause-back g c =
     let rows = c.args.rows.now in
-    let cells_of = g.X.Record.cells_of in
+    let cells_of = g.X.WrittenRecord.cells_of in
     let is = c.loop-row.invariant
     ∙ ap (rows_by cells_of) (take_all c.loop-row.row-index rows (omega arith)) in
     reads_as c.args.kinds.now g.X.Record.of_cells cells_of rows c.requires.back c.loop-row.table is c.write_table.result c.write_table.ensures.back

@@ -1,7 +1,7 @@
 -- The table has the rows of the records so far.
 use Rattle.std.proofs.Common.{◌≡◌, take}
-use Rattle.event_tables.specs.RowsOfTables.{rows_by}
+use Rattle.giv_files.specs.RowsOfTables.{rows_by}
 use Rattle.event_tables.proofs.writing.write_records.Given as goal
 
 abbrev pub invariant-loop-row : goal.invariant-loop-row
-invariant-loop-row g l = l.table ≡ rows_by g.X.Record.cells_of (take l.row-index l.rows)
+invariant-loop-row g l = l.table ≡ rows_by g.X.WrittenRecord.cells_of (take l.row-index l.rows)

@@ -10,7 +10,7 @@ use Rattle.giv_files.specs.Inputs.{Numbered, Input, Limit, RowRule, row_limit, i
 use Rattle.giv_files.specs.Reading.{faults, table_of}
 use Rattle.giv_files.specs.Tables.{TableRow}
 use Rattle.giv_files.specs.Writing.{table_text}
-use Rattle.event_tables.specs.declared.row_limit.RowLimit.{RowLimit}
+use Rattle.giv_files.specs.declared.row_limit.RowLimit.{RowLimit}
 
 -- what the rows of a table stand for
 abbrev pub records_by : {X : Type 0} → (List ℤ → X) → List TableRow → List X

@@ -2,11 +2,11 @@
 ghost use Rattle.std.specs.Prelude.{◌≡◌, ◌++◌, ◌∷◌, List, [], IfOk, slice_get, None};
 ghost use Rattle.giv_files.specs.Inputs.{RowRule, broken_whys};
 
-use giv_files::RowWhy;
+use crate::row_why::RowWhy;
 use plan_num::NoMemory;
 
 /// The rules of the rows of a file, with what is known of the rows that were tested.
-pub(crate) trait RowTests<X>: Drop {
+pub trait RowTests<X>: Drop {
     ghost rules: { Self → List (RowRule X) };
 
     ghost Knows: { Self → List X → Type 0 };

@@ -1,18 +1,19 @@
 // How many rows a file may have.
 ghost use Rattle.std.specs.Prelude.{◌≡◌, slice_get};
-ghost use Rattle.event_tables.specs.RowsOfTables.{too_many_rows};
+ghost use Rattle.giv_files.specs.RowsOfTables.{too_many_rows};
 
-use giv_files::{Counted, Refusal};
+use crate::counted::Counted;
+use crate::refusal::Refusal;
 
 /// How many rows there may be, and as what they are counted.
 #[derive(Clone, Copy)]
-pub(crate) struct RowLimit {
-    pub(crate) what: Counted,
-    pub(crate) most: usize,
+pub struct RowLimit {
+    pub what: Counted,
+    pub most: usize,
 }
 
 /// The refusal of so many rows, where they are too many.
-pub(crate) fn too_many(limit: Option<RowLimit>, count: usize) -> Option<Refusal>
+pub fn too_many(limit: Option<RowLimit>, count: usize) -> Option<Refusal>
     ensures { result ≡ slice_get (too_many_rows limit count) 0 }
 {
     let RowLimit { what, most } = limit?;

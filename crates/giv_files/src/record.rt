@@ -2,24 +2,17 @@
 ghost use Rattle.std.specs.Prelude.{ℤ, ◌≡◌, ◌<◌, List, length, slice_index_or};
 ghost use Rattle.giv_files.specs.Tables.{no_row};
 
-use giv_files::Table;
+use crate::table::Table;
 
 /// What a row of a table stands for, where its cells fit.
-pub(crate) trait Record<const C: usize>: Copy + Drop {
+pub trait Record<const C: usize>: Copy + Drop {
     ghost Fits: { List ℤ → Type 0 };
 
     ghost of_cells: { List ℤ → Self };
-
-    ghost cells_of: { Self → List ℤ };
 
     /// What the row at an index stands for.
     fn read(table: &Table<C>, index: usize) -> Self
         requires row_in { index < length table.now }
         requires fits { Fits (slice_index_or table.now index no_row).cells }
         ensures { result ≡ of_cells (slice_index_or table.now index no_row).cells };
-
-    /// The cells of its row.
-    fn cells(&self) -> [i64; C]
-        requires { Fits (cells_of self.now) }
-        ensures { result ≡ cells_of self.now };
 }

@@ -1,5 +1,6 @@
 -- From the table of a text to the text: what refuses the one refuses the other.
-use Rattle.std.proofs.Common.{◌≡◌, ℕ, List, [], length, All, IfOk, refl, ap, subst, sym, ◌∙◌, Result, Ok, Err, Option, Some, None, slice_get}
+use Rattle.std.proofs.Common.{◌≡◌, ℕ, ◌≤◌, nat_lt, Bool, true, false, cond, List, [], ◌∷◌, length, All, IfOk, IfSome, refl, ap, subst, sym, ◌∙◌, Result, Ok, Err, Option, Some, None, slice_get}
+use Rattle.std.proofs.lemmas.Bool.{ltb-false}
 use Rattle.std.proofs.lemmas.List.{append-nil}
 use Rattle.giv_files.specs.declared.column.ColumnKind.{ColumnKind}
 use Rattle.giv_files.specs.declared.file_id.FileId.{FileId}
@@ -11,9 +12,13 @@ use Rattle.giv_files.specs.Tables.{TableRow}
 use Rattle.giv_files.specs.Writing.{InColumns}
 use Rattle.giv_files.proofs.Inputs.{faults_of_table, refused_limits, refused_rows, no_faults}
 use Rattle.giv_files.proofs.Ranges.{unmapped, table_in_columns}
-use Rattle.event_tables.specs.declared.row_limit.RowLimit.{RowLimit}
-use Rattle.event_tables.specs.RowsOfTables.{limits_of, too_many_rows}
-use Rattle.event_tables.proofs.RowsTested.{none_broken}
+use Rattle.giv_files.specs.declared.row_limit.RowLimit.{RowLimit}
+use Rattle.giv_files.specs.RowsOfTables.{limits_of, too_many_rows}
+
+-- nothing stands first in a list that is empty
+pub none_broken : {X : Type 0} (whys : List X) → slice_get whys 0 ≡ None → whys ≡ []
+none_broken [] none = refl
+none_broken (why ∷ whys) none = cc
 
 -- the cells of a text that was read are in the ranges of their columns
 pub cells_inside : (file : FileId) (kinds : List ColumnKind) (text : List ℕ) (read : Result (List TableRow) StageFault)
@@ -28,6 +33,18 @@ pub limits_are : {X : Type 0} (limit : Option RowLimit) (rows : List X)
     → limit_faults (limits_of limit) rows ≡ too_many_rows limit (length rows)
 limits_are None rows = refl
 limits_are (Some limit) rows = append-nil (too_many_rows (Some limit) (length rows))
+
+-- so many rows that are not too many are within the limit
+pub rows_within : (limit : Option RowLimit) (count rows : ℕ) (told : Option Refusal) → count ≡ rows
+    → told ≡ slice_get (too_many_rows limit count) 0 → told ≡ None
+    → IfSome limit (λ limit. rows ≤ limit.most)
+rows_within None count rows told is first none = tt
+rows_within (Some limit) count rows told is first none = subst (λ some. some ≤ limit.most) is
+    (ltb-false limit.most count (kept (nat_lt limit.most count) _ (sym first ∙ none)))
+  where
+    kept : (b : Bool) (fault : Refusal) → slice_get (cond b (fault ∷ []) []) 0 ≡ None → b ≡ false
+    kept true fault e = cc
+    kept false fault e = refl
 
 module _ {X : Type 0} (limit : Option RowLimit) (rows : List X) (count : ℕ) (told : Option Refusal) (is : count ≡ length rows) (first : told ≡ slice_get (too_many_rows limit count) 0) where
   -- so many rows are too many
@@ -51,13 +68,13 @@ module _ {X : Type 0} (input : Input X) (text : List ℕ) (table : List TableRow
       (λ (all : List Refusal). Refuses all fault) (faults_of_table input text table cells is) (refused_limits input table fault by)
 
   -- and one whose rows were read, where the file has no rule as a whole
-  pub rows_read : {A : Type 0} (view : A → List X) → input.table_rules ≡ []
+  pub rows_read : {A : Type 0} (P : A → List X → Type 0) → input.table_rules ≡ []
       → limit_faults input.limits (records input table) ≡ [] → (read : Result A StageFault)
-      → UnlessFault (table_row_faults input table) (λ rows. view rows ≡ records input table) read
-      → UnlessFault (input_faults input text) (λ rows. view rows ≡ records_of input text) read
-  rows_read view plain few (Ok rows) h = (
+      → UnlessFault (table_row_faults input table) (λ made. P made (records input table)) read
+      → UnlessFault (input_faults input text) (λ made. P made (records_of input text)) read
+  rows_read P plain few (Ok made) h = (
     sym (faults_of_table input text table cells is) ∙ no_faults input table few h.0 (rw plain refl),
-    h.1 ∙ ap (records input) is,
+    subst (λ some. P made (records input some)) is h.1,
   )
-  rows_read view plain few (Err fault) h = subst
+  rows_read P plain few (Err fault) h = subst
       (λ (all : List Refusal). Refuses all fault) (faults_of_table input text table cells is) (refused_rows input table fault few h)
