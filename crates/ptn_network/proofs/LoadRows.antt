@@ -20,21 +20,21 @@ use Rattle.std.proofs.lemmas.Simd.{map-map}
 use Rattle.giv_files.specs.declared.row_why.RowWhy.TheVariants as why
 use Rattle.giv_files.specs.declared.file_id.FileId.{FileId}
 use Rattle.giv_files.specs.declared.refusal.Refusal.TheVariants as refusal
-use Rattle.giv_files.specs.declared.refusal.StageFault.TheVariants as stage
 use Rattle.giv_files.specs.declared.column.ColumnKind.TheVariants as kind
 use Rattle.giv_files.specs.Columns.{load_columns}
-use Rattle.giv_files.specs.Inputs.{Input, records, records_of, broken_whys, input_faults, table_row_faults, table_faults}
+use Rattle.giv_files.specs.Inputs.{Input, records_of, broken_whys, input_faults}
 use Rattle.giv_files.specs.Reading.{table_of}
 use Rattle.giv_files.specs.Writing.{InColumns}
 use Rattle.giv_files.proofs.WriteFacts.{in_column}
-use Rattle.giv_files.proofs.Inputs.{sound_rows, refused_whole, no_faults, whole_rule_broken, whole_rule_kept}
+use Rattle.giv_files.proofs.Inputs.{sound_rows}
+use Rattle.giv_files.proofs.WholeRules.{without_whole, refused_as_whole, sound_as_whole}
 use Rattle.giv_files.specs.Tables.{TableRow}
 use Rattle.giv_files.proofs.Found.{any_mapped, any_found}
 use Rattle.ptn_network.specs.declared.edge.Edge.{Edge}
 use Rattle.ptn_network.specs.declared.edge_load.EdgeLoad.{EdgeLoad}
 use Rattle.ptn_network.specs.declared.load_row.LoadRow.{LoadRow}
 use Rattle.ptn_network.specs.Ids.{edge_with, StandsAt}
-use Rattle.ptn_network.specs.Loads.{load_input, load_row_of, load_rules, given_for, loads_of, loads_over, no_load, IsLoad}
+use Rattle.ptn_network.specs.Loads.{load_input, load_row_of, load_rules, given_for, loads_of, no_load, IsLoad}
 use Rattle.ptn_network.proofs.EdgeIds.{stands_within, own_id_at}
 use Rattle.ptn_network.proofs.PathSteps.{no_edge}
 
@@ -215,59 +215,57 @@ given_more edges before row given index rise are at new =
           ∙ sym now
     ])
 
--- ---- the whole table
-
-module _ (file : FileId) (edges : List Edge) (rows : List TableRow) (given : List (Option EdgeLoad))
-    (are : given ≡ map (given_for (records (load_input file edges) rows)) edges) where
-  abbrev input : Input LoadRow
-  input = load_input file edges
-
-  abbrev is_not_whole : List LoadRow → Bool
-  is_not_whole some = list_any (λ edge. not (is_some (given_for some edge))) edges
-
-  abbrev pub missing : Bool
-  missing = list_any (λ edge. not (is_some (given_for (records (load_input file edges) rows) edge)))
-      edges
-
-  -- an edge has no row where a load is not given
-  pub is_missing : list_any (λ load. not (is_some load)) given ≡ missing
-  is_missing = ap (list_any (λ load. not (is_some load))) are
-      ∙ any_mapped (λ load. not (is_some load)) (given_for
-      (records (load_input file edges) rows)) edges
-
-  -- then the table is refused by that, where no row breaks a rule
-  pub edge_missing : table_row_faults (load_input file edges) rows ≡ []
-      → list_any (λ load. not (is_some load)) given ≡ true
-      → slice_get (table_faults (load_input file edges) rows) 0
-      ≡ Some (refusal.BadRow file 0 why.MissingEdge)
-  edge_missing none e =
-      refused_whole input rows (stage.Refused (refusal.BadRow file 0 why.MissingEdge)) refl none
-      (whole_rule_broken input rows is_not_whole why.MissingEdge [] (sym is_missing ∙ e))
-
-  -- and else has no fault
-  pub table_kept : table_row_faults (load_input file edges) rows ≡ []
-      → list_any (λ load. not (is_some load)) given ≡ false
-      → table_faults (load_input file edges) rows ≡ []
-  table_kept none e = no_faults input rows refl none
-      (whole_rule_kept input rows is_not_whole why.MissingEdge [] (sym is_missing ∙ e))
-
-  -- the loads of all edges
-  pub all_loads : (loads : List EdgeLoad) → loads ≡ map (λ load. unwrap_or load no_load) given
-      → loads ≡ loads_over edges (records (load_input file edges) rows)
-  all_loads loads is = is ∙ ap (map (λ load. unwrap_or load no_load)) are
-      ∙ map-map (λ load. unwrap_or load no_load) (given_for
-      (records (load_input file edges) rows)) edges
+-- ---- the whole file
 
 -- loads are not all given where none are handed on
-pub not_all : (missing : Bool) (all : List EdgeLoad) → None ≡ cond missing None (Some all)
+not_all : (missing : Bool) (all : List EdgeLoad) → None ≡ cond missing None (Some all)
     → missing ≡ true
 not_all true all e = refl
 not_all false all e = cc
 
-pub all_are : (missing : Bool) (all loads : List EdgeLoad)
+all_are : (missing : Bool) (all loads : List EdgeLoad)
     → Some loads ≡ cond missing None (Some all) → (missing ≡ false) × (loads ≡ all)
 all_are true all loads e = cc
 all_are false all loads e = (refl, same_Some loads all e)
+
+module _ (file : FileId) (edges : List Edge) (text : List ℕ) (given : List (Option EdgeLoad))
+    (none : input_faults (without_whole (load_input file edges)) text ≡ [])
+    (are : given ≡ map (given_for (records_of (load_input file edges) text)) edges) where
+  abbrev input : Input LoadRow
+  input = load_input file edges
+
+  -- an edge has no row
+  abbrev lacks : List LoadRow → Bool
+  lacks rows = list_any (λ edge. not (is_some (given_for rows edge))) edges
+
+  abbrev pub missing : Bool
+  missing = list_any (λ load. not (is_some load)) given
+
+  abbrev pub all : List EdgeLoad
+  all = map (λ load. unwrap_or load no_load) given
+
+  -- so it is where a load is not given
+  is_missing : lacks (records_of input text) ≡ missing
+  is_missing = sym (ap (list_any (λ load. not (is_some load))) are
+      ∙ any_mapped (λ load. not (is_some load)) (given_for (records_of input text)) edges)
+
+  -- then the text is refused by that
+  pub edge_missing : None ≡ cond missing None (Some all)
+      → slice_get (input_faults (load_input file edges) text) 0
+      ≡ Some (refusal.BadRow file 0 why.MissingEdge)
+  edge_missing e = refused_as_whole input text lacks why.MissingEdge refl none
+      (is_missing ∙ not_all missing all e)
+
+  -- and else has no fault, and the loads are those of all edges
+  pub loads_given : (loads : List EdgeLoad) → Some loads ≡ cond missing None (Some all)
+      → (input_faults (load_input file edges) text ≡ []) × (loads ≡ loads_of file edges text)
+  unfolding loads_of
+  loads_given loads e =
+      let made = all_are missing all loads e in (
+        sound_as_whole input text lacks why.MissingEdge refl none (is_missing ∙ made.0),
+        made.1 ∙ ap (map (λ load. unwrap_or load no_load)) are
+            ∙ map-map (λ load. unwrap_or load no_load) (given_for (records_of input text)) edges,
+      )
 
 -- ---- what holds of the loads of a text without a fault
 
@@ -319,15 +317,6 @@ loads_sound file edges text none =
     (λ k d h. row_is_load edges (sound k d h).0 _ (sound k d h).1 (sound k d h).2) in
     All-map IsLoad (λ edge. unwrap_or (given_for rows edge) no_load) edges
     (λ k d h. found_is_load (λ row. int_eq (get_or edges k d).id row.edge) rows all)
-
--- the loads of a table are those of its text
-pub loads_are : (file : FileId) (edges : List Edge) (text : List ℕ) (table : List TableRow)
-    (loads : List EdgeLoad) → table ≡ table_of load_columns text
-    → loads ≡ loads_over edges (records (load_input file edges) table)
-    → loads ≡ loads_of file edges text
-unfolding loads_of
-loads_are file edges text table loads is told =
-    told ∙ ap (λ rows. loads_over edges (records (load_input file edges) rows)) is
 
 -- there is one for each edge
 pub loads_count : (file : FileId) (edges : List Edge) (text : List ℕ)

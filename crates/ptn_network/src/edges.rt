@@ -1,20 +1,26 @@
 // Reading edges.
-ghost use Rattle.std.specs.Prelude.{◌≡◌, ℤ, List, [], map, is_some, MatchResult, slice_get, Some};
+ghost use Rattle.std.specs.Prelude.{◌≡◌, ⊤, [], List, map, is_some, MatchResult, slice_get, Some};
 ghost use Rattle.std.specs.List.{list_any};
 ghost use Rattle.std.specs.Ordering.{int_eq};
-ghost use Rattle.giv_files.specs.Inputs.{input_faults, records, records_of, table_row_faults, table_faults, broken_whys, UnlessFault};
+ghost use Rattle.giv_files.specs.Inputs.{input_faults, records_of, broken_whys, UnlessFault};
 ghost use Rattle.indexmap.specs.IndexMap.{get};
 ghost use Rattle.ptn_network.specs.declared.edge_row.EdgeRow.{EdgeRow};
-ghost use Rattle.ptn_network.specs.Inputs.{edge_input, edge_rules};
+ghost use Rattle.ptn_network.specs.Inputs.{edge_input, edge_row, edge_rules};
 ghost use Rattle.ptn_network.specs.Networks.{by_id, edge_entry, edge_of};
 
 use crate::edge::Edge;
 use crate::edge_row::EdgeRow;
-use giv_files::{Counted, FileId, Refusal, RowWhy, StageFault, Table, columns, read_input};
+use giv_files::{
+    Counted, FileId, RowFold, RowLimit, RowWhy, StageFault, Table, columns, fold_file,
+};
 use indexmap::{IndexMap, IndexSet};
+use plan_num::NoMemory;
 use std::alloc::Global;
 
-const MOST_EDGES: usize = 1_000;
+const LIMIT: RowLimit = RowLimit {
+    what: Counted::Edges,
+    most: 1_000,
+};
 
 /// The edges of a text by id rising, between stops whose ids rise, or the first fault of the text.
 pub(crate) fn read_edges(
@@ -26,58 +32,52 @@ pub(crate) fn read_edges(
         (λ edges. edges.entries ≡ by_id (map (edge_entry stops.now.keys)
         (records_of (edge_input stops.now.keys) text.now))) result }
 {
-    let table = read_input(alloc, FileId::Edge, text, &columns!(Edge))?;
-    edges_of_table(alloc, stops, &table)
-}
-
-// The edges of a table by id rising, or its first fault.
-fn edges_of_table(
-    alloc: Global,
-    stops: &IndexSet<i64>,
-    table: &Table<6>,
-) -> Result<IndexMap<i64, Edge>, StageFault>
-    ensures { UnlessFault (table_faults (edge_input stops.now.keys) table.now)
-        (λ edges. edges.entries ≡ by_id (map (edge_entry stops.now.keys)
-        (records (edge_input stops.now.keys) table.now))) result }
-{
-    if table.len() > MOST_EDGES {
-        return Err(StageFault::Refused(Refusal::TooMany {
-            what: Counted::Edges,
-            count: table.len() as u64,
-        }));
-    }
-    let mut edges = edges_of_rows(alloc, stops, table)?;
+    let fold = EachEdge { stops };
+    let none = IndexMap::new(alloc);
+    let limit = Some(LIMIT);
+    let mut edges = fold_file(
+        alloc,
+        FileId::Edge,
+        text,
+        &columns!(Edge),
+        limit,
+        &fold,
+        none,
+    )?;
     edges.sort_keys()?;
     Ok(edges)
 }
 
-// The edges of the rows of a table in their order, or the first row that breaks a rule.
-fn edges_of_rows(
-    alloc: Global,
-    stops: &IndexSet<i64>,
-    table: &Table<6>,
-) -> Result<IndexMap<i64, Edge>, StageFault>
-    ensures { UnlessFault (table_row_faults (edge_input stops.now.keys) table.now)
-        (λ edges. edges.entries ≡ map (edge_entry stops.now.keys)
-        (records (edge_input stops.now.keys) table.now)) result }
-{
-    let mut edges = IndexMap::new(alloc);
-    for i in 0..table.len() {
-        let row = EdgeRow::read(table, i);
-        match new_edge(stops, &edges, &row) {
+// The fold that keeps each edge between stops by its id.
+#[derive(Drop)]
+struct EachEdge<'a> {
+    stops: &'a IndexSet<i64>,
+}
+
+impl<'a> RowFold<6, EdgeRow, IndexMap<i64, Edge>> for EachEdge<'a> {
+    ghost of_cells = { edge_row };
+
+    ghost rules = { λ fold _. edge_rules fold.stops.now.keys };
+
+    ghost Fits = { λ _. ⊤ };
+
+    ghost Knows = { λ fold edges rows. edges.entries ≡ map (edge_entry fold.stops.now.keys) rows };
+
+    fn take_row(
+        &self,
+        made: &mut IndexMap<i64, Edge>,
+        table: &Table<6>,
+        index: usize,
+    ) -> Result<Option<RowWhy>, NoMemory> {
+        let row = EdgeRow::read(table, index);
+        match new_edge(self.stops, made, &row) {
             Ok(edge) => {
-                edges.insert(row.id, edge)?;
+                made.insert(row.id, edge)?;
+                Ok(None)
             }
-            Err(why) => {
-                return Err(StageFault::Refused(Refusal::BadRow {
-                    file: FileId::Edge,
-                    row: table.number(i),
-                    why,
-                }));
-            }
+            Err(why) => Ok(Some(why)),
         }
     }
-    Ok(edges)
 }
 
 // The edge of a row after other edges, or why the row is refused.

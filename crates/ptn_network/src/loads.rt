@@ -1,16 +1,16 @@
 // Loads that a file has.
-ghost use Rattle.std.specs.Prelude.{◌≡◌, ◌<◌, [], List, length, map, slice_get, slice_index_or, not, is_some, option_map, unwrap_or, if◌then◌else◌, None, Some, IfOk, MatchResult};
+ghost use Rattle.std.specs.Prelude.{◌≡◌, ◌<◌, ⊤, [], List, length, map, slice_get, slice_index_or, not, is_some, option_map, unwrap_or, if◌then◌else◌, None, Some, IfOk, MatchResult};
 ghost use Rattle.std.specs.List.{list_any, All};
-ghost use Rattle.giv_files.specs.Inputs.{input_faults, records, table_row_faults, table_faults, broken_whys, UnlessFault};
+ghost use Rattle.giv_files.specs.Inputs.{input_faults, broken_whys, UnlessFault};
 ghost use Rattle.ptn_network.specs.Networks.{IsNetwork};
 ghost use Rattle.ptn_network.specs.declared.load_row.LoadRow.{LoadRow};
 ghost use Rattle.ptn_network.specs.Ids.{StandsAt};
-ghost use Rattle.ptn_network.specs.Loads.{load_input, load_rules, given_for, loads_of, loads_over, no_load, IsLoad};
+ghost use Rattle.ptn_network.specs.Loads.{load_input, load_row_of, load_rules, given_for, loads_of, no_load, IsLoad};
 
 use crate::edge_load::EdgeLoad;
 use crate::load_row::LoadRow;
 use crate::network::Network;
-use giv_files::{FileId, Refusal, RowWhy, StageFault, Table, columns, read_input};
+use giv_files::{FileId, Refusal, RowFold, RowWhy, StageFault, Table, columns, fold_file};
 use plan_num::NoMemory;
 use std::alloc::Global;
 use std::marker::Model;
@@ -47,9 +47,17 @@ impl Loads {
         ensures { UnlessFault (input_faults (load_input file network.now.edges) text.now)
             (λ loads. loads ≡ loads_of file network.now.edges text.now) result }
     {
-        let table = read_input(alloc, file, text, &columns!(Load))?;
-        let loads = loads_of_table(alloc, network, file, &table)?;
-        Ok(Loads { loads })
+        let fold = EachLoad { network };
+        let none = none_given(alloc, network)?;
+        let given = fold_file(alloc, file, text, &columns!(Load), None, &fold, none)?;
+        match all_given(alloc, &given)? {
+            Some(loads) => Ok(Loads { loads }),
+            None => Err(StageFault::Refused(Refusal::BadRow {
+                file,
+                row: 0,
+                why: RowWhy::MissingEdge,
+            })),
+        }
     }
 
     /// How many loads there are: one for each edge.
@@ -77,56 +85,37 @@ impl Loads {
     }
 }
 
-// The loads of a table, or its first fault.
-fn loads_of_table(
-    alloc: Global,
-    network: &Network,
-    file: FileId,
-    table: &Table<4>,
-) -> Result<Vec<EdgeLoad>, StageFault>
-    ensures { UnlessFault (table_faults (load_input file network.now.edges) table.now)
-        (λ loads. loads.items ≡ loads_over network.now.edges
-        (records (load_input file network.now.edges) table.now)) result }
-{
-    let given = loads_of_rows(alloc, network, file, table)?;
-    match all_given(alloc, &given)? {
-        Some(loads) => Ok(loads),
-        None => Err(StageFault::Refused(Refusal::BadRow {
-            file,
-            row: 0,
-            why: RowWhy::MissingEdge,
-        })),
-    }
+// The fold that keeps each load at the index of its edge.
+#[derive(Drop)]
+struct EachLoad<'a> {
+    network: &'a Network,
 }
 
-// The loads of the rows of a table, each at the index of its edge, or the first row that breaks a
-// rule.
-fn loads_of_rows(
-    alloc: Global,
-    network: &Network,
-    file: FileId,
-    table: &Table<4>,
-) -> Result<Vec<Option<EdgeLoad>>, StageFault>
-    ensures { UnlessFault (table_row_faults (load_input file network.now.edges) table.now)
-        (λ given. given.items
-        ≡ map (given_for (records (load_input file network.now.edges) table.now)) network.now.edges)
-        result }
-{
-    let mut given = none_given(alloc, network)?;
-    for i in 0..table.len() {
-        let row = LoadRow::read(table, i);
-        match new_place(network, &given, &row) {
-            Ok(index) => given[index] = Some(row.load),
-            Err(why) => {
-                return Err(StageFault::Refused(Refusal::BadRow {
-                    file,
-                    row: table.number(i),
-                    why,
-                }));
+impl<'a> RowFold<4, LoadRow, Vec<Option<EdgeLoad>>> for EachLoad<'a> {
+    ghost of_cells = { load_row_of };
+
+    ghost rules = { λ fold _. load_rules fold.network.now.edges };
+
+    ghost Fits = { λ _. ⊤ };
+
+    ghost Knows = { λ fold given rows. IsNetwork fold.network.now
+        × (given.items ≡ map (given_for rows) fold.network.now.edges) };
+
+    fn take_row(
+        &self,
+        made: &mut Vec<Option<EdgeLoad>>,
+        table: &Table<4>,
+        index: usize,
+    ) -> Result<Option<RowWhy>, NoMemory> {
+        let row = LoadRow::read(table, index);
+        match new_place(self.network, made, &row) {
+            Ok(place) => {
+                made[place] = Some(row.load);
+                Ok(None)
             }
+            Err(why) => Ok(Some(why)),
         }
     }
-    Ok(given)
 }
 
 // Before the first row no load is given.

@@ -1,54 +1,60 @@
 // Reading stops.
-ghost use Rattle.std.specs.Prelude.{◌≡◌, []};
-ghost use Rattle.giv_files.specs.Inputs.{input_faults, records, table_row_faults, table_faults, UnlessFault};
-ghost use Rattle.ptn_network.specs.Inputs.{stop_input};
-ghost use Rattle.ptn_network.specs.Networks.{rising, stops_of};
+ghost use Rattle.std.specs.Prelude.{◌≡◌, ⊤};
+ghost use Rattle.giv_files.specs.Inputs.{input_faults, UnlessFault};
+ghost use Rattle.ptn_network.specs.Inputs.{stop_input, stop_row};
+ghost use Rattle.ptn_network.specs.Networks.{stops_of};
 
-use giv_files::{Counted, FileId, Refusal, RowWhy, StageFault, Table, columns, read_input};
+use giv_files::{
+    Counted, FileId, RowFold, RowLimit, RowWhy, StageFault, Table, columns, fold_file,
+};
 use indexmap::IndexSet;
+use plan_num::NoMemory;
 use std::alloc::Global;
 
-const MOST_STOPS: usize = 1_000;
+const LIMIT: RowLimit = RowLimit {
+    what: Counted::Stops,
+    most: 1_000,
+};
 
 /// The ids of the stops of a text, rising, or the first fault of the text.
 pub(crate) fn read_stops(alloc: Global, text: &[u8]) -> Result<IndexSet<i64>, StageFault>
     ensures { UnlessFault (input_faults stop_input text.now)
         (λ stops. stops.keys ≡ stops_of text.now) result }
 {
-    let table = read_input(alloc, FileId::Stop, text, &columns!(Stop))?;
-    stops_of_table(alloc, &table)
-}
-
-// The ids of the stops of a table, rising, or its first fault.
-fn stops_of_table(alloc: Global, table: &Table<5>) -> Result<IndexSet<i64>, StageFault>
-    ensures { UnlessFault (table_faults stop_input table.now)
-        (λ stops. stops.keys ≡ rising (records stop_input table.now)) result }
-{
-    if table.len() > MOST_STOPS {
-        return Err(StageFault::Refused(Refusal::TooMany {
-            what: Counted::Stops,
-            count: table.len() as u64,
-        }));
-    }
-    let mut stops = ids_of_rows(alloc, table)?;
+    let none = IndexSet::new(alloc);
+    let limit = Some(LIMIT);
+    let mut stops = fold_file(
+        alloc,
+        FileId::Stop,
+        text,
+        &columns!(Stop),
+        limit,
+        &EachStop,
+        none,
+    )?;
     stops.sort()?;
     Ok(stops)
 }
 
-// The ids of the rows of a table in their order, or the first row that repeats one.
-fn ids_of_rows(alloc: Global, table: &Table<5>) -> Result<IndexSet<i64>, StageFault>
-    ensures { UnlessFault (table_row_faults stop_input table.now)
-        (λ stops. stops.keys ≡ records stop_input table.now) result }
-{
-    let mut stops = IndexSet::new(alloc);
-    for i in 0..table.len() {
-        if !stops.insert(table.cell(i, 0))? {
-            return Err(StageFault::Refused(Refusal::BadRow {
-                file: FileId::Stop,
-                row: table.number(i),
-                why: RowWhy::RepeatedId,
-            }));
-        }
+// The fold that keeps the id of each stop.
+struct EachStop;
+
+impl RowFold<5, i64, IndexSet<i64>> for EachStop {
+    ghost of_cells = { stop_row };
+
+    ghost rules = { λ _ _. stop_input.row_rules };
+
+    ghost Fits = { λ _. ⊤ };
+
+    ghost Knows = { λ _ stops ids. stops.keys ≡ ids };
+
+    fn take_row(
+        &self,
+        made: &mut IndexSet<i64>,
+        table: &Table<5>,
+        index: usize,
+    ) -> Result<Option<RowWhy>, NoMemory> {
+        let is_new = made.insert(table.cell(index, 0))?;
+        Ok((!is_new).then_some(RowWhy::RepeatedId))
     }
-    Ok(stops)
 }
