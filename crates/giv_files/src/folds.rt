@@ -26,7 +26,7 @@ pub fn fold_file<const C: usize, X, S: Drop, F: RowFold<C, X, S>>(
 ) -> Result<S, StageFault>
     requires narrow { C < 2 ^ 32 }
     requires fits { (table : List TableRow) → All (λ row. InColumns kinds.now row.cells) table
-        → IfSome limit (λ limit. length table ≤ limit.most) → F.Fits table }
+        → IfSome limit (λ limit. length table ≤ limit.most) → F.Fits fold.now table }
     requires knows { F.Knows fold.now first [] }
     ensures { UnlessFault
         (input_faults (plain_input file kinds.now F.of_cells limit (F.rules fold.now first)) text.now)
@@ -47,7 +47,7 @@ pub fn fold_rows<const C: usize, X, S: Drop, F: RowFold<C, X, S>>(
     fold: &F,
     first: S,
 ) -> Result<S, StageFault>
-    requires fits { F.Fits table.now }
+    requires fits { F.Fits fold.now table.now }
     requires knows { F.Knows fold.now first [] }
     ensures { UnlessFault
         (row_faults file (F.rules fold.now first) [] (numbered_by F.of_cells table.now))

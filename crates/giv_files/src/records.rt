@@ -75,7 +75,7 @@ impl<const C: usize, X: Record<C>, T: RowTests<X>> RowFold<C, X, Tested<X, T>> f
 
     ghost rules = { λ _ tested. T.rules tested.tests };
 
-    ghost Fits = { All (λ row. X.Fits row.cells) };
+    ghost Fits = { λ _. All (λ row. X.Fits row.cells) };
 
     ghost Knows = { λ _ tested rows. (T.Knows tested.tests rows) × (tested.rows.items ≡ rows) };
 

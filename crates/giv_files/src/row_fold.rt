@@ -18,7 +18,7 @@ pub trait RowFold<const C: usize, X, S> {
     ghost rules: { Self → S → List (RowRule X) };
 
     /// What holds of a table whose rows may be taken.
-    ghost Fits: { List TableRow → Type 0 };
+    ghost Fits: { Self → List TableRow → Type 0 };
 
     /// What is known of what is made of some rows.
     ghost Knows: { Self → S → List X → Type 0 };
@@ -31,7 +31,7 @@ pub trait RowFold<const C: usize, X, S> {
         index: usize,
     ) -> Result<Option<RowWhy>, NoMemory>
         requires row_in { index < length table.now }
-        requires fits { Fits table.now }
+        requires fits { Fits self.now table.now }
         requires knows { Knows self.now made.old (records_by of_cells (take index table.now)) }
         ensures rules { IfOk result (λ _. rules self.now made.new ≡ rules self.now made.old) }
         ensures first { IfOk result (λ why. why

@@ -59,7 +59,7 @@ impl<'a> RowFold<6, EdgeRow, IndexMap<i64, Edge>> for EachEdge<'a> {
 
     ghost rules = { λ fold _. edge_rules fold.stops.now.keys };
 
-    ghost Fits = { λ _. ⊤ };
+    ghost Fits = { λ _ _. ⊤ };
 
     ghost Knows = { λ fold edges rows. edges.entries ≡ map (edge_entry fold.stops.now.keys) rows };
 

@@ -96,7 +96,7 @@ impl<'a> RowFold<4, LoadRow, Vec<Option<EdgeLoad>>> for EachLoad<'a> {
 
     ghost rules = { λ fold _. load_rules fold.network.now.edges };
 
-    ghost Fits = { λ _. ⊤ };
+    ghost Fits = { λ _ _. ⊤ };
 
     ghost Knows = { λ fold given rows. IsNetwork fold.network.now
         × (given.items ≡ map (given_for rows) fold.network.now.edges) };

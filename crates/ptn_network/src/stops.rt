@@ -44,7 +44,7 @@ impl RowFold<5, i64, IndexSet<i64>> for EachStop {
 
     ghost rules = { λ _ _. stop_input.row_rules };
 
-    ghost Fits = { λ _. ⊤ };
+    ghost Fits = { λ _ _. ⊤ };
 
     ghost Knows = { λ _ stops ids. stops.keys ≡ ids };
 
