@@ -1,10 +1,11 @@
--- Other crates cite lemmas of CellFacts, CellsBack, Numbering, RanksRise, SoundFiles, SoundTimes,
--- SoundTrips and WrittenRecords.
+-- Other crates cite lemmas of CellFacts, CellsBack, Numbering, PlacesKept, RanksRise, SoundFiles,
+-- SoundTimes, SoundTrips and WrittenRecords.
 pub mod CellFacts
 pub mod CellsBack
 mod Fitting
 pub mod Numbering
 mod OwnRows
+pub mod PlacesKept
 pub mod RanksRise
 mod ScheduleRows
 pub mod SoundFiles

@@ -1,15 +1,14 @@
 -- Files in which each event has a row.
-use Rattle.std.proofs.Common.{◌≡◌, ℕ, ◌+◌, ◌<◌, ◌≤◌, arith, Bool, true, false, nat_lt, ltb, List, [], ◌∷◌, ◌++◌, length, map, get_or, slice_get, refl, ap, sym, subst, ◌∙◌, Result, Ok, Err, Some, MatchResult, All}
+use Rattle.std.proofs.Common.{◌≡◌, ℕ, ◌+◌, ◌<◌, ◌≤◌, arith, Bool, true, false, nat_lt, ltb, List, [], ◌∷◌, length, map, get_or, refl, ap, sym, subst, ◌∙◌, Result, Ok, Err, MatchResult, All}
 use Rattle.std.proofs.lemmas.Bool.{lt-ltb, le-ltb, ltb-true, ltb-false}
-use Rattle.std.proofs.lemmas.List.{append-nil, get_or-map}
+use Rattle.std.proofs.lemmas.List.{get_or-map}
 use Rattle.std.proofs.lemmas.List.FromFn.{get_or-range_with_len}
 use Rattle.std.specs.List.{list_any, range_with_len}
 use Rattle.giv_files.specs.declared.row_why.RowWhy.TheVariants as why
-use Rattle.giv_files.specs.declared.refusal.Refusal.{Refusal}
 use Rattle.giv_files.specs.declared.refusal.Refusal.TheVariants as refusal
 use Rattle.giv_files.specs.declared.refusal.StageFault.{StageFault}
 use Rattle.giv_files.specs.declared.refusal.StageFault.TheVariants as stage
-use Rattle.giv_files.specs.Inputs.{Input, RowRule, records, records_of, numbered, cell_faults, limit_faults, table_row_faults, whole_faults, input_faults, or_else, Refuses, UnlessFault}
+use Rattle.giv_files.specs.Inputs.{Input, RowRule, records_of, numbered, whole_faults, input_faults, Refuses, UnlessFault}
 use Rattle.giv_files.specs.Reading.{table_of}
 use Rattle.giv_files.proofs.Inputs.{parts_sound, table_sound, whole_rule_sound}
 use Rattle.giv_files.proofs.WholeRules.{without_whole, refused_as_whole, sound_as_whole}
