@@ -6,7 +6,7 @@ mod CostRows
 mod CostRules
 mod CostsAccepted
 pub mod EdgesOfTexts
-mod FirstRows
+mod LineIds
 pub mod LinesBack
 mod PoolTables
 mod RowsOfLines

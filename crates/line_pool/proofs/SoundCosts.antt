@@ -1,5 +1,5 @@
 -- What holds of the costs of a text without a fault.
-use Rattle.std.proofs.Common.{◌≡◌, ℕ, ℤ, pos, arith, lit<, cond, Bool, true, false, List, [], ◌∷◌, length, get_or, ap, ◌∙◌, Some, option_map, unwrap_or}
+use Rattle.std.proofs.Common.{◌≡◌, ℕ, ℤ, pos, arith, lit<, cond, Bool, true, false, List, [], ◌∷◌, length, get_or, Some, option_map, unwrap_or}
 use Rattle.std.specs.List.{All, find}
 use Rattle.std.specs.Ordering.{int_eq}
 use Rattle.std.proofs.lemmas.Int.{ints}
@@ -7,13 +7,13 @@ use Rattle.std.proofs.lemmas.List.{length-map}
 use Rattle.std.proofs.lemmas.List.Elements.{All-head, All-tail, All-map}
 use Rattle.giv_files.specs.declared.column.ColumnKind.TheVariants as kind
 use Rattle.giv_files.specs.Columns.{pool_cost_columns}
-use Rattle.giv_files.specs.Inputs.{records, records_of, input_faults}
+use Rattle.giv_files.specs.Inputs.{records_of, input_faults}
 use Rattle.giv_files.specs.Reading.{table_of}
 use Rattle.giv_files.specs.Tables.{TableRow}
 use Rattle.giv_files.specs.Writing.{InColumns}
 use Rattle.giv_files.proofs.Inputs.{sound_rows}
 use Rattle.giv_files.proofs.WriteFacts.{in_column}
-use Rattle.line_pool.specs.GivenCosts.{cost_for, costs_over, costs_of, IsCost}
+use Rattle.line_pool.specs.GivenCosts.{cost_for, costs_of, IsCost}
 use Rattle.line_pool.specs.PoolCosts.{CostRow, cost_row_of, pool_cost_input}
 use Rattle.line_pool.specs.Pools.{LineParts}
 
@@ -44,14 +44,6 @@ costs_sound lines text none =
     (λ k d h. row_is_cost _ (sound k d h).2) in
     All-map IsCost (λ (line : LineParts). unwrap_or (cost_for line.id rows) (pos 0)) lines
     (λ k d h. found_is_cost (λ row. int_eq (get_or lines k d).id row.line) rows all)
-
--- the costs of a table are those of its text
-pub costs_are : (lines : List LineParts) (text : List ℕ) (table : List TableRow) (costs : List ℤ)
-    → table ≡ table_of pool_cost_columns text
-    → costs ≡ costs_over lines (records (pool_cost_input lines) table) → costs ≡ costs_of lines text
-unfolding costs_of
-costs_are lines text table costs is told =
-    told ∙ ap (λ rows. costs_over lines (records (pool_cost_input lines) rows)) is
 
 -- there is one for each line
 pub costs_count : (lines : List LineParts) (text : List ℕ)

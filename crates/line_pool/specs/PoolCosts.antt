@@ -6,14 +6,10 @@ use Rattle.giv_files.specs.declared.file_id.FileId.TheVariants as file
 use Rattle.giv_files.specs.declared.row_why.RowWhy.TheVariants as why
 use Rattle.giv_files.specs.Columns.{pool_cost_columns}
 use Rattle.giv_files.specs.Inputs.{Input, RowRule, TableRule, own_id, whole_rule}
+pub use Rattle.line_pool.specs.declared.cost_row.CostRow.{CostRow}
 use Rattle.line_pool.specs.Pools.{LineParts}
 
 -- a row: a line, its length and its cost
-pub record CostRow : Type 0 where
-  pub line : ℤ
-  pub length : ℤ
-  pub cost : ℤ
-
 abbrev pub cost_row_of : List ℤ → CostRow
 cost_row_of cells = record {
   line = get_or cells 0 (pos 0);

@@ -1,17 +1,15 @@
 // Costs that a file gives the lines of a pool.
-ghost use Rattle.std.specs.Prelude.{◌≡◌, ◌<◌, ◌≤◌, List, length, map, take, slice_get};
-ghost use Rattle.std.specs.Prelude.{slice_index_or, not, option_map, if◌then◌else◌};
-ghost use Rattle.std.specs.Prelude.{None, Some, IfOk};
-ghost use Rattle.std.specs.List.{list_any, All};
+ghost use Rattle.std.specs.Prelude.{◌≡◌, ◌<◌, ⊤, length, slice_get, not, option_map};
+ghost use Rattle.std.specs.Prelude.{if◌then◌else◌, None, Some, IfOk};
+ghost use Rattle.std.specs.List.{find, list_any, All};
 ghost use Rattle.std.specs.Ordering.{int_eq};
-ghost use Rattle.giv_files.specs.Inputs.{input_faults, records, table_row_faults, table_faults};
-ghost use Rattle.giv_files.specs.Inputs.{broken_whys, UnlessFault};
-ghost use Rattle.giv_files.specs.Tables.{cell_at, no_row};
+ghost use Rattle.giv_files.specs.Inputs.{input_faults, UnlessFault};
 ghost use Rattle.line_pool.specs.GivenCosts.{cost_for, costs_over, costs_of, IsCost};
-ghost use Rattle.line_pool.specs.PoolCosts.{cost_row_of, pool_cost_input};
+ghost use Rattle.line_pool.specs.PoolCosts.{pool_cost_input};
 
+use crate::cost_row::CostRow;
 use crate::pool::Pool;
-use giv_files::{FileId, Refusal, RowWhy, StageFault, Table, columns, read_input};
+use giv_files::{FileId, Refusal, RowTests, RowWhy, StageFault, columns, read_file};
 use plan_num::NoMemory;
 use std::alloc::Global;
 use std::marker::Model;
@@ -41,9 +39,23 @@ impl LineCosts {
         ensures { UnlessFault (input_faults (pool_cost_input pool.now) text.now)
             (λ costs. costs ≡ costs_of pool.now text.now) result }
     {
-        let table = read_input(alloc, FileId::PoolCost, text, &columns!(PoolCost))?;
-        let costs = costs_of_table(alloc, pool, &table)?;
-        Ok(LineCosts { costs })
+        let tests = CostTests { pool };
+        let rows = read_file(
+            alloc,
+            FileId::PoolCost,
+            text,
+            &columns!(PoolCost),
+            None,
+            tests,
+        )?;
+        match all_costs(alloc, pool, &rows)? {
+            Some(costs) => Ok(LineCosts { costs }),
+            None => Err(StageFault::Refused(Refusal::BadRow {
+                file: FileId::PoolCost,
+                row: 0,
+                why: RowWhy::MissingLine,
+            })),
+        }
     }
 
     /// How many costs there are: one for each line.
@@ -64,56 +76,30 @@ impl LineCosts {
     }
 }
 
-// The costs of the lines by a table, or its first fault.
-fn costs_of_table(alloc: Global, pool: &Pool, table: &Table<3>) -> Result<Vec<i64>, StageFault>
-    ensures { UnlessFault (table_faults (pool_cost_input pool.now) table.now)
-        (λ costs. costs.items
-        ≡ costs_over pool.now (records (pool_cost_input pool.now) table.now)) result }
-{
-    if let Some(refusal) = first_broken(pool, table) {
-        return Err(StageFault::Refused(refusal));
-    }
-    match all_costs(alloc, pool, table)? {
-        Some(costs) => Ok(costs),
-        None => Err(StageFault::Refused(Refusal::BadRow {
-            file: FileId::PoolCost,
-            row: 0,
-            why: RowWhy::MissingLine,
-        })),
-    }
+// The rules of the rows of costs of the lines of a pool.
+#[derive(Drop)]
+struct CostTests<'a> {
+    pool: &'a Pool,
 }
 
-// The refusal of the first row that breaks a rule.
-fn first_broken(pool: &Pool, table: &Table<3>) -> Option<Refusal>
-    ensures { result ≡ slice_get (table_row_faults (pool_cost_input pool.now) table.now) 0 }
-{
-    for i in 0..table.len() {
-        if let Some(why) = broken_rule(pool, table, i) {
-            return Some(Refusal::BadRow {
-                file: FileId::PoolCost,
-                row: table.number(i),
-                why,
-            });
+impl<'a> RowTests<CostRow> for CostTests<'a> {
+    ghost rules = { λ tests. (pool_cost_input tests.pool.now).row_rules };
+
+    ghost Knows = { λ _ _. ⊤ };
+
+    fn test(&mut self, before: &[CostRow], row: &CostRow) -> Result<Option<RowWhy>, NoMemory> {
+        if !has_line(self.pool, row.line) {
+            return Ok(Some(RowWhy::UnknownLine));
         }
+        Ok(has_row(before, row.line).then_some(RowWhy::RepeatedId))
     }
-    None
 }
 
-// The first rule that the row at an index breaks after the rows before it.
-fn broken_rule(pool: &Pool, table: &Table<3>, row: usize) -> Option<RowWhy>
-    requires { row < length table.now }
-    ensures { result ≡ slice_get (broken_whys (pool_cost_input pool.now).row_rules
-        (records (pool_cost_input pool.now) (take row table.now))
-        (cost_row_of (slice_index_or table.now row no_row).cells)) 0 }
+// Whether one of some rows is that of the line of an id.
+fn has_row(rows: &[CostRow], id: i64) -> bool
+    ensures { result ≡ list_any (λ row. int_eq id row.line) rows.now }
 {
-    let line = table.cell(row, 0);
-    if !has_line(pool, line) {
-        return Some(RowWhy::UnknownLine);
-    }
-    if cost_in(table, row, line).is_some() {
-        return Some(RowWhy::RepeatedId);
-    }
-    None
+    rows.iter().any(|row| id == row.line)
 }
 
 // Whether a pool has the line of an id.
@@ -136,37 +122,15 @@ fn has_id(pool: &Pool, line: usize, id: i64) -> bool
     pool.line_id(line) == id
 }
 
-// The cost that the first rows of a table give the line of an id.
-fn cost_in(table: &Table<3>, rows: usize, id: i64) -> Option<i64>
-    requires { rows ≤ length table.now }
-    ensures { result ≡ cost_for id (map (λ row. cost_row_of row.cells) (take rows table.now)) }
-{
-    for row in 0..rows {
-        if is_of_line(table, row, id) {
-            return Some(table.cell(row, 2));
-        }
-    }
-    None
-}
-
-// Whether the row at an index is that of the line of an id.
-fn is_of_line(table: &Table<3>, row: usize, id: i64) -> bool
-    requires { row < length table.now }
-    ensures { result ≡ int_eq id (cell_at table.now row 0) }
-{
-    table.cell(row, 0) == id
-}
-
 // The costs of all lines, where each has one.
-fn all_costs(alloc: Global, pool: &Pool, table: &Table<3>) -> Result<Option<Vec<i64>>, NoMemory>
+fn all_costs(alloc: Global, pool: &Pool, rows: &[CostRow]) -> Result<Option<Vec<i64>>, NoMemory>
     ensures { IfOk result (λ all. option_map (λ costs. costs.items) all
-        ≡ (if list_any (λ line. not (list_any (λ row. int_eq line.id row.line)
-        (records (pool_cost_input pool.now) table.now))) pool.now then None
-        else Some (costs_over pool.now (records (pool_cost_input pool.now) table.now)))) }
+        ≡ (if list_any (λ line. not (list_any (λ row. int_eq line.id row.line) rows.now)) pool.now
+        then None else Some (costs_over pool.now rows.now))) }
 {
     let mut costs = Vec::new(alloc);
     for line in 0..pool.line_count() {
-        match cost_of_line(pool, table, line) {
+        match cost_of_line(pool, rows, line) {
             None => return Ok(None),
             Some(cost) => costs.push(cost)?,
         }
@@ -174,11 +138,27 @@ fn all_costs(alloc: Global, pool: &Pool, table: &Table<3>) -> Result<Option<Vec<
     Ok(Some(costs))
 }
 
-// The cost that a table gives the line at a place.
-fn cost_of_line(pool: &Pool, table: &Table<3>, line: usize) -> Option<i64>
+// The cost that rows give the line at a place.
+fn cost_of_line(pool: &Pool, rows: &[CostRow], line: usize) -> Option<i64>
     requires { line < length pool.now }
-    ensures { option_map (λ at. cost_for at.id (map (λ row. cost_row_of row.cells) table.now))
-        (slice_get pool.now line) ≡ Some result }
+    ensures { option_map (λ at. cost_for at.id rows.now) (slice_get pool.now line) ≡ Some result }
 {
-    cost_in(table, table.len(), pool.line_id(line))
+    cost_for(rows, pool.line_id(line))
+}
+
+// The cost that rows give the line of an id.
+fn cost_for(rows: &[CostRow], id: i64) -> Option<i64>
+    ensures { result ≡ cost_for id rows.now }
+{
+    match row_of(rows, id) {
+        Some(row) => Some(row.cost),
+        None => None,
+    }
+}
+
+// The first row of the line of an id.
+fn row_of(rows: &[CostRow], id: i64) -> Option<CostRow>
+    ensures { result ≡ find (λ row. int_eq id row.line) rows.now }
+{
+    rows.iter().copied().find(|row| id == row.line)
 }

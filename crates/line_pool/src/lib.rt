@@ -1,6 +1,7 @@
 //! The pool of lines, and what they cost.
 #![tactic(auto)]
 
+mod cost_row;
 mod cost_table;
 mod ends;
 mod given_costs;

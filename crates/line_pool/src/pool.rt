@@ -1,12 +1,12 @@
 // The pool of lines.
-ghost use Rattle.std.specs.Prelude.{◌≡◌, ◌<◌, ◌≤◌, length, slice_get, Some, option_map, IfOk};
+ghost use Rattle.std.specs.Prelude.{◌≡◌, ◌<◌, ◌≤◌, ◌^◌, length, slice_get, Some, option_map, IfOk};
 ghost use Rattle.giv_files.specs.Inputs.{records, table_faults, UnlessFault};
 ghost use Rattle.ptn_network.specs.Networks.{IsNetwork};
-ghost use Rattle.line_pool.specs.Pools.{line_input, lines_over, pool_of, pool_faults, concept_of, concept_faults, AreLines};
+ghost use Rattle.line_pool.specs.Pools.{line_input, line_faults, lines_of, lines_over, columns_of, pool_of, pool_faults, concept_of, concept_faults, AreLines};
 
 use crate::line_file::LineFile;
 use crate::line_rows::{line_ids, lines_of_rows, whole_lines};
-use giv_files::{Counted, FileId, Refusal, StageFault, Table, columns, read_input};
+use giv_files::{ColumnKind, Counted, Refusal, StageFault, Table, columns, read_input};
 use ptn_network::Network;
 use std::alloc::Global;
 use std::marker::Model;
@@ -94,9 +94,7 @@ impl Pool {
         ensures made { UnlessFault (pool_faults network.now pool.now) (λ made. made ≡ pool_of network.now pool.now) result }
         ensures sound { IfOk result (AreLines network.now.edges) }
     {
-        let table = read_input(alloc, FileId::Pool, pool, &columns!(Pool))?;
-        let lines = lines_of_table(alloc, network, LineFile::Pool, &table)?;
-        Ok(Pool { lines })
+        read_lines(alloc, network, LineFile::Pool, pool, &columns!(Pool))
     }
 
     /// The lines of a text of a line concept over a network, or the first fault of the text.
@@ -108,9 +106,13 @@ impl Pool {
         ensures made { UnlessFault (concept_faults network.now concept.now) (λ made. made ≡ concept_of network.now concept.now) result }
         ensures sound { IfOk result (AreLines network.now.edges) }
     {
-        let table = read_input(alloc, FileId::Concept, concept, &columns!(Concept))?;
-        let lines = lines_of_table(alloc, network, LineFile::Concept, &table)?;
-        Ok(Pool { lines })
+        read_lines(
+            alloc,
+            network,
+            LineFile::Concept,
+            concept,
+            &columns!(Concept),
+        )
     }
 
     /// How many lines there are.
@@ -151,6 +153,26 @@ impl Pool {
     {
         self.lines[line].frequency() as u32
     }
+}
+
+// The lines of a text of a file, or the first fault of the text.
+fn read_lines<const C: usize>(
+    alloc: Global,
+    network: &Network,
+    kind: LineFile,
+    text: &[u8],
+    columns: &[ColumnKind; C],
+) -> Result<Pool, StageFault>
+    requires wide { 3 ≤ C }
+    requires narrow { C < 2 ^ 32 }
+    requires columns { columns.now ≡ columns_of kind }
+    ensures made { UnlessFault (line_faults kind network.now text.now)
+        (λ made. made ≡ lines_of kind network.now text.now) result }
+    ensures sound { IfOk result (AreLines network.now.edges) }
+{
+    let table = read_input(alloc, kind.id(), text, columns)?;
+    let lines = lines_of_table(alloc, network, kind, &table)?;
+    Ok(Pool { lines })
 }
 
 // The lines of a table, or its first fault.

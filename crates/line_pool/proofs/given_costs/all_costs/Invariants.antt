@@ -3,12 +3,11 @@ use Rattle.std.proofs.Common.{◌≡◌, false, take}
 use Rattle.std.specs.List.{list_any}
 use Rattle.line_pool.specs.GivenCosts.{costs_over}
 use Rattle.line_pool.proofs.CostRules.{lacks}
-use Rattle.line_pool.proofs.FirstRows.{given}
 use Rattle.line_pool.proofs.given_costs.all_costs.Given as goal
 
 abbrev pub invariant-loop-line : goal.invariant-loop-line
 invariant-loop-line l =
     record {
-      there : list_any (lacks (given l.table)) (take l.line l.pool) ≡ false;
-      costs : l.costs.items ≡ costs_over (take l.line l.pool) (given l.table);
+      there : list_any (lacks l.rows) (take l.line l.pool) ≡ false;
+      costs : l.costs.items ≡ costs_over (take l.line l.pool) l.rows;
     }

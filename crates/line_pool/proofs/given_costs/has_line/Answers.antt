@@ -2,7 +2,7 @@ use Rattle.std.proofs.Common.{Some, ap, sym, ◌∙◌, arith, to_z, of_z, w64}
 use Rattle.std.specs.List.{list_any}
 use Rattle.std.specs.Ordering.{int_eq}
 use Rattle.std.proofs.lemmas.Int.{to_z-of_z}
-use Rattle.line_pool.proofs.FirstRows.{is_there, not_yet}
+use Rattle.line_pool.proofs.LineIds.{is_there, not_yet}
 use Rattle.line_pool.proofs.given_costs.has_line.Goals as goal
 
 pub returns-then-has_id : goal.returns-then-has_id

@@ -1,45 +1,35 @@
-use Rattle.std.proofs.Common.{subst, sym, ◌∙◌}
+use Rattle.std.proofs.Common.{subst, sym}
 use Rattle.std.specs.List.{All}
 use Rattle.std.proofs.lemmas.Result.{err_from_is_err_and}
-use Rattle.giv_files.specs.Inputs.{Refuses}
-use Rattle.giv_files.proofs.Inputs.{refused_cells, faults_of_table}
+use Rattle.giv_files.proofs.WholeRules.{refused_without}
 use Rattle.line_pool.specs.GivenCosts.{IsCost}
 use Rattle.line_pool.specs.PoolCosts.{pool_cost_input}
-use Rattle.line_pool.proofs.SoundCosts.{costs_are, costs_sound}
+use Rattle.line_pool.proofs.CostRules.{line_missing_of_text, costs_given}
+use Rattle.line_pool.proofs.SoundCosts.{costs_sound}
 use Rattle.line_pool.proofs.given_costs.LineCosts.from_text.Goals as goal
 
-pub returns-in_err-table : goal.returns-in_err-table
-returns-in_err-table c =
+pub returns-in_err-rows : goal.returns-in_err-rows
+returns-in_err-rows c =
     let p = err_from_is_err_and c.from_residual.result c.from_residual.ensures.1 in
-    rw (p.1, p.2) (refused_cells (pool_cost_input c.args.pool.now) c.args.text.now
-    c.in_err-table.field-0.0 c.in_err-table.ensures)
-
-pub returns-in_err-costs : goal.returns-in_err-costs
-returns-in_err-costs c =
-    let p = err_from_is_err_and c.from_residual-in_err-costs.result
-    c.from_residual-in_err-costs.ensures.1 in
-    let cells = c.in_ok-table.ensures in
-    let faults = faults_of_table (pool_cost_input c.args.pool.now) c.args.text.now
-    c.in_ok-table.table cells.0 cells.1 in
-    rw (p.1, p.2) (subst (λ all. Refuses all c.in_err-costs.field-0.0) faults
-    c.in_err-costs.ensures)
+    rw (p.1, p.2) (refused_without (pool_cost_input c.args.pool.now) c.args.text.now
+    c.in_err-rows.field-0.0 c.in_err-rows.ensures)
 
 pub invariant_of-result : goal.invariant_of-result
 invariant_of-result c =
     let pool = c.args.pool.now in
-    let cells = c.in_ok-table.ensures in
-    let read = c.in_ok-costs.ensures in
-    let none = sym (faults_of_table (pool_cost_input pool) c.args.text.now c.in_ok-table.table
-    cells.0 cells.1) ∙ read.0 in
-    subst (All IsCost) (sym (costs_are pool c.args.text.now c.in_ok-table.table
-    c.in_ok-costs.costs.items cells.1 read.1)) (costs_sound pool c.args.text.now none)
+    let read = c.in_ok-rows.ensures in
+    let made = costs_given pool c.args.text.now c.in_ok-rows.rows.items read.0 read.1
+    c.in-Some.costs.items (rw (c.in-Some.is, c.deref.ensures.value) at c.in_ok-costs.ensures) in
+    subst (All IsCost) (sym made.1) (costs_sound pool c.args.text.now made.0)
+
+pub returns-in-Some : goal.returns-in-Some
+returns-in-Some c =
+    let read = c.in_ok-rows.ensures in
+    costs_given c.args.pool.now c.args.text.now c.in_ok-rows.rows.items read.0 read.1
+    c.in-Some.costs.items (rw (c.in-Some.is, c.deref.ensures.value) at c.in_ok-costs.ensures)
 
 pub returns : goal.returns
 returns c =
-    let pool = c.args.pool.now in
-    let cells = c.in_ok-table.ensures in
-    let read = c.in_ok-costs.ensures in (
-      sym (faults_of_table (pool_cost_input pool) c.args.text.now c.in_ok-table.table cells.0
-          cells.1) ∙ read.0,
-      costs_are pool c.args.text.now c.in_ok-table.table c.in_ok-costs.costs.items cells.1 read.1,
-    )
+    let read = c.in_ok-rows.ensures in
+    line_missing_of_text c.args.pool.now c.args.text.now c.in_ok-rows.rows.items read.0 read.1
+    (rw (c.in-None.is, c.deref.ensures.value) at c.in_ok-costs.ensures)
