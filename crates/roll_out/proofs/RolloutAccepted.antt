@@ -1,82 +1,30 @@
 -- The files of a day are accepted by the rules of their kinds.
-use Rattle.std.proofs.Common.{◌≡◌, ℕ, ℤ, ◌+◌, ◌<◌, ◌≤◌, cond, not, arith, false, All, List, [], ◌∷◌, ◌++◌, length, map, Option, None, refl, ap, subst, sym, ◌∙◌}
-use Rattle.std.specs.List.{AllByRecursion, list_any, range_with_len}
+use Rattle.std.proofs.Common.{◌≡◌, ℕ, ℤ, ◌<◌, ◌≤◌, arith, false, All, List, [], ◌∷◌, length, map, Option, None, refl, ap, subst, sym, ◌∙◌}
+use Rattle.std.specs.List.{AllByRecursion, list_any}
 use Rattle.std.specs.List.Sorted.{IsStrictlySortedBy}
 use Rattle.std.specs.Ordering.{int_cmp, int_eq}
-use Rattle.std.proofs.lemmas.Bool.{eq-eqb, ne_eqb, le-ltb, lt-leb}
-use Rattle.std.proofs.lemmas.List.{length_push}
-use Rattle.std.proofs.lemmas.List.Elements.{All-map}
-use Rattle.std.proofs.lemmas.Simd.{map-map}
-use Rattle.giv_files.specs.declared.column.ColumnKind.{ColumnKind}
+use Rattle.std.proofs.lemmas.Bool.{le-ltb, lt-leb}
 use Rattle.giv_files.specs.declared.counted.Counted.TheVariants as counted
-use Rattle.giv_files.specs.declared.row_why.RowWhy.TheVariants as why
 use Rattle.giv_files.specs.Columns.{activities_x_columns, events_x_columns, trips_columns}
 use Rattle.giv_files.specs.Inputs.{RowRule, broken_whys, input_faults, records}
-use Rattle.giv_files.specs.Reading.{table_of}
-use Rattle.giv_files.specs.Tables.{TableRow}
 use Rattle.giv_files.specs.Writing.{InColumns, ReadsBack}
 use Rattle.giv_files.proofs.Accepted.{KeepRules, accepted, all_keep}
 use Rattle.giv_files.proofs.Headers.{plain_header}
-use Rattle.giv_files.proofs.WrittenBack.{written_back}
+use Rattle.giv_files.proofs.InTurn.{under_limit}
 use Rattle.event_tables.specs.declared.expanded_activity.ExpandedActivity.{ExpandedActivity}
 use Rattle.event_tables.specs.declared.expanded_event.ExpandedEvent.{ExpandedEvent}
 use Rattle.event_tables.specs.declared.trip.Trip.{Trip}
-use Rattle.event_tables.specs.Cells.{expanded_activity_cells, expanded_event_cells, trip_cells}
+use Rattle.event_tables.specs.Cells.{expanded_activity, expanded_activity_cells, expanded_event, expanded_event_cells, trip, trip_cells}
 use Rattle.event_tables.specs.ExpandedFiles.{IsExpandedActivity, expanded_activity_input, expanded_event_ids, expanded_event_input, forward, no_sync}
 use Rattle.event_tables.specs.Headers.{expanded_activity_header, expanded_event_header, trip_header}
-use Rattle.event_tables.specs.Places.{AreNumbered, IsOneOf, bounds_in_order, is_none_of, known_ends, own_place}
-use Rattle.giv_files.specs.RowsOfTables.{ReadsAs, file_text, records_by, rows_by}
+use Rattle.event_tables.specs.Places.{AreNumbered, IsOneOf, bounds_in_order, is_none_of, known_ends}
+use Rattle.giv_files.specs.RowsOfTables.{ReadsAs, file_text, rows_by}
 use Rattle.event_tables.specs.Trips.{lacks_stop, trip_input, trip_rules}
 use Rattle.event_tables.proofs.CellFacts.{columns_written}
 use Rattle.event_tables.proofs.CellsBack.{expanded_activity_same, expanded_event_same, trip_same}
-use Rattle.event_tables.proofs.Numbering.{none_of_places}
+use Rattle.event_tables.proofs.PlacesKept.{is_known, places_keep}
+use Rattle.event_tables.proofs.WrittenRecords.{file_back, records_back, text_as}
 use Rattle.roll_out.proofs.GoodTrips.{start_id}
-use Rattle.roll_out.proofs.RolloutCalls.{under_limit}
-
-module _ {X : Type 0} (id : X → ℕ) (rules : List (RowRule X)) (Good : X → Type 0)
-    (keeps : (before : List X) (row : X) → Good row → broken_whys rules before row ≡ []) where
-  places_keep : (before rows : List X) → map id rows
-      ≡ range_with_len (length before + 1) (length rows)
-      → AllByRecursion Good rows → KeepRules (own_place id ∷ rules) before rows
-  places_keep before [] are good = tt
-  places_keep before (row ∷ rows) are good =
-      let first : id row ≡ length before + 1 = let e = are in cc in
-      let rest : map id rows ≡ range_with_len (length before + 1 + 1) (length rows) =
-      let e = are in cc in (
-        ap (λ b. cond (not b) (why.OrderGap ∷ []) [] ++ broken_whys rules before row)
-            (eq-eqb _ _ first)
-            ∙ keeps before row good.0,
-        places_keep (before ++ row ∷ []) rows
-            (rest ∙ ap (λ n. range_with_len (n + 1) (length rows)) (sym (length_push before row)))
-            good.1,
-      )
-
--- the event of an id is there
-is_known : (count id : ℕ) → IsOneOf count id → is_none_of (range_with_len 1 count) id ≡ false
-is_known count id is =
-    none_of_places count id
-    ∙ rw (ne_eqb id 0 (λ e. omega (arith, e, is.0)), le-ltb count id is.1) refl
-
--- what the rows stand for
-event_records : (events : List ExpandedEvent)
-    → records expanded_event_input (rows_by expanded_event_cells events) ≡ events
-event_records [] = refl
-event_records (row ∷ rows) = rw (expanded_event_same row, event_records rows) refl
-
-activity_records : (events : List ExpandedEvent) (activities : List ExpandedActivity)
-    → records (expanded_activity_input events) (rows_by expanded_activity_cells activities)
-    ≡ activities
-activity_records events [] = refl
-activity_records events (row ∷ rows) = rw (
-  expanded_activity_same row,
-  activity_records events
-      rows,
-) refl
-
-trip_records : (stops : Option (List ℤ)) (trips : List Trip)
-    → records (trip_input stops) (rows_by trip_cells trips) ≡ trips
-trip_records stops [] = refl
-trip_records stops (row ∷ rows) = rw (trip_same row, trip_records stops rows) refl
 
 any_good : {X : Type 0} (xs : List X) → AllByRecursion (λ x. Unit {0}) xs
 any_good [] = tt
@@ -89,7 +37,7 @@ pub events_accepted : (events : List ExpandedEvent) (text : List ℕ)
     → input_faults expanded_event_input text ≡ []
 events_accepted events text are few back =
     let rows = rows_by expanded_event_cells events in
-    let same = event_records events in
+    let same = records_back expanded_event expanded_event_cells expanded_event_same events in
     accepted expanded_event_input rows text back
     (under_limit counted.ExpandedEvents 100000 (records expanded_event_input rows)
     (subst (λ some. length some ≤ 100000) (sym same) few))
@@ -127,7 +75,7 @@ module _ (events : List ExpandedEvent) (are : AreNumbered (λ event. event.id) e
       → input_faults (expanded_activity_input events) text ≡ []
   activities_accepted activities text placed few good back =
       let rows = rows_by expanded_activity_cells activities in
-      let same = activity_records events activities in
+      let same = records_back expanded_activity expanded_activity_cells expanded_activity_same activities in
       accepted (expanded_activity_input events) rows text back
       (under_limit counted.ExpandedActivities 500000 (records (expanded_activity_input events) rows)
       (subst (λ some. length some ≤ 500000) (sym same) few))
@@ -154,7 +102,7 @@ module _ (stops : Option (List ℤ)) where
       → input_faults (trip_input stops) text ≡ []
   trips_accepted trips text few rise good back =
       let rows = rows_by trip_cells trips in
-      let same = trip_records stops trips in
+      let same = records_back trip trip_cells trip_same trips in
       accepted (trip_input stops) rows text back
       (under_limit counted.Trips 2000 (records (trip_input stops) rows)
       (subst (λ some. length some ≤ 2000) (sym same) few))
@@ -164,60 +112,38 @@ module _ (stops : Option (List ℤ)) where
 
 -- ---- texts that are read again
 
-reads_as : {X : Type 0} (kinds : List ColumnKind) (of : List ℤ → X) (rows : List X)
-    (table : List TableRow) (text : List ℕ) → records_by of table ≡ rows
-    → ReadsBack kinds table text → ReadsAs kinds of rows text
-reads_as kinds of rows table text told back = (
-  back.0,
-  sym (map-map of (λ (row : TableRow). row.cells) (table_of kinds text)) ∙ ap (map of) back.1
-      ∙ map-map of (λ (row : TableRow). row.cells) table ∙ told,
-)
-
 module _ (rows : List ExpandedEvent) (fit : All
     (λ row. InColumns events_x_columns (expanded_event_cells row)) rows) where
   pub events_back : ReadsBack events_x_columns (rows_by expanded_event_cells rows)
       (file_text expanded_event_header events_x_columns expanded_event_cells rows)
-  events_back =
-      written_back expanded_event_header events_x_columns (rows_by expanded_event_cells rows)
-      (omega arith) (columns_written events_x_columns refl)
-      (All-map (λ (row : TableRow). InColumns events_x_columns row.cells)
-      (λ row. record { number = 0; cells = expanded_event_cells row }) rows fit)
-      (refl, plain_header expanded_event_header refl)
+  events_back = file_back events_x_columns expanded_event expanded_event_cells rows
+      expanded_event_header (omega arith) (columns_written events_x_columns refl)
+      (refl, plain_header expanded_event_header refl) fit
 
   pub events_again : ReadsAs events_x_columns expanded_event_input.read rows
       (file_text expanded_event_header events_x_columns expanded_event_cells rows)
-  events_again = reads_as events_x_columns expanded_event_input.read rows
-      (rows_by expanded_event_cells rows) _
-      (event_records rows) events_back
+  events_again = text_as events_x_columns expanded_event expanded_event_cells rows
+      expanded_event_same _ events_back
 
 module _ (rows : List ExpandedActivity)
     (fit : All (λ row. InColumns activities_x_columns (expanded_activity_cells row)) rows) where
   pub activities_back : ReadsBack activities_x_columns (rows_by expanded_activity_cells rows)
       (file_text expanded_activity_header activities_x_columns expanded_activity_cells rows)
-  activities_back =
-      written_back expanded_activity_header activities_x_columns
-      (rows_by expanded_activity_cells rows)
-      (omega arith) (columns_written activities_x_columns refl)
-      (All-map (λ (row : TableRow). InColumns activities_x_columns row.cells)
-      (λ row. record { number = 0; cells = expanded_activity_cells row }) rows fit)
-      (refl, plain_header expanded_activity_header refl)
+  activities_back = file_back activities_x_columns expanded_activity expanded_activity_cells rows
+      expanded_activity_header (omega arith) (columns_written activities_x_columns refl)
+      (refl, plain_header expanded_activity_header refl) fit
 
   pub activities_again : ReadsAs activities_x_columns (expanded_activity_input []).read rows
       (file_text expanded_activity_header activities_x_columns expanded_activity_cells rows)
-  activities_again = reads_as activities_x_columns (expanded_activity_input []).read rows
-      (rows_by expanded_activity_cells rows) _ (activity_records [] rows) activities_back
+  activities_again = text_as activities_x_columns expanded_activity expanded_activity_cells rows
+      expanded_activity_same _ activities_back
 
 module _ (rows : List Trip) (fit : All (λ row. InColumns trips_columns (trip_cells row)) rows) where
   pub trips_back : ReadsBack trips_columns (rows_by trip_cells rows)
       (file_text trip_header trips_columns trip_cells rows)
-  trips_back =
-      written_back trip_header trips_columns (rows_by trip_cells rows)
-      (omega arith) (columns_written trips_columns refl)
-      (All-map (λ (row : TableRow). InColumns trips_columns row.cells)
-      (λ row. record { number = 0; cells = trip_cells row }) rows fit)
-      (refl, plain_header trip_header refl)
+  trips_back = file_back trips_columns trip trip_cells rows trip_header (omega arith)
+      (columns_written trips_columns refl) (refl, plain_header trip_header refl) fit
 
   pub trips_again : ReadsAs trips_columns (trip_input None).read rows
       (file_text trip_header trips_columns trip_cells rows)
-  trips_again = reads_as trips_columns (trip_input None).read rows (rows_by trip_cells rows) _
-      (trip_records None rows) trips_back
+  trips_again = text_as trips_columns trip trip_cells rows trip_same _ trips_back

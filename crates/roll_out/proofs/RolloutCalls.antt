@@ -1,19 +1,18 @@
 -- The stage that rolls a timetable out, from what its parts give.
-use Rattle.std.proofs.Common.{◌≡◌, ℕ, ◌+◌, ◌<◌, ◌≤◌, cond, arith, List, [], ◌∷◌, ◌++◌, length, ap, subst, sym, ◌∙◌, Ok, Err, Result, slice_get}
+use Rattle.std.proofs.Common.{◌≡◌, ℕ, ◌+◌, ◌<◌, ◌≤◌, arith, List, [], ◌∷◌, ◌++◌, length, ap, subst, sym, ◌∙◌, Ok, Err, Result, slice_get}
 use Rattle.std.specs.List.{enumerate_from}
-use Rattle.std.proofs.lemmas.Bool.{lt-ltb, le-ltb}
-use Rattle.std.proofs.lemmas.List.{append_assoc, append-nil, length-append, length-map}
+use Rattle.std.proofs.lemmas.List.{append_assoc, length-append, length-map}
 use Rattle.std.proofs.lemmas.List.FromFn.{length-enumerate_from}
-use Rattle.giv_files.specs.declared.counted.Counted.{Counted}
 use Rattle.giv_files.specs.declared.counted.Counted.TheVariants as counted
 use Rattle.giv_files.specs.declared.made.Made.{Made}
 use Rattle.giv_files.specs.declared.refusal.Refusal.{Refusal}
 use Rattle.giv_files.specs.declared.refusal.Refusal.TheVariants as refusal
 use Rattle.giv_files.specs.declared.refusal.StageFault.{StageFault}
 use Rattle.giv_files.specs.declared.refusal.StageFault.TheVariants as fault
-use Rattle.giv_files.specs.Inputs.{Refuses, UnlessFault, limit_faults, or_else, row_limit}
+use Rattle.giv_files.specs.Inputs.{Refuses, UnlessFault, limit_faults, row_limit}
 use Rattle.giv_files.specs.Settings.{BundleParts}
 use Rattle.giv_files.specs.StageCalls.{StageGives}
+use Rattle.giv_files.proofs.InTurn.{refused_before, after_none, over_limit, under_limit}
 use Rattle.giv_files.proofs.StageCalls.{stage_refused, stage_made}
 use Rattle.event_tables.specs.declared.expanded_activity.ExpandedActivity.{ExpandedActivity}
 use Rattle.event_tables.specs.declared.expanded_event.ExpandedEvent.{ExpandedEvent}
@@ -21,32 +20,6 @@ use Rattle.roll_out.specs.DayActivities.{day_activities, day_changes, day_ways, 
 use Rattle.roll_out.specs.DayTrips.{TripParts, day_events}
 use Rattle.roll_out.specs.RolloutStage.{file_faults, long_lists, made_of, network_in, rollout_faults, rollout_stage, run_faults, trips_in}
 use Rattle.roll_out.specs.TimedRuns.{TimedParts}
-
--- what is refused of some faults is refused of them before others
-refused_before : (all others : List Refusal) (why : StageFault) → Refuses all why
-    → Refuses (or_else all others) why
-refused_before [] others (fault.Refused reason) h = cc
-refused_before (first ∷ more) others (fault.Refused reason) h = h
-refused_before all others fault.NoMemory h = tt
-
--- faults behind none
-behind_none : (all others : List Refusal) → all ≡ [] → or_else all others ≡ others
-behind_none all others none = ap (λ some. or_else some others) none
-
-module _ {X : Type 0} (what : Counted) (most : ℕ) (rows : List X) where
-  -- a list that is too long is refused with its length
-  over_limit : (others : List Refusal) (count : ℕ) → count ≡ length rows → most < count
-      → limit_faults (row_limit what most ∷ []) rows ++ others ≡ refusal.TooMany what count ∷ others
-  over_limit others count is over =
-      ap (λ b. (cond b (refusal.TooMany what (length rows) ∷ []) [] ++ []) ++ others)
-      (lt-ltb most (length rows) (omega (arith, is, over)))
-      ∙ ap (λ n. refusal.TooMany what n ∷ others) (sym is)
-
-  -- and one that is not, is not
-  pub under_limit : length rows ≤ most → limit_faults (row_limit what most ∷ []) rows ≡ []
-  under_limit few =
-      ap (λ b. cond b (refusal.TooMany what (length rows) ∷ []) [] ++ [])
-      (le-ltb most (length rows) few)
 
 -- ---- lists that are too long
 
@@ -70,7 +43,8 @@ module _ (network : TimedParts) (trips : List TripParts) where
       → Refuses (long_lists network trips) (fault.Refused (refusal.TooMany counted.Trips count))
   trips_long count is over =
       ap (λ all. slice_get all 0) (append_assoc long_trips long_events long_activities
-      ∙ over_limit counted.Trips 2000 trips (long_events ++ long_activities) count is over)
+      ∙ ap (λ all. all ++ (long_events ++ long_activities))
+      (over_limit counted.Trips 2000 trips count is over))
 
   module _ (few_trips : length trips ≤ 2000) where
     no_trips : long_trips ≡ []
@@ -81,7 +55,8 @@ module _ (network : TimedParts) (trips : List TripParts) where
         (fault.Refused (refusal.TooMany counted.ExpandedEvents count))
     events_long count is over =
         ap (λ all. slice_get all 0) (ap (λ some. (some ++ long_events) ++ long_activities) no_trips
-        ∙ over_limit counted.ExpandedEvents 100000 events long_activities count is over)
+        ∙ ap (λ all. all ++ long_activities)
+        (over_limit counted.ExpandedEvents 100000 events count is over))
 
     module _ (few_events : length events ≤ 100000) where
       no_events : long_events ≡ []
@@ -96,8 +71,8 @@ module _ (network : TimedParts) (trips : List TripParts) where
           → Refuses (long_lists network trips)
           (fault.Refused (refusal.TooMany counted.ExpandedActivities count))
       activities_long count is over =
-          ap (λ all. slice_get all 0) (only ∙ sym (append-nil long_activities)
-          ∙ over_limit counted.ExpandedActivities 500000 activities [] count is over)
+          ap (λ all. slice_get all 0) (only
+          ∙ over_limit counted.ExpandedActivities 500000 activities count is over)
 
       pub none_long : length activities ≤ 500000 → long_lists network trips ≡ []
       none_long few = only ∙ under_limit counted.ExpandedActivities 500000 activities few
@@ -132,7 +107,7 @@ module _ (bundle : BundleParts) where
     rule_refused why h =
         stage_refused _ _ why (refused_before (rollout_faults bundle) _ why
         (subst (λ all. Refuses all why) (sym
-        (behind_none (file_faults bundle) (run_faults bundle) none)) h))
+        (after_none (file_faults bundle) (run_faults bundle) none)) h))
 
     -- and else what the trips come to
     pub rolled : run_faults bundle ≡ [] → (network : TimedParts) (trips : List TripParts) → network
@@ -142,17 +117,17 @@ module _ (bundle : BundleParts) where
         → StageGives (rollout_stage bundle) result
     unfolding rollout_stage
     rolled kept network trips is are (Ok made) h =
-        let left = behind_none (rollout_faults bundle)
+        let left = after_none (rollout_faults bundle)
         (long_lists (network_in bundle) (trips_in bundle))
-        (behind_none (file_faults bundle) (run_faults bundle) none ∙ kept) in
+        (after_none (file_faults bundle) (run_faults bundle) none ∙ kept) in
         let same : long_lists network trips ≡ long_lists (network_in bundle) (trips_in bundle) =
         ap (λ n. long_lists n trips) is ∙ ap (long_lists (network_in bundle)) are in
         stage_made _ _ made (left ∙ sym same ∙ h.0)
         (h.1 ∙ ap (λ n. made_of n trips) is ∙ ap (made_of (network_in bundle)) are)
     rolled kept network trips is are (Err why) h =
-        let left = behind_none (rollout_faults bundle)
+        let left = after_none (rollout_faults bundle)
         (long_lists (network_in bundle) (trips_in bundle))
-        (behind_none (file_faults bundle) (run_faults bundle) none ∙ kept) in
+        (after_none (file_faults bundle) (run_faults bundle) none ∙ kept) in
         let same : long_lists network trips ≡ long_lists (network_in bundle) (trips_in bundle) =
         ap (λ n. long_lists n trips) is ∙ ap (long_lists (network_in bundle)) are in
         stage_refused _ _ why (subst (λ all. Refuses all why) (same ∙ sym left) h)

@@ -19,6 +19,7 @@ use Rattle.giv_files.specs.StageCalls.{StageGives, input_text}
 use Rattle.giv_files.proofs.Inputs.{limits_sound}
 use Rattle.giv_files.proofs.Ranges.{front_none, back_none, unmapped as nothing_mapped}
 use Rattle.giv_files.proofs.SettingFacts.{amount_within}
+use Rattle.giv_files.proofs.InTurn.{none_first, none_after}
 use Rattle.giv_files.proofs.StageCalls.{made_unless, none_unless}
 use Rattle.event_tables.specs.Cells.{expanded_activity_cells, expanded_event_cells, trip_cells}
 use Rattle.event_tables.specs.ExpandedFiles.{IsExpandedActivity, expanded_activity_input}
@@ -49,7 +50,7 @@ use Rattle.roll_out.proofs.ListedEvents.{IsListed, all_listed, events_placed, pa
 use Rattle.roll_out.proofs.RolledTrips.{IsRolled, append_all, trips_rolled, ways_good}
 use Rattle.roll_out.proofs.RolloutAccepted.{TripGood, activities_accepted, activities_again, activities_back, events_accepted, events_again, events_back, trips_accepted, trips_again, trips_back}
 use Rattle.roll_out.proofs.NumberedActivities.{numbered_good, numbers_are}
-use Rattle.roll_out.proofs.RuleRows.{activity_id, event_id, none_behind, none_first}
+use Rattle.roll_out.proofs.RuleRows.{activity_id, event_id}
 use Rattle.roll_out.proofs.SoundPlans.{between_all, plans_are}
 use Rattle.roll_out.proofs.SoundTrips.{events_counted, trips_counted, trips_sound}
 use Rattle.roll_out.proofs.TripsOfDay.{trips_are}
@@ -82,7 +83,7 @@ module _ (bundle : BundleParts) (own : bundle.stage ≡ stage.Rollout) (fits : F
   files_none = none_first (file_faults bundle) (run_faults bundle) none
 
   runs_none : run_faults bundle ≡ []
-  runs_none = none_behind (file_faults bundle) (run_faults bundle) none
+  runs_none = none_after (file_faults bundle) (run_faults bundle) none
 
   -- the timetable of the inputs
   is_timed : IsTimed network
@@ -284,7 +285,7 @@ rollout_is_right bundle made own fits is =
     let all = none_unless _ _ made is in
     let none = none_first (rollout_faults bundle)
     (long_lists (network_in bundle) (trips_in bundle)) all in
-    let short = none_behind (rollout_faults bundle)
+    let short = none_after (rollout_faults bundle)
     (long_lists (network_in bundle) (trips_in bundle)) all in
     subst (RolloutIsRight bundle) (made_unless _ _ made is) (made_right bundle own fits none short)
 

@@ -1,5 +1,5 @@
 -- The rows at which rules of runs are broken.
-use Rattle.std.proofs.Common.{◌≡◌, ℕ, ◌+◌, arith, All, List, [], ◌∷◌, ◌++◌, length, map, filter, drop, get_or, Result, refl, ap, subst, sym, ◌∙◌}
+use Rattle.std.proofs.Common.{◌≡◌, ℕ, ◌+◌, arith, All, List, [], ◌∷◌, ◌++◌, length, map, filter, drop, get_or, Result, ap, subst, sym, ◌∙◌}
 use Rattle.std.specs.List.{flat_map, enumerate_from, zip, AllByRecursion}
 use Rattle.std.proofs.lemmas.List.{length-map, get_or-map}
 use Rattle.std.proofs.lemmas.List.Elements.{All-filter, All-map, All-append, All-nil, All-from_recursion}
@@ -9,12 +9,12 @@ use Rattle.giv_files.specs.declared.refusal.Refusal.{Refusal}
 use Rattle.giv_files.specs.declared.refusal.StageFault.{StageFault}
 use Rattle.giv_files.specs.declared.row_why.RowWhy.TheVariants as why
 use Rattle.giv_files.specs.Columns.{events_p_columns, activities_p_columns}
-use Rattle.giv_files.specs.Inputs.{Input, Refuses, UnlessFault, cell_faults, input_faults, or_else, records_of}
+use Rattle.giv_files.specs.Inputs.{Input, Refuses, UnlessFault, cell_faults, input_faults, records_of}
 use Rattle.giv_files.specs.Reading.{table_of}
 use Rattle.giv_files.specs.Settings.{BundleParts}
 use Rattle.giv_files.specs.StageCalls.{input_text}
 use Rattle.giv_files.specs.Tables.{TableRow}
-use Rattle.giv_files.proofs.Inputs.{refused_append, UnlessFault-weaker}
+use Rattle.giv_files.proofs.Inputs.{parts_sound, refused_append, UnlessFault-weaker}
 use Rattle.event_tables.specs.declared.periodic_activity.PeriodicActivity.{PeriodicActivity}
 use Rattle.event_tables.specs.declared.periodic_event.PeriodicEvent.{PeriodicEvent}
 use Rattle.event_tables.specs.PeriodicFiles.{periodic_activity_input, periodic_event_ids, periodic_event_input}
@@ -24,19 +24,10 @@ use Rattle.event_tables.specs.Places.{AreNumbered, IsOneOf}
 use Rattle.event_tables.specs.RunRules.{breaks, broken_in, broken_events, is_stray, lacks_way, stray_activities, unjoined_in, unjoined_events}
 use Rattle.roll_out.specs.RolloutStage.{faults_at, network_in, run_faults}
 
-pub none_first : (all others : List Refusal) → or_else all others ≡ [] → all ≡ []
-none_first [] others none = refl
-none_first (first ∷ more) others none = none
-
-pub none_behind : (all others : List Refusal) → or_else all others ≡ [] → others ≡ []
-none_behind [] others none = none
-none_behind (first ∷ more) others none = absurd (cc)
-
 -- a text without a fault has none in its cells
 pub cells_fine : {X : Type 0} (input : Input X) (text : List ℕ) → input_faults input text ≡ []
     → cell_faults input.file input.columns text ≡ []
-unfolding input_faults
-cells_fine input text none = none_first (cell_faults input.file input.columns text) _ none
+cells_fine input text none = (parts_sound input text none).0
 
 -- and as many records as rows
 pub rows_counted : {X : Type 0} (input : Input X) (text : List ℕ)
