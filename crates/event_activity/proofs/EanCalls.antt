@@ -10,12 +10,12 @@ use Rattle.giv_files.specs.Inputs.{Refuses, UnlessFault, or_else}
 use Rattle.giv_files.specs.Settings.{BundleParts}
 use Rattle.giv_files.specs.StageCalls.{input_text, StageGives}
 use Rattle.giv_files.proofs.Inputs.{refused_append}
+use Rattle.giv_files.proofs.InTurn.{refused_before, after_none, over_limit, under_limit}
 use Rattle.giv_files.proofs.StageCalls.{stage_refused, stage_made}
 use Rattle.event_activity.specs.declared.run_event.RunEvent.{RunEvent}
 use Rattle.event_activity.specs.Activities.{concept_activities}
 use Rattle.event_activity.specs.EanStage.{ean_made, ean_faults, ean_stage, events_in, activities_in, long_activities, too_many, rows_of}
 use Rattle.event_activity.specs.Runs.{concept_events}
-use Rattle.event_activity.proofs.Refused.{refused_before, behind_none, over_limit, under_limit}
 use Rattle.line_pool.specs.Pools.{LineParts, concept_of, concept_faults}
 use Rattle.ptn_network.specs.Networks.{NetworkParts, network_of, network_faults}
 
@@ -60,7 +60,7 @@ module _ (bundle : BundleParts) where
 
       left : or_else (ean_faults bundle) (too_many (events_in bundle) (activities_in bundle))
           ≡ too_many (events_in bundle) (activities_in bundle)
-      left = behind_none (ean_faults bundle) _ all_none
+      left = after_none (ean_faults bundle) _ all_none
 
       -- too many events
       pub events_refused : (count : ℕ) → count ≡ length (concept_events network lines)

@@ -13,7 +13,9 @@ use Rattle.giv_files.specs.Inputs.{input_faults, records_of, limit_faults, row_l
 use Rattle.giv_files.specs.Settings.{BundleParts, Fits}
 use Rattle.giv_files.specs.StageCalls.{input_text, StageGives}
 use Rattle.giv_files.specs.Writing.{ReadsBack}
+use Rattle.giv_files.proofs.Headers.{plain_header}
 use Rattle.giv_files.proofs.Inputs.{limits_sound}
+use Rattle.giv_files.proofs.InTurn.{none_first, none_after}
 use Rattle.giv_files.proofs.Ranges.{front_none, back_none}
 use Rattle.giv_files.proofs.StageCalls.{made_unless, none_unless}
 use Rattle.event_tables.specs.declared.periodic_event.PeriodicEvent.{PeriodicEvent}
@@ -22,6 +24,9 @@ use Rattle.event_tables.specs.Headers.{periodic_event_header, periodic_activity_
 use Rattle.event_tables.specs.PeriodicFiles.{periodic_event_input, periodic_activity_input, periodic_event_ids, IsPeriodicActivity}
 use Rattle.giv_files.specs.RowsOfTables.{ReadsAs, rows_by, file_text}
 use Rattle.event_tables.specs.RunRules.{KeepRunRules}
+use Rattle.event_tables.proofs.CellFacts.{columns_written}
+use Rattle.event_tables.proofs.CellsBack.{periodic_event_same, periodic_activity_same}
+use Rattle.event_tables.proofs.WrittenRecords.{file_back, text_as}
 use Rattle.event_activity.specs.declared.run_event.RunEvent.{RunEvent}
 use Rattle.event_activity.specs.EanStage.{network_in, lines_in, events_in, activities_in, ean_faults, ean_stage, rows_of, too_many}
 use Rattle.event_activity.specs.Fitting.{IsNumbered}
@@ -29,14 +34,13 @@ use Rattle.event_activity.specs.EventsOfRuns.{IsEventOf}
 use Rattle.event_activity.specs.RightEan.{activities_of, EanIsAccepted, IsPeriodicNetwork, EanIsRight}
 use Rattle.event_activity.specs.Runs.{AreServed}
 use Rattle.event_activity.proofs.DrivenEvents.{events_numbered}
-use Rattle.event_activity.proofs.EanAccepted.{event_records, activity_records, events_accepted, activities_accepted}
+use Rattle.event_activity.proofs.EanAccepted.{events_accepted, activities_accepted}
 use Rattle.event_activity.proofs.EanCells.{events_in_columns, activities_in_columns}
 use Rattle.event_activity.proofs.KeepsRules.{rules_kept, drive_over}
 use Rattle.event_activity.proofs.MadeActivities.{IsNumberedOne, activities_numbered}
 use Rattle.event_activity.proofs.PlainActivities.{activities_are}
 use Rattle.event_activity.proofs.PlainEvents.{events_are, stop_there}
-use Rattle.event_activity.proofs.ReadAgain.{reads_as, events_back, activities_back, events_placed, activities_placed}
-use Rattle.event_activity.proofs.Refused.{none_first, none_behind}
+use Rattle.event_activity.proofs.ReadAgain.{events_placed, activities_placed}
 use Rattle.event_activity.proofs.Served.{served}
 use Rattle.event_activity.proofs.Timely.{bundle_timely}
 use Rattle.ptn_network.specs.Networks.{network_faults}
@@ -77,24 +81,27 @@ module _ (bundle : BundleParts) (own : bundle.stage ≡ stage.Ean) (fits : Fits 
       (length (events_in bundle)) numbered
 
   events_read : ReadsBack events_p_columns (rows_by periodic_event_cells rows) events_text
-  events_read = events_back rows
+  events_read = file_back events_p_columns periodic_event periodic_event_cells rows
+      periodic_event_header (omega arith) (columns_written events_p_columns refl)
+      (refl, plain_header periodic_event_header refl)
       (events_in_columns (length (events_in bundle)) (events_in bundle) few_events numbered)
 
   activities_read : ReadsBack activities_p_columns
       (rows_by periodic_activity_cells (activities_in bundle)) activities_text
-  activities_read = activities_back (activities_in bundle)
+  activities_read = file_back activities_p_columns periodic_activity periodic_activity_cells
+      (activities_in bundle) periodic_activity_header (omega arith)
+      (columns_written activities_p_columns refl) (refl, plain_header periodic_activity_header refl)
       (activities_in_columns (length (events_in bundle)) (length (activities_in bundle))
       (activities_in bundle) few_events few_activities ones)
 
   events_again : ReadsAs events_p_columns periodic_event rows events_text
-  events_again = reads_as events_p_columns periodic_event rows (rows_by periodic_event_cells rows)
-      events_text (event_records rows) events_read
+  events_again = text_as events_p_columns periodic_event periodic_event_cells rows
+      periodic_event_same events_text events_read
 
   activities_again : ReadsAs activities_p_columns periodic_activity (activities_in bundle)
       activities_text
-  activities_again = reads_as activities_p_columns periodic_activity (activities_in bundle)
-      (rows_by periodic_activity_cells (activities_in bundle)) activities_text
-      (activity_records [] (activities_in bundle)) activities_read
+  activities_again = text_as activities_p_columns periodic_activity periodic_activity_cells
+      (activities_in bundle) periodic_activity_same activities_text activities_read
 
   same_size : length rows ≡ length (events_in bundle)
   same_size = length-map (events_in bundle) (λ (event : RunEvent). event.row)
@@ -147,7 +154,7 @@ unfolding ean_stage
 ean_is_right bundle made own fits is =
     let all = none_unless _ _ made is in
     let none = none_first (ean_faults bundle) _ all in
-    let short = none_behind (ean_faults bundle) _ all in
+    let short = none_after (ean_faults bundle) _ all in
     record {
       inputs = none;
       events = events_text bundle own fits none short;

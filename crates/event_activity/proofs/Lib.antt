@@ -22,7 +22,6 @@ mod Picked
 mod PlainActivities
 mod PlainEvents
 mod ReadAgain
-mod Refused
 mod RunsWhole
 mod Served
 mod StopsOfRuns

@@ -2,13 +2,13 @@ use Rattle.std.proofs.Common.{◌≤◌, All, arith, length, refl, ap, subst, sy
 use Rattle.giv_files.specs.declared.counted.Counted.TheVariants as counted
 use Rattle.giv_files.specs.Columns.{events_p_columns, activities_p_columns}
 use Rattle.giv_files.specs.Writing.{InColumns}
+use Rattle.giv_files.proofs.InTurn.{over_limit, under_limit}
 use Rattle.event_tables.specs.Cells.{periodic_event_cells, periodic_activity_cells}
 use Rattle.event_activity.specs.Activities.{concept_activities}
 use Rattle.event_activity.specs.EanStage.{ean_made}
 use Rattle.event_activity.proofs.DrivenEvents.{numbered_driven}
 use Rattle.event_activity.proofs.EanCells.{events_in_columns, activities_in_columns}
 use Rattle.event_activity.proofs.MadeActivities.{activities_given}
-use Rattle.event_activity.proofs.Refused.{over_limit, under_limit}
 use Rattle.event_activity.proofs.stage.ean_of_events.Goals as goal
 
 pub returns-then-activity_count-gt-MOST_ACTIVITIES :

@@ -24,8 +24,8 @@ returns-in_ok-insert-in-Ok-clause-first c =
     let before = records_by edge_row (take c.args.index c.args.table.now) in
     let there = id_there stops before c.args.made.now.entries c.read-row.result.id
     c.requires.knows in
-    sym (ap (λ whys. slice_get whys 0) (subst (λ row. broken_whys (edge_rules stops) before row ≡ [])
-    c.read-row.ensures (c.in-Ok.ensures before there).0))
+    sym (ap (λ whys. slice_get whys 0) (subst (λ row. broken_whys (edge_rules stops) before row
+    ≡ []) c.read-row.ensures (c.in-Ok.ensures before there).0))
 
 pub returns-in_ok-insert-in-Ok-clause-knows : goal.returns-in_ok-insert-in-Ok-clause-knows
 returns-in_ok-insert-in-Ok-clause-knows c = λ _.
