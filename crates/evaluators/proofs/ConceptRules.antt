@@ -1,4 +1,4 @@
--- The rules of the files of costs and of the line concept, row by row.
+-- The rules of the file of the line concept, row by row.
 use Rattle.std.proofs.Common.{◌≡◌, ℕ, ℤ, ◌+◌, ◌<◌, not, Bool, true, false, cond, eqb, List, [], ◌∷◌, ◌++◌, length, map, take, drop, get_or, slice_get, refl, ap, sym, ◌∙◌, Option, Some, None, option_map, is_some, arith}
 use Rattle.std.specs.List.{find, list_any}
 use Rattle.std.specs.Option.{option_or}
@@ -17,13 +17,6 @@ use Rattle.evaluators.specs.declared.rows.LineRow.{LineRow}
 use Rattle.evaluators.specs.CostedLines.{broken_by, costed}
 use Rattle.evaluators.specs.StatisticInputs.{concept_input, cost_input, cost_with, differs, first_row, line_row, lines_of}
 use Rattle.evaluators.proofs.FirstRowFacts.{find_firsts}
-
--- where there is no first one there is none
-pub none_first : {X : Type 0} (xs : List X) → None ≡ slice_get xs 0 → xs ≡ []
-none_first [] e = refl
-none_first (x ∷ xs) e = cc
-
--- ---- the concept
 
 -- the first row of the line of a row among rows that have it is before it, or it is that row
 first_of_all : (rows : List LineRow) (i : ℕ) (d : LineRow) → i < length rows
@@ -182,16 +175,3 @@ module _ (costs : List CostRow) (table : List TableRow) (i : ℕ) (inside : i < 
       (get_or (map of table) i (of no_row))) 0) (take-map of i table)
       ∙ ap (λ (row : LineRow). slice_get (broken_whys (concept_input costs).row_rules
       (map of (take i table)) row) 0) (here ∙ is)
-
--- ---- costs
-
--- a line that was there is repeated, and one that was not breaks no rule
-pub repeated : (before : List CostRow) (one : CostRow)
-    → list_any (λ other. int_eq one.line other.line) before ≡ true
-    → slice_get (broken_whys cost_input.row_rules before one) 0 ≡ Some why.RepeatedId
-repeated before one is = ap (λ b. slice_get (cond b (why.RepeatedId ∷ []) [] ++ []) 0) is
-
-pub not_repeated : (before : List CostRow) (one : CostRow)
-    → list_any (λ other. int_eq one.line other.line) before ≡ false
-    → broken_whys cost_input.row_rules before one ≡ []
-not_repeated before one is = ap (λ b. cond b (why.RepeatedId ∷ []) [] ++ []) is

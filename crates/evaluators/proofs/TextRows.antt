@@ -79,9 +79,6 @@ name_cell _ = plain_word _ refl
 
 -- ---- values
 
-number_units : (n : ℕ) → n ≤ 10 ^ 30 → IsPrintable (pos (n * 1000000))
-number_units n h = (omega (arith, ints), omega (arith, ints, h))
-
 pub value_printable : (all : Statistic) → IsSmall all → (m : Measure) → IsPrintable (value_of all m)
 value_printable all small measure.LineCost = (omega (arith, ints), omega (arith, ints, small.lines))
 value_printable all small measure.RunningLines =

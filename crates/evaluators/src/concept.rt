@@ -1,8 +1,8 @@
 // Reading the line concept over the costs of lines.
-ghost use Rattle.std.specs.Prelude.{◌≡◌, ◌<◌, length, map, take, slice_get, slice_index_or, option_map, Some, IfOk};
+ghost use Rattle.std.specs.Prelude.{◌≡◌, ◌<◌, ⊤, length, map, take, slice_get, slice_index_or, option_map, Some, IfOk};
 ghost use Rattle.std.specs.List.{find};
 ghost use Rattle.std.specs.Ordering.{int_eq};
-ghost use Rattle.giv_files.specs.Inputs.{UnlessFault, broken_whys, input_faults, records, records_of, table_faults, table_row_faults};
+ghost use Rattle.giv_files.specs.Inputs.{UnlessFault, broken_whys, input_faults, records, records_of, table_faults};
 ghost use Rattle.giv_files.specs.Tables.{no_row};
 ghost use Rattle.evaluators.specs.CostedLines.{costed};
 ghost use Rattle.evaluators.specs.StatisticInputs.{concept_input, cost_with, line_row, lines_of};
@@ -10,7 +10,9 @@ ghost use Rattle.evaluators.specs.StatisticInputs.{concept_input, cost_with, lin
 use crate::costed_line::CostedLine;
 use crate::first_rows::first_rows;
 use crate::rows::{CostRow, LineRow};
-use giv_files::{Counted, FileId, Refusal, RowWhy, StageFault, Table, columns, read_input};
+use giv_files::{
+    Counted, FileId, Refusal, RowFold, RowWhy, StageFault, Table, columns, fold_rows, read_input,
+};
 use plan_num::NoMemory;
 use std::alloc::Global;
 
@@ -48,10 +50,12 @@ fn lines_of_table(
         }));
     }
     let lines = costed_lines(alloc, costs, &firsts)?;
-    match first_broken(costs, &lines, table) {
-        Some(refusal) => Err(StageFault::Refused(refusal)),
-        None => Ok(lines),
-    }
+    let tests = LineTests {
+        costs,
+        lines: &lines,
+    };
+    fold_rows(FileId::Concept, table, &tests, ())?;
+    Ok(lines)
 }
 
 // Lines with their costs.
@@ -90,22 +94,31 @@ fn cost_with(costs: &[CostRow], line: i64) -> Option<CostRow>
     costs.iter().copied().find(|row| line == row.line)
 }
 
-// The refusal of the first row that breaks a rule, by the lines of all rows with their costs.
-fn first_broken(costs: &[CostRow], lines: &[CostedLine], table: &Table<4>) -> Option<Refusal>
-    requires { lines.now ≡ map (costed costs.now)
-        (lines_of (records (concept_input costs.now) table.now)) }
-    ensures { result ≡ slice_get (table_row_faults (concept_input costs.now) table.now) 0 }
-{
-    for i in 0..table.len() {
-        if let Some(why) = broken_rule(costs, lines, table, i) {
-            return Some(Refusal::BadRow {
-                file: FileId::Concept,
-                row: table.number(i),
-                why,
-            });
-        }
+// The rules of rows, by the lines of all rows with their costs.
+#[derive(Drop)]
+struct LineTests<'a> {
+    costs: &'a [CostRow],
+    lines: &'a [CostedLine],
+}
+
+impl<'a> RowFold<4, LineRow, ()> for LineTests<'a> {
+    ghost of_cells = { line_row };
+
+    ghost rules = { λ tests _. (concept_input tests.costs.now).row_rules };
+
+    ghost Fits = { λ tests table. tests.lines.now ≡ map (costed tests.costs.now)
+        (lines_of (records (concept_input tests.costs.now) table)) };
+
+    ghost Knows = { λ _ _ _. ⊤ };
+
+    fn take_row(
+        &self,
+        _made: &mut (),
+        table: &Table<4>,
+        index: usize,
+    ) -> Result<Option<RowWhy>, NoMemory> {
+        Ok(broken_rule(self.costs, self.lines, table, index))
     }
-    None
 }
 
 // The first rule that the row at an index breaks after the rows before it.

@@ -1,11 +1,15 @@
 // Reading the costs of lines.
-ghost use Rattle.std.specs.Prelude.{◌≡◌};
-ghost use Rattle.giv_files.specs.Inputs.{UnlessFault, input_faults, records, records_of, table_faults};
+ghost use Rattle.std.specs.Prelude.{ℤ, ◌≡◌};
+ghost use Rattle.std.specs.HashSet.{contains};
+ghost use Rattle.std.specs.List.{list_any};
+ghost use Rattle.std.specs.Ordering.{int_eq};
+ghost use Rattle.giv_files.specs.Inputs.{UnlessFault, input_faults, records_of};
 ghost use Rattle.evaluators.specs.StatisticInputs.{cost_input};
 
 use crate::rows::CostRow;
 use crate::seen::note;
-use giv_files::{FileId, Refusal, RowWhy, StageFault, Table, columns, read_input};
+use giv_files::{FileId, RowTests, RowWhy, StageFault, columns, read_file};
+use plan_num::NoMemory;
 use std::alloc::Global;
 use std::collections::HashSet;
 
@@ -14,27 +18,33 @@ pub(crate) fn read_costs(alloc: Global, text: &[u8]) -> Result<Vec<CostRow>, Sta
     ensures { UnlessFault (input_faults cost_input text.now)
         (λ rows. rows.items ≡ records_of cost_input text.now) result }
 {
-    let table = read_input(alloc, FileId::PoolCost, text, &columns!(PoolCost))?;
-    costs_of_table(alloc, &table)
+    let tests = CostTests {
+        seen: HashSet::new(alloc),
+    };
+    read_file(
+        alloc,
+        FileId::PoolCost,
+        text,
+        &columns!(PoolCost),
+        None,
+        tests,
+    )
 }
 
-// The costs of the rows of a table, or the first row whose line was there before.
-fn costs_of_table(alloc: Global, table: &Table<3>) -> Result<Vec<CostRow>, StageFault>
-    ensures { UnlessFault (table_faults cost_input table.now)
-        (λ rows. rows.items ≡ records cost_input table.now) result }
-{
-    let mut seen = HashSet::new(alloc);
-    let mut rows = Vec::new(alloc);
-    for i in 0..table.len() {
-        let row = CostRow::read(table, i);
-        if !note(&mut seen, row.line)? {
-            return Err(StageFault::Refused(Refusal::BadRow {
-                file: FileId::PoolCost,
-                row: table.number(i),
-                why: RowWhy::RepeatedId,
-            }));
-        }
-        rows.push(row)?;
+// The rule that each line has one row, with the lines so far.
+#[derive(Drop)]
+struct CostTests {
+    seen: HashSet<i64>,
+}
+
+impl RowTests<CostRow> for CostTests {
+    ghost rules = { λ _. cost_input.row_rules };
+
+    ghost Knows = { λ tests before. (id : ℤ) → contains int_eq tests.seen id
+        ≡ list_any (λ row. int_eq id row.line) before };
+
+    fn test(&mut self, _before: &[CostRow], row: &CostRow) -> Result<Option<RowWhy>, NoMemory> {
+        let is_new = note(&mut self.seen, row.line)?;
+        Ok((!is_new).then_some(RowWhy::RepeatedId))
     }
-    Ok(rows)
 }

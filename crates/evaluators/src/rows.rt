@@ -1,9 +1,9 @@
 // Rows of the files that the statistic alone reads so.
-ghost use Rattle.std.specs.Prelude.{◌≡◌, ◌<◌, length, slice_index_or};
+ghost use Rattle.std.specs.Prelude.{◌≡◌, ◌<◌, ⊤, length, slice_index_or};
 ghost use Rattle.giv_files.specs.Tables.{no_row};
 ghost use Rattle.evaluators.specs.StatisticInputs.{cost_row, line_row};
 
-use giv_files::Table;
+use giv_files::{Record, Table};
 
 /// The cost of a line in millionths.
 #[derive(Clone, Copy, Debug, PartialEq, Eq)]
@@ -19,12 +19,12 @@ pub struct LineRow {
     pub frequency: u64,
 }
 
-impl CostRow {
-    // The row of a table at an index.
-    pub(crate) fn read(table: &Table<3>, index: usize) -> CostRow
-        requires { index < length table.now }
-        ensures { result ≡ cost_row (slice_index_or table.now index no_row).cells }
-    {
+impl Record<3> for CostRow {
+    ghost Fits = { λ _. ⊤ };
+
+    ghost of_cells = { cost_row };
+
+    fn read(table: &Table<3>, index: usize) -> CostRow {
         CostRow {
             line: table.cell(index, 0),
             cost: table.cell(index, 2).unsigned_abs(),
