@@ -1,0 +1,4 @@
+mod Columns
+pub mod CommonColumns
+pub mod RowBits
+pub mod WordBits
