@@ -8,8 +8,8 @@ use Rattle.std.proofs.lemmas.Bool.{cases_eq, false≢true, le-ltb}
 use Rattle.std.proofs.lemmas.List.{append-nil, append_assoc}
 use Rattle.std.proofs.lemmas.List.Elements.{filter-append}
 use Rattle.std.proofs.lemmas.Nat.{and_le_l}
-use Rattle.bit_rows.specs.Bits.{AreBits, Bits, IsFirstBit, common, has, has_bit, one_bit}
-use Rattle.bit_rows.specs.Bits.{places_in, with_bit, word_of, words_of}
+use Rattle.bit_rows.specs.Bits.{AreBits, Bits, IsFirstBit, common, has, has_bit, one_bit, places_in}
+use Rattle.bit_rows.specs.Bits.{with_bit, word_of, words_of}
 use Rattle.bit_rows.proofs.RowBits.{bit_is, bit_there}
 use Rattle.bit_rows.proofs.WordBits.{and_bit, with_other, with_same}
 

@@ -1,4 +1,5 @@
-mod Columns
+pub mod Columns
 pub mod CommonColumns
+mod FullRows
 pub mod RowBits
 pub mod WordBits

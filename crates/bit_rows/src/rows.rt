@@ -3,7 +3,7 @@ ghost use Rattle.std.specs.Prelude.{◌≡◌, ℕ, ◌+◌, ◌*◌, ◌/◌, �
 ghost use Rattle.std.specs.Prelude.{get_or, if◌then◌else◌, IfOk, OnOk};
 ghost use Rattle.bit_rows.specs.Bits.{AreBits, FitsAt, common, has, with_word, word_of, words_of};
 
-use crate::words::{has_bit, push_places, with_bit, words_of};
+use crate::words::{full_word, has_bit, push_places, put_zeros, with_bit, words_of};
 use plan_num::NoMemory;
 use std::alloc::Global;
 use std::marker::Model;
@@ -47,6 +47,28 @@ impl BitRows {
         let mut words = Vec::new(alloc);
         for _place in 0..rows * words_of(columns) {
             words.push(0)?;
+        }
+        Ok(BitRows {
+            rows,
+            columns,
+            words,
+        })
+    }
+
+    /// So many rows and columns, of which all bits are set.
+    pub fn all(alloc: Global, rows: usize, columns: usize) -> Result<BitRows, NoMemory>
+        requires few_rows { rows ≤ 1000000 }
+        requires some { 1 ≤ columns }
+        requires few_columns { columns ≤ 1000000 }
+        ensures rows { IfOk result (λ bits. bits.rows ≡ rows) }
+        ensures columns { IfOk result (λ bits. bits.columns ≡ columns) }
+        ensures all { IfOk result (λ bits. (row column : ℕ) → row < rows → column < columns
+            → has bits row column ≡ true) }
+        ensures sound { IfOk result AreBits }
+    {
+        let mut words = Vec::new(alloc);
+        for place in 0..rows * words_of(columns) {
+            words.push(full_word(place, columns))?;
         }
         Ok(BitRows {
             rows,
@@ -125,6 +147,15 @@ impl BitRows {
         self.put_word(place, with_bit(word, column % 64, is));
     }
 
+    /// Takes all bits away.
+    pub fn clear_all(&mut self)
+        ensures rows { self.new.rows ≡ self.old.rows }
+        ensures columns { self.new.columns ≡ self.old.columns }
+        ensures none { (row column : ℕ) → has self.new row column ≡ false }
+    {
+        put_zeros(&mut self.words);
+    }
+
     /// A word of a row.
     pub fn word(&self, row: usize, index: usize) -> u64
         requires row { row < self.now.rows }
@@ -155,6 +186,7 @@ impl BitRows {
         requires word { FitsAt self.old.rows self.old.columns place word }
         ensures put { self.new ≡ with_word self.old place word }
         ensures sound { AreBits self.old }
+        ensures kept { AreBits self.new }
     {
         self.words[place] = word;
     }

@@ -1,6 +1,6 @@
 // Words of 64 bits.
 ghost use Rattle.std.specs.Prelude.{◌≡◌, ℕ, ◌+◌, ◌-◌, ◌<◌, ◌≤◌, ◌&&◌, nat_lt, if◌then◌else◌};
-ghost use Rattle.std.specs.Prelude.{◌++◌, OnOk};
+ghost use Rattle.std.specs.Prelude.{◌++◌, ◌*◌, ◌%◌, length, All, OnOk};
 ghost use Rattle.bit_rows.specs.Bits.{IsFirstBit, IsLastBit, has_bit, places_in, with_bit};
 ghost use Rattle.bit_rows.specs.Bits.{words_of};
 
@@ -77,6 +77,26 @@ pub fn joined(first: u64, second: u64, from: usize) -> u64
         else has_bit second (from + bit - 64)) }
 {
     (first >> from) | (second << (64 - from))
+}
+
+// The word at a place of rows of so many columns where all bits are set.
+pub(crate) fn full_word(place: usize, columns: usize) -> u64
+    requires some { 1 ≤ columns }
+    requires few { columns ≤ 1000000 }
+    ensures { (bit : ℕ) → bit < 64
+        → has_bit result bit ≡ nat_lt (64 * (place % words_of columns) + bit) columns }
+{
+    cut(u64::MAX, columns - 64 * (place % words_of(columns)))
+}
+
+// Makes all words 0.
+pub(crate) fn put_zeros(words: &mut [u64])
+    ensures each { length words.new ≡ length words.old }
+    ensures zeros { All (λ word. word ≡ 0) words.new }
+{
+    for index in 0..words.len() {
+        words[index] = 0;
+    }
 }
 
 // Puts the places of the bits that are set behind others, counted from the place of the first bit.

@@ -72,8 +72,8 @@ module _ (period : ℕ) where
       (λ i e. filter_twice (left e) (partners e) (range_with_len 0 period) i)
 
 -- marks are a family
-pub sets_family : (sets : Marks) → sets_of sets ≡ family sets.period sets.events (is_left sets)
+pub sets_family : (sets : Marks) → sets_of sets ≡ family sets.columns sets.rows (is_left sets)
 sets_family sets =
-    let all : sets.period - 0 ≡ sets.period = omega arith in
+    let all : sets.columns - 0 ≡ sets.columns = omega arith in
     ap (λ period. map (λ event. filter (is_left sets event) (range_with_len 0 period))
-    (range_with_len 0 sets.events)) all
+    (range_with_len 0 sets.rows)) all

@@ -13,33 +13,33 @@ use Rattle.pesp_search.specs.Marks.{Marks, sets_of, times_from}
 
 abbrev pub sets_from : Marks → ℕ → List (List ℕ)
 sets_from sets event =
-    map (λ event. times_from sets event 0) (range_with_len event (sets.events - event))
+    map (λ event. times_from sets event 0) (range_with_len event (sets.rows - event))
 
 pub sets_all : (sets : Marks) → sets_of sets ≡ sets_from sets 0
 sets_all sets =
-    let all : sets.events ≡ sets.events - 0 = omega arith in
+    let all : sets.rows ≡ sets.rows - 0 = omega arith in
     ap (λ n. map (λ event. times_from sets event 0) (range_with_len 0 n)) all
 
-pub sets_more : (sets : Marks) (event : ℕ) → event < sets.events
+pub sets_more : (sets : Marks) (event : ℕ) → event < sets.rows
     → sets_from sets event ≡ times_from sets event 0 ∷ sets_from sets (event + 1)
 sets_more sets event some =
-    let more : sets.events - event ≡ suc (sets.events - (event + 1)) = omega (arith, some) in
+    let more : sets.rows - event ≡ suc (sets.rows - (event + 1)) = omega (arith, some) in
     ap (λ n. map (λ event. times_from sets event 0) (range_with_len event n)) more
 
-pub sets_none : (sets : Marks) (event : ℕ) → sets.events ≤ event → sets_from sets event ≡ []
+pub sets_none : (sets : Marks) (event : ℕ) → sets.rows ≤ event → sets_from sets event ≡ []
 sets_none sets event none =
-    let over : sets.events - event ≡ 0 = omega (arith, none) in
+    let over : sets.rows - event ≡ 0 = omega (arith, none) in
     ap (λ n. map (λ event. times_from sets event 0) (range_with_len event n)) over
 
 -- where a set passes
-pub place_here : (sets : Marks) (event : ℕ) (test : List ℕ → Bool) → event < sets.events
+pub place_here : (sets : Marks) (event : ℕ) (test : List ℕ → Bool) → event < sets.rows
     → test (times_from sets event 0) ≡ true
     → position_from test event (sets_from sets event) ≡ Some event
 place_here sets event test some is =
     ap (position_from test event) (sets_more sets event some)
     ∙ ap (λ b. cond b (Some event) (position_from test (event + 1) (sets_from sets (event + 1)))) is
 
-pub place_later : (sets : Marks) (event : ℕ) (test : List ℕ → Bool) → event < sets.events
+pub place_later : (sets : Marks) (event : ℕ) (test : List ℕ → Bool) → event < sets.rows
     → test (times_from sets event 0) ≡ false
     → position_from test event (sets_from sets event)
     ≡ position_from test (event + 1) (sets_from sets (event + 1))
@@ -47,7 +47,7 @@ place_later sets event test some is =
     ap (position_from test event) (sets_more sets event some)
     ∙ ap (λ b. cond b (Some event) (position_from test (event + 1) (sets_from sets (event + 1)))) is
 
-pub no_place : (sets : Marks) (event : ℕ) (test : List ℕ → Bool) → sets.events ≤ event
+pub no_place : (sets : Marks) (event : ℕ) (test : List ℕ → Bool) → sets.rows ≤ event
     → position_from test event (sets_from sets event) ≡ None
 no_place sets event test none = ap (position_from test event) (sets_none sets event none)
 
@@ -60,7 +60,7 @@ place_behind sets test zero none =
 place_behind sets test (suc n) none =
     let next : n + 1 ≡ suc n = omega arith in
     place_behind sets test n (λ event low. none event (omega (arith, low)))
-    ∙ elim (cases_lt n sets.events) [
+    ∙ elim (cases_lt n sets.rows) [
       | inl low ↦ place_later sets n test low (none n (omega arith))
       | inr high ↦
           no_place sets n test high ∙ sym (no_place sets (n + 1) test (omega (arith, high)))
@@ -87,7 +87,7 @@ first_of_each sets from (suc n) =
 
 pub times_are_first : (sets : Marks) (event : ℕ) (times : List ℕ)
     → times ≡ map (λ event. slice_index_or (times_from sets event 0) 0 0) (range_with_len 0 event)
-    → event ≡ sets.events → times ≡ first_times (sets_of sets)
+    → event ≡ sets.rows → times ≡ first_times (sets_of sets)
 times_are_first sets event times so all =
     so ∙ ap (λ n. map (λ event. slice_index_or (times_from sets event 0) 0 0) (range_with_len 0 n)) all
-    ∙ first_of_each sets 0 sets.events
+    ∙ first_of_each sets 0 sets.rows

@@ -1,6 +1,6 @@
 use Rattle.std.proofs.Common.{arith, refl}
-use Rattle.bit_rows.proofs.WordBits.{first_is, no_first}
 use Rattle.bit_rows.proofs.words.first_bit.Goals as goal
+use Rattle.bit_rows.proofs.WordBits.{first_is, no_first}
 
 pub returns-then-rest-eq0 : goal.returns-then-rest-eq0
 returns-then-rest-eq0 c = no_first c.args.word c.args.from c.if-rest-eq0.true

@@ -1,5 +1,5 @@
-use Rattle.bit_rows.proofs.WordBits.{joined_bit}
 use Rattle.bit_rows.proofs.words.joined.Goals as goal
+use Rattle.bit_rows.proofs.WordBits.{joined_bit}
 
 pub returns : goal.returns
 returns c bit low =

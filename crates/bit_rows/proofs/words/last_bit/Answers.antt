@@ -1,7 +1,7 @@
 use Rattle.std.proofs.Common.{◌-◌, refl, w64}
 use Rattle.std.specs.Int.{leading_zeros}
-use Rattle.bit_rows.proofs.WordBits.{last_is, no_last}
 use Rattle.bit_rows.proofs.words.last_bit.Goals as goal
+use Rattle.bit_rows.proofs.WordBits.{last_is, no_last}
 
 pub returns-then-rest-eq0 : goal.returns-then-rest-eq0
 returns-then-rest-eq0 c =

@@ -1,5 +1,5 @@
-use Rattle.bit_rows.proofs.Columns.{one_fewer, place_pushed}
 use Rattle.bit_rows.proofs.words.push_places.Goals as goal
+use Rattle.bit_rows.proofs.Columns.{one_fewer, place_pushed}
 
 pub loop-bit-smaller : goal.loop-bit-smaller
 loop-bit-smaller c =

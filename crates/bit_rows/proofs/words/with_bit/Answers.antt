@@ -1,6 +1,6 @@
 use Rattle.std.proofs.Common.{ap, sym}
-use Rattle.bit_rows.specs.Bits.{with_bit}
 use Rattle.bit_rows.proofs.words.with_bit.Goals as goal
+use Rattle.bit_rows.specs.Bits.{with_bit}
 
 pub returns-then-is : goal.returns-then-is
 unfolding with_bit

@@ -9,7 +9,7 @@ loop-event-init c = place_behind c.args.sets.now has_several c.args.from c.requi
 
 pub loop-event-preserved : goal.loop-event-preserved
 loop-event-preserved c =
-    let some : c.loop-event.event < c.args.sets.now.events =
+    let some : c.loop-event.event < c.args.sets.now.rows =
     omega (arith, c.loop-event-test.true, c.events-event-end.ensures.value) in
     c.loop-event.invariant
     ∙ place_later c.args.sets.now c.loop-event.event has_several some
@@ -17,7 +17,7 @@ loop-event-preserved c =
 
 pub returns-then-count-gt1 : goal.returns-then-count-gt1
 returns-then-count-gt1 c =
-    let some : c.loop-event.event < c.args.sets.now.events =
+    let some : c.loop-event.event < c.args.sets.now.rows =
     omega (arith, c.loop-event-test.true, c.events-event-end.ensures.value) in
     sym (c.loop-event.invariant
     ∙ place_here c.args.sets.now c.loop-event.event has_several some

@@ -1,6 +1,6 @@
 use Rattle.std.proofs.Common.{◌∙◌, ◌≡◌, ◌*◌, ap, arith}
-use Rattle.bit_rows.proofs.RowBits.{are_none, has_none}
 use Rattle.bit_rows.proofs.rows.BitRows.none.Goals as goal
+use Rattle.bit_rows.proofs.RowBits.{are_none, has_none}
 
 pub invariant_of-result : goal.invariant_of-result
 invariant_of-result c =

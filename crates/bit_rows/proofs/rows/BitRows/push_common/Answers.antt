@@ -1,6 +1,6 @@
 use Rattle.std.proofs.Common.{◌∙◌, ◌++◌, ap, arith, refl}
-use Rattle.bit_rows.proofs.Columns.{all_common, word_pushed}
 use Rattle.bit_rows.proofs.rows.BitRows.push_common.Goals as goal
+use Rattle.bit_rows.proofs.Columns.{all_common, word_pushed}
 
 pub loop-index-preserved : goal.loop-index-preserved
 loop-index-preserved c =

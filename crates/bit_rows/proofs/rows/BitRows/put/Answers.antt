@@ -1,7 +1,7 @@
 use Rattle.std.proofs.Common.{◌∙◌, ap}
+use Rattle.bit_rows.proofs.rows.BitRows.put.Goals as goal
 use Rattle.bit_rows.specs.Bits.{Bits, has}
 use Rattle.bit_rows.proofs.RowBits.{bit_put, fits}
-use Rattle.bit_rows.proofs.rows.BitRows.put.Goals as goal
 
 pub put_word-requires-clause-word : goal.put_word-requires-clause-word
 put_word-requires-clause-word c =

@@ -1,6 +1,6 @@
 -- The words so far are 0.
 use Rattle.std.proofs.Common.{◌≡◌, ◌<◌, ℕ, get_or, length}
-use Rattle.pesp_search.proofs.flags.put_zeros.Given as goal
+use Rattle.bit_rows.proofs.words.put_zeros.Given as goal
 
 abbrev pub invariant-loop-index : goal.invariant-loop-index
 invariant-loop-index l = record {
