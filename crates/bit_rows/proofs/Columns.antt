@@ -54,24 +54,26 @@ first_apart : (test other : ℕ → Bool) (from n first : ℕ) → from ≤ firs
     → ((x : ℕ) → from ≤ x → x < from + n → (x ≡ first → ⊥) → other x ≡ test x)
     → filter test (range_with_len from n) ≡ first ∷ filter other (range_with_len from n)
 first_apart test other from zero first low high is not none same = absurd (omega (arith, low, high))
-first_apart test other from (suc n) first low high is not none same = elim (cases_eq from first) [
-  | inl own ↦
-      let rest = same_filter test other (from + 1) n
-      (λ x above below. sym (same x (omega (arith, above)) (omega (arith, below))
-      (λ equal. absurd (omega (arith, equal, own, above))))) in
-      (λ i. cond ((ap test own ∙ is) i) (from ∷ rest i) (rest i))
-      ∙ (λ i. own i ∷ filter other (range_with_len (from + 1) n))
-      ∙ sym (λ i. first ∷ cond ((ap other own ∙ not) i)
-      (from ∷ filter other (range_with_len (from + 1) n)) (filter other (range_with_len (from + 1) n)))
-  | inr apart ↦
-      let no = none from (omega arith) (omega (arith, low, apart)) in
-      let rest = first_apart test other (from + 1) n first (omega (arith, low, apart))
-      (omega (arith, high)) is not (λ x above below. none x (omega (arith, above)) below)
-      (λ x above below. same x (omega (arith, above)) (omega (arith, below))) in
-      (λ i. cond (no i) (from ∷ rest i) (rest i))
-      ∙ sym (λ i. first ∷ cond ((same from (omega arith) (omega arith) apart ∙ no) i)
-      (from ∷ filter other (range_with_len (from + 1) n)) (filter other (range_with_len (from + 1) n)))
-]
+first_apart test other from (suc n) first low high is not none same =
+    let numbers = range_with_len (from + 1) n in
+    elim (cases_eq from first) [
+      | inl own ↦
+          let rest = same_filter test other (from + 1) n
+          (λ x above below. sym (same x (omega (arith, above)) (omega (arith, below))
+          (λ equal. absurd (omega (arith, equal, own, above))))) in
+          (λ i. cond ((ap test own ∙ is) i) (from ∷ rest i) (rest i))
+          ∙ (λ i. own i ∷ filter other numbers)
+          ∙ sym (λ i. first ∷ cond ((ap other own ∙ not) i) (from ∷ filter other numbers)
+          (filter other numbers))
+      | inr apart ↦
+          let no = none from (omega arith) (omega (arith, low, apart)) in
+          let rest = first_apart test other (from + 1) n first (omega (arith, low, apart))
+          (omega (arith, high)) is not (λ x above below. none x (omega (arith, above)) below)
+          (λ x above below. same x (omega (arith, above)) (omega (arith, below))) in
+          (λ i. cond (no i) (from ∷ rest i) (rest i))
+          ∙ sym (λ i. first ∷ cond ((same from (omega arith) (omega arith) apart ∙ no) i)
+          (from ∷ filter other numbers) (filter other numbers))
+    ]
 
 -- numbers that pass a test, counted from another place on
 moved : (test there : ℕ → Bool) (start from n : ℕ)
@@ -129,11 +131,6 @@ place_pushed found more all start word bit left first is pushed so =
     ∙ append_assoc found ((start + bit) ∷ []) (places_in start left)
     ∙ ap (λ places. found ++ places) (sym (one_place start word bit left first is)) ∙ so
 
-pub all_pushed : (found all : List ℕ) (start word : ℕ) → IsFirstBit word 0 None
-    → found ++ places_in start word ≡ all → found ≡ all
-all_pushed found all start word none so =
-    sym (append-nil found) ∙ ap (λ places. found ++ places) (sym (no_place start word none)) ∙ so
-
 -- ---- the common columns of two rows, word by word
 
 module _ (bits : Bits) (row : ℕ) (other : Bits) (other_row : ℕ) where
@@ -173,7 +170,8 @@ module _ (bits : Bits) (row : ℕ) (other : Bits) (other_row : ℕ) where
         ap common_to size ∙ ap (filter both) (range_append 0 (64 * index) 64)
         ∙ filter-append both (range_with_len 0 (64 * index)) (range_with_len (0 + 64 * index) 64)
         ∙ ap (λ rest. common_to (64 * index) ++ rest)
-        (sym (moved (has_bit word) both (64 * index) 0 64 (λ bit _ high. at bit (omega (arith, high)))
+        (sym (moved (has_bit word) both (64 * index) 0 64
+        (λ bit _ high. at bit (omega (arith, high)))
         ∙ ap (λ start. filter both (range_with_len start 64)) start))
       where
         at : (bit : ℕ) → bit < 64 → has_bit word bit ≡ both (64 * index + bit)

@@ -65,8 +65,8 @@ module _ (columns rows : ℕ) (some : 1 ≤ columns) (few : columns ≤ 1000000)
       let after : (suc row) * words_of columns ≡ row * words_of columns + words_of columns =
       omega arith in
       let own = mod-mul-add row (words_of columns) (column / 64) index in
-      let is : 64 * ((row * words_of columns + column / 64) % words_of columns) + column % 64 ≡ column =
-      omega (arith, own) in
+      let is : 64 * ((row * words_of columns + column / 64) % words_of columns) + column % 64
+      ≡ column = omega (arith, own) in
       are.each (row * words_of columns + column / 64) (column % 64)
       (omega (arith, far, after, index)) (omega arith)
       ∙ ap (λ t. nat_lt t columns) is
@@ -78,7 +78,8 @@ module _ (columns rows : ℕ) (some : 1 ≤ columns) (few : columns ≤ 1000000)
   are_bits = record {
     each = are.long;
     few = few;
-    clear = λ row column within high small. bit_is row column within small ∙ le-ltb column columns high;
+    clear = λ row column within high small.
+        bit_is row column within small ∙ le-ltb column columns high;
   }
 
   pub all_set : (row column : ℕ) → row < rows → column < columns

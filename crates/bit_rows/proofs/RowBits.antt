@@ -4,7 +4,7 @@ use Rattle.std.proofs.Common.{nat_lt, Bool, false, ◌&&◌, List, length, get_o
 use Rattle.std.proofs.Common.{if◌then◌else◌, ap, sym, arith}
 use Rattle.std.proofs.Math.Nat.{mul-le-mul_right}
 use Rattle.std.proofs.lemmas.Bool.{and_right, cases_eq, cases_lt, eq-eqb, le-ltb, lt-ltb, ne_eqb}
-use Rattle.std.proofs.lemmas.List.{get_or-set_other, get_or-set_same, get_or_past, length-set}
+use Rattle.std.proofs.lemmas.List.{get_or-set_other, get_or-set_same, get_or_past}
 use Rattle.std.proofs.lemmas.Nat.{div-mul-add}
 use Rattle.bit_rows.specs.Bits.{AreBits, Bits, FitsAt, has, has_bit, place_of, with_bit, with_word}
 use Rattle.bit_rows.specs.Bits.{word_of, words_of}
@@ -90,24 +90,6 @@ module _ (bits : Bits) (place word : ℕ) (there : place < length bits.words) wh
       → word_of now r c ≡ word_of bits r c
   other_word r c apart =
       get_or-set_other bits.words place (place_of bits.columns r c) word 0 apart
-
-pub word_kept : (bits : Bits) (place word : ℕ) → AreBits bits
-    → place < bits.rows * words_of bits.columns → FitsAt bits.rows bits.columns place word
-    → AreBits (with_word bits place word)
-word_kept bits place word are within fit =
-    let there : place < length bits.words = omega (arith, within, are.each) in
-    record {
-      each = length-set bits.words place word ∙ are.each;
-      few = are.few;
-      clear = λ r c low high few. elim (cases_eq (place_of bits.columns r c) place) [
-        | inl at ↦
-            ap (λ word. has_bit word (c % 64)) (this_word bits place word there r c at)
-            ∙ fit r c low high few at
-        | inr apart ↦
-            ap (λ word. has_bit word (c % 64)) (other_word bits place word there r c apart)
-            ∙ are.clear r c low high few
-      ];
-    }
 
 -- ---- one bit
 

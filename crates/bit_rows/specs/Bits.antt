@@ -89,4 +89,5 @@ pub record AreBits (bits : Bits) : Type 0 where
   pub each : length bits.words ≡ bits.rows * words_of bits.columns
   pub few : bits.columns ≤ 1000000
   pub clear : (row column : ℕ) → row < bits.rows → bits.columns ≤ column
-      → column < 64 * words_of bits.columns → has_bit (word_of bits row column) (column % 64) ≡ false
+      → column < 64 * words_of bits.columns
+      → has_bit (word_of bits row column) (column % 64) ≡ false

@@ -18,13 +18,13 @@ are_full c =
 
 pub invariant_of-result : goal.invariant_of-result
 invariant_of-result c =
-    are_bits c.args.columns c.args.rows c.requires.some c.requires.few_columns c.loop-place.words.items
-    (are_full c)
+    are_bits c.args.columns c.args.rows c.requires.some c.requires.few_columns
+    c.loop-place.words.items (are_full c)
 
 pub returns-clause-sound : goal.returns-clause-sound
 returns-clause-sound c = invariant_of-result c
 
 pub returns-clause-all : goal.returns-clause-all
 returns-clause-all c =
-    all_set c.args.columns c.args.rows c.requires.some c.requires.few_columns c.loop-place.words.items
-    (are_full c)
+    all_set c.args.columns c.args.rows c.requires.some c.requires.few_columns
+    c.loop-place.words.items (are_full c)
