@@ -9,7 +9,6 @@ use Rattle.std.proofs.Common.{Err, refl, ap, sym, subst, arith}
 use Rattle.std.specs.List.{list_any}
 use Rattle.std.proofs.Math.Nat.{le-min, min-eq_left, min-eq_right}
 use Rattle.std.proofs.lemmas.Bool.{cases_eq, eq-eqb, false≢true, lt-ltb, le-ltb}
-use Rattle.std.proofs.lemmas.List.FromFn.{get_or-map-range_with_len, length-map-range_with_len}
 use Rattle.std.proofs.lemmas.List.Quantifiers.{position-Some}
 use Rattle.giv_files.specs.declared.refusal.Refusal.TheVariants as refusal
 use Rattle.pesp_model.specs.Timetables.{Problem}
@@ -25,6 +24,7 @@ use Rattle.pesp_search.specs.Searches.{listed_on}
 use Rattle.pesp_search.specs.TimeSets.{left_to, reduced}
 use Rattle.pesp_search.specs.TimeSets.{reduced as all_reduced}
 use Rattle.pesp_search.proofs.EmptySets.{settled_within, with_time_full}
+use Rattle.pesp_search.proofs.NextSets.{set_at, sets_size}
 use Rattle.pesp_search.proofs.Revised.{carried_second, carried_first}
 use Rattle.pesp_search.proofs.Turns.{first_turn, listed, no_turn, none_behind, turns_append}
 use Rattle.pesp_search.proofs.Turns.{turns_map, unless_one}
@@ -39,15 +39,13 @@ pub event_within : (sets : Marks) (event : ℕ) → position has_several (sets_o
     → event < sets.rows
 event_within sets event is =
     let at = position-Some has_several (sets_of sets) event [] is in
-    let long = length-map-range_with_len (λ event. times_from sets event 0) 0 sets.rows in
-    omega (arith, at.0, long)
+    omega (arith, at.0, sets_size sets)
 
 -- no event before the first one with several times has several
 settled_at : (sets : Marks) (end : ℕ) → position has_several (sets_of sets) ≡ Some end
     → IsSettled sets end
 settled_at sets end is event low =
-    sym (ap has_several (get_or-map-range_with_len (λ event. times_from sets event 0) 0 sets.rows
-    event event [] (omega (arith, low, event_within sets end is)) (omega arith)))
+    sym (ap has_several (set_at sets event (omega (arith, low, event_within sets end is))))
     ∙ (position-Some has_several (sets_of sets) end [] is).2 event low
 
 pub branched : (before after : Tracked) (event : ℕ)
@@ -65,9 +63,7 @@ branched before after event none is same = (
       let branch = visit_child before visit in
       let times = times_from before.sets event 0 in
       let left : left_to (sets_of before.sets) event ≡ times =
-      get_or-map-range_with_len (λ event. times_from before.sets event 0) 0 before.sets.rows
-      event event []
-      (event_within before.sets event is) (omega arith) in
+      set_at before.sets event (event_within before.sets event is) in
       let children = map (with_time (sets_of before.sets) event) times in
       ap (λ first. unless_found first (in_turn visit (waiting before.saved)))
       (ap (λ b. elim b as (λ _. Listing) [

@@ -6,24 +6,17 @@ use Rattle.std.proofs.Common.{refl, ap, sym, arith, Ok}
 use Rattle.std.specs.List.{range_with_len}
 use Rattle.std.proofs.lemmas.Bool.{and_from, and_parts, and_right, cases_eq, eq-eqb, ne_eqb}
 use Rattle.bit_rows.specs.Bits.{marked}
+use Rattle.bit_rows.proofs.Columns.{none_pass, same_filter}
 use Rattle.pesp_search.specs.Listings.{times_at_first, with_time}
 use Rattle.pesp_search.specs.Marks.{KeepsTime, Marks, Prunes, Tracked, family, is_left, sets_of}
 use Rattle.pesp_search.specs.Revising.{Left, stays}
 use Rattle.pesp_search.specs.Searches.{AreFirst}
 use Rattle.pesp_model.specs.Timetables.{Problem}
-use Rattle.pesp_search.proofs.Families.{same_filter, sets_family}
+use Rattle.pesp_search.proofs.Families.{sets_family}
 use Rattle.pesp_search.proofs.Partners.{kept_first, left_out, same_on_range, set_on_range}
 use Rattle.pesp_search.proofs.Pruned.{kept_by, prunes_by_bits}
 
 -- ---- filters of a range
-
-pub filter_none : (test : ℕ → Bool) (from n : ℕ)
-    → ((x : ℕ) → from ≤ x → x < from + n → test x ≡ false)
-    → filter test (range_with_len from n) ≡ []
-filter_none test from zero none = refl
-filter_none test from (suc n) none =
-    rw (none from (omega arith) (omega arith)) (filter_none test (from + 1) n
-    (λ x low high. none x (omega (arith, low)) (omega (arith, high))))
 
 pub filter_all : (test : ℕ → Bool) (from n : ℕ)
     → ((x : ℕ) → from ≤ x → x < from + n → test x ≡ true)
@@ -42,7 +35,7 @@ filter_one test one from zero low high is others = absurd (omega (arith, low, hi
 filter_one test one from (suc n) low high is others = elim (cases_eq from one) [
   | inl same ↦
       kept_first test test from (range_with_len (from + 1) n) (ap test same ∙ is)
-      ∙ (λ i. same i ∷ filter_none test (from + 1) n
+      ∙ (λ i. same i ∷ none_pass test (from + 1) n
       (λ x above _. others x (λ own. absurd (omega (arith, own, above, same)))) i)
   | inr other ↦
       left_out test test from (range_with_len (from + 1) n) (others from other)

@@ -1,5 +1,5 @@
 -- Marks of times as bits, and one word that is replaced.
-use Rattle.std.proofs.Common.{◌≡◌, ◌∙◌, inl, inr, ℕ, zero, suc, ◌+◌, ◌-◌, ◌*◌, ◌/◌, ◌%◌, ◌<◌}
+use Rattle.std.proofs.Common.{◌≡◌, ◌∙◌, inl, inr, ℕ, ◌+◌, ◌-◌, ◌*◌, ◌/◌, ◌%◌, ◌<◌}
 use Rattle.std.proofs.Common.{◌≤◌}
 use Rattle.std.proofs.Common.{nat_lt, true, false, List, length, get_or}
 use Rattle.std.proofs.Common.{slice_set, sum}
@@ -8,10 +8,14 @@ use Rattle.std.proofs.lemmas.Bool.{and_from, and_right, cases_lt, false≢true, 
 use Rattle.std.proofs.lemmas.List.{get_or_past}
 use Rattle.std.proofs.lemmas.List.{set-get_or, set-set}
 use Rattle.std.proofs.lemmas.List.Sums.{sum_by-set}
+use Rattle.std.proofs.Common.{◌++◌, filter}
+use Rattle.std.specs.List.{range_with_len}
+use Rattle.std.proofs.lemmas.List.Elements.{filter-append}
 use Rattle.bit_rows.specs.Bits.{IsFirstBit, has_bit, with_word, word_of, words_of}
+use Rattle.bit_rows.proofs.Columns.{none_pass, range_append}
 use Rattle.bit_rows.proofs.RowBits.{bit_there}
 use Rattle.pesp_search.specs.Marks.{AreMarks, IsNext, Marks, is_left, times_from}
-use Rattle.pesp_search.proofs.NextTimes.{next_one, no_more, not_this}
+use Rattle.pesp_search.proofs.NextTimes.{next_one, no_more}
 
 -- ---- sums
 
@@ -43,14 +47,13 @@ left_bit sets event time are inside small is = elim (cases_lt time sets.columns)
 none_between : (sets : Marks) (event from n : ℕ)
     → ((time : ℕ) → from ≤ time → time < from + n → is_left sets event time ≡ false)
     → from + n ≤ sets.columns → times_from sets event from ≡ times_from sets event (from + n)
-none_between sets event from zero none few =
-    let same : from ≡ from + 0 = omega arith in ap (times_from sets event) same
-none_between sets event from (suc n) none few =
-    let same : from + 1 + n ≡ from + suc n = omega arith in
-    not_this sets event from (omega (arith, few)) (none from (omega arith) (omega arith))
-    ∙ none_between sets event (from + 1) n
-    (λ time low high. none time (omega (arith, low)) (omega (arith, high))) (omega (arith, few))
-    ∙ ap (times_from sets event) same
+none_between sets event from n none few =
+    let size : sets.columns - from ≡ n + (sets.columns - (from + n)) = omega (arith, few) in
+    ap (λ size. filter (is_left sets event) (range_with_len from size)) size
+    ∙ ap (filter (is_left sets event)) (range_append from n (sets.columns - (from + n)))
+    ∙ filter-append (is_left sets event) (range_with_len from n) _
+    ∙ ap (λ first. first ++ times_from sets event (from + n))
+    (none_pass (is_left sets event) from n none)
 
 -- none so far
 abbrev pub NoneLeft : Marks → ℕ → ℕ → ℕ → Type 0

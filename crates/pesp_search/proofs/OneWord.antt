@@ -10,7 +10,7 @@ use Rattle.bit_rows.proofs.WordBits.{high_bit, or_bit, shl_high, shl_low, shr_bi
 use Rattle.pesp_search.specs.Marks.{AreMarks, Marks, is_left}
 use Rattle.pesp_search.specs.Revising.{IsClear, turned_to}
 use Rattle.pesp_search.proofs.WordTurns.{IsWide, no_bits, wide_begun, zeros}
-use Rattle.pesp_search.proofs.AnyBelow.{or_none as or_false}
+use Rattle.bit_rows.proofs.WordBits.{or_none as or_false}
 
 pub in_word : (word time : ℕ) → time < 64 → marked (word ∷ []) time ≡ has_bit word time
 in_word word time low =

@@ -12,7 +12,8 @@ use Rattle.bit_rows.specs.Bits.{has_bit, marked, one_bit, words_of}
 use Rattle.bit_rows.proofs.WordBits.{bit_of_one, or_bit, shl_high, shl_low, zero_bit}
 use Rattle.pesp_search.specs.Marks.{Marks, any_below, is_left}
 use Rattle.pesp_search.specs.Revising.{IsClear, reaches, turned_to}
-use Rattle.pesp_search.proofs.AnyBelow.{any_one, any_same, joined_below, or_none as or_false}
+use Rattle.bit_rows.proofs.WordBits.{or_none as or_false}
+use Rattle.pesp_search.proofs.AnyBelow.{any_one, any_same, joined_below}
 
 -- ---- the bits from a time on
 
