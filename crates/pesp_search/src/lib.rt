@@ -8,6 +8,7 @@ mod fault;
 mod files;
 mod flags;
 mod judge;
+mod last_window;
 mod links;
 mod marks;
 mod pinned;
