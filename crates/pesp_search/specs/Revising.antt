@@ -41,12 +41,6 @@ abbrev pub reaches : ℕ → (ℕ → Bool) → ℕ → ℕ → ℕ → Bool
 reaches period left offset width time =
     any_below (λ minutes. left ((time + offset + minutes) % period)) (width + 1)
 
--- words have a bit for each time of a period behind which one of a set is reached in a window
-abbrev pub AreReached : ℕ → List ℕ → ℕ → ℕ → List ℕ → Type 0
-AreReached period times offset width reached =
-    (time : ℕ) → time < period
-    → marked reached time ≡ reaches period (marked times) offset width time
-
 -- by how much an activity may take longer than its lower bound, up to a whole period
 abbrev pub width_of : ℕ → PespActivity → ℕ
 width_of period activity = min (unsigned_abs (activity.upper -ℤ activity.lower)) (period - 1)

@@ -8,7 +8,6 @@ mod fault;
 mod files;
 mod flags;
 mod judge;
-mod last_window;
 mod links;
 mod marks;
 mod pinned;

@@ -15,6 +15,7 @@ use crate::flags::EventFlags;
 use crate::marks::TimeMarks;
 use crate::prune::{any_of, prune};
 use crate::time_sets::TimeSets;
+use crate::windows::reached;
 use crate::words::WORDS;
 use pesp_model::PespActivity;
 use plan_num::NoMemory;
@@ -141,7 +142,7 @@ fn prune_first(activity: PespActivity, count: usize, sets: &mut TimeSets) -> Res
     if is_crowded(sets.sets(), count, activity) {
         return Ok(false);
     }
-    let times = with_second(activity, sets);
+    let times = with_second(activity, sets.sets());
     prune(sets, activity.from, &times)
 }
 
@@ -156,7 +157,7 @@ fn prune_second(activity: PespActivity, count: usize, sets: &mut TimeSets) -> Re
     if is_crowded(sets.sets(), count, activity) {
         return Ok(false);
     }
-    let times = with_first(activity, sets);
+    let times = with_first(activity, sets.sets());
     prune(sets, activity.to, &times)
 }
 
@@ -173,29 +174,27 @@ fn is_crowded(sets: &TimeMarks, count: usize, activity: PespActivity) -> bool
 }
 
 // The times of the period that are the first one of two that keep an activity.
-fn with_second(activity: PespActivity, sets: &mut TimeSets) -> [u64; WORDS]
-    requires { IsActivity sets.old.sets.rows activity }
-    ensures same { sets.new ≡ sets.old }
+fn with_second(activity: PespActivity, sets: &TimeMarks) -> [u64; WORDS]
+    requires { IsActivity sets.now.rows activity }
     ensures long { length result ≡ 13 }
-    ensures each { (time : ℕ) → time < sets.old.sets.columns → marked result time
-        ≡ second_left sets.old.sets.columns (is_left sets.old.sets) activity time }
+    ensures each { (time : ℕ) → time < sets.now.columns → marked result time
+        ≡ second_left sets.now.columns (is_left sets.now) activity time }
 {
-    let period = sets.sets().period();
+    let period = sets.period();
     let width = width_of(activity, period);
-    sets.reached(activity.to, ahead(activity, period), width)
+    reached(sets, activity.to, ahead(activity, period), width)
 }
 
 // The times of the period that are the second one of two that keep an activity.
-fn with_first(activity: PespActivity, sets: &mut TimeSets) -> [u64; WORDS]
-    requires { IsActivity sets.old.sets.rows activity }
-    ensures same { sets.new ≡ sets.old }
+fn with_first(activity: PespActivity, sets: &TimeMarks) -> [u64; WORDS]
+    requires { IsActivity sets.now.rows activity }
     ensures long { length result ≡ 13 }
-    ensures each { (time : ℕ) → time < sets.old.sets.columns → marked result time
-        ≡ first_left sets.old.sets.columns (is_left sets.old.sets) activity time }
+    ensures each { (time : ℕ) → time < sets.now.columns → marked result time
+        ≡ first_left sets.now.columns (is_left sets.now) activity time }
 {
-    let period = sets.sets().period();
+    let period = sets.period();
     let width = width_of(activity, period);
-    sets.reached(activity.from, behind(activity, period, width), width)
+    reached(sets, activity.from, behind(activity, period, width), width)
 }
 
 /// By how much an activity may take longer than its lower bound, up to a whole period.

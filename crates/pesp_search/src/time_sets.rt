@@ -1,13 +1,9 @@
 // Sets of times that are changed and restored.
-ghost use Rattle.std.specs.Prelude.{◌≡◌, ◌<◌, ◌≤◌, ◌∷◌, [], ℕ, length, IfOk, OnOk};
-ghost use Rattle.bit_rows.specs.Bits.{marked, words_of};
-ghost use Rattle.pesp_search.specs.Marks.{KeepsBits, Restores, is_left};
-ghost use Rattle.pesp_search.specs.Revising.{reaches};
+ghost use Rattle.std.specs.Prelude.{◌≡◌, ◌<◌, ◌∷◌, [], IfOk, OnOk};
+ghost use Rattle.bit_rows.specs.Bits.{words_of};
+ghost use Rattle.pesp_search.specs.Marks.{KeepsBits, Restores};
 
-use crate::last_window::LastWindow;
 use crate::marks::TimeMarks;
-use crate::windows::reached;
-use crate::words::WORDS;
 use plan_num::NoMemory;
 use std::alloc::Global;
 use std::marker::Model;
@@ -33,7 +29,6 @@ pub(crate) enum Change {
 pub(crate) struct TimeSets {
     sets: TimeMarks,
     changes: Vec<Change>,
-    last: LastWindow,
 }
 
 impl Model for TimeSets {
@@ -59,7 +54,6 @@ impl TimeSets {
         TimeSets {
             sets,
             changes: Vec::new(alloc),
-            last: LastWindow::none(),
         }
     }
 
@@ -68,20 +62,6 @@ impl TimeSets {
         ensures { result.now ≡ self.now.sets }
     {
         &self.sets
-    }
-
-    /// The times of the period behind which a time is left to an event, in the window that opens so
-    /// many minutes behind them and is so many minutes wide.
-    pub(crate) fn reached(&mut self, event: usize, offset: usize, width: usize) -> [u64; WORDS]
-        requires event { event < self.old.sets.rows }
-        requires offset { offset ≤ self.old.sets.columns }
-        requires width { width < self.old.sets.columns }
-        ensures same { self.new ≡ self.old }
-        ensures long { length result ≡ 13 }
-        ensures each { (time : ℕ) → time < self.old.sets.columns → marked result time
-            ≡ reaches self.old.sets.columns (is_left self.old.sets event) offset width time }
-    {
-        reached(&self.sets, event, offset, width, &mut self.last)
     }
 
     /// Takes the times of a word that have no bit out of the set of an event, and tells whether

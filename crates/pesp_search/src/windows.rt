@@ -6,21 +6,13 @@ ghost use Rattle.bit_rows.specs.Bits.{has_bit, marked};
 ghost use Rattle.pesp_search.specs.Marks.{is_left};
 ghost use Rattle.pesp_search.specs.Revising.{IsClear, reaches, turned_to};
 
-use crate::last_window::LastWindow;
 use crate::marks::TimeMarks;
 use crate::words::{WORDS, word_from};
 use bit_rows::{cut, words_of};
 
 /// The times of the period behind which a time is left to an event, in the window that opens so
-/// many minutes behind them and is so many minutes wide. Where a period takes several words, the
-/// last window is kept, since activities with equal bounds follow one another.
-pub(crate) fn reached(
-    sets: &TimeMarks,
-    event: usize,
-    offset: usize,
-    width: usize,
-    last: &mut LastWindow,
-) -> [u64; WORDS]
+/// many minutes behind them and is so many minutes wide.
+pub(crate) fn reached(sets: &TimeMarks, event: usize, offset: usize, width: usize) -> [u64; WORDS]
     requires event { event < sets.now.rows }
     requires offset { offset ≤ sets.now.columns }
     requires width { width < sets.now.columns }
@@ -28,17 +20,11 @@ pub(crate) fn reached(
     ensures each { (time : ℕ) → time < sets.now.columns → marked result time
         ≡ reaches sets.now.columns (is_left sets.now event) offset width time }
 {
-    let period = sets.period();
-    if period <= 64 {
-        return reached_in_word(sets, event, offset, width);
+    if sets.period() <= 64 {
+        reached_in_word(sets, event, offset, width)
+    } else {
+        reached_in_words(sets, event, offset, width)
     }
-    let times = sets.times_of(event);
-    if let Some(reached) = last.again(period, &times, offset, width) {
-        return reached;
-    }
-    let reached = reached_in_words(sets, event, offset, width);
-    *last = LastWindow::of(period, times, offset, width, reached);
-    reached
 }
 
 // Does so where the times of the period are in one word.

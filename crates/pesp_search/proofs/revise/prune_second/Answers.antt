@@ -1,6 +1,7 @@
-use Rattle.std.proofs.Common.{◌≡◌, ◌∙◌, ◌-◌, ℕ, nat_le, subst, sym, true, IfOk}
-use Rattle.pesp_search.specs.Marks.{AreMarks, Marks, Prunes, Tracked, is_left}
-use Rattle.pesp_search.specs.Revising.{stays, first_left, width_of}
+use Rattle.std.proofs.Common.{◌≡◌, ◌∙◌, ◌<◌, ◌-◌, ℕ, nat_le, subst, sym, true}
+use Rattle.bit_rows.specs.Bits.{marked}
+use Rattle.pesp_search.specs.Marks.{AreMarks, Marks, is_left}
+use Rattle.pesp_search.specs.Revising.{first_left, width_of}
 use Rattle.pesp_search.proofs.Crowded.{crowded_firsts}
 use Rattle.pesp_search.proofs.Pruned.{prunes_by_bits}
 use Rattle.pesp_search.proofs.revise.prune_second.Goals as goal
@@ -10,9 +11,11 @@ returns c =
     prunes_by_bits c.args.sets.now c.prune.new.sets c.args.activity.to
     (first_left c.args.sets.now.sets.columns (is_left c.args.sets.now.sets) c.args.activity)
     c.with_first-times.result c.prune.result
-    c.with_first-times.ensures.each
-    (subst (λ (before : Tracked). IfOk c.prune.result (Prunes before c.prune.new.sets
-    (stays c.args.activity.to c.with_first-times.result))) c.with_first-times.ensures.same c.prune.ensures)
+    (subst (λ (sets : Marks). (time : ℕ) → time < sets.columns
+    → marked c.with_first-times.result time
+    ≡ first_left sets.columns (is_left sets) c.args.activity time) c.sets-2.ensures
+    c.with_first-times.ensures.each)
+    c.prune.ensures
 
 pub returns-then-is_crowded : goal.returns-then-is_crowded
 returns-then-is_crowded c =

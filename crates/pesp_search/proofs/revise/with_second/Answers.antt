@@ -1,21 +1,19 @@
 use Rattle.std.proofs.Common.{◌∙◌, ◌≤◌, ℕ, ap, arith, sym}
-use Rattle.pesp_search.specs.Marks.{Marks, is_left}
+use Rattle.pesp_search.specs.Marks.{is_left}
 use Rattle.pesp_search.specs.Revising.{ahead, reaches, width_of}
 use Rattle.pesp_search.proofs.Partners.{second_reached}
 use Rattle.pesp_search.proofs.revise.with_second.Goals as goal
 
 pub returns-clause-each : goal.returns-clause-each
 returns-clause-each c time low =
-    let sets = c.args.sets.now.sets in
-    let period = sets.columns in
+    let period = c.args.sets.now.columns in
     let activity = c.args.activity in
-    let left = is_left sets in
-    let same = ap (λ (sets : Marks). sets.columns) c.sets.ensures in
-    let period_is = c.period-period.ensures.value ∙ same in
-    let some : 1 ≤ period = omega (arith, c.period-period.ensures.sound.some, same) in
+    let left = is_left c.args.sets.now in
+    let period_is = c.period-period.ensures.value in
+    let some : 1 ≤ period = omega (arith, c.period-period.ensures.sound.some) in
     let offset_is = c.ahead.ensures.ahead ∙ ap (λ (period : ℕ). ahead period activity) period_is in
     let width_is = c.width_of-width.ensures.width
     ∙ ap (λ (period : ℕ). width_of period activity) period_is in
     c.reached.ensures.each time low
     ∙ (λ i. reaches period (left activity.to) (offset_is i) (width_is i) time)
-    ∙ sym (second_reached period some sets.rows activity c.requires left time low)
+    ∙ sym (second_reached period some c.args.sets.now.rows activity c.requires left time low)
