@@ -3,6 +3,7 @@ use Rattle.std.proofs.Common.{◌≡◌, ◌∙◌, inl, inr, ℕ, zero, suc, �
 use Rattle.std.proofs.Common.{false, ◌||◌}
 use Rattle.std.proofs.Common.{refl, ap, sym, arith}
 use Rattle.std.proofs.lemmas.Bool.{cases_Bool, cases_eq, cases_lt, false≢true, or_left, or_parts, or_right}
+use Rattle.bit_rows.proofs.WordBits.{or_none}
 use Rattle.pesp_search.specs.Marks.{any_below}
 
 -- one that passes
@@ -13,10 +14,6 @@ passes_below test (suc n) k low is = elim (cases_eq k n) [
   | inl same ↦ or_right (any_below test n) _ (ap test (sym same) ∙ is)
   | inr other ↦ or_left _ (test n) (passes_below test n k (omega (arith, low, other)) is)
 ]
-
-pub or_none : (x y : Bool) → y ≡ false → (x || y) ≡ x
-or_none true y is = refl
-or_none false y is = is
 
 pub some_below : (test : ℕ → Bool) (n : ℕ) → any_below test n ≡ true
     → (k : ℕ) × (k < n) × (test k ≡ true)

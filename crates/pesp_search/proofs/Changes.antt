@@ -3,10 +3,11 @@ use Rattle.std.proofs.Common.{◌≡◌, ◌∙◌, ℕ, ◌<◌, List, [], ◌�
 use Rattle.std.proofs.Common.{length, reverse, refl, ap, sym, subst, arith, All}
 use Rattle.std.proofs.Math.Seq.{get_or-append_seam}
 use Rattle.std.proofs.lemmas.List.{get_or_append_left, length_push, reverse-append}
+use Rattle.bit_rows.specs.Bits.{with_word}
 use Rattle.pesp_search.specs.declared.time_sets.Branch.{Branch}
 use Rattle.pesp_search.specs.declared.time_sets.Change.{Change}
 use Rattle.pesp_search.specs.declared.time_sets.Change.TheVariants as change
-use Rattle.pesp_search.specs.Marks.{Marks, Saved, Tracked, saved_by, with_word}
+use Rattle.pesp_search.specs.Marks.{Marks, Saved, Tracked, saved_by}
 use Rattle.pesp_search.proofs.MarkBits.{word_again}
 
 pub last_first : {X : Type 0} (xs : List X) (x : X) → reverse (xs ++ x ∷ []) ≡ x ∷ reverse xs

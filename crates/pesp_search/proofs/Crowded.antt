@@ -34,9 +34,9 @@ prunes_none before keeps all = record {
     ]
 
 module _ (activity : PespActivity) (before : Tracked)
-    (is : IsActivity before.sets.events activity) (are : AreMarks before.sets) where
+    (is : IsActivity before.sets.rows activity) (are : AreMarks before.sets) where
   abbrev period : ℕ
-  period = before.sets.period
+  period = before.sets.columns
 
   abbrev width : ℕ
   width = width_of period activity
@@ -70,7 +70,7 @@ module _ (activity : PespActivity) (before : Tracked)
   crowded_seconds so =
       prunes_none before (keeps_first period (is_left before.sets) activity)
       (λ event time left. own event _
-      (second_reached period are.some before.sets.events activity is (is_left before.sets) time
+      (second_reached period are.some before.sets.rows activity is (is_left before.sets) time
       (low event time left)
       ∙ crowded period (is_left before.sets activity.to) width are.some narrow (many activity.to
       so) (ahead period activity) time)
@@ -81,7 +81,7 @@ module _ (activity : PespActivity) (before : Tracked)
   crowded_firsts so =
       prunes_none before (keeps_second period (is_left before.sets) activity)
       (λ event time left. own event _
-      (first_reached period are.some before.sets.events activity is (is_left before.sets) time
+      (first_reached period are.some before.sets.rows activity is (is_left before.sets) time
       (low event time left)
       ∙ crowded period (is_left before.sets activity.from) width are.some narrow (many
       activity.from so) (behind period activity) time)
@@ -99,12 +99,12 @@ module _ (activity : PespActivity) (before : Tracked)
       → IsRevised period (is_left before.sets) activity
   free_revised free some_from some_to = record {
     seconds = λ time left.
-        second_reached period are.some before.sets.events activity is (is_left before.sets) time
+        second_reached period are.some before.sets.rows activity is (is_left before.sets) time
         (low activity.from time left)
         ∙ crowded period (is_left before.sets activity.to) width are.some narrow
         (many activity.to (crowded_free free activity.to some_to)) (ahead period activity) time;
     firsts = λ time left.
-        first_reached period are.some before.sets.events activity is (is_left before.sets) time
+        first_reached period are.some before.sets.rows activity is (is_left before.sets) time
         (low activity.to time left)
         ∙ crowded period (is_left before.sets activity.from) width are.some narrow
         (many activity.from (crowded_free free activity.from some_from)) (behind period activity)

@@ -56,25 +56,25 @@ module _ (period : ℕ) (left others : Left) (within : IsWithin left others) whe
       → list_any is_empty (family period events left) ≡ true
   empty_within events none = empty_on 0 events none
 
-pub empty_marks : (some many : Marks) → some.period ≡ many.period → some.events ≡ many.events
+pub empty_marks : (some many : Marks) → some.columns ≡ many.columns → some.rows ≡ many.rows
     → IsWithin (is_left some) (is_left many) → HasEmpty many → HasEmpty some
 empty_marks some many period events within none =
     ap (list_any is_empty) (sets_family some
     ∙ (λ i. family (period i) (events i) (is_left some)))
-    ∙ empty_within many.period (is_left some) (is_left many) within many.events
+    ∙ empty_within many.columns (is_left some) (is_left many) within many.rows
     (sym (ap (list_any is_empty) (sets_family many)) ∙ none)
 
 -- where no event before one has several times none has among fewer
-pub settled_within : (some many : Marks) (end : ℕ) → some.period ≡ many.period
+pub settled_within : (some many : Marks) (end : ℕ) → some.columns ≡ many.columns
     → IsWithin (is_left some) (is_left many) → IsSettled many end → IsSettled some end
 settled_within some many end period within so event low =
     let times : ℕ → List ℕ = λ period.
     filter (is_left many event) (range_with_len 0 (period - 0)) in
     let fewer = fewer_pass (is_left some event) (is_left many event) (within event)
-    (range_with_len 0 (some.period - 0)) in
-    let same : length (times some.period) ≡ length (times many.period) =
+    (range_with_len 0 (some.columns - 0)) in
+    let same : length (times some.columns) ≡ length (times many.columns) =
     ap (λ period. length (times period)) period in
-    let few = ltb-false 1 (length (times many.period)) (so event low) in
+    let few = ltb-false 1 (length (times many.columns)) (so event low) in
     le-ltb 1 _ (omega (arith, fewer, same, few))
 
 -- where none is empty, times are left to each event
@@ -92,10 +92,10 @@ times_at sets from (suc n) event low high none =
       )) parts.1
     ]
 
-pub some_left : (sets : Marks) (event : ℕ) → event < sets.events
+pub some_left : (sets : Marks) (event : ℕ) → event < sets.rows
     → list_any is_empty (sets_of sets) ≡ false → 1 ≤ length (times_from sets event 0)
 some_left sets event within none =
-    let test = times_at sets 0 sets.events event (omega arith) (omega (arith, within)) none in
+    let test = times_at sets 0 sets.rows event (omega arith) (omega (arith, within)) none in
     elim (cases_eq (length (times_from sets event 0)) 0) [
       | inl zero_is ↦ absurd (false≢true (sym test ∙ eq-eqb _ 0 zero_is))
       | inr other ↦ omega (arith, other)
@@ -114,10 +114,10 @@ empty_at sets from (suc n) event low high none = elim (cases_eq event from) [
       (empty_at sets (from + 1) n event (omega (arith, low, other)) (omega (arith, high)) none)
 ]
 
-pub none_at : (sets : Marks) (event : ℕ) → event < sets.events
+pub none_at : (sets : Marks) (event : ℕ) → event < sets.rows
     → length (times_from sets event 0) ≡ 0
     → HasEmpty sets
-none_at sets event within none = empty_at sets 0 sets.events event (omega arith) (omega (
+none_at sets event within none = empty_at sets 0 sets.rows event (omega arith) (omega (
   arith,
   within,
 )) none
@@ -132,13 +132,13 @@ full_on sets from (suc n) each =
     || full_on sets (from + 1) n (λ event low. each event (omega (arith, low))) i)
 
 pub full_from : (sets : Marks)
-    → ((event : ℕ) → event < sets.events → is_empty (times_from sets event 0) ≡ false) → IsFull sets
-full_from sets each = full_on sets 0 sets.events (λ event low. each event (omega (arith, low)))
+    → ((event : ℕ) → event < sets.rows → is_empty (times_from sets event 0) ≡ false) → IsFull sets
+full_from sets each = full_on sets 0 sets.rows (λ event low. each event (omega (arith, low)))
 
-pub full_at : (sets : Marks) (event : ℕ) → event < sets.events → IsFull sets
+pub full_at : (sets : Marks) (event : ℕ) → event < sets.rows → IsFull sets
     → is_empty (times_from sets event 0) ≡ false
 full_at sets event within full =
-    times_at sets 0 sets.events event (omega arith) (omega (arith, within)) full
+    times_at sets 0 sets.rows event (omega arith) (omega (arith, within)) full
 
 -- times are taken out of the set of one event, to which some stay
 pub pruned_full : (before after : Tracked) (kept : ℕ) (keeps : Left) (changes : Bool)
@@ -147,7 +147,7 @@ pub pruned_full : (before after : Tracked) (kept : ℕ) (keeps : Left) (changes 
     → (changes ≡ true → is_empty (times_from after.sets kept 0) ≡ false) → StaysFull before after
 pruned_full before after kept keeps changes so others some full = one (cases_Bool changes)
   where
-    each : changes ≡ true → (event : ℕ) → event < after.sets.events
+    each : changes ≡ true → (event : ℕ) → event < after.sets.rows
         → is_empty (times_from after.sets event 0) ≡ false
     each is event within = elim (cases_eq event kept) [
       | inl own ↦ ap (λ event. is_empty (times_from after.sets event 0)) own ∙ some is

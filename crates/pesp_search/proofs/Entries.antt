@@ -9,7 +9,6 @@ use Rattle.std.proofs.Common.{Err, refl, ap, sym, subst, arith}
 use Rattle.std.specs.List.{list_any}
 use Rattle.std.proofs.Math.Nat.{le-min, min-eq_left, min-eq_right}
 use Rattle.std.proofs.lemmas.Bool.{cases_eq, eq-eqb, false≢true, lt-ltb, le-ltb}
-use Rattle.std.proofs.lemmas.List.FromFn.{get_or-map-range_with_len, length-map-range_with_len}
 use Rattle.std.proofs.lemmas.List.Quantifiers.{position-Some}
 use Rattle.giv_files.specs.declared.refusal.Refusal.TheVariants as refusal
 use Rattle.pesp_model.specs.Timetables.{Problem}
@@ -25,6 +24,7 @@ use Rattle.pesp_search.specs.Searches.{listed_on}
 use Rattle.pesp_search.specs.TimeSets.{left_to, reduced}
 use Rattle.pesp_search.specs.TimeSets.{reduced as all_reduced}
 use Rattle.pesp_search.proofs.EmptySets.{settled_within, with_time_full}
+use Rattle.pesp_search.proofs.NextSets.{set_at, sets_size}
 use Rattle.pesp_search.proofs.Revised.{carried_second, carried_first}
 use Rattle.pesp_search.proofs.Turns.{first_turn, listed, no_turn, none_behind, turns_append}
 use Rattle.pesp_search.proofs.Turns.{turns_map, unless_one}
@@ -36,18 +36,16 @@ abbrev visit_child : Tracked → (List (List ℕ) → Listing) → ℕ → ℕ �
 visit_child sets visit event time = visit (with_time (sets_of sets.sets) event time)
 
 pub event_within : (sets : Marks) (event : ℕ) → position has_several (sets_of sets) ≡ Some event
-    → event < sets.events
+    → event < sets.rows
 event_within sets event is =
     let at = position-Some has_several (sets_of sets) event [] is in
-    let long = length-map-range_with_len (λ event. times_from sets event 0) 0 sets.events in
-    omega (arith, at.0, long)
+    omega (arith, at.0, sets_size sets)
 
 -- no event before the first one with several times has several
 settled_at : (sets : Marks) (end : ℕ) → position has_several (sets_of sets) ≡ Some end
     → IsSettled sets end
 settled_at sets end is event low =
-    sym (ap has_several (get_or-map-range_with_len (λ event. times_from sets event 0) 0 sets.events
-    event event [] (omega (arith, low, event_within sets end is)) (omega arith)))
+    sym (ap has_several (set_at sets event (omega (arith, low, event_within sets end is))))
     ∙ (position-Some has_several (sets_of sets) end [] is).2 event low
 
 pub branched : (before after : Tracked) (event : ℕ)
@@ -65,9 +63,7 @@ branched before after event none is same = (
       let branch = visit_child before visit in
       let times = times_from before.sets event 0 in
       let left : left_to (sets_of before.sets) event ≡ times =
-      get_or-map-range_with_len (λ event. times_from before.sets event 0) 0 before.sets.events
-      event event []
-      (event_within before.sets event is) (omega arith) in
+      set_at before.sets event (event_within before.sets event is) in
       let children = map (with_time (sets_of before.sets) event) times in
       ap (λ first. unless_found first (in_turn visit (waiting before.saved)))
       (ap (λ b. elim b as (λ _. Listing) [
@@ -204,16 +200,16 @@ module _ (problem : Problem) (before reduced : Tracked) (so : Reduces problem be
       → AreRevised problem before.saved → length flags ≡ problem.events
       → ((other : ℕ) → has_changed flags other ≡ (other == event))
       → (listed_on problem before ≡ one_more (listed_on problem next))
-      × (next.sets.period ≡ before.sets.period)
-      × (next.sets.events ≡ before.sets.events)
+      × (next.sets.columns ≡ before.sets.columns)
+      × (next.sets.rows ≡ before.sets.rows)
       × IsReady problem next flags
       × IsSettled next.sets event
   entry_next after next event flags branch child was each are =
       let revised = saved_revised after was branch.2 in
-      let events = child.2 ∙ ap (λ (sets : Marks). sets.events) branch.1 ∙ so.events in (
+      let events = child.2 ∙ ap (λ (sets : Marks). sets.rows) branch.1 ∙ so.events in (
         entry_is ∙ branch.0 (listing_of problem)
             ∙ ap (λ sets. one_more (in_turn (listing_of problem) sets)) child.0,
-        child.1 ∙ ap (λ (sets : Marks). sets.period) branch.1 ∙ so.period,
+        child.1 ∙ ap (λ (sets : Marks). sets.columns) branch.1 ∙ so.period,
         events,
         child_ready after next event flags revised child.3 each are,
         child_settled after next event revised child.3,
@@ -241,7 +237,7 @@ search_begun problem sets are = record {
 pub search_turn : (problem : Problem) (before after : Tracked) (count : ℕ)
     → IsSearched problem before count
     → listed_on problem before ≡ one_more (listed_on problem after)
-    → after.sets.period ≡ before.sets.period → after.sets.events ≡ before.sets.events
+    → after.sets.columns ≡ before.sets.columns → after.sets.rows ≡ before.sets.rows
     → IsSearched problem after (count + 1)
 search_turn problem before after count so next period events = record {
   period = period ∙ so.period;

@@ -1,10 +1,11 @@
 -- Sets of times by a test of events and times, and rounds on them.
-use Rattle.std.proofs.Common.{◌≡◌, ◌∙◌, ℕ, zero, suc, ◌+◌, ◌-◌, ◌<◌, ◌≤◌, Bool, inl, inr}
+use Rattle.std.proofs.Common.{◌≡◌, ◌∙◌, ℕ, zero, suc, ◌+◌, ◌-◌, ◌<◌, Bool, inl, inr}
 use Rattle.std.proofs.Common.{cond, ◌&&◌}
 use Rattle.std.proofs.Common.{List, [], ◌∷◌, map, filter, refl, ap, arith}
 use Rattle.std.specs.List.{enumerate_from, range_with_len}
 use Rattle.std.proofs.lemmas.List.FromFn.{get_or-map-range_with_len}
 use Rattle.std.proofs.lemmas.Bool.{cases_Bool}
+use Rattle.bit_rows.proofs.Columns.{same_filter}
 use Rattle.pesp_model.specs.Timetables.{Problem}
 use Rattle.pesp_search.specs.Marks.{Marks, family, is_left, sets_of}
 use Rattle.pesp_search.specs.Revising.{Left}
@@ -12,16 +13,6 @@ use Rattle.pesp_search.specs.TimeSets.{has_partners, left_to, round}
 use Rattle.pesp_search.proofs.Partners.{same_on_range}
 
 -- ---- filters
-
-pub same_filter : (test other : ℕ → Bool) (from n : ℕ)
-    → ((x : ℕ) → from ≤ x → x < from + n → test x ≡ other x)
-    → filter test (range_with_len from n) ≡ filter other (range_with_len from n)
-same_filter test other from zero same = refl
-same_filter test other from (suc n) same =
-    let first = same from (omega arith) (omega arith) in
-    let rest = same_filter test other (from + 1) n
-    (λ x low high. same x (omega (arith, low)) (omega (arith, high))) in
-    λ i. cond (first i) (from ∷ rest i) (rest i)
 
 pub filter_twice : (test other : ℕ → Bool) (xs : List ℕ)
     → filter other (filter test xs) ≡ filter (λ x. test x && other x) xs
@@ -72,8 +63,8 @@ module _ (period : ℕ) where
       (λ i e. filter_twice (left e) (partners e) (range_with_len 0 period) i)
 
 -- marks are a family
-pub sets_family : (sets : Marks) → sets_of sets ≡ family sets.period sets.events (is_left sets)
+pub sets_family : (sets : Marks) → sets_of sets ≡ family sets.columns sets.rows (is_left sets)
 sets_family sets =
-    let all : sets.period - 0 ≡ sets.period = omega arith in
+    let all : sets.columns - 0 ≡ sets.columns = omega arith in
     ap (λ period. map (λ event. filter (is_left sets event) (range_with_len 0 period))
-    (range_with_len 0 sets.events)) all
+    (range_with_len 0 sets.rows)) all

@@ -5,25 +5,18 @@ use Rattle.std.proofs.Common.{map, filter}
 use Rattle.std.proofs.Common.{refl, ap, sym, arith, Ok}
 use Rattle.std.specs.List.{range_with_len}
 use Rattle.std.proofs.lemmas.Bool.{and_from, and_parts, and_right, cases_eq, eq-eqb, ne_eqb}
+use Rattle.bit_rows.specs.Bits.{marked}
+use Rattle.bit_rows.proofs.Columns.{none_pass, same_filter}
 use Rattle.pesp_search.specs.Listings.{times_at_first, with_time}
-use Rattle.pesp_search.specs.Marks.{KeepsTime, Marks, Prunes, Tracked, family, is_left, marked}
-use Rattle.pesp_search.specs.Marks.{sets_of}
+use Rattle.pesp_search.specs.Marks.{KeepsTime, Marks, Prunes, Tracked, family, is_left, sets_of}
 use Rattle.pesp_search.specs.Revising.{Left, stays}
 use Rattle.pesp_search.specs.Searches.{AreFirst}
 use Rattle.pesp_model.specs.Timetables.{Problem}
-use Rattle.pesp_search.proofs.Families.{same_filter, sets_family}
+use Rattle.pesp_search.proofs.Families.{sets_family}
 use Rattle.pesp_search.proofs.Partners.{kept_first, left_out, same_on_range, set_on_range}
 use Rattle.pesp_search.proofs.Pruned.{kept_by, prunes_by_bits}
 
 -- ---- filters of a range
-
-pub filter_none : (test : ℕ → Bool) (from n : ℕ)
-    → ((x : ℕ) → from ≤ x → x < from + n → test x ≡ false)
-    → filter test (range_with_len from n) ≡ []
-filter_none test from zero none = refl
-filter_none test from (suc n) none =
-    rw (none from (omega arith) (omega arith)) (filter_none test (from + 1) n
-    (λ x low high. none x (omega (arith, low)) (omega (arith, high))))
 
 pub filter_all : (test : ℕ → Bool) (from n : ℕ)
     → ((x : ℕ) → from ≤ x → x < from + n → test x ≡ true)
@@ -42,7 +35,7 @@ filter_one test one from zero low high is others = absurd (omega (arith, low, hi
 filter_one test one from (suc n) low high is others = elim (cases_eq from one) [
   | inl same ↦
       kept_first test test from (range_with_len (from + 1) n) (ap test same ∙ is)
-      ∙ (λ i. same i ∷ filter_none test (from + 1) n
+      ∙ (λ i. same i ∷ none_pass test (from + 1) n
       (λ x above _. others x (λ own. absurd (omega (arith, own, above, same)))) i)
   | inr other ↦
       left_out test test from (range_with_len (from + 1) n) (others from other)
@@ -51,8 +44,8 @@ filter_one test one from (suc n) low high is others = elim (cases_eq from one) [
 
 -- ---- one time of an event
 
-module _ (before after : Tracked) (event time : ℕ) (within : event < before.sets.events)
-    (small : time < before.sets.period) (left : is_left before.sets event time ≡ true) where
+module _ (before after : Tracked) (event time : ℕ) (within : event < before.sets.rows)
+    (small : time < before.sets.columns) (left : is_left before.sets event time ≡ true) where
   abbrev one : ℕ → Bool
   one other = other == time
 
@@ -64,9 +57,9 @@ module _ (before after : Tracked) (event time : ℕ) (within : event < before.se
     saved = so.saved;
     sets = sets_family after.sets
         ∙ (λ i. family (so.period i) (so.events i) (so.left i))
-        ∙ set_on_range (λ e. filter (is_left before.sets e) (range_with_len 0 before.sets.period))
-        (λ e. filter (after_left e) (range_with_len 0 before.sets.period)) (time ∷ []) 0
-        before.sets.events
+        ∙ set_on_range (λ e. filter (is_left before.sets e) (range_with_len 0 before.sets.columns))
+        (λ e. filter (after_left e) (range_with_len 0 before.sets.columns)) (time ∷ []) 0
+        before.sets.rows
         event event (omega arith) within only others
         ∙ ap (λ sets. with_time sets event time) (sym (sets_family before.sets));
     within = λ e t is.
@@ -87,8 +80,8 @@ module _ (before after : Tracked) (event time : ℕ) (within : event < before.se
       here : (t : ℕ) → kept_by event one event t ≡ (t == time)
       here t = ap (λ b. not b || (t == time)) (eq-eqb event event refl)
 
-      only : filter (after_left event) (range_with_len 0 before.sets.period) ≡ time ∷ []
-      only = filter_one (after_left event) time 0 before.sets.period (omega arith) (omega (
+      only : filter (after_left event) (range_with_len 0 before.sets.columns) ≡ time ∷ []
+      only = filter_one (after_left event) time 0 before.sets.columns (omega arith) (omega (
         arith,
         small,
       ))
@@ -96,10 +89,10 @@ module _ (before after : Tracked) (event time : ℕ) (within : event < before.se
           (λ t other. and_right (is_left before.sets event t) _ (here t ∙ ne_eqb t time other))
 
       others : (e : ℕ) → (e ≡ event → ⊥)
-          → filter (after_left e) (range_with_len 0 before.sets.period)
-          ≡ filter (is_left before.sets e) (range_with_len 0 before.sets.period)
+          → filter (after_left e) (range_with_len 0 before.sets.columns)
+          ≡ filter (is_left before.sets e) (range_with_len 0 before.sets.columns)
       others e other =
-          same_filter (after_left e) (is_left before.sets e) 0 before.sets.period (λ t _ _.
+          same_filter (after_left e) (is_left before.sets e) 0 before.sets.columns (λ t _ _.
           and_all (is_left before.sets e t) _ (ap (λ b. not b
           || (t == time)) (ne_eqb e event other)))
 
@@ -116,14 +109,14 @@ abbrev all_sets : ℕ → ℕ → List (List ℕ)
 all_sets period events = map (λ _. range_with_len 0 period) (range_with_len 0 events)
 
 all_are : (marks : Marks)
-    → ((event time : ℕ) → event < marks.events → time < marks.period
+    → ((event time : ℕ) → event < marks.rows → time < marks.columns
     → is_left marks event time ≡ true)
-    → sets_of marks ≡ all_sets marks.period marks.events
+    → sets_of marks ≡ all_sets marks.columns marks.rows
 all_are marks all =
     sets_family marks
-    ∙ same_on_range (λ event. filter (is_left marks event) (range_with_len 0 marks.period))
-    (λ _. range_with_len 0 marks.period) 0 marks.events
-    (λ event _ high. filter_all (is_left marks event) 0 marks.period
+    ∙ same_on_range (λ event. filter (is_left marks event) (range_with_len 0 marks.columns))
+    (λ _. range_with_len 0 marks.columns) 0 marks.rows
+    (λ event _ high. filter_all (is_left marks event) 0 marks.columns
     (λ time _ low. all event time (omega (arith, high)) (omega (arith, low))))
 
 -- and then time 0 alone to the first one
@@ -135,15 +128,15 @@ one_first period events some =
     (λ event other. ap (λ b. if b then 0 ∷ [] else range_with_len 0 period) (ne_eqb event 0 other)))
 
 module _ (problem : Problem) (marks : Marks) (before : Tracked)
-    (is : before ≡ record { sets = marks; saved = [] }) (period : marks.period ≡ problem.period)
-    (events : marks.events ≡ problem.events)
-    (all : (event time : ℕ) → event < marks.events → time < marks.period
+    (is : before ≡ record { sets = marks; saved = [] }) (period : marks.columns ≡ problem.period)
+    (events : marks.rows ≡ problem.events)
+    (all : (event time : ℕ) → event < marks.rows → time < marks.columns
     → is_left marks event time ≡ true) where
-  same_period : before.sets.period ≡ problem.period
-  same_period = ap (λ (now : Tracked). now.sets.period) is ∙ period
+  same_period : before.sets.columns ≡ problem.period
+  same_period = ap (λ (now : Tracked). now.sets.columns) is ∙ period
 
-  same_events : before.sets.events ≡ problem.events
-  same_events = ap (λ (now : Tracked). now.sets.events) is ∙ events
+  same_events : before.sets.rows ≡ problem.events
+  same_events = ap (λ (now : Tracked). now.sets.rows) is ∙ events
 
   sets_are : sets_of before.sets ≡ all_sets problem.period problem.events
   sets_are =

@@ -1,117 +1,74 @@
 -- Flags of events as the bits of words.
 use Rattle.std.proofs.Common.{◌≡◌, ◌∙◌, ◌⊎◌, inl, inr, is_some, Option, ℕ, ◌+◌, ◌-◌, ◌*◌, ◌/◌, ◌%◌, ◌<◌}
-use Rattle.std.proofs.Common.{◌≤◌, ◌==◌, Bool, true, false, min, List, length, get_or, slice_set}
-use Rattle.std.proofs.Common.{All, Some, None, refl, ap, sym, arith}
-use Rattle.std.proofs.lemmas.Bool.{cases_eq, cases_lt, eq-eqb, ne_eqb}
-use Rattle.std.proofs.lemmas.Grind.{get_or-set_at, get_or_default_zero}
+use Rattle.std.proofs.Common.{◌≤◌, ◌==◌, Bool, true, false, ◌&&◌, if◌then◌else◌, min, map, length}
+use Rattle.std.proofs.Common.{slice_set, Some, None, refl, ap, sym, arith}
+use Rattle.std.specs.List.{range_with_len}
+use Rattle.std.proofs.lemmas.Bool.{cases_eq, cases_lt, eq-eqb, le-ltb, lt-ltb, ne_eqb}
+use Rattle.std.proofs.lemmas.Grind.{get_or-set_at}
 use Rattle.std.proofs.lemmas.List.{get_or-set_other, get_or_past}
 use Rattle.std.proofs.lemmas.List.FromFn.{get_or-map-range_with_len, length-map-range_with_len}
+use Rattle.bit_rows.specs.Bits.{Bits, IsLastBit, has, has_bit, word_of}
+use Rattle.bit_rows.proofs.RowBits.{bit_there}
 use Rattle.pesp_search.specs.Flags.{Flags, IsClearOutside, IsLastFlag, flags_of, has_changed}
 use Rattle.pesp_search.specs.Flags.{some_changed}
-use Rattle.pesp_search.specs.Marks.{IsLastBit, has_bit, marked, with_bit}
 use Rattle.pesp_search.proofs.AnyBelow.{fails_below, passes_below}
 use Rattle.pesp_search.proofs.Partners.{set_on_range}
-use Rattle.pesp_search.proofs.WordBits.{with_other, with_same, zero_bit}
 
--- ---- the flags of words
+-- ---- the flags of a row of bits
 
-pub size_is : (words : List ℕ) (events : ℕ) (flags : Flags) → flags_of words events ≡ flags
-    → events ≡ length flags
-size_is words events flags is =
-    sym (length-map-range_with_len (marked words) 0 events) ∙ ap length is
+pub size_is : (bits : Bits) (flags : Flags) → flags_of bits ≡ flags → bits.columns ≡ length flags
+size_is bits flags is =
+    sym (length-map-range_with_len (has bits 0) 0 bits.columns) ∙ ap length is
 
-pub flag_at : (words : List ℕ) (events event : ℕ) → event < events
-    → has_changed (flags_of words events) event ≡ marked words event
-flag_at words events event low =
-    get_or-map-range_with_len (marked words) 0 events event event false low (omega arith)
-
-pub flag_unset : (words : List ℕ) (events event : ℕ) → marked words event ≡ false
-    → has_changed (flags_of words events) event ≡ false
-flag_unset words events event none = elim (cases_lt event events) [
-  | inl low ↦ flag_at words events event low ∙ none
+-- none is set behind the last event
+pub flag_is : (bits : Bits) (event : ℕ) → has_changed (flags_of bits) event ≡ has bits 0 event
+flag_is bits event = elim (cases_lt event bits.columns) [
+  | inl low ↦
+      get_or-map-range_with_len (has bits 0) 0 bits.columns event event false low (omega arith)
   | inr high ↦
-      let size = length-map-range_with_len (marked words) 0 events in
-      get_or_past (flags_of words events) event false (omega (arith, high, size))
+      let size = length-map-range_with_len (has bits 0) 0 bits.columns in
+      get_or_past (flags_of bits) event false (omega (arith, high, size))
+      ∙ sym (ap (λ b. b && bit_there bits 0 event) (le-ltb event bits.columns high))
 ]
 
-pub flags_in : (words : List ℕ) (events : ℕ) (flags : Flags) → flags_of words events ≡ flags
-    → length words ≡ (events + 63) / 64 → (index bit word : ℕ) → word ≡ get_or words index word
-    → bit < 64 → 64 * index + bit < length flags
-    → has_bit word bit ≡ has_changed flags (64 * index + bit)
-flags_in words events flags view size index bit word is small inside =
-    let low : 64 * index + bit < events = omega (arith, inside, size_is words events flags view) in
-    let own : index ≡ (64 * index + bit) / 64 = omega (arith, small) in
-    let place : bit ≡ (64 * index + bit) % 64 = omega (arith, small) in
-    ap (λ word. has_bit word bit)
-    (is ∙ get_or_default_zero words index word (omega (arith, low, size)))
-    ∙ (λ i. has_bit (get_or words (own i) 0) (place i))
-    ∙ sym (flag_at words events (64 * index + bit) low)
-    ∙ ap (λ (flags : Flags). has_changed flags (64 * index + bit)) view
+pub flags_in : (bits : Bits) (flags : Flags) → flags_of bits ≡ flags → (index word : ℕ)
+    → ((event : ℕ) → event / 64 ≡ index → word_of bits 0 event ≡ word) → (bit : ℕ) → bit < 64
+    → 64 * index + bit < length flags → has_bit word bit ≡ has_changed flags (64 * index + bit)
+flags_in bits flags view index word is bit small inside =
+    let low : 64 * index + bit < bits.columns = omega (arith, inside, size_is bits flags view) in
+    let own : (64 * index + bit) / 64 ≡ index = omega (arith, small) in
+    let place : (64 * index + bit) % 64 ≡ bit = omega (arith, small) in
+    sym (ap (λ (flags : Flags). has_changed flags (64 * index + bit)) (sym view)
+    ∙ flag_is bits (64 * index + bit)
+    ∙ (λ i. lt-ltb (64 * index + bit) bits.columns low i
+    && has_bit (is (64 * index + bit) own i) (place i)))
 
 -- ---- one flag
 
--- a word is read, and written with another bit
-module _ (words : List ℕ) (events : ℕ) (flags : Flags) (view : flags_of words events ≡ flags)
-    (size : length words ≡ (events + 63) / 64) (event : ℕ) (inside : event < length flags)
-    (flag : Bool) (old new : ℕ) (was : old ≡ get_or words (event / 64) old)
-    (is : new ≡ with_bit old (event % 64) flag) where
-  abbrev now : List ℕ
-  now = slice_set words (event / 64) new
+module _ (bits now : Bits) (event : ℕ) (flag : Bool) (size : now.columns ≡ bits.columns)
+    (put : (other : ℕ) → has now 0 other ≡ (if other == event then flag else has bits 0 other))
+  where
+    this_bit : has now 0 event ≡ flag
+    this_bit = put event ∙ ap (λ b. if b then flag else has bits 0 event) (eq-eqb event event refl)
 
-  low : event < events
-  low = omega (arith, inside, size_is words events flags view)
+    other_bit : (other : ℕ) → (other ≡ event → ⊥) → has now 0 other ≡ has bits 0 other
+    other_bit other apart =
+        put other ∙ ap (λ b. if b then flag else has bits 0 other) (ne_eqb other event apart)
 
-  there : event / 64 < length words
-  there = omega (arith, low, size)
+    pub flag_put : event < bits.columns → flags_of now ≡ slice_set (flags_of bits) event flag
+    flag_put low =
+        ap (λ n. map (has now 0) (range_with_len 0 n)) size
+        ∙ set_on_range (has bits 0) (has now 0) flag 0 bits.columns event event (omega arith) low
+        this_bit other_bit
 
-  same_word : (other : ℕ) → other / 64 ≡ event / 64
-      → marked now other ≡ has_bit (with_bit old (event % 64) flag) (other % 64)
-  same_word other index =
-      ap (λ word. has_bit word (other % 64))
-      (get_or-set_at words (event / 64) (other / 64) new 0 index there ∙ is)
-
-  this_bit : marked now event ≡ flag
-  this_bit = same_word event refl ∙ with_same old (event % 64) flag (omega arith)
-
-  other_bit : (other : ℕ) → (other ≡ event → ⊥) → marked now other ≡ marked words other
-  other_bit other apart = elim (cases_eq (other / 64) (event / 64)) [
-    | inr index ↦
-        ap (λ word. has_bit word (other % 64))
-        (get_or-set_other words (event / 64) (other / 64) new 0 index)
-    | inl index ↦
-        let bits : (other % 64 ≡ event % 64 → ⊥) = λ equal. apart (omega (arith, equal, index)) in
-        same_word other index
-        ∙ with_other old (event % 64) (other % 64) flag (omega arith) (omega arith) bits
-        ∙ ap (λ word. has_bit word (other % 64)) (was
-        ∙ get_or_default_zero words (event / 64) old there
-        ∙ ap (λ i. get_or words i 0) (sym index))
-  ]
-
-  pub flag_put : flags_of now events ≡ slice_set flags event flag
-  flag_put =
-      set_on_range (marked words) (marked now) flag 0 events event event (omega arith) low this_bit
-      other_bit
-      ∙ ap (λ (flags : Flags). slice_set flags event flag) view
-
-  pub outside_put : (low high less more : ℕ) → IsClearOutside low high words → less ≤ low
-      → less ≤ event / 64 → high ≤ more → event / 64 + 1 ≤ more → IsClearOutside less more now
-  outside_put low high less more so one two three four other (inl below) =
-      other_bit other (λ same. absurd (omega (arith, below, same, two)))
-      ∙ so other (inl (omega (arith, below, one)))
-  outside_put low high less more so one two three four other (inr above) =
-      other_bit other (λ same. absurd (omega (arith, above, same, four)))
-      ∙ so other (inr (omega (arith, above, three)))
-
--- ---- none
-
-pub all_zero : (words : List ℕ) → All (λ word. word ≡ 0) words → (event : ℕ)
-    → marked words event ≡ false
-all_zero words zeros event = elim (cases_lt (event / 64) (length words)) [
-  | inl low ↦ ap (λ word. has_bit word (event % 64)) (zeros (event / 64) 0 low)
-      ∙ zero_bit (event % 64)
-  | inr high ↦ ap (λ word. has_bit word (event % 64)) (get_or_past words (event / 64) 0 high)
-      ∙ zero_bit (event % 64)
-]
+    pub outside_put : (low high less more : ℕ) → IsClearOutside low high bits → less ≤ low
+        → less ≤ event / 64 → high ≤ more → event / 64 + 1 ≤ more → IsClearOutside less more now
+    outside_put low high less more so one two three four other (inl below) =
+        other_bit other (λ same. absurd (omega (arith, below, same, two)))
+        ∙ so other (inl (omega (arith, below, one)))
+    outside_put low high less more so one two three four other (inr above) =
+        other_bit other (λ same. absurd (omega (arith, above, same, four)))
+        ∙ so other (inr (omega (arith, above, three)))
 
 -- ---- the last flag before one
 

@@ -4,36 +4,36 @@ use Rattle.std.proofs.Common.{get_or, slice_set, refl, ap, subst, sym, arith}
 use Rattle.std.proofs.lemmas.Bool.{false≢true}
 use Rattle.std.proofs.lemmas.List.{set-get_or}
 use Rattle.std.proofs.lemmas.Nat.{and_le_l}
-use Rattle.pesp_search.specs.Marks.{AreMarks, IsWord, KeepsBits, Marks, Tracked, has_bit, with_word}
-use Rattle.pesp_search.specs.Marks.{word_at, words_of}
-use Rattle.pesp_search.proofs.WordBits.{and_bit}
+use Rattle.bit_rows.specs.Bits.{FitsAt, has_bit, with_word, words_of}
+use Rattle.bit_rows.proofs.WordBits.{and_bit}
+use Rattle.pesp_search.specs.Marks.{AreMarks, KeepsBits, Marks, Tracked, word_at}
 
 pub word_fits : (sets : Marks) (place word : ℕ) → AreMarks sets
-    → word ≡ get_or sets.words place 0 → IsWord sets.period sets.events place word
+    → word ≡ get_or sets.words place 0 → FitsAt sets.rows sets.columns place word
 word_fits sets place word are was event time low high few at =
     ap (λ word. has_bit word (time % 64)) (was ∙ ap (λ place. get_or sets.words place 0) (sym at))
-    ∙ are.clear event time low high few
+    ∙ are.bits.clear event time low high few
 
-pub kept_fits : (period events place word keep : ℕ) → IsWord period events place word
-    → IsWord period events place (bit_and word keep)
-kept_fits period events place word keep fit event time low high few at =
+pub kept_fits : (rows columns place word keep : ℕ) → FitsAt rows columns place word
+    → FitsAt rows columns place (bit_and word keep)
+kept_fits rows columns place word keep fit event time low high few at =
     and_bit word keep (time % 64)
     ∙ ap (λ b. b && has_bit keep (time % 64)) (fit event time low high few at)
 
 module _ (before : Tracked) (event index place word keep : ℕ) (are : AreMarks before.sets)
-    (at : place ≡ event * words_of before.sets.period + index)
+    (at : place ≡ event * words_of before.sets.columns + index)
     (was : word ≡ get_or before.sets.words place 0) where
   here : word ≡ word_at before.sets event index
   here = was ∙ ap (λ place. get_or before.sets.words place 0) at
 
   pub all_kept : bit_and word keep ≡ word → KeepsBits before before event index keep false
   all_kept same =
-      let here_at = event * words_of before.sets.period + index in
+      let here_at = event * words_of before.sets.columns + index in
       record {
         is = sym (ap (λ words. record {
           sets = record {
-            period = before.sets.period;
-            events = before.sets.events;
+            rows = before.sets.rows;
+            columns = before.sets.columns;
             words = words;
           };
           saved = before.saved;

@@ -5,7 +5,6 @@ mod EmptySets
 mod Entries
 mod Families
 mod FirstMarks
-mod FullMarks
 mod FlagBits
 mod FoundTimes
 mod JudgedTimes
@@ -36,7 +35,7 @@ mod Unrolled
 mod Visiting
 mod Waiting
 mod WindowSums
-mod WordBits
+mod WordPlaces
 mod WordTurns
 pub mod ListingRight
 pub mod TimetableEnds

@@ -1,76 +1,21 @@
 -- Marks of times as bits, and one word that is replaced.
-use Rattle.std.proofs.Common.{◌≡◌, ◌∙◌, inl, inr, ℕ, zero, suc, ◌+◌, ◌-◌, ◌*◌, ◌/◌, ◌%◌, ◌<◌}
+use Rattle.std.proofs.Common.{◌≡◌, ◌∙◌, inl, inr, ℕ, ◌+◌, ◌-◌, ◌*◌, ◌/◌, ◌%◌, ◌<◌}
 use Rattle.std.proofs.Common.{◌≤◌}
-use Rattle.std.proofs.Common.{nat_lt, Bool, true, false, List, length, get_or}
+use Rattle.std.proofs.Common.{nat_lt, true, false, List, length, get_or}
 use Rattle.std.proofs.Common.{slice_set, sum}
 use Rattle.std.proofs.Common.{max, Some, None, ap, sym, arith}
-use Rattle.std.proofs.Math.Nat.{mul-le-mul_right}
-use Rattle.std.proofs.lemmas.Bool.{and_from, and_right, cases_eq, cases_lt, false≢true, lt-ltb}
-use Rattle.std.proofs.lemmas.List.{get_or-set_other, get_or-set_same, get_or_past, length-set}
+use Rattle.std.proofs.lemmas.Bool.{and_from, and_right, cases_lt, false≢true, lt-ltb}
+use Rattle.std.proofs.lemmas.List.{get_or_past}
 use Rattle.std.proofs.lemmas.List.{set-get_or, set-set}
 use Rattle.std.proofs.lemmas.List.Sums.{sum_by-set}
-use Rattle.std.proofs.lemmas.Nat.{div-mul-add}
-use Rattle.pesp_search.specs.Marks.{AreMarks, IsFirstBit, IsNext, IsWord, Marks, has_bit, is_left}
-use Rattle.pesp_search.specs.Marks.{place_of, times_from, with_word, word_of, words_of}
-use Rattle.pesp_search.proofs.NextTimes.{next_one, no_more, not_this}
-
--- the bit of a time, whether it is in the period or not
-abbrev pub bit_there : Marks → ℕ → ℕ → Bool
-bit_there sets event time = has_bit (word_of sets event time) (time % 64)
-
--- ---- places
-
-pub place_low : (sets : Marks) (event index : ℕ) → AreMarks sets → event < sets.events
-    → index < words_of sets.period → event * words_of sets.period + index < length sets.words
-place_low sets event index are inside low =
-    let far = mul-le-mul_right (words_of sets.period) (more event inside) in
-    let next : suc event * words_of sets.period ≡ event * words_of sets.period + words_of
-    sets.period = omega arith in
-    omega (arith, far, next, are.each, low)
-  where
-    more : (event : ℕ) → event < sets.events → suc event ≤ sets.events
-    more event inside = omega (arith, inside)
-
-pub same_event : (width e i event index : ℕ) → i < width → index < width
-    → e * width + i ≡ event * width + index → (e ≡ event) × (i ≡ index)
-same_event width e i event index low small same =
-    let own : e ≡ event = sym (div-mul-add e width i low) ∙ ap (λ n. n / width) same
-    ∙ div-mul-add event width index small in
-    (own, let rest = ap (λ e. e * width) own in omega (arith, same, rest))
-
--- ---- one word
-
-module _ (sets : Marks) (place word : ℕ) (there : place < length sets.words) where
-  abbrev now : Marks
-  now = with_word sets place word
-
-  pub this_word : (e t : ℕ) → place_of sets.period e t ≡ place → word_of now e t ≡ word
-  this_word e t at =
-      ap (λ place. get_or now.words place 0) at ∙ get_or-set_same sets.words place word 0 there
-
-  pub other_word : (e t : ℕ) → (place_of sets.period e t ≡ place → ⊥)
-      → word_of now e t ≡ word_of sets e t
-  other_word e t apart =
-      get_or-set_other sets.words place (place_of sets.period e t) word 0 apart
-
-pub word_kept : (sets : Marks) (place word : ℕ) → AreMarks sets
-    → place < sets.events * words_of sets.period → IsWord sets.period sets.events place word
-    → AreMarks (with_word sets place word)
-word_kept sets place word are within fit =
-    let there : place < length sets.words = omega (arith, within, are.each) in
-    record {
-      each = length-set sets.words place word ∙ are.each;
-      some = are.some;
-      few = are.few;
-      clear = λ e t low high few. elim (cases_eq (place_of sets.period e t) place) [
-        | inl at ↦
-            ap (λ word. has_bit word (t % 64)) (this_word sets place word there e t at)
-            ∙ fit e t low high few at
-        | inr apart ↦
-            ap (λ word. has_bit word (t % 64)) (other_word sets place word there e t apart)
-            ∙ are.clear e t low high few
-      ];
-    }
+use Rattle.std.proofs.Common.{◌++◌, filter}
+use Rattle.std.specs.List.{range_with_len}
+use Rattle.std.proofs.lemmas.List.Elements.{filter-append}
+use Rattle.bit_rows.specs.Bits.{IsFirstBit, has_bit, with_word, word_of, words_of}
+use Rattle.bit_rows.proofs.Columns.{none_pass, range_append}
+use Rattle.bit_rows.proofs.RowBits.{bit_there}
+use Rattle.pesp_search.specs.Marks.{AreMarks, IsNext, Marks, is_left, times_from}
+use Rattle.pesp_search.proofs.NextTimes.{next_one, no_more}
 
 -- ---- sums
 
@@ -85,31 +30,30 @@ sum_less words i word less = elim (cases_lt i (length words)) [
 pub word_again : (sets : Marks) (place word other : ℕ) → word ≡ get_or sets.words place 0
     → with_word (with_word sets place other) place word ≡ sets
 word_again sets place word other was =
-    ap (λ words. record { period = sets.period; events = sets.events; words = words })
+    ap (λ words. record { rows = sets.rows; columns = sets.columns; words = words })
     (set-set sets.words place other word ∙ ap (slice_set sets.words place) was
     ∙ set-get_or sets.words place 0)
 
 -- ---- the next time
 
-pub left_bit : (sets : Marks) (event time : ℕ) → AreMarks sets → event < sets.events
-    → time < 64 * words_of sets.period → bit_there sets event time ≡ true
-    → (time < sets.period) × (is_left sets event time ≡ true)
-left_bit sets event time are inside small is = elim (cases_lt time sets.period) [
+pub left_bit : (sets : Marks) (event time : ℕ) → AreMarks sets → event < sets.rows
+    → time < 64 * words_of sets.columns → bit_there sets event time ≡ true
+    → (time < sets.columns) × (is_left sets event time ≡ true)
+left_bit sets event time are inside small is = elim (cases_lt time sets.columns) [
   | inl low ↦ (low, and_from _ _ (lt-ltb _ _ low) is)
-  | inr high ↦ absurd (false≢true (sym (are.clear event time inside high small) ∙ is))
+  | inr high ↦ absurd (false≢true (sym (are.bits.clear event time inside high small) ∙ is))
 ]
 
 none_between : (sets : Marks) (event from n : ℕ)
     → ((time : ℕ) → from ≤ time → time < from + n → is_left sets event time ≡ false)
-    → from + n ≤ sets.period → times_from sets event from ≡ times_from sets event (from + n)
-none_between sets event from zero none few =
-    let same : from ≡ from + 0 = omega arith in ap (times_from sets event) same
-none_between sets event from (suc n) none few =
-    let same : from + 1 + n ≡ from + suc n = omega arith in
-    not_this sets event from (omega (arith, few)) (none from (omega arith) (omega arith))
-    ∙ none_between sets event (from + 1) n
-    (λ time low high. none time (omega (arith, low)) (omega (arith, high))) (omega (arith, few))
-    ∙ ap (times_from sets event) same
+    → from + n ≤ sets.columns → times_from sets event from ≡ times_from sets event (from + n)
+none_between sets event from n none few =
+    let size : sets.columns - from ≡ n + (sets.columns - (from + n)) = omega (arith, few) in
+    ap (λ size. filter (is_left sets event) (range_with_len from size)) size
+    ∙ ap (filter (is_left sets event)) (range_append from n (sets.columns - (from + n)))
+    ∙ filter-append (is_left sets event) (range_with_len from n) _
+    ∙ ap (λ first. first ++ times_from sets event (from + n))
+    (none_pass (is_left sets event) from n none)
 
 -- none so far
 abbrev pub NoneLeft : Marks → ℕ → ℕ → ℕ → Type 0
@@ -117,7 +61,7 @@ NoneLeft sets event from end =
     (time : ℕ) → from ≤ time → time < end → is_left sets event time ≡ false
 
 module _ (sets : Marks) (event index from start word : ℕ) (are : AreMarks sets)
-    (inside : event < sets.events) (within : index < words_of sets.period)
+    (inside : event < sets.rows) (within : index < words_of sets.columns)
     (begins : start ≡ max from (64 * index) - 64 * index)
     (word_is : (time : ℕ) → time / 64 ≡ index → word_of sets event time ≡ word)
     (so : NoneLeft sets event from (64 * index)) where
@@ -135,7 +79,7 @@ module _ (sets : Marks) (event index from start word : ℕ) (are : AreMarks sets
     | inr after ↦
         let place : 64 * index + (time - 64 * index) ≡ time = omega (arith, after) in
         let small : time - 64 * index < end = omega (arith, high, after) in
-        and_right (nat_lt time sets.period) _ (ap (bit_there sets event) (sym place)
+        and_right (nat_lt time sets.columns) _ (ap (bit_there sets event) (sym place)
         ∙ sym (at (time - 64 * index) (omega (arith, small, few)))
         ∙ none (time - 64 * index) (omega (arith, begins, low, after)) small)
   ]
@@ -145,7 +89,7 @@ module _ (sets : Marks) (event index from start word : ℕ) (are : AreMarks sets
   next_found bit first =
       let low : from ≤ 64 * index + bit = (let low = first.0 in omega (arith, begins, low)) in
       let end : from + (64 * index + bit - from) ≡ 64 * index + bit = omega (arith, low) in
-      let small : 64 * index + bit < 64 * words_of sets.period = (let few = first.1 in
+      let small : 64 * index + bit < 64 * words_of sets.columns = (let few = first.1 in
       omega (arith, few, within)) in
       let left = left_bit sets event (64 * index + bit) are inside small
       (sym (at bit first.1) ∙ first.2) in
@@ -163,13 +107,13 @@ module _ (sets : Marks) (event index from start word : ℕ) (are : AreMarks sets
   none_found none time low high =
       none_to 64 (omega arith) none time low (omega (arith, high))
 
-pub none_at_end : (sets : Marks) (event index from : ℕ) → words_of sets.period ≤ index
+pub none_at_end : (sets : Marks) (event index from : ℕ) → words_of sets.columns ≤ index
     → NoneLeft sets event from (64 * index) → IsNext sets event from None
-none_at_end sets event index from all so = elim (cases_lt from sets.period) [
+none_at_end sets event index from all so = elim (cases_lt from sets.columns) [
   | inr high ↦ no_more sets event from high
   | inl low ↦
-      let end : from + (sets.period - from) ≡ sets.period = omega (arith, low) in
-      none_between sets event from (sets.period - from)
+      let end : from + (sets.columns - from) ≡ sets.columns = omega (arith, low) in
+      none_between sets event from (sets.columns - from)
       (λ time low high. so time low (omega (arith, high, end, all))) (omega (arith, end))
-      ∙ ap (times_from sets event) end ∙ no_more sets event sets.period (omega arith)
+      ∙ ap (times_from sets event) end ∙ no_more sets event sets.columns (omega arith)
 ]

@@ -12,11 +12,11 @@ use Rattle.std.proofs.Math.Nat.{mod-eq_of_lt, mod-lt}
 use Rattle.std.proofs.lemmas.Bool.{cases_Bool, cases_eq, cases_lt, lt-ltb, le-ltb}
 use Rattle.std.proofs.lemmas.List.{get_or-set_other, get_or-set_same}
 use Rattle.std.proofs.lemmas.Nat.{mod-pow-add, ones-le, ones_cat, pow_pos}
-use Rattle.pesp_search.specs.Marks.{AreMarks, Marks, has_bit, is_left, marked, times_from}
-use Rattle.pesp_search.specs.Marks.{word_of, words_of}
+use Rattle.bit_rows.specs.Bits.{has_bit, marked, word_of, words_of}
+use Rattle.bit_rows.proofs.RowBits.{bit_there}
+use Rattle.bit_rows.proofs.WordBits.{set_is, unset_is}
+use Rattle.pesp_search.specs.Marks.{AreMarks, Marks, is_left, times_from}
 use Rattle.pesp_search.specs.Revising.{count_below}
-use Rattle.pesp_search.proofs.MarkBits.{bit_there}
-use Rattle.pesp_search.proofs.WordBits.{set_is, unset_is}
 use Rattle.pesp_search.proofs.WindowSums.{count_start}
 
 count_next : (test : ℕ → Bool) (n : ℕ)
@@ -116,21 +116,21 @@ filtered left test from (suc n) same =
       | inr is ↦ rw is (omega (arith, rw is at bit, rest, all, first, last))
     ]
 
-pub all_counted : (sets : Marks) (event index count : ℕ) → AreMarks sets → event < sets.events
-    → index ≡ words_of sets.period → count ≡ count_below (bit_there sets event) (64 * index)
+pub all_counted : (sets : Marks) (event index count : ℕ) → AreMarks sets → event < sets.rows
+    → index ≡ words_of sets.columns → count ≡ count_below (bit_there sets event) (64 * index)
     → count ≡ length (times_from sets event 0)
 all_counted sets event index count are inside all is =
-    let rest : sets.period + (64 * index - sets.period) ≡ 64 * index = omega (arith, all) in
+    let rest : sets.columns + (64 * index - sets.columns) ≡ 64 * index = omega (arith, all) in
     let same = ap (count_below (bit_there sets event)) rest in
-    let none = count_same (bit_there sets event) (bit_there sets event) sets.period (64 * index -
-    sets.period)
-    (λ k low high. are.clear event k inside low (omega (arith, high, all, rest))) in
-    let left = filtered (is_left sets event) (bit_there sets event) 0 sets.period
-    (λ k low. ap (λ b. b && bit_there sets event k) (lt-ltb k sets.period (omega (arith, low)))) in
+    let none = count_same (bit_there sets event) (bit_there sets event) sets.columns (64 * index -
+    sets.columns)
+    (λ k low high. are.bits.clear event k inside low (omega (arith, high, all, rest))) in
+    let left = filtered (is_left sets event) (bit_there sets event) 0 sets.columns
+    (λ k low. ap (λ b. b && bit_there sets event k) (lt-ltb k sets.columns (omega (arith, low)))) in
     let start = count_start (bit_there sets event) in
-    let whole : 0 + sets.period ≡ sets.period = omega arith in
+    let whole : 0 + sets.columns ≡ sets.columns = omega arith in
     let ends = ap (count_below (bit_there sets event)) whole in
-    let none_before : sets.period - 0 ≡ sets.period = omega arith in
+    let none_before : sets.columns - 0 ≡ sets.columns = omega arith in
     let times = ap (λ n. length (filter (is_left sets event) (range_with_len 0 n))) none_before in
     omega (arith, is, same, none, left, start, ends, times)
 
@@ -174,20 +174,20 @@ one_copied sets event index word times within is so time = elim (cases_eq (time 
     elsewhere (inr behind) other =
         le-ltb time _ behind ∙ sym (le-ltb time _ (omega (arith, behind, other)))
 
-pub all_copied : (sets : Marks) (event index : ℕ) → AreMarks sets → event < sets.events
-    → index ≡ words_of sets.period → (time : ℕ)
+pub all_copied : (sets : Marks) (event index : ℕ) → AreMarks sets → event < sets.rows
+    → index ≡ words_of sets.columns → (time : ℕ)
     → copied_below sets event (64 * index) time ≡ is_left sets event time
-all_copied sets event index are inside all time = one (cases_lt time sets.period) (cases_lt time
+all_copied sets event index are inside all time = one (cases_lt time sets.columns) (cases_lt time
     (64 * index))
   where
-    one : (time < sets.period) ⊎ (sets.period ≤ time) → (time < 64 * index) ⊎ (64 * index ≤ time)
+    one : (time < sets.columns) ⊎ (sets.columns ≤ time) → (time < 64 * index) ⊎ (64 * index ≤ time)
         → copied_below sets event (64 * index) time ≡ is_left sets event time
     one (inl low) place =
         let before : time < 64 * index = omega (arith, low, all) in
         ap (λ b. b && bit_there sets event time) (lt-ltb time _ before ∙ sym (lt-ltb time _ low))
     one (inr high) (inl before) =
         ap (λ b. b && bit_there sets event time) (lt-ltb time _ before)
-        ∙ are.clear event time inside high (omega (arith, before, all))
+        ∙ are.bits.clear event time inside high (omega (arith, before, all))
         ∙ sym (ap (λ b. b && bit_there sets event time) (le-ltb time _ high))
     one (inr high) (inr behind) =
         ap (λ b. b && bit_there sets event time) (le-ltb time _ behind ∙ sym (le-ltb time _ high))

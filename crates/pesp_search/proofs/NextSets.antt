@@ -1,71 +1,58 @@
 -- The sets of events, one after the other.
-use Rattle.std.proofs.Common.{◌≡◌, ◌∙◌, inl, inr, ℕ, position, zero, suc, ◌+◌, ◌-◌, ◌<◌, ◌≤◌, Bool}
-use Rattle.std.proofs.Common.{true, false}
-use Rattle.std.proofs.Common.{cond}
-use Rattle.std.proofs.Common.{List, [], ◌∷◌, ◌++◌, map, slice_index_or, Some, None, refl, ap, sym}
-use Rattle.std.proofs.Common.{arith}
-use Rattle.std.specs.List.{position_from, range_with_len}
-use Rattle.std.proofs.lemmas.Bool.{cases_lt}
+use Rattle.std.proofs.Common.{◌≡◌, ◌∙◌, inl, inr, ℕ, position, zero, suc, ◌+◌, ◌<◌, ◌≤◌, nat_lt}
+use Rattle.std.proofs.Common.{true, false, cond, List, [], ◌∷◌, ◌++◌, map, get_or, length}
+use Rattle.std.proofs.Common.{slice_index_or, Some, None, refl, ap, sym, arith}
+use Rattle.std.specs.List.{range_with_len}
+use Rattle.std.proofs.lemmas.Bool.{cases_eq, le-ltb, lt-ltb}
+use Rattle.std.proofs.lemmas.List.Sums.{position_or_len_is}
+use Rattle.std.proofs.lemmas.List.FromFn.{get_or-map-range_with_len, length-map-range_with_len}
 use Rattle.std.proofs.lemmas.List.FromFn.{map-range_with_len_more}
-use Rattle.pesp_model.proofs.FirstBroken.{place_start}
-use Rattle.pesp_search.specs.Listings.{first_times}
-use Rattle.pesp_search.specs.Marks.{Marks, sets_of, times_from}
+use Rattle.pesp_search.specs.Listings.{first_times, has_several}
+use Rattle.pesp_search.specs.Marks.{IsSettled, Marks, sets_of, times_from}
 
-abbrev pub sets_from : Marks → ℕ → List (List ℕ)
-sets_from sets event =
-    map (λ event. times_from sets event 0) (range_with_len event (sets.events - event))
+-- the set of an event, and how many sets there are
+pub set_at : (sets : Marks) (event : ℕ) → event < sets.rows
+    → get_or (sets_of sets) event [] ≡ times_from sets event 0
+set_at sets event low =
+    get_or-map-range_with_len (λ event. times_from sets event 0) 0 sets.rows event event [] low
+    (omega arith)
 
-pub sets_all : (sets : Marks) → sets_of sets ≡ sets_from sets 0
-sets_all sets =
-    let all : sets.events ≡ sets.events - 0 = omega arith in
-    ap (λ n. map (λ event. times_from sets event 0) (range_with_len 0 n)) all
+pub sets_size : (sets : Marks) → length (sets_of sets) ≡ sets.rows
+sets_size sets = length-map-range_with_len (λ event. times_from sets event 0) 0 sets.rows
 
-pub sets_more : (sets : Marks) (event : ℕ) → event < sets.events
-    → sets_from sets event ≡ times_from sets event 0 ∷ sets_from sets (event + 1)
-sets_more sets event some =
-    let more : sets.events - event ≡ suc (sets.events - (event + 1)) = omega (arith, some) in
-    ap (λ n. map (λ event. times_from sets event 0) (range_with_len event n)) more
+-- ---- the first event to which several times are left
 
-pub sets_none : (sets : Marks) (event : ℕ) → sets.events ≤ event → sets_from sets event ≡ []
-sets_none sets event none =
-    let over : sets.events - event ≡ 0 = omega (arith, none) in
-    ap (λ n. map (λ event. times_from sets event 0) (range_with_len event n)) over
+pub settled_more : (sets : Marks) (event : ℕ) → IsSettled sets event
+    → has_several (times_from sets event 0) ≡ false → IsSettled sets (event + 1)
+settled_more sets event so none other low = elim (cases_eq other event) [
+  | inl same ↦ ap (λ event. has_several (times_from sets event 0)) same ∙ none
+  | inr apart ↦ so other (omega (arith, low, apart))
+]
 
--- where a set passes
-pub place_here : (sets : Marks) (event : ℕ) (test : List ℕ → Bool) → event < sets.events
-    → test (times_from sets event 0) ≡ true
-    → position_from test event (sets_from sets event) ≡ Some event
-place_here sets event test some is =
-    ap (position_from test event) (sets_more sets event some)
-    ∙ ap (λ b. cond b (Some event) (position_from test (event + 1) (sets_from sets (event + 1)))) is
+first_at : (sets : Marks) (event : ℕ) → event ≤ sets.rows → IsSettled sets event
+    → (event < sets.rows → has_several (times_from sets event 0) ≡ true)
+    → position has_several (sets_of sets) ≡ cond (nat_lt event sets.rows) (Some event) None
+first_at sets event low so is =
+    let size = sets_size sets in
+    let at = position_or_len_is has_several (sets_of sets) event [] (omega (arith, low, size))
+    (λ k less. ap has_several (set_at sets k (omega (arith, less, low))) ∙ so k less)
+    (λ inside. ap has_several (set_at sets event (omega (arith, inside, size)))
+    ∙ is (omega (arith, inside, size))) in
+    λ i. cond (nat_lt (at i) (size i)) (Some (at i)) None
 
-pub place_later : (sets : Marks) (event : ℕ) (test : List ℕ → Bool) → event < sets.events
-    → test (times_from sets event 0) ≡ false
-    → position_from test event (sets_from sets event)
-    ≡ position_from test (event + 1) (sets_from sets (event + 1))
-place_later sets event test some is =
-    ap (position_from test event) (sets_more sets event some)
-    ∙ ap (λ b. cond b (Some event) (position_from test (event + 1) (sets_from sets (event + 1)))) is
+pub open_here : (sets : Marks) (event : ℕ) → event < sets.rows → IsSettled sets event
+    → has_several (times_from sets event 0) ≡ true
+    → Some event ≡ position has_several (sets_of sets)
+open_here sets event low so is =
+    sym (first_at sets event (omega (arith, low)) so (λ _. is)
+    ∙ ap (λ b. cond b (Some event) None) (lt-ltb event sets.rows low))
 
-pub no_place : (sets : Marks) (event : ℕ) (test : List ℕ → Bool) → sets.events ≤ event
-    → position_from test event (sets_from sets event) ≡ None
-no_place sets event test none = ap (position_from test event) (sets_none sets event none)
-
--- the sets so far do not pass
-pub place_behind : (sets : Marks) (test : List ℕ → Bool) (n : ℕ)
-    → ((event : ℕ) → event < n → test (times_from sets event 0) ≡ false)
-    → position test (sets_of sets) ≡ position_from test n (sets_from sets n)
-place_behind sets test zero none =
-    place_start test (sets_of sets) ∙ ap (position_from test 0) (sets_all sets)
-place_behind sets test (suc n) none =
-    let next : n + 1 ≡ suc n = omega arith in
-    place_behind sets test n (λ event low. none event (omega (arith, low)))
-    ∙ elim (cases_lt n sets.events) [
-      | inl low ↦ place_later sets n test low (none n (omega arith))
-      | inr high ↦
-          no_place sets n test high ∙ sym (no_place sets (n + 1) test (omega (arith, high)))
-    ]
-    ∙ ap (λ n. position_from test n (sets_from sets n)) next
+pub none_open : (sets : Marks) (event : ℕ) → sets.rows ≤ event → IsSettled sets event
+    → None ≡ position has_several (sets_of sets)
+none_open sets event all so =
+    sym (first_at sets sets.rows (omega arith) (λ k low. so k (omega (arith, low, all)))
+    (λ low. absurd (omega (arith, low)))
+    ∙ ap (λ b. cond b (Some sets.rows) None) (le-ltb sets.rows sets.rows (omega arith)))
 
 -- ---- the first time of each
 
@@ -87,7 +74,7 @@ first_of_each sets from (suc n) =
 
 pub times_are_first : (sets : Marks) (event : ℕ) (times : List ℕ)
     → times ≡ map (λ event. slice_index_or (times_from sets event 0) 0 0) (range_with_len 0 event)
-    → event ≡ sets.events → times ≡ first_times (sets_of sets)
+    → event ≡ sets.rows → times ≡ first_times (sets_of sets)
 times_are_first sets event times so all =
     so ∙ ap (λ n. map (λ event. slice_index_or (times_from sets event 0) 0 0) (range_with_len 0 n)) all
-    ∙ first_of_each sets 0 sets.events
+    ∙ first_of_each sets 0 sets.rows

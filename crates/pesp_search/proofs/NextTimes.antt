@@ -21,28 +21,17 @@ kept_first : (test : ℕ → Bool) (x : ℕ) (xs : List ℕ) → test x ≡ true
     → filter test (x ∷ xs) ≡ x ∷ filter test xs
 kept_first test x xs is = ap (λ b. cond b (x ∷ filter test xs) (filter test xs)) is
 
-left_out : (test : ℕ → Bool) (x : ℕ) (xs : List ℕ) → test x ≡ false
-    → filter test (x ∷ xs) ≡ filter test xs
-left_out test x xs is = ap (λ b. cond b (x ∷ filter test xs) (filter test xs)) is
-
-pub next_one : (sets : Marks) (event time : ℕ) → time < sets.period
+pub next_one : (sets : Marks) (event time : ℕ) → time < sets.columns
     → is_left sets event time ≡ true
     → times_from sets event time ≡ time ∷ times_from sets event (time + 1)
 next_one sets event time some left =
-    ap (filter (is_left sets event)) (range_more time sets.period some)
+    ap (filter (is_left sets event)) (range_more time sets.columns some)
     ∙ kept_first (is_left sets event) time _ left
 
-pub not_this : (sets : Marks) (event time : ℕ) → time < sets.period
-    → is_left sets event time ≡ false
-    → times_from sets event time ≡ times_from sets event (time + 1)
-not_this sets event time some left =
-    ap (filter (is_left sets event)) (range_more time sets.period some)
-    ∙ left_out (is_left sets event) time _ left
-
-pub no_more : (sets : Marks) (event time : ℕ) → sets.period ≤ time
+pub no_more : (sets : Marks) (event time : ℕ) → sets.columns ≤ time
     → times_from sets event time ≡ []
 no_more sets event time none =
-    ap (filter (is_left sets event)) (range_none time sets.period none)
+    ap (filter (is_left sets event)) (range_none time sets.columns none)
 
 -- no time is left where there is no first one
 pub empty_by_next : (sets : Marks) (event : ℕ) (found : Option ℕ) (none_is : Bool)

@@ -5,11 +5,12 @@ use Rattle.std.proofs.Common.{ap, sym, arith}
 use Rattle.std.proofs.Math.Nat.{add-mod_left, add-mod_right, mod-eq_of_lt}
 use Rattle.std.proofs.lemmas.Bool.{cases_lt, le-ltb, lt-ltb}
 use Rattle.std.proofs.lemmas.List.{get_or-set_other, get_or-set_same, get_or_past}
-use Rattle.pesp_search.specs.Marks.{AreMarks, Marks, has_bit, is_left, marked, word_of, words_of}
+use Rattle.bit_rows.specs.Bits.{has_bit, marked, word_of, words_of}
+use Rattle.bit_rows.proofs.WordBits.{high_bit, or_bit, shl_high, shl_low, shr_bit, zero_bit}
+use Rattle.pesp_search.specs.Marks.{AreMarks, Marks, is_left}
 use Rattle.pesp_search.specs.Revising.{IsClear, turned_to}
-use Rattle.pesp_search.proofs.WordBits.{high_bit, or_bit, shl_high, shl_low, shr_bit, zero_bit}
 use Rattle.pesp_search.proofs.WordTurns.{IsWide, no_bits, wide_begun, zeros}
-use Rattle.pesp_search.proofs.AnyBelow.{or_none as or_false}
+use Rattle.bit_rows.proofs.WordBits.{or_none as or_false}
 
 pub in_word : (word time : ℕ) → time < 64 → marked (word ∷ []) time ≡ has_bit word time
 in_word word time low =
@@ -50,12 +51,12 @@ word_alone word time = elim (cases_lt time 64) [
       ∙ no_bits time ∙ sym (past_word word time high)
 ]
 
-pub word_begun : (sets : Marks) (event word : ℕ) → AreMarks sets → event < sets.events
-    → sets.period ≤ 64 → ((time : ℕ) → time / 64 ≡ 0 → word_of sets event time ≡ word)
-    → IsWide sets.period (is_left sets event) 1 (word ∷ [])
+pub word_begun : (sets : Marks) (event word : ℕ) → AreMarks sets → event < sets.rows
+    → sets.columns ≤ 64 → ((time : ℕ) → time / 64 ≡ 0 → word_of sets event time ≡ word)
+    → IsWide sets.columns (is_left sets event) 1 (word ∷ [])
 word_begun sets event word are inside small is =
-    wide_begun sets.period (is_left sets event) (word ∷ []) (λ time. one time (cases_lt time 64)
-    (cases_lt time sets.period))
+    wide_begun sets.columns (is_left sets event) (word ∷ []) (λ time. one time (cases_lt time 64)
+    (cases_lt time sets.columns))
   where
     there : (time : ℕ) → time < 64 → marked (word ∷ []) time
         ≡ has_bit (word_of sets event time) (time % 64)
@@ -64,20 +65,20 @@ word_begun sets event word are inside small is =
         let place : time ≡ time % 64 = omega (arith, low) in
         in_word word time low ∙ (λ i. has_bit (sym (is time index) i) (place i))
 
-    one : (time : ℕ) → (time < 64) ⊎ (64 ≤ time) → (time < sets.period) ⊎ (sets.period ≤ time)
-        → marked (word ∷ []) time ≡ (nat_lt time sets.period && is_left sets event time)
+    one : (time : ℕ) → (time < 64) ⊎ (64 ≤ time) → (time < sets.columns) ⊎ (sets.columns ≤ time)
+        → marked (word ∷ []) time ≡ (nat_lt time sets.columns && is_left sets event time)
     one time (inl low) (inl within) =
         there time low
-        ∙ sym (λ i. lt-ltb time sets.period within i && (lt-ltb time sets.period within i
+        ∙ sym (λ i. lt-ltb time sets.columns within i && (lt-ltb time sets.columns within i
         && has_bit (word_of sets event time) (time % 64)))
     one time (inl low) (inr late) =
-        let few : time < 64 * words_of sets.period = omega (arith, low, are.some) in
-        there time low ∙ are.clear event time inside late few
-        ∙ sym (ap (λ b. b && is_left sets event time) (le-ltb time sets.period late))
+        let few : time < 64 * words_of sets.columns = omega (arith, low, are.some) in
+        there time low ∙ are.bits.clear event time inside late few
+        ∙ sym (ap (λ b. b && is_left sets event time) (le-ltb time sets.columns late))
     one time (inr high) place =
-        let late : sets.period ≤ time = omega (arith, high, small) in
+        let late : sets.columns ≤ time = omega (arith, high, small) in
         past_word word time high
-        ∙ sym (ap (λ b. b && is_left sets event time) (le-ltb time sets.period late))
+        ∙ sym (ap (λ b. b && is_left sets event time) (le-ltb time sets.columns late))
 
 -- ---- a word that is turned
 

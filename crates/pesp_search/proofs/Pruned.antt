@@ -5,10 +5,12 @@ use Rattle.std.proofs.Common.{bit_and, Bool, true, false, not, ◌&&◌, ◌||�
 use Rattle.std.proofs.Common.{refl, ap, sym, subst, arith, IfOk, Result, Ok, Err}
 use Rattle.std.proofs.lemmas.Bool.{cases_Bool, cases_eq, cases_lt, cases_order, eq-eqb, le-ltb}
 use Rattle.std.proofs.lemmas.Bool.{lt-ltb, ltb-true, ne_eqb, or_cases, or_parts, or_right}
-use Rattle.pesp_search.specs.Marks.{AreMarks, KeepsBits, Marks, Prunes, Tracked, has_bit, is_left}
-use Rattle.pesp_search.specs.Marks.{marked, marks_left, place_of, with_word, word_at, words_of}
-use Rattle.pesp_search.proofs.MarkBits.{other_word, place_low, same_event, sum_less, this_word}
-use Rattle.pesp_search.proofs.WordBits.{and_bit}
+use Rattle.bit_rows.specs.Bits.{has_bit, marked, place_of, with_word, words_of}
+use Rattle.bit_rows.proofs.RowBits.{other_word, place_low, same_row, this_word}
+use Rattle.bit_rows.proofs.WordBits.{and_bit}
+use Rattle.pesp_search.specs.Marks.{AreMarks, KeepsBits, Marks, Prunes, Tracked, is_left}
+use Rattle.pesp_search.specs.Marks.{marks_left, word_at}
+use Rattle.pesp_search.proofs.MarkBits.{sum_less}
 use Rattle.pesp_search.specs.Revising.{Left, stays}
 
 -- ---- one word of which some bits stay
@@ -17,10 +19,10 @@ and_assoc : (x y z : Bool) → (x && (y && z)) ≡ ((x && y) && z)
 and_assoc true y z = refl
 and_assoc false y z = refl
 
-module _ (now : Marks) (event index keep : ℕ) (are : AreMarks now) (inside : event < now.events)
-    (within : index < words_of now.period) where
+module _ (now : Marks) (event index keep : ℕ) (are : AreMarks now) (inside : event < now.rows)
+    (within : index < words_of now.columns) where
   abbrev place : ℕ
-  place = event * words_of now.period + index
+  place = event * words_of now.columns + index
 
   abbrev kept : ℕ
   kept = bit_and (word_at now event index) keep
@@ -29,32 +31,32 @@ module _ (now : Marks) (event index keep : ℕ) (are : AreMarks now) (inside : e
   less = with_word now place kept
 
   there : place < length now.words
-  there = place_low now event index are inside within
+  there = place_low now event index are.bits inside within
 
   left_elsewhere : (e t : ℕ) → (e ≡ event → t / 64 ≡ index → ⊥)
       → is_left less e t ≡ is_left now e t
-  left_elsewhere e t apart = elim (cases_lt t now.period) [
+  left_elsewhere e t apart = elim (cases_lt t now.columns) [
     | inl low ↦
-        ap (λ word. nat_lt t now.period && has_bit word (t % 64))
+        ap (λ word. nat_lt t now.columns && has_bit word (t % 64))
         (other_word now place kept there e t (λ same.
-        let both = same_event (words_of now.period) e (t / 64) event index (omega (arith, low))
+        let both = same_row (words_of now.columns) e (t / 64) event index (omega (arith, low))
         within same in
         apart both.0 both.1))
-    | inr high ↦ rw (le-ltb t now.period high) refl
+    | inr high ↦ rw (le-ltb t now.columns high) refl
   ]
 
   left_here : (t : ℕ) → t / 64 ≡ index
       → is_left less event t ≡ (is_left now event t && has_bit keep (t % 64))
   left_here t at =
-      let here : place_of now.period event t ≡ place =
-      ap (λ index. event * words_of now.period + index) at in
-      ap (λ word. nat_lt t now.period && has_bit word (t % 64))
+      let here : place_of now.columns event t ≡ place =
+      ap (λ index. event * words_of now.columns + index) at in
+      ap (λ word. nat_lt t now.columns && has_bit word (t % 64))
       (this_word now place kept there event t here)
-      ∙ ap (λ b. nat_lt t now.period && b)
+      ∙ ap (λ b. nat_lt t now.columns && b)
       (and_bit (word_at now event index) keep (t % 64)
       ∙ ap (λ place. has_bit (get_or now.words place 0) (t % 64) && has_bit keep (t % 64)) (sym
       here))
-      ∙ and_assoc (nat_lt t now.period) _ _
+      ∙ and_assoc (nat_lt t now.columns) _ _
 
   fewer_left : kept < word_at now event index → marks_left less < marks_left now
   fewer_left small = sum_less now.words place kept small
@@ -93,13 +95,13 @@ and_unit true y z is = ap (λ y. y && z) is
 and_unit false y z is = refl
 
 pub prune_word : (before now after : Tracked) (event index : ℕ) (keep : List ℕ)
-    (changes is : Bool) → event < now.sets.events → index < words_of now.sets.period
+    (changes is : Bool) → event < now.sets.rows → index < words_of now.sets.columns
     → Prunes before now (stays_below event keep (64 * index)) changes
     → KeepsBits now after event index (get_or keep index 0) is
     → Prunes before after (stays_below event keep (64 * (index + 1))) (changes || is)
 prune_word before now after event index keep changes is inside within so turn = record {
-  period = ap (λ (tracked : Tracked). tracked.sets.period) turn.is ∙ so.period;
-  events = ap (λ (tracked : Tracked). tracked.sets.events) turn.is ∙ so.events;
+  period = ap (λ (tracked : Tracked). tracked.sets.columns) turn.is ∙ so.period;
+  events = ap (λ (tracked : Tracked). tracked.sets.rows) turn.is ∙ so.events;
   saved = ap (λ (tracked : Tracked). tracked.saved) turn.is ∙ so.saved;
   left = λ i e t. left e t (cases_eq e event) (cases_order (t / 64) index) i;
   same = λ none. let parts = or_parts changes is none in turn.same parts.1 ∙ so.same parts.0;
@@ -175,18 +177,18 @@ prune_word before now after event index keep changes is inside within so turn = 
 
 pub prune_ended : (before after : Tracked) (event : ℕ) (keep : List ℕ) (end : ℕ)
     (changes : Bool) → Prunes before after (stays_below event keep end) changes
-    → before.sets.period ≤ end → Prunes before after (stays event keep) changes
+    → before.sets.columns ≤ end → Prunes before after (stays event keep) changes
 prune_ended before after event keep end changes so all = record {
   period = so.period;
   events = so.events;
   saved = so.saved;
-  left = so.left ∙ (λ i e t. last e t (cases_Bool (nat_lt t before.sets.period)) i);
+  left = so.left ∙ (λ i e t. last e t (cases_Bool (nat_lt t before.sets.columns)) i);
   same = so.same;
   fewer = so.fewer;
   no_more = so.no_more;
 }
   where
-    last : (e t : ℕ) → (nat_lt t before.sets.period ≡ true) ⊎ (nat_lt t before.sets.period ≡ false)
+    last : (e t : ℕ) → (nat_lt t before.sets.columns ≡ true) ⊎ (nat_lt t before.sets.columns ≡ false)
         → both (is_left before.sets) (stays_below event keep end) e t
         ≡ both (is_left before.sets) (stays event keep) e t
     last e t (inl is) =
@@ -214,11 +216,11 @@ prunes_as before after keeps others changes same so = record {
 }
 
 by_bits : (sets : Marks) (kept : ℕ) (test : ℕ → Bool) (keep : List ℕ)
-    → ((t : ℕ) → t < sets.period → marked keep t ≡ test t) → (e t : ℕ)
+    → ((t : ℕ) → t < sets.columns → marked keep t ≡ test t) → (e t : ℕ)
     → both (is_left sets) (stays kept keep) e t ≡ both (is_left sets) (kept_by kept test) e t
-by_bits sets kept test keep is e t = one (cases_Bool (nat_lt t sets.period))
+by_bits sets kept test keep is e t = one (cases_Bool (nat_lt t sets.columns))
   where
-    one : (nat_lt t sets.period ≡ true) ⊎ (nat_lt t sets.period ≡ false)
+    one : (nat_lt t sets.columns ≡ true) ⊎ (nat_lt t sets.columns ≡ false)
         → both (is_left sets) (stays kept keep) e t ≡ both (is_left sets) (kept_by kept test) e t
     one (inl low) =
         ap (λ b. is_left sets e t && (not (e == kept) || b)) (is t (ltb-true _ _ low))
@@ -226,7 +228,7 @@ by_bits sets kept test keep is e t = one (cases_Bool (nat_lt t sets.period))
 
 pub prunes_by_bits : {E : Type 0} (before after : Tracked) (kept : ℕ) (test : ℕ → Bool)
     (keep : List ℕ) (result : Result Bool E)
-    → ((t : ℕ) → t < before.sets.period → marked keep t ≡ test t)
+    → ((t : ℕ) → t < before.sets.columns → marked keep t ≡ test t)
     → IfOk result (Prunes before after (stays kept keep))
     → IfOk result (Prunes before after (kept_by kept test))
 prunes_by_bits before after kept test keep (Ok changes) is so =

@@ -216,8 +216,8 @@ module _ (problem : Problem) (sound : IsProblem problem) where
 
   -- ---- marks
 
-  module _ (before after : Tracked) (period_is : before.sets.period ≡ period)
-      (events_is : before.sets.events ≡ events) (so : Propagates problem before after) where
+  module _ (before after : Tracked) (period_is : before.sets.columns ≡ period)
+      (events_is : before.sets.rows ≡ events) (so : Propagates problem before after) where
     before_is : sets_of before.sets ≡ sets (is_left before.sets)
     before_is = sets_family before.sets
         ∙ (λ i. family (period_is i) (events_is i) (is_left before.sets))
@@ -274,10 +274,10 @@ module _ (problem : Problem) (sound : IsProblem problem) where
           }
     ]
       where
-        own_period : after.sets.period ≡ period
+        own_period : after.sets.columns ≡ period
         own_period = so.period ∙ period_is
 
-        own_events : after.sets.events ≡ events
+        own_events : after.sets.rows ≡ events
         own_events = so.events ∙ events_is
 
         all_revised : list_any is_empty (sets_of after.sets) ≡ false

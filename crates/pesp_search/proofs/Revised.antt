@@ -128,7 +128,7 @@ module _ (activity : PespActivity) (before after : Tracked) (kept : ℕ) (test :
     → Bool) (changes : Bool)
     (flags : Flags) (inside : kept < length flags)
     (so : Prunes before after (kept_test kept test) changes)
-    (holds : (left : Left) → IsRevised before.sets.period left activity
+    (holds : (left : Left) → IsRevised before.sets.columns left activity
     → IsWithin left (is_left before.sets) → (t : ℕ) → left kept t ≡ true → test t ≡ true) where
   side_touches : Touches activity before after flags (noted flags kept changes)
   side_touches = record {
@@ -153,10 +153,10 @@ module _ (activity : PespActivity) (before after : Tracked) (kept : ℕ) (test :
 
 pub first_revised : (activity : PespActivity) (before after : Tracked) (changes : Bool)
     (at : ℕ) (flags : Flags) → activity.from < length flags
-    → Prunes before after (keeps_first before.sets.period (is_left before.sets) activity) changes
+    → Prunes before after (keeps_first before.sets.columns (is_left before.sets) activity) changes
     → RevisesFirst activity at before after flags (noted flags activity.from changes)
 first_revised activity before after changes at flags inside so =
-    let period = before.sets.period in
+    let period = before.sets.columns in
     let test = second_left period (is_left before.sets) activity in
     let touched = side_touches activity before after activity.from test changes flags inside so
     (λ left revised within t is.
@@ -171,10 +171,10 @@ first_revised activity before after changes at flags inside so =
 
 pub second_revised : (activity : PespActivity) (before after : Tracked) (changes : Bool)
     (at : ℕ) (flags : Flags) → activity.to < length flags
-    → Prunes before after (keeps_second before.sets.period (is_left before.sets) activity) changes
+    → Prunes before after (keeps_second before.sets.columns (is_left before.sets) activity) changes
     → RevisesSecond activity at before after flags (noted flags activity.to changes)
 second_revised activity before after changes at flags inside so =
-    let period = before.sets.period in
+    let period = before.sets.columns in
     let test = first_left period (is_left before.sets) activity in
     let touched = side_touches activity before after activity.to test changes flags inside so
     (λ left revised within t is.
@@ -258,8 +258,8 @@ module _ (activity : PespActivity) (at : ℕ) (start middle end : Tracked)
     no_more = omega (arith, one.0.no_more, two.0.no_more);
   }
 
-  last_here : SecondUnless start.sets.period (is_left middle.sets) (either at some) activity
-      → SecondUnless start.sets.period (is_left end.sets) (has_changed more) activity
+  last_here : SecondUnless start.sets.columns (is_left middle.sets) (either at some) activity
+      → SecondUnless start.sets.columns (is_left end.sets) (has_changed more) activity
   last_here = subst (λ period. SecondUnless period (is_left middle.sets) (either at some) activity
       → SecondUnless period (is_left end.sets) (has_changed more) activity) one.0.period two.1
 
@@ -267,9 +267,9 @@ module _ (activity : PespActivity) (at : ℕ) (start middle end : Tracked)
   both_revised = (
     both_touched,
     λ so. (
-      carried_first start.sets.period (is_left middle.sets) (is_left end.sets) (has_changed some)
+      carried_first start.sets.columns (is_left middle.sets) (is_left end.sets) (has_changed some)
           (has_changed more) activity two.0.within two.0.untouched (one.1 so.0),
-      last_here (carried_second start.sets.period (is_left start.sets) (is_left middle.sets)
+      last_here (carried_second start.sets.columns (is_left start.sets) (is_left middle.sets)
           (either at flags) (either at some) activity one.0.within
           (λ event none.
           let parts = or_parts (event == at) _ none in

@@ -122,7 +122,7 @@ module _ (problem : Problem) (event : ℕ) (indexes : List ℕ) (before now afte
     (so : IsVisited problem event indexes before now old flags from)
     (place : get_or indexes from 0 ≡ index) (at : slice_get problem.activities index ≡ Some
     activity)
-    (period_is : now.sets.period ≡ problem.period)
+    (period_is : now.sets.columns ≡ problem.period)
     (turn : Revises activity event now after flags more) where
   propagates : Propagates problem before after
   propagates = record {

@@ -46,7 +46,7 @@ next_waits before restored saved after sets branch time is same next save keep =
       (ap (λ (sets : Marks). times_from sets branch.event branch.from) (sym same) ∙ next.2
       ∙ ap (λ (sets : Marks). time ∷ times_from sets branch.event (time + 1)) same)
       ∙ (λ i. sym sets_are i ∷ waiting (sym saved_are i)),
-  keep.period ∙ ap (λ (tracked : Tracked). tracked.sets.period) save ∙ is.2,
+  keep.period ∙ ap (λ (tracked : Tracked). tracked.sets.columns) save ∙ is.2,
   keep.events ∙ events_are ∙ is.3,
   record {
     passed = [];
@@ -55,7 +55,7 @@ next_waits before restored saved after sets branch time is same next save keep =
     later = tried branch time;
     earlier = restored.saved;
     inside = subst (λ events. branch.event < events) (sym (keep.events ∙ events_are)) is.1;
-    period = keep.period ∙ ap (λ (tracked : Tracked). tracked.sets.period) save;
+    period = keep.period ∙ ap (λ (tracked : Tracked). tracked.sets.columns) save;
     was = is.0;
     now = saved_are;
     here = (refl, refl);
@@ -68,8 +68,8 @@ next_waits before restored saved after sets branch time is same next save keep =
   },
 )
   where
-    events_are : saved.sets.events ≡ restored.sets.events
-    events_are = ap (λ (tracked : Tracked). tracked.sets.events) save
+    events_are : saved.sets.rows ≡ restored.sets.rows
+    events_are = ap (λ (tracked : Tracked). tracked.sets.rows) save
 
     sets_are : sets_of after.sets ≡ with_time (sets_of restored.sets) branch.event time
     sets_are = keep.sets
@@ -80,8 +80,8 @@ next_waits before restored saved after sets branch time is same next save keep =
 
 -- before another turn
 pub next_from : (first before after : Tracked) (passed : List Saved) (event : ℕ)
-    → waiting first.saved ≡ waiting before.saved → before.sets.period ≡ first.sets.period
-    → before.sets.events ≡ first.sets.events → first.saved ≡ passed ++ before.saved
+    → waiting first.saved ≡ waiting before.saved → before.sets.columns ≡ first.sets.columns
+    → before.sets.rows ≡ first.sets.rows → first.saved ≡ passed ++ before.saved
     → IsNextChild before after (Some event) → IsNextChild first after (Some event)
 next_from first before after passed event same period events all next = (
   same ∙ next.0,

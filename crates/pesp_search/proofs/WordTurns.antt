@@ -8,11 +8,12 @@ use Rattle.std.proofs.Math.Nat.{add-mod_left, mod-add-mod, mod-eq_of_lt, mod-lt}
 use Rattle.std.proofs.lemmas.Bool.{cases_eq, cases_lt, eq-eqb, lt-ltb, le-ltb, ne_eqb}
 use Rattle.std.proofs.lemmas.List.{get_or-set_other, get_or-set_same, get_or-replicate, get_or_past}
 use Rattle.std.proofs.Math.Bool.{and-false as and_none}
-use Rattle.pesp_search.specs.Marks.{Marks, has_bit, is_left, marked, one_bit, words_of}
+use Rattle.bit_rows.specs.Bits.{has_bit, marked, one_bit, words_of}
+use Rattle.bit_rows.proofs.WordBits.{bit_of_one, or_bit, shl_high, shl_low, zero_bit}
+use Rattle.pesp_search.specs.Marks.{Marks, any_below, is_left}
 use Rattle.pesp_search.specs.Revising.{IsClear, reaches, turned_to}
-use Rattle.pesp_search.specs.Marks.{any_below}
-use Rattle.pesp_search.proofs.AnyBelow.{any_one, any_same, joined_below, or_none as or_false}
-use Rattle.pesp_search.proofs.WordBits.{bit_of_one, or_bit, shl_high, shl_low, zero_bit}
+use Rattle.bit_rows.proofs.WordBits.{or_none as or_false}
+use Rattle.pesp_search.proofs.AnyBelow.{any_one, any_same, joined_below}
 
 -- ---- the bits from a time on
 
@@ -200,8 +201,8 @@ pub clear_at : (period own : ℕ) (times : List ℕ) → own ≡ period → IsCl
 clear_at period own times same clear = subst (λ (period : ℕ). IsClear period times) (sym same) clear
 
 pub left_twice : (sets : Marks) (event time : ℕ)
-    → is_left sets event time ≡ (nat_lt time sets.period && is_left sets event time)
-left_twice sets event time = twice (nat_lt time sets.period) _
+    → is_left sets event time ≡ (nat_lt time sets.columns && is_left sets event time)
+left_twice sets event time = twice (nat_lt time sets.columns) _
   where
     twice : (x y : Bool) → (x && y) ≡ (x && (x && y))
     twice true y = refl

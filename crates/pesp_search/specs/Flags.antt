@@ -2,7 +2,8 @@
 use Rattle.std.specs.Prelude.{◌≡◌, ◌⊎◌, ℕ, ◌/◌, ◌<◌, ◌≤◌, Bool, true, false, List, length, map}
 use Rattle.std.specs.Prelude.{get_or, Option, Some, None}
 use Rattle.std.specs.List.{range_with_len}
-use Rattle.pesp_search.specs.Marks.{any_below, marked}
+use Rattle.bit_rows.specs.Bits.{Bits, has}
+use Rattle.pesp_search.specs.Marks.{any_below}
 
 -- a flag for each event
 abbrev pub Flags : Type 0
@@ -15,14 +16,14 @@ has_changed flags event = get_or flags event false
 abbrev pub some_changed : Flags → Bool
 some_changed flags = any_below (has_changed flags) (length flags)
 
--- the flags of so many events by the bits of words
-abbrev pub flags_of : List ℕ → ℕ → Flags
-flags_of words events = map (marked words) (range_with_len 0 events)
+-- the flags of events by a row of bits
+abbrev pub flags_of : Bits → Flags
+flags_of bits = map (has bits 0) (range_with_len 0 bits.columns)
 
 -- no bit is set outside of a range of words
-abbrev pub IsClearOutside : ℕ → ℕ → List ℕ → Type 0
-IsClearOutside low high words =
-    (place : ℕ) → (place / 64 < low) ⊎ (high ≤ place / 64) → marked words place ≡ false
+abbrev pub IsClearOutside : ℕ → ℕ → Bits → Type 0
+IsClearOutside low high bits =
+    (event : ℕ) → (event / 64 < low) ⊎ (high ≤ event / 64) → has bits 0 event ≡ false
 
 -- the last event before one whose flag is set, if one is
 abbrev pub IsLastFlag : Flags → ℕ → Option ℕ → Type 0

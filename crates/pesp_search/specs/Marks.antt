@@ -1,12 +1,11 @@
 -- Inner words: marks of the times that are left to events, and sets of times that are changed and
 -- restored.
-use Rattle.std.specs.Prelude.{◌≡◌, ℕ, zero, suc, ◌+◌, ◌*◌, ◌-◌, ◌/◌, ◌%◌, ◌^◌, ◌<◌, ◌≤◌, ◌==◌}
-use Rattle.std.specs.Prelude.{nat_lt}
-use Rattle.std.specs.Prelude.{Bool, true, false, ◌&&◌, ◌||◌, if◌then◌else◌, bit_and, bit_or}
-use Rattle.std.specs.Prelude.{List, [], ◌∷◌, ◌++◌, length, map, filter, get_or, slice_set, sum}
+use Rattle.std.specs.Prelude.{◌≡◌, ℕ, zero, suc, ◌+◌, ◌*◌, ◌-◌, ◌<◌, ◌≤◌}
+use Rattle.std.specs.Prelude.{Bool, true, false, ◌&&◌, ◌||◌, bit_and}
+use Rattle.std.specs.Prelude.{List, [], ◌∷◌, ◌++◌, map, filter, get_or, sum}
 use Rattle.std.specs.Prelude.{Option, Some, None}
-use Rattle.std.specs.Int.{bit_at, bit_not, w64}
 use Rattle.std.specs.List.{range_with_len}
+use Rattle.bit_rows.specs.Bits.{AreBits, Bits, FitsAt, has, with_word, words_of}
 use Rattle.pesp_search.specs.declared.time_sets.Branch.{Branch}
 use Rattle.pesp_search.specs.declared.time_sets.Change.{Change}
 use Rattle.pesp_search.specs.declared.time_sets.Change.TheVariants as change
@@ -17,81 +16,23 @@ unfoldable pub any_below : (ℕ → Bool) → ℕ → Bool
 any_below test zero = false
 any_below test (suc n) = any_below test n || test n
 
--- ---- words of 64 bits
-
--- a bit of a word is set
-unfoldable pub has_bit : ℕ → ℕ → Bool
-has_bit word bit = bit_at word bit == 1
-
--- the bit at a place of words
-abbrev pub marked : List ℕ → ℕ → Bool
-marked words place = has_bit (get_or words (place / 64) 0) (place % 64)
-
--- the mask of one bit
-abbrev pub one_bit : ℕ → ℕ
-one_bit bit = 1 * 2 ^ bit % 2 ^ 64
-
--- the word where a bit is set or not
-unfoldable pub with_bit : ℕ → ℕ → Bool → ℕ
-with_bit word bit is =
-    if is then bit_or word (one_bit bit) else bit_and word (bit_not w64 (one_bit bit))
-
--- the first bit of a word from one on that is set, if one is
-abbrev pub IsFirstBit : ℕ → ℕ → Option ℕ → Type 0
-IsFirstBit word from None = (bit : ℕ) → from ≤ bit → bit < 64 → has_bit word bit ≡ false
-IsFirstBit word from (Some first) = (from ≤ first) × (first < 64) × (has_bit word first ≡ true)
-    × ((bit : ℕ) → from ≤ bit → bit < first → has_bit word bit ≡ false)
-
--- the last bit of a word before one that is set, if one is
-abbrev pub IsLastBit : ℕ → ℕ → Option ℕ → Type 0
-IsLastBit word end None = (bit : ℕ) → bit < 64 → bit < end → has_bit word bit ≡ false
-IsLastBit word end (Some last) = (last < end) × (last < 64) × (has_bit word last ≡ true)
-    × ((bit : ℕ) → bit < 64 → last < bit → bit < end → has_bit word bit ≡ false)
-
--- how many words hold a bit for each time of a period
-abbrev pub words_of : ℕ → ℕ
-words_of period = (period + 63) / 64
-
 -- ---- marks
 
--- words with a bit for each time of a period, for each of so many events
-pub record Marks : Type 0 where
-  pub period : ℕ
-  pub events : ℕ
-  pub words : List ℕ
-
--- the place of the word of a time, and that word
-abbrev pub place_of : ℕ → ℕ → ℕ → ℕ
-place_of period event time = event * words_of period + time / 64
-
-abbrev pub word_of : Marks → ℕ → ℕ → ℕ
-word_of sets event time = get_or sets.words (place_of sets.period event time) 0
+-- a row of bits for each event, with a column for each time of a period
+abbrev pub Marks : Type 0
+Marks = Bits
 
 -- a time is left to an event
 abbrev pub is_left : Marks → ℕ → ℕ → Bool
-is_left sets event time = nat_lt time sets.period && has_bit (word_of sets event time) (time % 64)
-
--- the marks where the word at a place is another one
-abbrev pub with_word : Marks → ℕ → ℕ → Marks
-with_word sets place word = record {
-  period = sets.period;
-  events = sets.events;
-  words = slice_set sets.words place word;
-}
-
--- no bit of a word at a place is set behind the period
-abbrev pub IsWord : ℕ → ℕ → ℕ → ℕ → Type 0
-IsWord period events place word =
-    (event time : ℕ) → event < events → period ≤ time → time < 64 * words_of period
-    → place_of period event time ≡ place → has_bit word (time % 64) ≡ false
+is_left = has
 
 -- the times of an event, from one on
 abbrev pub times_from : Marks → ℕ → ℕ → List ℕ
-times_from sets event from = filter (is_left sets event) (range_with_len from (sets.period - from))
+times_from sets event from = filter (is_left sets event) (range_with_len from (sets.columns - from))
 
 -- the times that are left to each event
 abbrev pub sets_of : Marks → List (List ℕ)
-sets_of sets = map (λ event. times_from sets event 0) (range_with_len 0 sets.events)
+sets_of sets = map (λ event. times_from sets event 0) (range_with_len 0 sets.rows)
 
 -- no event before one has several times
 abbrev pub IsSettled : Marks → ℕ → Type 0
@@ -105,11 +46,9 @@ family period events left =
 
 -- there are words for each event, and no bit is set behind the period
 pub record AreMarks (sets : Marks) : Type 0 where
-  pub each : length sets.words ≡ sets.events * words_of sets.period
-  pub some : 1 ≤ sets.period
-  pub few : sets.period ≤ 720
-  pub clear : (event time : ℕ) → event < sets.events → sets.period ≤ time
-      → time < 64 * words_of sets.period → has_bit (word_of sets event time) (time % 64) ≡ false
+  pub bits : AreBits sets
+  pub some : 1 ≤ sets.columns
+  pub few : sets.columns ≤ 720
 
 -- sets that were left where they branched, and the event and the time from which its children are
 -- still to be visited
@@ -133,7 +72,7 @@ saved_by sets (change.Branched branch ∷ earlier) =
 -- a change is one of a place or an event that is there
 abbrev pub IsChange : ℕ → ℕ → Change → Type 0
 IsChange period events (change.Replaced place word) =
-    (place < events * words_of period) × IsWord period events place word
+    (place < events * words_of period) × FitsAt events period place word
 IsChange period events (change.Branched branch) = branch.event < events
 
 -- what restoring finds: nothing that was saved, or the last sets that were
@@ -141,15 +80,15 @@ abbrev pub Restores : Tracked → Tracked → Option Branch → Type 0
 Restores before after None = before.saved ≡ []
 Restores before after (Some branch) =
     (before.saved ≡ record { sets = after.sets; branch = branch } ∷ after.saved)
-    × (branch.event < after.sets.events)
-    × (after.sets.period ≡ before.sets.period)
-    × (after.sets.events ≡ before.sets.events)
+    × (branch.event < after.sets.rows)
+    × (after.sets.columns ≡ before.sets.columns)
+    × (after.sets.rows ≡ before.sets.rows)
 
 -- the times of an event that are still left from one on: none, or a first one and those behind it
 abbrev pub IsNext : Marks → ℕ → ℕ → Option ℕ → Type 0
 IsNext sets event from None = times_from sets event from ≡ []
 IsNext sets event from (Some time) =
-    (time < sets.period) × (is_left sets event time ≡ true)
+    (time < sets.columns) × (is_left sets event time ≡ true)
     × (times_from sets event from ≡ time ∷ times_from sets event (time + 1))
 
 -- the children that are still to be visited of sets that were saved, and of all of them
@@ -168,13 +107,13 @@ marks_left sets = sum sets.words
 
 -- the word of an event by its index
 abbrev pub word_at : Marks → ℕ → ℕ → ℕ
-word_at sets event index = get_or sets.words (event * words_of sets.period + index) 0
+word_at sets event index = get_or sets.words (event * words_of sets.columns + index) 0
 
 -- Some bits of a word of an event stay, and no others. Where nothing is said to change nothing
 -- does, and else fewer bits are left.
 pub record KeepsBits (before after : Tracked) (event index keep : ℕ) (changes : Bool) : Type 0 where
   pub is : after ≡ record {
-    sets = with_word before.sets (event * words_of before.sets.period + index)
+    sets = with_word before.sets (event * words_of before.sets.columns + index)
         (bit_and (word_at before.sets event index) keep);
     saved = before.saved;
   }
@@ -186,8 +125,8 @@ pub record KeepsBits (before after : Tracked) (event index keep : ℕ) (changes 
 -- Some times of an event are taken out: of all events those stay for which a test holds. Where
 -- nothing is said to change nothing does, and else fewer times are left.
 pub record Prunes (before after : Tracked) (keeps : ℕ → ℕ → Bool) (changes : Bool) : Type 0 where
-  pub period : after.sets.period ≡ before.sets.period
-  pub events : after.sets.events ≡ before.sets.events
+  pub period : after.sets.columns ≡ before.sets.columns
+  pub events : after.sets.rows ≡ before.sets.rows
   pub saved : after.saved ≡ before.saved
   pub left : is_left after.sets ≡ (λ event time. is_left before.sets event time && keeps event time)
   pub same : changes ≡ false → after ≡ before
@@ -196,8 +135,8 @@ pub record Prunes (before after : Tracked) (keeps : ℕ → ℕ → Bool) (chang
 
 -- one of its times is left to an event
 pub record KeepsTime (before after : Tracked) (event time : ℕ) : Type 0 where
-  pub period : after.sets.period ≡ before.sets.period
-  pub events : after.sets.events ≡ before.sets.events
+  pub period : after.sets.columns ≡ before.sets.columns
+  pub events : after.sets.rows ≡ before.sets.rows
   pub saved : after.saved ≡ before.saved
   pub sets : sets_of after.sets ≡ with_time (sets_of before.sets) event time
   pub within : (other time : ℕ) → is_left after.sets other time ≡ true
@@ -212,8 +151,8 @@ pub record IsChildOf (before after : Tracked) (event : ℕ) : Type 0 where
   pub from : Branch
   pub later : Branch
   pub earlier : List Saved
-  pub inside : event < after.sets.events
-  pub period : after.sets.period ≡ branched.period
+  pub inside : event < after.sets.rows
+  pub period : after.sets.columns ≡ branched.columns
   pub was : before.saved ≡ passed ++ record { sets = branched; branch = from } ∷ earlier
   pub now : after.saved ≡ record { sets = branched; branch = later } ∷ earlier
   pub here : (from.event ≡ event) × (later.event ≡ event)
@@ -229,6 +168,6 @@ abbrev pub IsNextChild : Tracked → Tracked → Option ℕ → Type 0
 IsNextChild before after None = waiting before.saved ≡ []
 IsNextChild before after (Some event) =
     (waiting before.saved ≡ sets_of after.sets ∷ waiting after.saved)
-    × (after.sets.period ≡ before.sets.period)
-    × (after.sets.events ≡ before.sets.events)
+    × (after.sets.columns ≡ before.sets.columns)
+    × (after.sets.rows ≡ before.sets.rows)
     × IsChildOf before after event

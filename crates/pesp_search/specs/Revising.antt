@@ -6,13 +6,13 @@ use Rattle.std.specs.Prelude.{min, ◌==◌, not, Bool, true, false, ◌||◌, �
 use Rattle.std.specs.Prelude.{if◌then◌else◌, ⊤, [], ◌∷◌, List, length, filter, slice_get}
 use Rattle.std.specs.Prelude.{slice_set, Some, All, unsigned_abs, ◌-ℤ◌}
 use Rattle.std.specs.List.{list_any, range_with_len}
+use Rattle.bit_rows.specs.Bits.{marked}
 use Rattle.pesp_model.specs.declared.activity.PespActivity.{PespActivity}
 use Rattle.pesp_model.specs.Timetables.{Problem, keeps}
 use Rattle.pesp_search.specs.Flags.{Flags, has_changed, some_changed}
 use Rattle.pesp_search.specs.Listings.{is_empty}
-use Rattle.pesp_search.specs.Marks.{IsSettled, Marks, Saved, Tracked, any_below, is_left, marked}
-use Rattle.pesp_search.specs.Marks.{marks_left}
-use Rattle.pesp_search.specs.Marks.{sets_of, times_from}
+use Rattle.pesp_search.specs.Marks.{IsSettled, Marks, Saved, Tracked, any_below, is_left}
+use Rattle.pesp_search.specs.Marks.{marks_left, sets_of, times_from}
 use Rattle.pesp_search.specs.TimeSets.{reduced}
 
 -- which times are left to which events
@@ -87,8 +87,8 @@ IsWithin left others = (event time : ℕ) → left event time ≡ true → other
 
 -- Sets are made smaller, and none in which all activities are revised is lost.
 pub record Propagates (problem : Problem) (before after : Tracked) : Type 0 where
-  pub period : after.sets.period ≡ before.sets.period
-  pub events : after.sets.events ≡ before.sets.events
+  pub period : after.sets.columns ≡ before.sets.columns
+  pub events : after.sets.rows ≡ before.sets.rows
   pub saved : after.saved ≡ before.saved
   pub within : IsWithin (is_left after.sets) (is_left before.sets)
   pub keeps : (left : Left) → All (IsRevised problem.period left) problem.activities
@@ -147,11 +147,11 @@ StaysFull before after = IsFull before.sets → IsFull after.sets
 -- changed it has not.
 pub record Touches (activity : PespActivity) (before after : Tracked) (flags more : Flags)
     : Type 0 where
-  pub period : after.sets.period ≡ before.sets.period
-  pub events : after.sets.events ≡ before.sets.events
+  pub period : after.sets.columns ≡ before.sets.columns
+  pub events : after.sets.rows ≡ before.sets.rows
   pub saved : after.saved ≡ before.saved
   pub within : IsWithin (is_left after.sets) (is_left before.sets)
-  pub keeps : (left : Left) → IsRevised before.sets.period left activity
+  pub keeps : (left : Left) → IsRevised before.sets.columns left activity
       → IsWithin left (is_left before.sets) → IsWithin left (is_left after.sets)
   pub each : length more ≡ length flags
   pub untouched : (event : ℕ) → has_changed more event ≡ false
@@ -170,21 +170,21 @@ abbrev pub RevisesFirst : PespActivity → ℕ → Tracked → Tracked → Flags
     → Type 0
 RevisesFirst activity at before after flags more =
     Touches activity before after flags more
-    × (FirstUnless before.sets.period (is_left before.sets) (either at flags) activity
-    → FirstUnless before.sets.period (is_left after.sets) (has_changed more) activity)
+    × (FirstUnless before.sets.columns (is_left before.sets) (either at flags) activity
+    → FirstUnless before.sets.columns (is_left after.sets) (has_changed more) activity)
 
 abbrev pub RevisesSecond : PespActivity → ℕ → Tracked → Tracked → Flags → Flags
     → Type 0
 RevisesSecond activity at before after flags more =
     Touches activity before after flags more
-    × (SecondUnless before.sets.period (is_left before.sets) (either at flags) activity
-    → SecondUnless before.sets.period (is_left after.sets) (has_changed more) activity)
+    × (SecondUnless before.sets.columns (is_left before.sets) (either at flags) activity
+    → SecondUnless before.sets.columns (is_left after.sets) (has_changed more) activity)
 
 abbrev pub Revises : PespActivity → ℕ → Tracked → Tracked → Flags → Flags → Type 0
 Revises activity at before after flags more =
     Touches activity before after flags more
-    × (RevisedUnless before.sets.period (is_left before.sets) (either at flags) activity
-    → RevisedUnless before.sets.period (is_left after.sets) (has_changed more) activity)
+    × (RevisedUnless before.sets.columns (is_left before.sets) (either at flags) activity
+    → RevisedUnless before.sets.columns (is_left after.sets) (has_changed more) activity)
 
 -- what the activities at an event leave where it loses its flag: smaller sets, of which flags tell
 -- where they changed, and fewer marks where there are more flags
@@ -225,8 +225,8 @@ Stands problem before after =
 
 -- sets are reduced
 pub record Reduces (problem : Problem) (before after : Tracked) : Type 0 where
-  pub period : after.sets.period ≡ before.sets.period
-  pub events : after.sets.events ≡ before.sets.events
+  pub period : after.sets.columns ≡ before.sets.columns
+  pub events : after.sets.rows ≡ before.sets.rows
   pub saved : after.saved ≡ before.saved
   pub within : IsWithin (is_left after.sets) (is_left before.sets)
   pub stands : Stands problem before after

@@ -68,22 +68,22 @@ TakesEntry problem before after changed entries.Last =
     listed_on problem before ≡ record { entries = 1; found = None }
 TakesEntry problem before after changed (entries.Next event) =
     (listed_on problem before ≡ one_more (listed_on problem after))
-    × (after.sets.period ≡ before.sets.period)
-    × (after.sets.events ≡ before.sets.events)
+    × (after.sets.columns ≡ before.sets.columns)
+    × (after.sets.rows ≡ before.sets.rows)
     × IsReady problem after changed
     × IsSettled after.sets event
 
 -- the sets before the first entry
 pub record AreFirst (problem : Problem) (sets : Tracked) : Type 0 where
-  pub period : sets.sets.period ≡ problem.period
-  pub events : sets.sets.events ≡ problem.events
+  pub period : sets.sets.columns ≡ problem.period
+  pub events : sets.sets.rows ≡ problem.events
   pub saved : sets.saved ≡ []
   pub first : sets_of sets.sets ≡ first_sets problem
 
 -- a search behind some entries, each of which took a step
 pub record IsSearched (problem : Problem) (sets : Tracked) (count : ℕ) : Type 0 where
-  pub period : sets.sets.period ≡ problem.period
-  pub events : sets.sets.events ≡ problem.events
+  pub period : sets.sets.columns ≡ problem.period
+  pub events : sets.sets.rows ≡ problem.events
   pub listed : listing problem ≡ behind count (listed_on problem sets)
 
 -- what the call gives: what is found, or why nothing is, exactly as a result says; want of memory

@@ -1,6 +1,7 @@
 // The children of branches, one after the other.
 ghost use Rattle.std.specs.Prelude.{◌≡◌, ℕ, ◌<◌, ◌==◌, length, true, IfOk, OnOk};
-ghost use Rattle.pesp_search.specs.Marks.{IsNextChild, KeepsTime, is_left, marked};
+ghost use Rattle.bit_rows.specs.Bits.{marked};
+ghost use Rattle.pesp_search.specs.Marks.{IsNextChild, KeepsTime, is_left};
 
 use crate::prune::prune;
 use crate::time_sets::{Branch, TimeSets};
@@ -27,8 +28,8 @@ pub(crate) fn next_child(sets: &mut TimeSets) -> Result<Option<usize>, NoMemory>
 
 /// Leaves one of its times to an event.
 pub(crate) fn keep_time(sets: &mut TimeSets, event: usize, time: usize) -> Result<(), NoMemory>
-    requires event { event < sets.old.sets.events }
-    requires time { time < sets.old.sets.period }
+    requires event { event < sets.old.sets.rows }
+    requires time { time < sets.old.sets.columns }
     requires left { is_left sets.old.sets event time ≡ true }
     ensures { OnOk result (KeepsTime sets.old sets.new event time) }
 {

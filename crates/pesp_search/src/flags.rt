@@ -1,36 +1,33 @@
 // Flags of events.
 ghost use Rattle.std.specs.Prelude.{◌≡◌, ◌⊎◌, ℕ, ◌+◌, ◌*◌, ◌/◌, ◌<◌, ◌≤◌, ◌==◌, length, true};
-ghost use Rattle.std.specs.Prelude.{false};
-ghost use Rattle.std.specs.Prelude.{slice_set, All, IfOk};
+ghost use Rattle.std.specs.Prelude.{false, slice_set, IfOk};
+ghost use Rattle.bit_rows.specs.Bits.{has_bit};
 ghost use Rattle.pesp_search.specs.Flags.{IsLastFlag, has_changed, some_changed};
-ghost use Rattle.pesp_search.specs.Marks.{has_bit};
 
-use crate::words::{last_bit, with_bit};
+use bit_rows::{BitRows, last_bit};
 use plan_num::NoMemory;
 use std::alloc::Global;
 use std::marker::Model;
 
-/// A flag for each event, as the bits of words. Outside of a range of words no flag is set.
-/// Contracts see it as a list of flags.
+/// A flag for each event, as a row of bits. Outside of a range of words no flag is set. Contracts
+/// see it as a list of flags.
 #[derive(Debug, Drop)]
 pub(crate) struct EventFlags {
-    events: usize,
-    words: Vec<u64>,
+    bits: BitRows,
     low: usize,
     high: usize,
 }
 
 impl Model for EventFlags {
-    ghost use Rattle.std.specs.Prelude.{◌≡◌, ◌+◌, ◌/◌, ◌≤◌, length};
+    ghost use Rattle.std.specs.Prelude.{◌≡◌, ◌≤◌};
     ghost use Rattle.pesp_search.specs.Flags.{Flags, IsClearOutside, flags_of};
 
     ghost Value = { Flags };
 
-    ghost view = { λ flags. flags_of flags.words.items flags.events };
+    ghost view = { λ flags. flags_of flags.bits };
 
-    ghost invariant = { λ flags. (flags.events ≤ 4000)
-        × (length flags.words.items ≡ (flags.events + 63) / 64)
-        × IsClearOutside flags.low flags.high flags.words.items };
+    ghost invariant = { λ flags. (flags.bits.rows ≡ 1) × (flags.bits.columns ≤ 4000)
+        × IsClearOutside flags.low flags.high flags.bits };
 }
 
 impl EventFlags {
@@ -40,13 +37,9 @@ impl EventFlags {
         ensures events { IfOk result (λ flags. length flags ≡ events) }
         ensures none { IfOk result (λ flags. (event : ℕ) → has_changed flags event ≡ false) }
     {
-        let mut words = Vec::new(alloc);
-        for _index in 0..(events + 63) / 64 {
-            words.push(0)?;
-        }
+        let bits = BitRows::none(alloc, 1, events)?;
         Ok(EventFlags {
-            events,
-            words,
+            bits,
             low: events,
             high: 0,
         })
@@ -81,8 +74,8 @@ impl EventFlags {
         ensures events { length self.new ≡ length self.old }
         ensures none { (event : ℕ) → has_changed self.new event ≡ false }
     {
-        put_zeros(&mut self.words);
-        self.low = self.events;
+        self.bits.clear_all();
+        self.low = self.bits.columns();
         self.high = 0;
     }
 
@@ -91,7 +84,7 @@ impl EventFlags {
         ensures value { result ≡ length self.now }
         ensures few { length self.now ≤ 4000 }
     {
-        self.events
+        self.bits.columns()
     }
 
     // The word of the flags of some events.
@@ -100,7 +93,7 @@ impl EventFlags {
         ensures { (bit : ℕ) → bit < 64 → 64 * index + bit < length self.now
             → has_bit result bit ≡ has_changed self.now (64 * index + bit) }
     {
-        self.words[index]
+        self.bits.word(0, index)
     }
 
     /// Sets the flag of an event or takes it away.
@@ -109,7 +102,7 @@ impl EventFlags {
         ensures { self.new ≡ slice_set self.old event flag }
     {
         let index = event / 64;
-        self.words[index] = with_bit(self.words[index], event % 64, flag);
+        self.bits.put(0, event, flag);
         self.low = self.low.min(index);
         self.high = self.high.max(index + 1);
     }
@@ -144,15 +137,5 @@ impl EventFlags {
             }
         }
         None
-    }
-}
-
-// Makes all words 0.
-fn put_zeros(words: &mut [u64])
-    ensures each { length words.new ≡ length words.old }
-    ensures zeros { All (λ word. word ≡ 0) words.new }
-{
-    for index in 0..words.len() {
-        words[index] = 0;
     }
 }

@@ -13,7 +13,7 @@ pub(crate) fn prune(
     event: usize,
     keep: &[u64; WORDS],
 ) -> Result<bool, NoMemory>
-    requires event { event < sets.old.sets.events }
+    requires event { event < sets.old.sets.rows }
     requires long { length keep.now ≡ 13 }
     ensures { IfOk result (Prunes sets.old sets.new (stays event keep.now)) }
 {

@@ -25,8 +25,8 @@ pub(crate) fn reduce(
     sets: &mut TimeSets,
     changed: &mut EventFlags,
 ) -> Result<bool, NoMemory>
-    requires period { sets.old.sets.period ≡ pesp.now.period }
-    requires events { sets.old.sets.events ≡ pesp.now.events }
+    requires period { sets.old.sets.columns ≡ pesp.now.period }
+    requires events { sets.old.sets.rows ≡ pesp.now.events }
     requires links { AreLinks pesp.now (length pesp.now.activities) links.now }
     requires ready { IsReady pesp.now sets.old changed.old }
     ensures each { OnOk result (length changed.new ≡ length changed.old) }
@@ -52,8 +52,8 @@ fn sweep(
     sets: &mut TimeSets,
     changed: &mut EventFlags,
 ) -> Result<bool, NoMemory>
-    requires period { sets.old.sets.period ≡ pesp.now.period }
-    requires events { sets.old.sets.events ≡ pesp.now.events }
+    requires period { sets.old.sets.columns ≡ pesp.now.period }
+    requires events { sets.old.sets.rows ≡ pesp.now.events }
     requires links { AreLinks pesp.now (length pesp.now.activities) links.now }
     requires each { length changed.old ≡ pesp.now.events }
     requires revised { AllFrom pesp.now.activities
@@ -81,8 +81,8 @@ fn visit(
     sets: &mut TimeSets,
     changed: &mut EventFlags,
 ) -> Result<bool, NoMemory>
-    requires period { sets.old.sets.period ≡ pesp.now.period }
-    requires events { sets.old.sets.events ≡ pesp.now.events }
+    requires period { sets.old.sets.columns ≡ pesp.now.period }
+    requires events { sets.old.sets.rows ≡ pesp.now.events }
     requires event { event < pesp.now.events }
     requires links { AreLinksAt pesp.now event indexes.now }
     requires each { length changed.old ≡ pesp.now.events }

@@ -2,9 +2,10 @@
 ghost use Rattle.std.specs.Prelude.{◌≡◌, ◌-◌, ◌/◌, ◌<◌, ◌≤◌, ◌≤ℤ◌, ℕ, false, true, nat_le};
 ghost use Rattle.std.specs.Prelude.{pos};
 ghost use Rattle.std.specs.Prelude.{length, IfOk, OnOk};
+ghost use Rattle.bit_rows.specs.Bits.{marked};
 ghost use Rattle.pesp_model.specs.Timetables.{IsActivity};
 ghost use Rattle.pesp_search.specs.Listings.{is_empty};
-ghost use Rattle.pesp_search.specs.Marks.{AreMarks, Prunes, is_left, marked, times_from};
+ghost use Rattle.pesp_search.specs.Marks.{AreMarks, Prunes, is_left, times_from};
 ghost use Rattle.pesp_search.specs.Revising.{ahead, behind, first_left, second_left, width_of};
 ghost use Rattle.pesp_search.specs.Revising.{HasEmpty, KeepsOwn, StaysFull, Revises};
 ghost use Rattle.pesp_search.specs.Revising.{RevisesSecond, RevisesFirst};
@@ -30,10 +31,10 @@ pub(crate) fn revise(
     sets: &mut TimeSets,
     changed: &mut EventFlags,
 ) -> Result<bool, NoMemory>
-    requires activity { IsActivity sets.old.sets.events activity }
-    requires event { at < sets.old.sets.events }
+    requires activity { IsActivity sets.old.sets.rows activity }
+    requires event { at < sets.old.sets.rows }
     requires counted { count.old ≡ length (times_from sets.old.sets at 0) }
-    requires each { length changed.old ≡ sets.old.sets.events }
+    requires each { length changed.old ≡ sets.old.sets.rows }
     ensures revises { OnOk result
         (Revises activity at sets.old sets.new changed.old changed.new) }
     ensures empty { IfOk result (λ is_empty. is_empty ≡ true → HasEmpty sets.new.sets) }
@@ -50,7 +51,7 @@ pub(crate) fn revise(
 // Counts the times that are left to an event anew where an activity leads from it to itself. Any
 // other activity leaves its set as it was.
 fn recount(activity: PespActivity, at: usize, count: &mut usize, sets: &TimeMarks)
-    requires event { at < sets.now.events }
+    requires event { at < sets.now.rows }
     requires same { (activity.from ≡ activity.to → ⊥)
         → count.old ≡ length (times_from sets.now at 0) }
     ensures { count.new ≡ length (times_from sets.now at 0) }
@@ -68,9 +69,9 @@ fn revise_first(
     sets: &mut TimeSets,
     changed: &mut EventFlags,
 ) -> Result<bool, NoMemory>
-    requires activity { IsActivity sets.old.sets.events activity }
+    requires activity { IsActivity sets.old.sets.rows activity }
     requires counted { count ≡ length (times_from sets.old.sets at 0) }
-    requires each { length changed.old ≡ sets.old.sets.events }
+    requires each { length changed.old ≡ sets.old.sets.rows }
     ensures revises { OnOk result
         (RevisesFirst activity at sets.old sets.new changed.old changed.new) }
     ensures empty { IfOk result (λ is_empty. is_empty ≡ true → HasEmpty sets.new.sets) }
@@ -93,9 +94,9 @@ fn revise_second(
     sets: &mut TimeSets,
     changed: &mut EventFlags,
 ) -> Result<bool, NoMemory>
-    requires activity { IsActivity sets.old.sets.events activity }
+    requires activity { IsActivity sets.old.sets.rows activity }
     requires counted { count ≡ length (times_from sets.old.sets at 0) }
-    requires each { length changed.old ≡ sets.old.sets.events }
+    requires each { length changed.old ≡ sets.old.sets.rows }
     ensures revises { OnOk result
         (RevisesSecond activity at sets.old sets.new changed.old changed.new) }
     ensures empty { IfOk result (λ is_empty. is_empty ≡ true → HasEmpty sets.new.sets) }
@@ -112,7 +113,7 @@ fn revise_second(
 
 // Whether no time is left to an event whose set has changed.
 fn is_emptied(sets: &TimeMarks, event: usize, is_changed: bool) -> bool
-    requires { event < sets.now.events }
+    requires { event < sets.now.rows }
     ensures empty { result ≡ true → HasEmpty sets.now }
     ensures some { result ≡ false → is_changed ≡ true
         → is_empty (times_from sets.now event 0) ≡ false }
@@ -133,10 +134,10 @@ fn note(changed: &mut EventFlags, event: usize, is_changed: bool)
 // Takes the times that have no second one out of the set of an activity's first event, and tells
 // whether there were any.
 fn prune_first(activity: PespActivity, count: usize, sets: &mut TimeSets) -> Result<bool, NoMemory>
-    requires activity { IsActivity sets.old.sets.events activity }
+    requires activity { IsActivity sets.old.sets.rows activity }
     requires counted { count ≡ length (times_from sets.old.sets activity.to 0) }
     ensures { IfOk result (Prunes sets.old sets.new
-        (keeps_first sets.old.sets.period (is_left sets.old.sets) activity)) }
+        (keeps_first sets.old.sets.columns (is_left sets.old.sets) activity)) }
 {
     if is_crowded(sets.sets(), count, activity) {
         return Ok(false);
@@ -148,10 +149,10 @@ fn prune_first(activity: PespActivity, count: usize, sets: &mut TimeSets) -> Res
 // Takes the times that have no first one out of the set of an activity's second event, and tells
 // whether there were any.
 fn prune_second(activity: PespActivity, count: usize, sets: &mut TimeSets) -> Result<bool, NoMemory>
-    requires activity { IsActivity sets.old.sets.events activity }
+    requires activity { IsActivity sets.old.sets.rows activity }
     requires counted { count ≡ length (times_from sets.old.sets activity.from 0) }
     ensures { IfOk result (Prunes sets.old sets.new
-        (keeps_second sets.old.sets.period (is_left sets.old.sets) activity)) }
+        (keeps_second sets.old.sets.columns (is_left sets.old.sets) activity)) }
 {
     if is_crowded(sets.sets(), count, activity) {
         return Ok(false);
@@ -163,9 +164,9 @@ fn prune_second(activity: PespActivity, count: usize, sets: &mut TimeSets) -> Re
 // Whether more times are left than lie outside of each window of an activity, so that every time
 // has a partner among them.
 fn is_crowded(sets: &TimeMarks, count: usize, activity: PespActivity) -> bool
-    requires { IsActivity sets.now.events activity }
+    requires { IsActivity sets.now.rows activity }
     ensures crowded { result
-        ≡ nat_le (sets.now.period - width_of sets.now.period activity) count }
+        ≡ nat_le (sets.now.columns - width_of sets.now.columns activity) count }
     ensures sound { AreMarks sets.now }
 {
     let period = sets.period();
@@ -174,10 +175,10 @@ fn is_crowded(sets: &TimeMarks, count: usize, activity: PespActivity) -> bool
 
 // The times of the period that are the first one of two that keep an activity.
 fn with_second(activity: PespActivity, sets: &TimeMarks) -> [u64; WORDS]
-    requires { IsActivity sets.now.events activity }
+    requires { IsActivity sets.now.rows activity }
     ensures long { length result ≡ 13 }
-    ensures each { (time : ℕ) → time < sets.now.period → marked result time
-        ≡ second_left sets.now.period (is_left sets.now) activity time }
+    ensures each { (time : ℕ) → time < sets.now.columns → marked result time
+        ≡ second_left sets.now.columns (is_left sets.now) activity time }
 {
     let period = sets.period();
     let width = width_of(activity, period);
@@ -186,10 +187,10 @@ fn with_second(activity: PespActivity, sets: &TimeMarks) -> [u64; WORDS]
 
 // The times of the period that are the second one of two that keep an activity.
 fn with_first(activity: PespActivity, sets: &TimeMarks) -> [u64; WORDS]
-    requires { IsActivity sets.now.events activity }
+    requires { IsActivity sets.now.rows activity }
     ensures long { length result ≡ 13 }
-    ensures each { (time : ℕ) → time < sets.now.period → marked result time
-        ≡ first_left sets.now.period (is_left sets.now) activity time }
+    ensures each { (time : ℕ) → time < sets.now.columns → marked result time
+        ≡ first_left sets.now.columns (is_left sets.now) activity time }
 {
     let period = sets.period();
     let width = width_of(activity, period);

@@ -90,8 +90,8 @@ fn take_entry(
     changed: &mut EventFlags,
     from: usize,
 ) -> Result<Entry, NoMemory>
-    requires period { sets.old.sets.period ≡ pesp.now.period }
-    requires events { sets.old.sets.events ≡ pesp.now.events }
+    requires period { sets.old.sets.columns ≡ pesp.now.period }
+    requires events { sets.old.sets.rows ≡ pesp.now.events }
     requires links { AreLinks pesp.now (length pesp.now.activities) links.now }
     requires ready { IsReady pesp.now sets.old changed.old }
     requires settled { IsSettled sets.old.sets from }

@@ -33,7 +33,7 @@ pub(crate) fn first_times(alloc: Global, sets: &TimeMarks) -> Result<Vec<u32>, N
 
 // The first time that is left to an event, or time 0 where there is none.
 fn first_time(sets: &TimeMarks, event: usize) -> u32
-    requires { event < sets.now.events }
+    requires { event < sets.now.rows }
     ensures { result ≡ slice_index_or (times_from sets.now event 0) 0 0 }
 {
     let _ = sets.period();

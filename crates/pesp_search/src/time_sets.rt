@@ -1,6 +1,7 @@
 // Sets of times that are changed and restored.
 ghost use Rattle.std.specs.Prelude.{◌≡◌, ◌<◌, ◌∷◌, [], IfOk, OnOk};
-ghost use Rattle.pesp_search.specs.Marks.{AreMarks, KeepsBits, Restores, words_of};
+ghost use Rattle.bit_rows.specs.Bits.{words_of};
+ghost use Rattle.pesp_search.specs.Marks.{KeepsBits, Restores};
 
 use crate::marks::TimeMarks;
 use plan_num::NoMemory;
@@ -42,7 +43,7 @@ impl Model for TimeSets {
     } };
 
     ghost invariant = { λ tracked.
-        All (IsChange tracked.sets.period tracked.sets.events) tracked.changes.items };
+        All (IsChange tracked.sets.columns tracked.sets.rows) tracked.changes.items };
 }
 
 impl TimeSets {
@@ -71,8 +72,8 @@ impl TimeSets {
         index: usize,
         keep: u64,
     ) -> Result<bool, NoMemory>
-        requires event { event < self.old.sets.events }
-        requires index { index < words_of self.old.sets.period }
+        requires event { event < self.old.sets.rows }
+        requires index { index < words_of self.old.sets.columns }
         ensures { IfOk result (KeepsBits self.old self.new event index keep) }
     {
         let (place, old) = self.sets.placed_word(event, index);
@@ -87,7 +88,7 @@ impl TimeSets {
 
     /// Saves the sets at a branch.
     pub(crate) fn save(&mut self, branch: Branch) -> Result<(), NoMemory>
-        requires event { branch.event < self.old.sets.events }
+        requires event { branch.event < self.old.sets.rows }
         ensures { OnOk result (self.new ≡ record {
           sets = self.old.sets;
           saved = record { sets = self.old.sets; branch = branch } ∷ self.old.saved;

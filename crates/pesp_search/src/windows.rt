@@ -2,21 +2,23 @@
 ghost use Rattle.std.specs.Prelude.{◌≡◌, ℕ, ◌<◌, ◌≤◌, ◌+◌, ◌-◌, ◌*◌, ◌%◌, ◌&&◌, ◌||◌, nat_lt};
 ghost use Rattle.std.specs.Prelude.{◌∷◌, [], length};
 ghost use Rattle.std.specs.Prelude.{true, false};
-ghost use Rattle.pesp_search.specs.Marks.{has_bit, is_left, marked};
+ghost use Rattle.bit_rows.specs.Bits.{has_bit, marked};
+ghost use Rattle.pesp_search.specs.Marks.{is_left};
 ghost use Rattle.pesp_search.specs.Revising.{IsClear, reaches, turned_to};
 
 use crate::marks::TimeMarks;
-use crate::words::{WORDS, cut, word_from, words_of};
+use crate::words::{WORDS, word_from};
+use bit_rows::{cut, words_of};
 
 /// The times of the period behind which a time is left to an event, in the window that opens so
 /// many minutes behind them and is so many minutes wide.
 pub(crate) fn reached(sets: &TimeMarks, event: usize, offset: usize, width: usize) -> [u64; WORDS]
-    requires event { event < sets.now.events }
-    requires offset { offset ≤ sets.now.period }
-    requires width { width < sets.now.period }
+    requires event { event < sets.now.rows }
+    requires offset { offset ≤ sets.now.columns }
+    requires width { width < sets.now.columns }
     ensures long { length result ≡ 13 }
-    ensures each { (time : ℕ) → time < sets.now.period → marked result time
-        ≡ reaches sets.now.period (is_left sets.now event) offset width time }
+    ensures each { (time : ℕ) → time < sets.now.columns → marked result time
+        ≡ reaches sets.now.columns (is_left sets.now event) offset width time }
 {
     if sets.period() <= 64 {
         reached_in_word(sets, event, offset, width)
@@ -27,13 +29,13 @@ pub(crate) fn reached(sets: &TimeMarks, event: usize, offset: usize, width: usiz
 
 // Does so where the times of the period are in one word.
 fn reached_in_word(sets: &TimeMarks, event: usize, offset: usize, width: usize) -> [u64; WORDS]
-    requires event { event < sets.now.events }
-    requires offset { offset ≤ sets.now.period }
-    requires width { width < sets.now.period }
-    requires small { sets.now.period ≤ 64 }
+    requires event { event < sets.now.rows }
+    requires offset { offset ≤ sets.now.columns }
+    requires width { width < sets.now.columns }
+    requires small { sets.now.columns ≤ 64 }
     ensures long { length result ≡ 13 }
-    ensures each { (time : ℕ) → time < sets.now.period → marked result time
-        ≡ reaches sets.now.period (is_left sets.now event) offset width time }
+    ensures each { (time : ℕ) → time < sets.now.columns → marked result time
+        ≡ reaches sets.now.columns (is_left sets.now event) offset width time }
 {
     let period = sets.period();
     let mut times = sets.word(event, 0);
@@ -64,12 +66,12 @@ fn turned(times: u64, period: usize, by: usize) -> u64
 
 // Does so where they are in several words.
 fn reached_in_words(sets: &TimeMarks, event: usize, offset: usize, width: usize) -> [u64; WORDS]
-    requires event { event < sets.now.events }
-    requires offset { offset ≤ sets.now.period }
-    requires width { width < sets.now.period }
+    requires event { event < sets.now.rows }
+    requires offset { offset ≤ sets.now.columns }
+    requires width { width < sets.now.columns }
     ensures long { length result ≡ 13 }
-    ensures each { (time : ℕ) → time < sets.now.period → marked result time
-        ≡ reaches sets.now.period (is_left sets.now event) offset width time }
+    ensures each { (time : ℕ) → time < sets.now.columns → marked result time
+        ≡ reaches sets.now.columns (is_left sets.now event) offset width time }
 {
     let period = sets.period();
     let mut times = sets.times_of(event);

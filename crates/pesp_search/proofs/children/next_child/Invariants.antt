@@ -5,8 +5,8 @@ use Rattle.pesp_search.proofs.children.next_child.Given as goal
 
 abbrev pub invariant-loop-branch : goal.invariant-loop-branch
 invariant-loop-branch l = record {
-  period : l.sets.sets.period ≡ l.fn.sets.sets.period;
-  events : l.sets.sets.events ≡ l.fn.sets.sets.events;
+  period : l.sets.sets.columns ≡ l.fn.sets.sets.columns;
+  events : l.sets.sets.rows ≡ l.fn.sets.sets.rows;
   passed : List Saved;
   all : l.fn.sets.saved ≡ passed ++ l.sets.saved;
   waiting : waiting l.fn.sets.saved ≡ waiting l.sets.saved;

@@ -1,5 +1,6 @@
 use Rattle.std.proofs.Common.{◌∙◌, ◌<◌, ◌*◌, ◌+◌, ap, arith, subst, sym}
-use Rattle.pesp_search.specs.Marks.{Marks, Prunes, words_of}
+use Rattle.bit_rows.specs.Bits.{words_of}
+use Rattle.pesp_search.specs.Marks.{Marks, Prunes}
 use Rattle.pesp_search.proofs.Pruned.{prune_ended, prune_word, stays_below}
 use Rattle.pesp_search.proofs.prune.prune.Goals as goal
 
@@ -7,7 +8,7 @@ pub loop-index-preserved : goal.loop-index-preserved
 loop-index-preserved c =
     let so = c.loop-index.invariant in
     let width = c.width-index-end.ensures.value
-    ∙ ap (λ (sets : Marks). words_of sets.period) c.sets.ensures
+    ∙ ap (λ (sets : Marks). words_of sets.columns) c.sets.ensures
     ∙ ap words_of (sym so.period) in
     subst (Prunes c.args.sets.now c.keep_bits.new.self
     (stays_below c.args.event c.args.keep.now (64 * (c.loop-index.index + 1))))
@@ -20,7 +21,7 @@ loop-index-preserved c =
 pub returns : goal.returns
 returns c =
     let width = c.width-index-end.ensures.value
-    ∙ ap (λ (sets : Marks). words_of sets.period) c.sets.ensures in
+    ∙ ap (λ (sets : Marks). words_of sets.columns) c.sets.ensures in
     prune_ended c.args.sets.now c.loop-index.sets c.args.event c.args.keep.now
     (64 * c.loop-index.index) c.loop-index.changes c.loop-index.invariant
     (omega (arith, c.loop-index-test.false, c.loop-index.auto.index-end, width))

@@ -1,5 +1,6 @@
 use Rattle.std.proofs.Common.{◌≡◌, ◌∙◌, ◌<◌, ◌-◌, ℕ, nat_le, subst, sym, true}
-use Rattle.pesp_search.specs.Marks.{AreMarks, Marks, is_left, marked}
+use Rattle.bit_rows.specs.Bits.{marked}
+use Rattle.pesp_search.specs.Marks.{AreMarks, Marks, is_left}
 use Rattle.pesp_search.specs.Revising.{first_left, width_of}
 use Rattle.pesp_search.proofs.Crowded.{crowded_firsts}
 use Rattle.pesp_search.proofs.Pruned.{prunes_by_bits}
@@ -8,11 +9,11 @@ use Rattle.pesp_search.proofs.revise.prune_second.Goals as goal
 pub returns : goal.returns
 returns c =
     prunes_by_bits c.args.sets.now c.prune.new.sets c.args.activity.to
-    (first_left c.args.sets.now.sets.period (is_left c.args.sets.now.sets) c.args.activity)
+    (first_left c.args.sets.now.sets.columns (is_left c.args.sets.now.sets) c.args.activity)
     c.with_first-times.result c.prune.result
-    (subst (λ (sets : Marks). (time : ℕ) → time < sets.period
+    (subst (λ (sets : Marks). (time : ℕ) → time < sets.columns
     → marked c.with_first-times.result time
-    ≡ first_left sets.period (is_left sets) c.args.activity time) c.sets-2.ensures
+    ≡ first_left sets.columns (is_left sets) c.args.activity time) c.sets-2.ensures
     c.with_first-times.ensures.each)
     c.prune.ensures
 
@@ -21,8 +22,8 @@ returns-then-is_crowded c =
     let activity = c.args.activity in
     crowded_firsts activity c.args.sets.now c.requires.activity (subst AreMarks c.sets.ensures
     c.is_crowded.ensures.sound)
-    (subst (λ (n : ℕ). nat_le (c.args.sets.now.sets.period
-    - width_of c.args.sets.now.sets.period activity) n ≡ true) c.requires.counted
-    (subst (λ (sets : Marks). nat_le (sets.period - width_of sets.period activity) c.args.count
+    (subst (λ (n : ℕ). nat_le (c.args.sets.now.sets.columns
+    - width_of c.args.sets.now.sets.columns activity) n ≡ true) c.requires.counted
+    (subst (λ (sets : Marks). nat_le (sets.columns - width_of sets.columns activity) c.args.count
     ≡ true) c.sets.ensures
     (sym c.is_crowded.ensures.crowded ∙ c.if-is_crowded.true)))

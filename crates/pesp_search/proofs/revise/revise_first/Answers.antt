@@ -19,7 +19,7 @@ returns-clause-revises c =
 pub returns-clause-full : goal.returns-clause-full
 returns-clause-full c none =
     side_full c.args.sets.now c.prune_first.new.sets c.args.activity.from
-    (second_left c.args.sets.now.sets.period (is_left c.args.sets.now.sets) c.args.activity)
+    (second_left c.args.sets.now.sets.columns (is_left c.args.sets.now.sets) c.args.activity)
     c.in_ok-is_changed.is_changed c.in_ok-is_changed.ensures
     (λ is. subst (λ (sets : Marks). is_empty (times_from sets c.args.activity.from 0) ≡ false)
     c.sets.ensures (c.is_emptied.ensures.some none is))
@@ -27,5 +27,5 @@ returns-clause-full c none =
 pub returns-clause-own : goal.returns-clause-own
 returns-clause-own c apart =
     own_kept c.args.sets.now c.prune_first.new.sets c.args.activity.from c.args.at
-    (second_left c.args.sets.now.sets.period (is_left c.args.sets.now.sets) c.args.activity)
+    (second_left c.args.sets.now.sets.columns (is_left c.args.sets.now.sets) c.args.activity)
     c.in_ok-is_changed.is_changed c.in_ok-is_changed.ensures (λ own. absurd (apart (cc)))

@@ -6,7 +6,7 @@ use Rattle.pesp_search.proofs.revise.with_second.Goals as goal
 
 pub returns-clause-each : goal.returns-clause-each
 returns-clause-each c time low =
-    let period = c.args.sets.now.period in
+    let period = c.args.sets.now.columns in
     let activity = c.args.activity in
     let left = is_left c.args.sets.now in
     let period_is = c.period-period.ensures.value in
@@ -16,4 +16,4 @@ returns-clause-each c time low =
     ∙ ap (λ (period : ℕ). width_of period activity) period_is in
     c.reached.ensures.each time low
     ∙ (λ i. reaches period (left activity.to) (offset_is i) (width_is i) time)
-    ∙ sym (second_reached period some c.args.sets.now.events activity c.requires left time low)
+    ∙ sym (second_reached period some c.args.sets.now.rows activity c.requires left time low)

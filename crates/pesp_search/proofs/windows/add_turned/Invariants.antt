@@ -1,6 +1,6 @@
 -- The words so far have what is added to them.
 use Rattle.std.proofs.Common.{◌≡◌, ◌*◌, ℕ, length}
-use Rattle.pesp_search.specs.Marks.{marked}
+use Rattle.bit_rows.specs.Bits.{marked}
 use Rattle.pesp_search.proofs.WordTurns.{added_below}
 use Rattle.pesp_search.proofs.windows.add_turned.Given as goal
 

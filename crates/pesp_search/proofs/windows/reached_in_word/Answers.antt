@@ -1,5 +1,6 @@
 use Rattle.std.proofs.Common.{◌≡◌, ◌∙◌, ◌||◌, ℕ, [], ◌∷◌, ap, arith, bit_or, slice_set, subst}
-use Rattle.pesp_search.specs.Marks.{is_left, marked}
+use Rattle.bit_rows.specs.Bits.{marked}
+use Rattle.pesp_search.specs.Marks.{is_left}
 use Rattle.pesp_search.specs.Revising.{turned_to}
 use Rattle.pesp_search.proofs.OneWord.{both_words, word_alone, word_begun}
 use Rattle.pesp_search.proofs.WordTurns.{wide_ended, wide_turn, zeros}
@@ -21,7 +22,7 @@ loop-span-preserved c =
     record {
       some = omega (arith, so.some);
       few = omega (arith, so.few, c.min-by.ensures);
-      wide = wide_turn c.args.sets.now.period (is_left c.args.sets.now c.args.event)
+      wide = wide_turn c.args.sets.now.columns (is_left c.args.sets.now c.args.event)
           c.loop-span.span (times ∷ []) (omega (arith, period.sound.some)) so.wide c.min-by.result
           (bit_or times c.turned-times.result ∷ []) (omega (arith, c.min-by.ensures))
           (λ time. both_words times c.turned-times.result time
@@ -36,7 +37,7 @@ returns-clause-each c =
     let so = c.loop-span.invariant in
     let period = c.period-period.ensures in
     let times = c.loop-span.times in
-    wide_ended c.args.sets.now.period (is_left c.args.sets.now c.args.event) c.loop-span.span
+    wide_ended c.args.sets.now.columns (is_left c.args.sets.now c.args.event) c.loop-span.span
     (times ∷ []) (omega (arith, period.sound.some)) so.wide c.args.offset c.args.width
     (slice_set zeros 0 c.turned.result)
     (omega (arith, so.few, c.loop-span-test.false))

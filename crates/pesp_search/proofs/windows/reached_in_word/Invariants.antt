@@ -8,7 +8,7 @@ abbrev pub invariant-loop-span : goal.invariant-loop-span
 invariant-loop-span l = record {
   some : 1 ≤ l.span;
   few : l.span ≤ l.width + 1;
-  wide : IsWide l.sets.period (is_left l.sets l.event) l.span (l.times ∷ []);
+  wide : IsWide l.sets.columns (is_left l.sets l.event) l.span (l.times ∷ []);
 }
 
 abbrev pub decreases-loop-span : goal.decreases-loop-span

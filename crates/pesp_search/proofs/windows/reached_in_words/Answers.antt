@@ -1,5 +1,6 @@
 use Rattle.std.proofs.Common.{◌≡◌, ◌∙◌, ◌||◌, ℕ, arith, refl, subst}
-use Rattle.pesp_search.specs.Marks.{is_left, marked}
+use Rattle.bit_rows.specs.Bits.{marked}
+use Rattle.pesp_search.specs.Marks.{is_left}
 use Rattle.pesp_search.specs.Revising.{turned_to}
 use Rattle.pesp_search.proofs.WordTurns.{clear_at, left_twice, only_turned, wide_begun}
 use Rattle.pesp_search.proofs.WordTurns.{wide_clear, wide_ended}
@@ -11,7 +12,7 @@ loop-wide-init c = record {
   long = c.times_of-times.ensures.long;
   some = omega arith;
   few = omega arith;
-  wide = wide_begun c.args.sets.now.period (is_left c.args.sets.now c.args.event)
+  wide = wide_begun c.args.sets.now.columns (is_left c.args.sets.now c.args.event)
       c.times_of-times.result
       (λ time. c.times_of-times.ensures.each time ∙ left_twice c.args.sets.now c.args.event time);
 }
@@ -24,7 +25,7 @@ loop-wide-preserved c =
       long = c.widened-times.ensures.long;
       some = omega (arith, so.some);
       few = omega (arith, so.few, c.min-by.ensures);
-      wide = wide_turn c.args.sets.now.period (is_left c.args.sets.now c.args.event)
+      wide = wide_turn c.args.sets.now.columns (is_left c.args.sets.now c.args.event)
           c.loop-wide.wide
           c.loop-wide.times (omega (arith, period.sound.some)) so.wide c.min-by.result
           c.widened-times.result
@@ -44,8 +45,8 @@ widened-times-requires c =
       few = omega (arith, period.value, period.sound.few);
       by = omega (arith, period.value, c.min-by.ensures, c.requires.width);
       long = so.long;
-      clear = clear_at c.args.sets.now.period c.period-period.result c.loop-wide.times period.value
-          (wide_clear c.args.sets.now.period (is_left c.args.sets.now c.args.event) c.loop-wide.wide
+      clear = clear_at c.args.sets.now.columns c.period-period.result c.loop-wide.times period.value
+          (wide_clear c.args.sets.now.columns (is_left c.args.sets.now c.args.event) c.loop-wide.wide
           c.loop-wide.times so.wide);
     }
 
@@ -59,8 +60,8 @@ add_turned-requires c =
       by = omega (arith, period.value, c.requires.offset);
       all_long = refl;
       long = so.long;
-      clear = clear_at c.args.sets.now.period c.period-period.result c.loop-wide.times period.value
-          (wide_clear c.args.sets.now.period (is_left c.args.sets.now c.args.event) c.loop-wide.wide
+      clear = clear_at c.args.sets.now.columns c.period-period.result c.loop-wide.times period.value
+          (wide_clear c.args.sets.now.columns (is_left c.args.sets.now c.args.event) c.loop-wide.wide
           c.loop-wide.times so.wide);
     }
 
@@ -68,9 +69,9 @@ pub returns-clause-each : goal.returns-clause-each
 returns-clause-each c =
     let so = c.loop-wide.invariant in
     let period = c.period-period.ensures in
-    wide_ended c.args.sets.now.period (is_left c.args.sets.now c.args.event) c.loop-wide.wide
+    wide_ended c.args.sets.now.columns (is_left c.args.sets.now c.args.event) c.loop-wide.wide
     c.loop-wide.times (omega (arith, period.sound.some)) so.wide c.args.offset c.args.width
     c.add_turned.new.all (omega (arith, so.few, c.loop-wide-test.false))
     (λ time. c.add_turned.ensures.each time
-    ∙ only_turned c.args.sets.now.period c.period-period.result c.loop-wide.times c.args.offset
+    ∙ only_turned c.args.sets.now.columns c.period-period.result c.loop-wide.times c.args.offset
     time period.value)

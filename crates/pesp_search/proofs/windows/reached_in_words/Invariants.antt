@@ -9,7 +9,7 @@ invariant-loop-wide l = record {
   long : length l.times ≡ 13;
   some : 1 ≤ l.wide;
   few : l.wide ≤ l.width + 1;
-  wide : IsWide l.sets.period (is_left l.sets l.event) l.wide l.times;
+  wide : IsWide l.sets.columns (is_left l.sets l.event) l.wide l.times;
 }
 
 abbrev pub decreases-loop-wide : goal.decreases-loop-wide

@@ -1,14 +1,11 @@
-use Rattle.std.proofs.Common.{arith}
+use Rattle.std.proofs.Common.{◌∙◌, arith}
 use Rattle.pesp_search.proofs.FlagBits.{size_is}
 use Rattle.pesp_search.proofs.flags.EventFlags.events.Goals as goal
 
 pub returns-clause-value : goal.returns-clause-value
 returns-clause-value c =
-    size_is c.self.inside.words.items c.self.inside.events c.args.self.now c.self.view_is
+    c.columns.ensures.value ∙ size_is c.self.inside.bits c.args.self.now c.self.view_is
 
 pub returns-clause-few : goal.returns-clause-few
-returns-clause-few c = omega (
-  arith,
-  c.self.invariant.0,
-  size_is c.self.inside.words.items c.self.inside.events c.args.self.now c.self.view_is,
-)
+returns-clause-few c =
+    omega (arith, c.self.invariant, size_is c.self.inside.bits c.args.self.now c.self.view_is)

@@ -1,19 +1,10 @@
-use Rattle.std.proofs.Common.{arith}
-use Rattle.std.proofs.lemmas.List.FromFn.{length-map-range_with_len}
-use Rattle.pesp_search.proofs.FlagBits.{all_zero, flag_unset}
+use Rattle.std.proofs.Common.{◌∙◌, sym}
+use Rattle.pesp_search.proofs.FlagBits.{flag_is, size_is}
+use Rattle.std.proofs.Common.{refl}
 use Rattle.pesp_search.proofs.flags.EventFlags.none.Goals as goal
 
-pub invariant_of-result : goal.invariant_of-result
-invariant_of-result c = (
-  c.requires,
-  omega arith,
-  λ place _. all_zero c.loop-index.words.items c.loop-index.invariant.zeros place,
-)
+pub returns-clause-events : goal.returns-clause-events
+returns-clause-events c = sym (size_is c.in_ok-bits.bits _ refl) ∙ c.in_ok-bits.ensures.columns
 
 pub returns-clause-none : goal.returns-clause-none
-returns-clause-none c event =
-    flag_unset c.loop-index.words.items c.args.events event
-    (all_zero c.loop-index.words.items c.loop-index.invariant.zeros event)
-
-pub returns-clause-events : goal.returns-clause-events
-returns-clause-events c = length-map-range_with_len _ 0 _
+returns-clause-none c event = flag_is c.in_ok-bits.bits event ∙ c.in_ok-bits.ensures.none 0 event

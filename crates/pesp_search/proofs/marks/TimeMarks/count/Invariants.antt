@@ -1,7 +1,7 @@
 -- The count so far is that of the bits of the words so far.
 use Rattle.std.proofs.Common.{◌≡◌, ◌*◌, ◌≤◌}
+use Rattle.bit_rows.proofs.RowBits.{bit_there}
 use Rattle.pesp_search.specs.Revising.{count_below}
-use Rattle.pesp_search.proofs.MarkBits.{bit_there}
 use Rattle.pesp_search.proofs.marks.TimeMarks.count.Given as goal
 
 abbrev pub invariant-loop-index : goal.invariant-loop-index

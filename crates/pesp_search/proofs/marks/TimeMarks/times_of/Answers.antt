@@ -1,6 +1,6 @@
 use Rattle.std.proofs.Common.{◌∙◌, arith, refl}
 use Rattle.std.proofs.lemmas.List.{length-set}
-use Rattle.pesp_search.proofs.MarkBits.{bit_there}
+use Rattle.bit_rows.proofs.RowBits.{bit_there}
 use Rattle.pesp_search.proofs.MarkCounts.{all_copied, no_first, one_copied}
 use Rattle.pesp_search.proofs.WordTurns.{no_bits}
 use Rattle.pesp_search.proofs.marks.TimeMarks.times_of.Goals as goal

@@ -1,7 +1,7 @@
 -- The words so far.
 use Rattle.std.proofs.Common.{◌≡◌, ◌*◌, ◌&&◌, ℕ, length, nat_lt}
-use Rattle.pesp_search.specs.Marks.{marked}
-use Rattle.pesp_search.proofs.MarkBits.{bit_there}
+use Rattle.bit_rows.specs.Bits.{marked}
+use Rattle.bit_rows.proofs.RowBits.{bit_there}
 use Rattle.pesp_search.proofs.marks.TimeMarks.times_of.Given as goal
 
 abbrev pub invariant-loop-index : goal.invariant-loop-index

@@ -18,7 +18,7 @@ returns-then-new-old c =
 
 pub put_word-requires-clause-word : goal.put_word-requires-clause-word
 put_word-requires-clause-word c =
-    kept_fits c.self.inside.sets.period c.self.inside.sets.events c.placed_word-place.result.0
+    kept_fits c.self.inside.sets.rows c.self.inside.sets.columns c.placed_word-place.result.0
     c.placed_word-place.result.1 c.args.keep
     (word_fits c.self.inside.sets c.placed_word-place.result.0 c.placed_word-place.result.1
     c.placed_word-place.ensures.sound c.placed_word-place.ensures.word)
@@ -26,10 +26,10 @@ put_word-requires-clause-word c =
 pub invariant_of-self-2 : goal.invariant_of-self-2
 invariant_of-self-2 c =
     let sets = c.self.inside.sets in
-    subst (λ (now : Marks). All (IsChange now.period now.events) c.push.new.self.items)
+    subst (λ (now : Marks). All (IsChange now.columns now.rows) c.push.new.self.items)
     (sym c.put_word.ensures.put)
-    (subst (All (IsChange sets.period sets.events)) (sym c.in_ok-push.ensures.items)
-    (All-push (IsChange sets.period sets.events) c.self.inside.changes.items
+    (subst (All (IsChange sets.columns sets.rows)) (sym c.in_ok-push.ensures.items)
+    (All-push (IsChange sets.columns sets.rows) c.self.inside.changes.items
     (change.Replaced c.placed_word-place.result.0 c.placed_word-place.result.1) c.self.invariant (
       c.placed_word-place.ensures.within,
       word_fits sets c.placed_word-place.result.0 c.placed_word-place.result.1

@@ -6,29 +6,29 @@ use Rattle.pesp_search.proofs.time_sets.TimeSets.restore.Goals as goal
 
 pub put_word-requires : goal.put_word-requires
 put_word-requires c =
-    let so = subst (IsChange c.loop-change.self-inside.sets.period
-    c.loop-change.self-inside.sets.events) c.in-Replaced.is
-    (last_holds (IsChange c.loop-change.self-inside.sets.period
-    c.loop-change.self-inside.sets.events)
+    let so = subst (IsChange c.loop-change.self-inside.sets.columns
+    c.loop-change.self-inside.sets.rows) c.in-Replaced.is
+    (last_holds (IsChange c.loop-change.self-inside.sets.columns
+    c.loop-change.self-inside.sets.rows)
     c.loop-change.self-inside.changes.items c.pop.new.self.items c.in-Some.change
     c.in-Some.ensures.items c.loop-change.invariant.changes) in
     record { place = so.0; word = so.1 }
 
 pub loop-change-preserved : goal.loop-change-preserved
 loop-change-preserved c = record {
-  period = ap (λ (sets : Marks). sets.period) c.put_word.ensures.put
+  period = ap (λ (sets : Marks). sets.columns) c.put_word.ensures.put
       ∙ c.loop-change.invariant.period;
-  events = ap (λ (sets : Marks). sets.events) c.put_word.ensures.put
+  events = ap (λ (sets : Marks). sets.rows) c.put_word.ensures.put
       ∙ c.loop-change.invariant.events;
   saved = popped_replaced c.loop-change.self-inside.sets c.put_word.new.self
       c.loop-change.self-inside.changes.items c.pop.new.self.items c.in-Some.change
       c.in-Replaced.place c.in-Replaced.word c.in-Some.ensures.items c.in-Replaced.is
       c.put_word.ensures.put
       ∙ c.loop-change.invariant.saved;
-  changes = subst (λ (now : Marks). All (IsChange now.period now.events) c.pop.new.self.items)
+  changes = subst (λ (now : Marks). All (IsChange now.columns now.rows) c.pop.new.self.items)
       (sym c.put_word.ensures.put)
-      (others_hold (IsChange c.loop-change.self-inside.sets.period
-      c.loop-change.self-inside.sets.events)
+      (others_hold (IsChange c.loop-change.self-inside.sets.columns
+      c.loop-change.self-inside.sets.rows)
       c.loop-change.self-inside.changes.items c.pop.new.self.items c.in-Some.change
       c.in-Some.ensures.items c.loop-change.invariant.changes);
 }
@@ -39,10 +39,10 @@ returns-in-Branched c = (
       ∙ popped_branched c.loop-change.self-inside.sets c.loop-change.self-inside.changes.items
       c.pop.new.self.items c.in-Some.change c.in-Branched.branch c.in-Some.ensures.items
       c.in-Branched.is,
-  subst (IsChange c.loop-change.self-inside.sets.period c.loop-change.self-inside.sets.events)
+  subst (IsChange c.loop-change.self-inside.sets.columns c.loop-change.self-inside.sets.rows)
       c.in-Branched.is
-      (last_holds (IsChange c.loop-change.self-inside.sets.period
-      c.loop-change.self-inside.sets.events)
+      (last_holds (IsChange c.loop-change.self-inside.sets.columns
+      c.loop-change.self-inside.sets.rows)
       c.loop-change.self-inside.changes.items c.pop.new.self.items c.in-Some.change
       c.in-Some.ensures.items c.loop-change.invariant.changes),
   c.loop-change.invariant.period,

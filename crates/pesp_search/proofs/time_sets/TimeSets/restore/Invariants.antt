@@ -5,10 +5,10 @@ use Rattle.pesp_search.proofs.time_sets.TimeSets.restore.Given as goal
 
 abbrev pub invariant-loop-change : goal.invariant-loop-change
 invariant-loop-change l = record {
-  period : l.self-inside.sets.period ≡ l.fn.self.sets.period;
-  events : l.self-inside.sets.events ≡ l.fn.self.sets.events;
+  period : l.self-inside.sets.columns ≡ l.fn.self.sets.columns;
+  events : l.self-inside.sets.rows ≡ l.fn.self.sets.rows;
   saved : saved_by l.self-inside.sets (reverse l.self-inside.changes.items) ≡ l.fn.self.saved;
-  changes : All (IsChange l.self-inside.sets.period l.self-inside.sets.events)
+  changes : All (IsChange l.self-inside.sets.columns l.self-inside.sets.rows)
       l.self-inside.changes.items;
 }
 

@@ -1,0 +1,54 @@
+-- The common columns of two rows: both rows have a bit there, all such columns are among them, and
+-- they rise.
+use Rattle.std.proofs.Common.{◌≡◌, ◌∙◌, ℕ, zero, suc, ◌+◌, ◌<◌, Bool, true, ◌&&◌, List, [], ◌∷◌}
+use Rattle.std.proofs.Common.{Contains, filter, inl, inr, ap, arith}
+use Rattle.std.specs.List.{range_with_len}
+use Rattle.std.specs.List.Sorted.{IsStrictlyIncreasing}
+use Rattle.std.proofs.lemmas.Bool.{and_from, and_parts, cases_Bool, ltb-true}
+use Rattle.std.proofs.lemmas.List.Elements.{All-contains, filter_passes}
+use Rattle.std.proofs.lemmas.List.FromFn.{get_or-range_with_len, length-range_with_len}
+use Rattle.std.proofs.lemmas.List.Kept.{IsStrictlyIncreasing-filter}
+use Rattle.bit_rows.specs.Bits.{Bits, common, has}
+
+contains_filter : (p : ℕ → Bool) (xs : List ℕ) (x : ℕ) → Contains xs x → p x ≡ true
+    → Contains (filter p xs) x
+contains_filter p [] x (k, h, is) passes = absurd (omega (arith, h))
+contains_filter p (first ∷ xs) x (zero, h, is) passes =
+    rw (ap p is ∙ passes) (zero, omega arith, is)
+contains_filter p (first ∷ xs) x (suc k, h, is) passes =
+    let rest = contains_filter p xs x (k, omega (arith, h), is) passes in
+    elim (cases_Bool (p first)) [
+      | inl one ↦ rw one (suc rest.0, omega (arith, rest.1), rest.2)
+      | inr one ↦ rw one rest
+    ]
+
+range_rises : (n : ℕ) → IsStrictlyIncreasing (range_with_len 0 n)
+range_rises n k within =
+    let low : k + 1 < n = omega (arith, within, length-range_with_len 0 n) in
+    let one = get_or-range_with_len 0 n k 0 (omega (arith, low)) in
+    let two = get_or-range_with_len 0 n (k + 1) 0 low in
+    omega (arith, one, two)
+
+module _ (bits : Bits) (row : ℕ) (other : Bits) (other_row : ℕ) where
+  pub common_sound : (column : ℕ) → Contains (common bits row other other_row) column
+      → (column < bits.columns) × (has bits row column ≡ true) × (has other other_row column ≡ true)
+  common_sound column at =
+      let both : (has bits row column ≡ true) × (has other other_row column ≡ true) =
+      and_parts _ _ (All-contains (λ column. (has bits row column && has other other_row column)
+      ≡ true) (common bits row other other_row) column
+      (filter_passes _ (range_with_len 0 bits.columns)) at) in
+      (ltb-true column bits.columns (and_parts _ _ both.0).0, both.0, both.1)
+
+  pub common_all : (column : ℕ) → column < bits.columns → has bits row column ≡ true
+      → has other other_row column ≡ true → Contains (common bits row other other_row) column
+  common_all column low one two =
+      let plain : 0 + column ≡ column = omega arith in
+      contains_filter _ (range_with_len 0 bits.columns) column (
+        column,
+        omega (arith, low, length-range_with_len 0 bits.columns),
+        get_or-range_with_len 0 bits.columns column column low ∙ plain,
+      ) (and_from _ _ one two)
+
+  pub common_rise : IsStrictlyIncreasing (common bits row other other_row)
+  common_rise = IsStrictlyIncreasing-filter _ (range_with_len 0 bits.columns)
+      (range_rises bits.columns)

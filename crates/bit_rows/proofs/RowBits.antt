@@ -1,0 +1,181 @@
+-- Rows of bits, of which one word is replaced or one bit is put.
+use Rattle.std.proofs.Common.{◌≡◌, ◌∙◌, inl, inr, ℕ, suc, ◌+◌, ◌*◌, ◌/◌, ◌%◌, ◌<◌, ◌≤◌, ◌==◌}
+use Rattle.std.proofs.Common.{nat_lt, Bool, false, ◌&&◌, List, length, get_or, All}
+use Rattle.std.proofs.Common.{if◌then◌else◌, ap, sym, arith}
+use Rattle.std.proofs.Math.Nat.{mul-le-mul_right}
+use Rattle.std.proofs.lemmas.Bool.{and_right, cases_eq, cases_lt, eq-eqb, le-ltb, lt-ltb, ne_eqb}
+use Rattle.std.proofs.lemmas.List.{get_or-set_other, get_or-set_same, get_or_past}
+use Rattle.std.proofs.lemmas.Nat.{div-mul-add}
+use Rattle.bit_rows.specs.Bits.{AreBits, Bits, FitsAt, has, has_bit, place_of, with_bit, with_word}
+use Rattle.bit_rows.specs.Bits.{word_of, words_of}
+use Rattle.bit_rows.proofs.WordBits.{with_other, with_same, zero_bit}
+
+-- the bit of a column, whether it is one of the rows or behind them
+abbrev pub bit_there : Bits → ℕ → ℕ → Bool
+bit_there bits row column = has_bit (word_of bits row column) (column % 64)
+
+-- ---- places
+
+pub place_low : (bits : Bits) (row index : ℕ) → AreBits bits → row < bits.rows
+    → index < words_of bits.columns → row * words_of bits.columns + index < length bits.words
+place_low bits row index are inside low =
+    let next : suc row ≤ bits.rows = omega (arith, inside) in
+    let far = mul-le-mul_right (words_of bits.columns) next in
+    let more : suc row * words_of bits.columns ≡ row * words_of bits.columns + words_of
+    bits.columns = omega arith in
+    omega (arith, far, more, are.each, low)
+
+pub same_row : (width r i row index : ℕ) → i < width → index < width
+    → r * width + i ≡ row * width + index → (r ≡ row) × (i ≡ index)
+same_row width r i row index low small same =
+    let own : r ≡ row = sym (div-mul-add r width i low) ∙ ap (λ n. n / width) same
+    ∙ div-mul-add row width index small in
+    (own, let rest = ap (λ r. r * width) own in omega (arith, same, rest))
+
+-- no bit is set outside of the rows
+pub none_outside : (bits : Bits) (row column : ℕ) → AreBits bits → bits.rows ≤ row
+    → has bits row column ≡ false
+none_outside bits row column are past =
+    let far = mul-le-mul_right (words_of bits.columns) past in
+    and_right (nat_lt column bits.columns) _ (ap (λ word. has_bit word (column % 64))
+    (get_or_past bits.words (place_of bits.columns row column) 0 (omega (arith, far, are.each)))
+    ∙ zero_bit (column % 64))
+
+-- up to the end of its last word a row has the bits of its words
+pub bit_is : (bits : Bits) (row column : ℕ) → AreBits bits → row < bits.rows
+    → column < 64 * words_of bits.columns → has bits row column ≡ bit_there bits row column
+bit_is bits row column are inside small = elim (cases_lt column bits.columns) [
+  | inl low ↦ ap (λ b. b && bit_there bits row column) (lt-ltb column bits.columns low)
+  | inr high ↦
+      ap (λ b. b && bit_there bits row column) (le-ltb column bits.columns high)
+      ∙ sym (are.clear row column inside high small)
+]
+
+-- ---- none
+
+module _ (rows columns : ℕ) (few : columns ≤ 1000000) (words : List ℕ)
+    (zeros : All (λ word. word ≡ 0) words) where
+  abbrev bits : Bits
+  bits = record { rows = rows; columns = columns; words = words }
+
+  none_there : (row column : ℕ) → bit_there bits row column ≡ false
+  none_there row column = elim (cases_lt (place_of columns row column) (length words)) [
+    | inl low ↦ ap (λ word. has_bit word (column % 64)) (zeros _ 0 low) ∙ zero_bit (column % 64)
+    | inr high ↦
+        ap (λ word. has_bit word (column % 64)) (get_or_past words _ 0 high)
+        ∙ zero_bit (column % 64)
+  ]
+
+  pub are_none : length words ≡ rows * words_of columns → AreBits bits
+  are_none long = record {
+    each = long;
+    few = few;
+    clear = λ row column _ _ _. none_there row column;
+  }
+
+  pub has_none : (row column : ℕ) → has bits row column ≡ false
+  has_none row column = and_right (nat_lt column columns) _ (none_there row column)
+
+-- ---- one word
+
+module _ (bits : Bits) (place word : ℕ) (there : place < length bits.words) where
+  abbrev now : Bits
+  now = with_word bits place word
+
+  pub this_word : (r c : ℕ) → place_of bits.columns r c ≡ place → word_of now r c ≡ word
+  this_word r c at =
+      ap (λ place. get_or now.words place 0) at ∙ get_or-set_same bits.words place word 0 there
+
+  pub other_word : (r c : ℕ) → (place_of bits.columns r c ≡ place → ⊥)
+      → word_of now r c ≡ word_of bits r c
+  other_word r c apart =
+      get_or-set_other bits.words place (place_of bits.columns r c) word 0 apart
+
+-- ---- one bit
+
+module _ (bits : Bits) (row column place old new : ℕ) (is : Bool) (are : AreBits bits)
+    (inside : row < bits.rows) (within : column < bits.columns)
+    (at : place ≡ row * words_of bits.columns + column / 64) (was : old ≡ get_or bits.words place 0)
+    (put : new ≡ with_bit old (column % 64) is) where
+  there : place < length bits.words
+  there = let low = place_low bits row (column / 64) are inside (omega (arith, within)) in
+      omega (arith, low, at)
+
+  -- a column with its word at the place
+  read : (r c : ℕ) → place_of bits.columns r c ≡ place → bit_there bits r c ≡ has_bit old (c % 64)
+  read r c same =
+      ap (λ word. has_bit word (c % 64)) (ap (λ place. get_or bits.words place 0) same ∙ sym was)
+
+  -- another column with its word at the place
+  beside : (r c : ℕ) → c < 64 * words_of bits.columns → place_of bits.columns r c ≡ place
+      → ((r ≡ row) × (c ≡ column) → ⊥) → has_bit new (c % 64) ≡ bit_there bits r c
+  beside r c few same apart =
+      let own = same_row (words_of bits.columns) r (c / 64) row (column / 64) (omega (arith, few))
+      (omega (arith, within)) (same ∙ at) in
+      let bits_differ : c % 64 ≡ column % 64 → ⊥ = λ equal. apart (
+        own.0,
+        (let index = own.1 in
+            omega (arith, equal, index)),
+      ) in
+      ap (λ word. has_bit word (c % 64)) put
+      ∙ with_other old (column % 64) (c % 64) is (omega arith) (omega arith) bits_differ
+      ∙ sym (read r c same)
+
+  pub fits : FitsAt bits.rows bits.columns place new
+  fits r c low high few same =
+      beside r c few same (λ own. let equal = own.1 in absurd (omega (arith, equal, high, within)))
+      ∙ are.clear r c low high few
+
+  abbrev after : Bits
+  after = with_word bits place new
+
+  here : bit_there after row column ≡ is
+  here =
+      ap (λ word. has_bit word (column % 64)) (this_word bits place new there row column (sym at)
+      ∙ put)
+      ∙ with_same old (column % 64) is (omega arith)
+
+  elsewhere : (r c : ℕ) → c < 64 * words_of bits.columns → ((r ≡ row) × (c ≡ column) → ⊥)
+      → bit_there after r c ≡ bit_there bits r c
+  elsewhere r c few apart = elim (cases_eq (place_of bits.columns r c) place) [
+    | inl same ↦
+        ap (λ word. has_bit word (c % 64)) (this_word bits place new there r c same)
+        ∙ beside r c few same apart
+    | inr other ↦
+        ap (λ word. has_bit word (c % 64)) (other_word bits place new there r c other)
+  ]
+
+  is_other : (r c : ℕ) → ((r ≡ row) × (c ≡ column) → ⊥) → ((r == row) && (c == column)) ≡ false
+  is_other r c apart = elim (cases_eq r row) [
+    | inl same ↦
+        and_right (r == row) _ (ne_eqb c column (λ equal. apart (same, equal)))
+    | inr other ↦ ap (λ b. b && (c == column)) (ne_eqb r row other)
+  ]
+
+  other_kept : (r c : ℕ) → ((r ≡ row) × (c ≡ column) → ⊥) → has after r c ≡ has bits r c
+  other_kept r c apart = elim (cases_lt c bits.columns) [
+    | inl low ↦
+        ap (λ b. nat_lt c bits.columns && b) (elsewhere r c (omega (arith, low)) apart)
+    | inr high ↦
+        (λ i. le-ltb c bits.columns high i && bit_there after r c)
+        ∙ sym (λ i. le-ltb c bits.columns high i && bit_there bits r c)
+  ]
+
+  pub bit_put : (r c : ℕ) → has after r c
+      ≡ (if (r == row) && (c == column) then is else has bits r c)
+  bit_put r c = elim (cases_eq r row) [
+    | inr other ↦
+        other_kept r c (λ own. other own.0)
+        ∙ sym (ap (λ b. if b then is else has bits r c) (is_other r c (λ own. other own.0)))
+    | inl same ↦
+        elim (cases_eq c column) [
+          | inr other ↦
+              other_kept r c (λ own. other own.1)
+              ∙ sym (ap (λ b. if b then is else has bits r c) (is_other r c (λ own. other own.1)))
+          | inl equal ↦
+              (λ i. has after (same i) (equal i))
+              ∙ (λ i. lt-ltb column bits.columns within i && here i)
+              ∙ sym (λ i. if eq-eqb r row same i && eq-eqb c column equal i then is
+              else has bits r c)
+        ]
+  ]

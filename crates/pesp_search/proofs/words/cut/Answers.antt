@@ -1,5 +1,0 @@
-use Rattle.pesp_search.proofs.WordBits.{cut_low}
-use Rattle.pesp_search.proofs.words.cut.Goals as goal
-
-pub returns-then-count-lt64 : goal.returns-then-count-lt64
-returns-then-count-lt64 c bit low = cut_low c.args.word c.args.count bit c.if-count-lt64.true

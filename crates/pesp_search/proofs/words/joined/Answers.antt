@@ -1,6 +1,0 @@
-use Rattle.pesp_search.proofs.WordBits.{joined_bit}
-use Rattle.pesp_search.proofs.words.joined.Goals as goal
-
-pub returns : goal.returns
-returns c bit low =
-    joined_bit c.args.first c.args.second c.args.from bit c.ranges.first.fits c.requires.few low
