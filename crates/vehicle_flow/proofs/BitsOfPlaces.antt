@@ -27,12 +27,14 @@ put_is before after row place is inside within rows columns bits = record {
       (and_from _ _ (eq-eqb row row refl) (eq-eqb place place refl));
   others = λ r c in_rows apart. by_bound c before.columns
       (λ low. bits r c in_rows low ∙ ap (λ b. cond b is (has before r c)) (not_both r c apart))
-      (λ past. past_none after r c (omega (arith, past, columns)) ∙ sym (past_none before r c past));
+      (λ past. past_none after r c (omega (arith, past, columns))
+      ∙ sym (past_none before r c past));
 }
   where
     not_both : (r c : ℕ) → (r ≡ row → c ≡ place → ⊥) → (nat_eq r row && nat_eq c place) ≡ false
     not_both r c apart = by_number r row
-        (λ same. ap (λ b. nat_eq r row && b) (ne_eqb c place (apart same)) ∙ and_none (nat_eq r row))
+        (λ same. ap (λ b. nat_eq r row && b) (ne_eqb c place (apart same))
+        ∙ and_none (nat_eq r row))
         (λ other. ap (λ b. b && nat_eq c place) (ne_eqb r row other))
 
 -- ---- rows

@@ -113,8 +113,8 @@ module _ (search : Search) (plan : List (Option ℕ)) (start : ClaimsParts) (by 
           (few : length claims.order < length claims.at) where
         latest_is : IsClaim search plan claims (at places index) latest
         latest_is =
-            let before = some_of (claim_at claims from) (still_claimed start claims from is.going.more
-            from_claimed) in
+            let before = some_of (claim_at claims from)
+            (still_claimed start claims from is.going.more from_claimed) in
             record {
               tight = (tie.right (at places index) (are.right index h).0).1;
               movable = movable;
@@ -131,8 +131,8 @@ module _ (search : Search) (plan : List (Option ℕ)) (start : ClaimsParts) (by 
         undecided = is.claimable.undecided (at places index) here
 
         more : AreMore claims (with_claim claims (at places index) latest)
-        more = claims_more search plan claims (at places index) latest is.going.right inside unclaimed
-            few undecided refl latest_is
+        more = claims_more search plan claims (at places index) latest is.going.right inside
+            unclaimed few undecided refl latest_is
 
         pub claiming_more : (new : ClaimsParts) (after : Bits)
             → new ≡ with_claim claims (at places index) latest
@@ -155,15 +155,16 @@ module _ (search : Search) (plan : List (Option ℕ)) (start : ClaimsParts) (by 
               done = λ k bound. by_number k index
                   (λ same. some_is (claim_at (with_claim claims (at places index) latest)
                   (at places k)) latest
-                  (ap (λ i. claim_at (with_claim claims (at places index) latest) (at places i)) same
-                  ∙ at_place search plan claims (at places index) latest is.going.right inside
+                  (ap (λ i. claim_at (with_claim claims (at places index) latest) (at places i))
+                  same ∙ at_place search plan claims (at places index) latest is.going.right inside
                   unclaimed few undecided refl latest_is))
                   (λ apart. still_claimed claims (with_claim claims (at places index) latest)
                   (at places k) more (is.done k (omega (arith, bound, apart))));
               still = λ k past bound.
                   let later : at places index < at places k =
                   are.rising index k (omega (arith, past)) bound in
-                  put.others 0 (at places k) (omega (arith, is.claimable.rows)) (λ _ same. apart k later same)
+                  put.others 0 (at places k) (omega (arith, is.claimable.rows))
+                  (λ _ same. apart k later same)
                   ∙ is.still k (omega (arith, past)) bound;
             })
           where

@@ -52,7 +52,8 @@ flagged_more claims flags are place found inside open_place step order is = reco
 }
 
 -- the claims that stand in an order from a step on are left
-pub record AreLeft (size : ℕ) (order : List ℕ) (step : ℕ) (claims : List (Option Claim)) (flags : List Bool) : Type 0 where
+pub record AreLeft (size : ℕ) (order : List ℕ) (step : ℕ) (claims : List (Option Claim))
+    (flags : List Bool) : Type 0 where
   pub each : length claims ≡ size
   pub flags_each : length flags ≡ size
   pub flag : (place : ℕ) → get_or flags place false ≡ is_some (get_or claims place None)
@@ -60,8 +61,8 @@ pub record AreLeft (size : ℕ) (order : List ℕ) (step : ℕ) (claims : List (
       → (step ≤ found.step) × (slice_get order found.step ≡ Some place)
 
 -- one of them is taken back
-pub left_more : (size : ℕ) (order : List ℕ) (step place : ℕ) (claims : List (Option Claim)) (flags : List Bool)
-    → AreLeft size order step claims flags → slice_get order step ≡ Some place → place < size
+pub left_more : (size : ℕ) (order : List ℕ) (step place : ℕ) (claims : List (Option Claim))
+    (flags : List Bool) → AreLeft size order step claims flags → slice_get order step ≡ Some place → place < size
     → AreLeft size order (step + 1) (slice_set claims place None) (slice_set flags place false)
 left_more size order step place claims flags are at_step inside = record {
   each = length-set claims place None ∙ are.each;
@@ -75,7 +76,8 @@ left_more size order step place claims flags are at_step inside = record {
   later = λ other found e. by_number other place
       (λ here. absurd (none-some found (sym (gone other here) ∙ e)))
       (λ apart.
-      let old = are.later other found (sym (get_or-set_other claims place other None None apart) ∙ e) in
+      let old = are.later other found
+      (sym (get_or-set_other claims place other None None apart) ∙ e) in
       by_number found.step step
       (λ same. absurd (apart (same_Some other place
       (sym old.1 ∙ ap (slice_get order) same ∙ at_step))))
@@ -87,13 +89,14 @@ left_more size order step place claims flags are at_step inside = record {
         ∙ get_or-set_same claims place None None (omega (arith, inside, are.each))
 
 -- in the end none is
-pub left_none : (size : ℕ) (order : List ℕ) (step : ℕ) (claims : List (Option Claim)) (flags : List Bool)
-    → AreLeft size order step claims flags → length order ≤ step
+pub left_none : (size : ℕ) (order : List ℕ) (step : ℕ) (claims : List (Option Claim))
+    (flags : List Bool) → AreLeft size order step claims flags → length order ≤ step
     → (claims ≡ replicate size None) × (flags ≡ replicate size false)
 left_none size order step claims flags are past = (
   all_none claims (λ place _. none place (get_or claims place None) refl)
       ∙ ap (λ n. replicate n None) are.each,
-  all_unset flags (λ place _. are.flag place ∙ ap is_some (none place (get_or claims place None) refl))
+  all_unset flags (λ place _. are.flag place
+      ∙ ap is_some (none place (get_or claims place None) refl))
       ∙ ap (λ n. replicate n false) are.flags_each,
 )
   where

@@ -20,7 +20,6 @@ pub mod GivenTrips
 pub mod Grown
 mod HandingOn
 mod Hands
-mod Late
 pub mod LeastPotentials
 pub mod LinkLooks
 pub mod LinkRows

@@ -65,7 +65,8 @@ module _ (links : Links) (potentials : PotentialParts) (i : ℕ) (row : List Lin
       row_up Tight (link.to + 1) i (reached links.count row (k + 1)) after
       (row_step Tight link.to i before after slack inside
       (subst (λ n. IsRowOf Tight n before i) (ap (end_of links.count) e) are) marked
-      (λ none. tight_yes k link e (sym slack_is ∙ none)) (λ tight. slack_is ∙ tight_no k link e tight))
+      (λ none. tight_yes k link e (sym slack_is ∙ none))
+      (λ tight. slack_is ∙ tight_no k link e tight))
       (reached_next links i row is k link e)
       (λ j low high tight. tight_gap j (omega (arith, high, reached_within links i row is (k + 1)))
       (gap_next links i row is k link e j (omega (arith, low)) high) tight)
@@ -87,7 +88,8 @@ module _ (links : Links) (potentials : PotentialParts) (i : ℕ) (row : List Lin
       (λ tight. tight.last (omega arith))
 
 -- the ties of the trips so far, and no others
-pub record AreTiesSo (links : Links) (potentials : PotentialParts) (ties : Bits) (trip : ℕ) : Type 0 where
+pub record AreTiesSo (links : Links) (potentials : PotentialParts) (ties : Bits)
+    (trip : ℕ) : Type 0 where
   pub rows : ties.rows ≡ links.count + 1
   pub columns : ties.columns ≡ links.count + 1
   pub row : (i : ℕ) → i < trip

@@ -37,8 +37,6 @@ module _ (search : Search) (plan : List (Option ℕ)) (is : IsSearch search plan
   -- ---- one place after another
 
   module _ (claims : ClaimsParts) (places : List ℕ) (own index : ℕ) (bits : Bits)
-      (are : ArePlaces (λ place. IsTightBy search.links search.potentials place (Some search.trip)
-      × IsUndecided plan search.low place) (search.links.count + 1) places)
       (own_is : own ≡ place_of search.links.count (next plan search.trip))
       (seeking : IsSeeking search plan claims places own index bits) where
     -- its own place is one of the places
@@ -55,7 +53,7 @@ module _ (search : Search) (plan : List (Option ℕ)) (is : IsSearch search plan
     nothing_before bound most seen other fits in_other tight agrees =
         by_bound (place_of search.links.count (next other search.trip)) bound
         (λ before.
-        let k = are.all (place_of search.links.count (next other search.trip))
+        let k = seeking.are.all (place_of search.links.count (next other search.trip))
         (omega (arith, before, most, own_is, own_most (next plan search.trip) refl)) (
           other_tight search plan is other fits in_other tight agrees (next other search.trip) refl,
           other_undecided search plan is other fits in_other tight agrees (next other search.trip) refl,
@@ -79,6 +77,7 @@ module _ (search : Search) (plan : List (Option ℕ)) (is : IsSearch search plan
     seeking_past past = record {
       right = seeking.right;
       claimable = seeking.claimable;
+      are = seeking.are;
       expanded = seeking.expanded;
       free = seeking.free;
       before = λ k bound h. by_number k index
@@ -95,12 +94,13 @@ module _ (search : Search) (plan : List (Option ℕ)) (is : IsSearch search plan
     seeking_kept within gone = record {
       right = seeking.right;
       claimable = seeking.claimable;
+      are = seeking.are;
       expanded = seeking.expanded;
       free = seeking.free;
       before = λ k bound h. by_number k index
           (λ same. subst (λ i. is_claimed claims (at places i) ≡ true) (sym same)
-          (seeking.claimable.all (at places index) (are.within index within)
-          (are.right index within).1 gone))
+          (seeking.claimable.all (at places index) (seeking.are.within index within)
+          (seeking.are.right index within).1 gone))
           (λ apart. seeking.before k (omega (arith, bound, apart)) h);
       mine = λ place found e own_claim.
           let k = seeking.mine place found e own_claim in (k.0, (omega (arith, k.1.0), k.1.1));
@@ -122,13 +122,13 @@ module _ (search : Search) (plan : List (Option ℕ)) (is : IsSearch search plan
 
       latest_is : IsClaim search plan claims (at places index) latest
       latest_is = record {
-        tight = (are.right index within).0;
+        tight = (seeking.are.right index within).0;
         movable = (omega (arith, is.first), is.within);
         from = refl;
       }
 
       in_places : at places index < length claims.at
-      in_places = omega (arith, are.within index within, seeking.right.places)
+      in_places = omega (arith, seeking.are.within index within, seeking.right.places)
 
       abbrev new : ClaimsParts
       new = with_claim claims (at places index) latest
@@ -164,7 +164,7 @@ module _ (search : Search) (plan : List (Option ℕ)) (is : IsSearch search plan
           (λ k bound h. by_bound k index (λ before. before) (λ past. by_number k index
           (λ same. let here : at places k ≡ at places index = ap (at places) same in absurd
           (omega (arith, here, h)))
-          (λ apart. let later : at places index < at places k = are.rising index k
+          (λ apart. let later : at places index < at places k = seeking.are.rising index k
           (omega (arith, past, apart)) bound in
           absurd (omega (arith, later, h)))))
 
@@ -194,7 +194,7 @@ module _ (search : Search) (plan : List (Option ℕ)) (is : IsSearch search plan
             by_number k.0 index
             (λ same. let here : at places k.0 ≡ at places index = ap (at places) same in omega
             (arith, here, k.1.1, least))
-            (λ apart. let earlier : at places k.0 < at places index = are.rising k.0 index
+            (λ apart. let earlier : at places k.0 < at places index = seeking.are.rising k.0 index
             (omega (arith, k.1.0, apart)) within in
             omega (arith, earlier, k.1.1, least));
       }
@@ -208,6 +208,7 @@ module _ (search : Search) (plan : List (Option ℕ)) (is : IsSearch search plan
       seeking_more after right more others expanded none left claimable = record {
         right = right;
         claimable = claimable;
+        are = seeking.are;
         expanded = expanded;
         free = none;
         before = λ k bound h. still_claimed new after (at places k) more
@@ -228,13 +229,13 @@ module _ (search : Search) (plan : List (Option ℕ)) (is : IsSearch search plan
         is_new : got ≡ new
         is_new = own_claim_is search claims got (at places index) trip same got_is
 
-        pub got_right : AreRight search plan got
+        got_right : AreRight search plan got
         got_right = subst (AreRight search plan) (sym is_new) new_right
 
-        pub got_some : 0 < length got.order
+        got_some : 0 < length got.order
         got_some = omega (arith, new_size, ap (λ some. length some.order) is_new)
 
-        pub got_expanded : AreExpanded search plan got (length got.order - 1)
+        got_expanded : AreExpanded search plan got (length got.order - 1)
         got_expanded = subst (λ some. AreExpanded search plan some (length some.order - 1))
             (sym is_new) new_expanded
 
@@ -254,22 +255,32 @@ module _ (search : Search) (plan : List (Option ℕ)) (is : IsSearch search plan
             seeking_more after right (subst (λ some. AreMore some after) is_new more)
             (subst (λ some. AreOthers search some after) is_new others) expanded none
 
-        pub got_claimable : (after : Bits) → IsPut bits after 0 (at places index) false
+        got_claimable : (after : Bits) → IsPut bits after 0 (at places index) false
             → AreClaimable search.links.count search.low plan got after
         got_claimable after put = subst
             (λ some. AreClaimable search.links.count search.low plan some after) (sym is_new)
             (claimable_less search.links.count search.low plan claims bits after (at places index)
             latest seeking.claimable in_places put)
 
+        pub got_ready : (after : Bits) → IsPut bits after 0 (at places index) false
+            → AreClaimable search.links.count search.low plan got after
+            × (AreRight search plan got × ((0 < length got.order)
+            × AreExpanded search plan got (length got.order - 1)))
+        got_ready after put =
+            (got_claimable after put, (got_right, (got_some, got_expanded)))
+
   -- nothing is claimed at first
   pub seeking_none : (claims : ClaimsParts) (places : List ℕ) (own : ℕ) (bits : Bits)
       → claims ≡ record { at = replicate (search.links.count + 1) None; order = [] }
       → AreClaimable search.links.count search.low plan claims bits
+      → ArePlaces (λ place. IsTightBy search.links search.potentials place (Some search.trip)
+      × IsUndecided plan search.low place) (search.links.count + 1) places
       → IsSeeking search plan claims places own 0 bits
-  seeking_none claims places own bits none_is claimable =
+  seeking_none claims places own bits none_is claimable are =
       subst (λ some. IsSeeking search plan some places own 0 bits) (sym none_is) (record {
         claimable = subst (λ some. AreClaimable search.links.count search.low plan some bits)
             none_is claimable;
+        are = are;
         right = record {
           places = length-replicate (search.links.count + 1) None;
           few = omega arith;
@@ -289,12 +300,14 @@ module _ (search : Search) (plan : List (Option ℕ)) (is : IsSearch search plan
       })
 
   -- the places at which the trip is tight
-  pub ties_of : (ties : Bits) (trip : ℕ) (bits : Bits) (claims : ClaimsParts) (found places : List ℕ)
+  pub ties_of : (ties : Bits) (trip : ℕ) (bits : Bits) (claims : ClaimsParts)
+      (found places : List ℕ)
       → AreTies search.links search.potentials ties → search.trip ≡ trip
       → claims ≡ record { at = replicate (search.links.count + 1) None; order = [] }
       → AreClaimable search.links.count search.low plan claims bits
       → places ≡ found
-      → ArePlaces (λ place. (has ties trip place ≡ true) × (has bits 0 place ≡ true)) ties.columns found
+      → ArePlaces (λ place. (has ties trip place ≡ true) × (has bits 0 place ≡ true)) ties.columns
+      found
       → ArePlaces (λ place. IsTightBy search.links search.potentials place (Some search.trip)
       × IsUndecided plan search.low place) (search.links.count + 1) places
   ties_of ties trip bits claims found places are same none_is claimable places_are found_are =

@@ -13,7 +13,8 @@ pub record IsPut (before after : Bits) (row place : ℕ) (is : Bool) : Type 0 wh
   pub rows : after.rows ≡ before.rows
   pub columns : after.columns ≡ before.columns
   pub here : has after row place ≡ is
-  pub others : (r c : ℕ) → r < before.rows → (r ≡ row → c ≡ place → ⊥) → has after r c ≡ has before r c
+  pub others : (r c : ℕ) → r < before.rows → (r ≡ row → c ≡ place → ⊥)
+      → has after r c ≡ has before r c
 
 -- bits of one row alone are others than before
 pub record IsInRow (before after : Bits) (row : ℕ) : Type 0 where

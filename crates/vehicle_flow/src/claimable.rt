@@ -77,7 +77,8 @@ pub(crate) fn claim(
     requires one { places.old.rows ≡ 1 }
     requires unclaimed { claim_at claims.old place ≡ None }
     ensures claimed { OnOk result (claims.new ≡ record {
-      at = slice_set claims.old.at place (Some (record { by = by; from = from; step = length claims.old.order }));
+      at = slice_set claims.old.at place
+          (Some (record { by = by; from = from; step = length claims.old.order }));
       order = claims.old.order ++ place ∷ [];
     }) }
     ensures few { length claims.old.order < length claims.old.at }

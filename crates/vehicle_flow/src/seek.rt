@@ -14,8 +14,8 @@ use bit_rows::BitRows;
 use plan_num::NoMemory;
 use std::alloc::Global;
 
-/// Claims the places before a trip's own one, and looks from each whether the trip can give up its own
-/// one for it.
+/// Claims the places before a trip's own one, and looks from each whether the trip can give up its
+/// own one for it.
 pub(crate) fn seek(
     alloc: Global,
     ties: &BitRows,
@@ -56,8 +56,8 @@ pub(crate) fn seek(
     Ok(false)
 }
 
-// Goes on from the place that was claimed last, until all claimed places are expanded or the own one
-// of a trip is claimed.
+// Goes on from the place that was claimed last, until all claimed places are expanded or the own
+// one of a trip is claimed.
 fn grow(
     alloc: Global,
     ties: &BitRows,

@@ -15,8 +15,8 @@ use flow_potentials::Potentials;
 use plan_num::NoMemory;
 use std::alloc::Global;
 
-/// For each trip the places at which it is tight under potentials that cover its links, and in a last
-/// row those that need no trip.
+/// For each trip the places at which it is tight under potentials that cover its links, and in a
+/// last row those that need no trip.
 pub(crate) fn ties_of(
     alloc: Global,
     trips: &LinkTable,

@@ -14,7 +14,8 @@ loop-trip-init c = record {
       c.requires.plan c.requires.valid);
   none = c.in_ok-claims.ensures ∙ ap (λ n. record { at = replicate (n + 1) None; order = [] })
       c.len.ensures.count;
-  claimable = claimable_first (length c.args.trips.now.trips) c.in_ok-assignment.assignment c.in_ok-claims.claims
+  claimable = claimable_first (length c.args.trips.now.trips) c.in_ok-assignment.assignment
+      c.in_ok-claims.claims
       c.in_ok-places.places (λ place. ap (λ claims. claim_at claims place) c.in_ok-claims.ensures
       ∙ none_at (c.len.result + 1) place) c.in_ok-places.ensures.rows
       (c.in_ok-places.ensures.columns ∙ ap (λ n. n + 1) c.len-2.ensures.count)

@@ -5,7 +5,8 @@ use Rattle.vehicle_flow.proofs.claim.take_back.Goals as goal
 
 pub loop-place-preserved : goal.loop-place-preserved
 loop-place-preserved c =
-    let at_step = slice_get-get_or c.args.order.now c.loop-place.place-index 0 c.loop-place-test.true in
+    let at_step =
+    slice_get-get_or c.args.order.now c.loop-place.place-index 0 c.loop-place-test.true in
     left_more (length c.args.claims.now.items) c.args.order.now c.loop-place.place-index
     (get_or c.args.order.now c.loop-place.place-index 0) c.loop-place.claims.items
     c.loop-place.flags.items c.loop-place.invariant at_step

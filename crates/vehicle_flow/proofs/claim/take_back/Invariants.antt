@@ -4,4 +4,5 @@ use Rattle.vehicle_flow.proofs.Flags.{AreLeft}
 use Rattle.vehicle_flow.proofs.claim.take_back.Given as goal
 
 abbrev pub invariant-loop-place : goal.invariant-loop-place
-invariant-loop-place l = AreLeft (length l.fn.claims.items) l.order l.place-index l.claims.items l.flags.items
+invariant-loop-place l = AreLeft (length l.fn.claims.items) l.order l.place-index
+    l.claims.items l.flags.items

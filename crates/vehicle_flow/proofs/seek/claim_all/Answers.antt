@@ -7,7 +7,8 @@ use Rattle.vehicle_flow.proofs.seek.claim_all.Goals as goal
 pub loop-place-preserved : goal.loop-place-preserved
 loop-place-preserved g c = claiming_more g.search c.args.assignment.now c.args.claims.now c.args.by
     c.args.from c.args.ties.now c.args.places.now c.unwrap_or.result c.deref-place-items.result.now
-    (c.unwrap_or.ensures ∙ ap (unwrap_or c.args.by) (c.len.ensures.count ∙ c.requires.0.possible.each))
+    (c.unwrap_or.ensures
+    ∙ ap (unwrap_or c.args.by) (c.len.ensures.count ∙ c.requires.0.possible.each))
     c.requires.1.0 c.requires.1.1.0
     (subst (ArePlaces (λ place. (has c.args.ties.now c.unwrap_or.result place ≡ true)
     × (has c.args.places.now 0 place ≡ true)) c.args.ties.now.columns)
@@ -20,7 +21,8 @@ loop-place-preserved g c = claiming_more g.search c.args.assignment.now c.args.c
 pub returns-clause-all : goal.returns-clause-all
 returns-clause-all g c = claiming_all g.search c.args.assignment.now c.args.claims.now c.args.by
     c.args.from c.args.ties.now c.args.places.now c.unwrap_or.result c.deref-place-items.result.now
-    (c.unwrap_or.ensures ∙ ap (unwrap_or c.args.by) (c.len.ensures.count ∙ c.requires.0.possible.each))
+    (c.unwrap_or.ensures
+    ∙ ap (unwrap_or c.args.by) (c.len.ensures.count ∙ c.requires.0.possible.each))
     c.requires.1.0 c.requires.1.1.0
     (subst (ArePlaces (λ place. (has c.args.ties.now c.unwrap_or.result place ≡ true)
     × (has c.args.places.now 0 place ≡ true)) c.args.ties.now.columns)
