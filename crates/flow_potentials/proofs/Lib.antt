@@ -2,6 +2,8 @@ pub mod Certified
 pub mod Checked
 mod Deeper
 pub mod FaultlessTables
+mod Late
+mod Linked
 mod Loops
 pub mod Rounds
 pub mod Settled

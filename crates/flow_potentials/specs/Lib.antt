@@ -1,5 +1,6 @@
 pub mod Canonical
 pub mod Drops
+pub mod LinkedPlans
 pub mod Potentials
 pub mod PotentialTables
 pub mod Residual

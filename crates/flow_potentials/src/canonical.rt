@@ -7,6 +7,7 @@ ghost use Rattle.vehicle_model.specs.Plans.{IsPlan};
 ghost use Rattle.vehicle_model.specs.Trips.{links_of};
 
 use crate::drops::Drops;
+use crate::linked_plan::LinkedPlan;
 use crate::numbers::Potentials;
 use plan_num::NoMemory;
 use std::alloc::Global;
@@ -29,8 +30,9 @@ pub fn potentials(
     ensures valid { IfOk result (AreValid (links_of trips.now) plan.now) }
 {
     let _ = valid.len();
+    let linked = LinkedPlan::new(alloc, plan)?;
     let mut drops = Drops::new(alloc, trips.len())?;
-    drops.walk(alloc, trips, plan, valid)?;
-    drops.settle(trips, plan, valid);
-    drops.into_potentials(alloc, trips, plan)
+    drops.walk(alloc, trips, &linked, valid)?;
+    drops.settle(trips, &linked, valid);
+    drops.into_potentials(alloc, trips, &linked)
 }

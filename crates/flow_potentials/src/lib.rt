@@ -1,15 +1,19 @@
 //! Potentials of trips, which prove what a vehicle schedule costs at least.
 #![tactic(auto)]
 
+mod arcs;
 mod canonical;
 mod checking;
 mod drops;
+mod linked_plan;
 mod numbers;
+mod passes;
 mod potential_fault;
 mod table_reading;
 mod table_writing;
 mod walk;
 
+pub use arcs::is_late;
 pub use canonical::potentials;
 pub use checking::check_potentials;
 pub use numbers::Potentials;

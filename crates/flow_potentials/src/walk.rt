@@ -5,27 +5,22 @@ ghost use Rattle.flow_potentials.specs.Potentials.{AreValid};
 ghost use Rattle.vehicle_model.specs.Trips.{links_of};
 
 use crate::drops::Drops;
+use crate::linked_plan::LinkedPlan;
 use crate::numbers::Potentials;
 use plan_num::NoMemory;
 use std::alloc::Global;
-use vehicle_model::{Plan, Trips};
+use vehicle_model::Trips;
 
 // The height of the root.
 const MIDDLE: u64 = 1_000_000_000_000_000_000;
 
-// A node: the root, or the left or the right one of a trip.
-#[derive(Clone, Copy)]
-enum Node {
-    Root,
-    Left(usize),
-    Right(usize),
-}
-
-// A node from which no arc was looked over yet, and its height by valid potentials. Over an arc a
-// number and a height together never rise.
+// A node from which no arc was looked over yet: the root, where no trip is told, or the left node
+// of a trip; and its height by valid potentials. Over an arc a number and a height together never
+// rise. A right node has one arc that matters, to the left node of the trip before it or to the
+// root, which is looked over at once.
 #[derive(Clone, Copy)]
 struct Waiting {
-    node: Node,
+    trip: Option<usize>,
     height: u64,
 }
 
@@ -36,18 +31,17 @@ impl Drops {
         &mut self,
         alloc: Global,
         trips: &Trips,
-        plan: &Plan,
+        plan: &LinkedPlan,
         valid: &Potentials,
     ) -> Result<(), NoMemory>
         requires known { IsSearched (links_of trips.now) plan.now self.old }
         requires valid { AreValid (links_of trips.now) plan.now valid.now }
         ensures { OnOk result (IsSearched (links_of trips.now) plan.now self.new) }
     {
-        let before = before(alloc, plan)?;
         let mut waiting = all_nodes(alloc, valid)?;
         for _turn in 0..waiting.len() {
             if let Some(node) = take_furthest(self, &mut waiting) {
-                self.relax_node(trips, plan, valid, &before, node);
+                self.relax_node(trips, plan, valid, node.trip);
             }
         }
         Ok(())
@@ -57,90 +51,102 @@ impl Drops {
     fn relax_node(
         &mut self,
         trips: &Trips,
-        plan: &Plan,
+        plan: &LinkedPlan,
         valid: &Potentials,
-        before: &[usize],
-        node: Node,
+        trip: Option<usize>,
     )
         requires known { IsSearched (links_of trips.now) plan.now self.old }
         requires valid { AreValid (links_of trips.now) plan.now valid.now }
         ensures { IsSearched (links_of trips.now) plan.now self.new }
     {
-        match node {
-            Node::Root => self.relax_ends(trips, plan),
-            Node::Left(i) => self.relax_left(trips, plan, valid, i),
-            Node::Right(j) => self.relax_right(trips, plan, before, j),
+        match trip {
+            Some(i) => self.relax_left(trips, plan, valid, i),
+            None => self.relax_ends(trips, plan),
         }
     }
 
     // The arcs between the root and all trips.
-    fn relax_ends(&mut self, trips: &Trips, plan: &Plan)
+    fn relax_ends(&mut self, trips: &Trips, plan: &LinkedPlan)
         requires { IsSearched (links_of trips.now) plan.now self.old }
         ensures { IsSearched (links_of trips.now) plan.now self.new }
     {
         for i in 0..trips.len() {
             self.relax_end(trips, plan, i);
+            self.relax_next_of(trips, plan, Some(i));
         }
     }
 
-    // The arcs between the root and a trip.
-    #[tactic(auto, using(crate::proofs::Steps::still_searched))]
-    fn relax_end(&mut self, trips: &Trips, plan: &Plan, i: usize)
-        requires known { IsSearched (links_of trips.now) plan.now self.old }
-        requires within { i < length trips.now.trips }
-        ensures { IsSearched (links_of trips.now) plan.now self.new }
-    {
-        let _next = self.relax_next(trips, plan, i);
-        let _root = self.relax_root(trips, plan, i);
-    }
-
     // The arcs from the left node of a trip.
-    #[tactic(auto, using(crate::proofs::Steps::still_searched))]
-    fn relax_left(&mut self, trips: &Trips, plan: &Plan, valid: &Potentials, i: usize)
+    fn relax_left(&mut self, trips: &Trips, plan: &LinkedPlan, valid: &Potentials, i: usize)
         requires known { IsSearched (links_of trips.now) plan.now self.old }
         requires valid { AreValid (links_of trips.now) plan.now valid.now }
         ensures { IsSearched (links_of trips.now) plan.now self.new }
     {
-        if i < trips.len() {
-            let _next = self.relax_next(trips, plan, i);
-            let _pairs = self.relax_pairs(trips, plan, valid, i);
+        self.relax_next_of(trips, plan, Some(i));
+        for j in 0..trips.len() {
+            self.relax_through(trips, plan, valid, i, j);
         }
     }
 
-    // The arcs from the right node of a trip, to the one before it and to the root.
-    fn relax_right(&mut self, trips: &Trips, plan: &Plan, before: &[usize], j: usize)
+    // The link from a trip to another, and where it makes a better walk the arcs that go on.
+    #[tactic(auto, using(crate::proofs::Steps::still_searched))]
+    fn relax_through(
+        &mut self,
+        trips: &Trips,
+        plan: &LinkedPlan,
+        valid: &Potentials,
+        i: usize,
+        j: usize,
+    )
+        requires known { IsSearched (links_of trips.now) plan.now self.old }
+        requires valid { AreValid (links_of trips.now) plan.now valid.now }
+        requires to { j < length trips.now.trips }
+        ensures { IsSearched (links_of trips.now) plan.now self.new }
+    {
+        if i < trips.len() && self.relax_pair(trips, plan, valid, i, j) {
+            self.relax_end(trips, plan, j);
+        }
+    }
+
+    // The arc between the right node of a trip and the root, and those of the trip before it.
+    #[tactic(auto, using(crate::proofs::Steps::still_searched))]
+    fn relax_end(&mut self, trips: &Trips, plan: &LinkedPlan, j: usize)
+        requires known { IsSearched (links_of trips.now) plan.now self.old }
+        requires within { j < length trips.now.trips }
+        ensures { IsSearched (links_of trips.now) plan.now self.new }
+    {
+        let _root = self.relax_root(trips, plan, j);
+        self.relax_next_of(trips, plan, plan.before(j));
+    }
+
+    // The arcs between the left node of a trip and its link or the root, if there is a trip.
+    #[tactic(auto, using(crate::proofs::Steps::still_searched))]
+    fn relax_next_of(&mut self, trips: &Trips, plan: &LinkedPlan, trip: Option<usize>)
         requires { IsSearched (links_of trips.now) plan.now self.old }
         ensures { IsSearched (links_of trips.now) plan.now self.new }
     {
-        self.relax_end_of(trips, plan, j);
-        self.relax_end_of(trips, plan, before.get(j).copied().unwrap_or(0));
-    }
-
-    // The arcs between the root and a trip, where there is one of this number.
-    fn relax_end_of(&mut self, trips: &Trips, plan: &Plan, i: usize)
-        requires { IsSearched (links_of trips.now) plan.now self.old }
-        ensures { IsSearched (links_of trips.now) plan.now self.new }
-    {
-        if i < trips.len() {
-            self.relax_end(trips, plan, i);
+        if let Some(i) = trip {
+            if i < trips.len() {
+                let _next = self.relax_next(trips, plan, i);
+            }
         }
     }
 
-    // The number of a node.
-    fn number(&self, node: Node) -> u64 {
-        match node {
-            Node::Root => self.root(),
-            Node::Left(i) => self.left_or(i),
-            Node::Right(j) => self.right_or(j),
-        }
+    // The number and the height of a node together.
+    fn reach(&self, node: Waiting) -> u64 {
+        let number = match node.trip {
+            Some(i) => self.left_or(i),
+            None => self.root(),
+        };
+        number.saturating_add(node.height)
     }
 }
 
 // Takes out the node that stands furthest.
-fn take_furthest(drops: &Drops, waiting: &mut Vec<Waiting>) -> Option<Node> {
+fn take_furthest(drops: &Drops, waiting: &mut Vec<Waiting>) -> Option<Waiting> {
     let place = furthest(drops, waiting);
     if place < waiting.len() {
-        Some(waiting.swap_remove(place).node)
+        Some(waiting.swap_remove(place))
     } else {
         None
     }
@@ -151,52 +157,27 @@ fn furthest(drops: &Drops, waiting: &[Waiting]) -> usize {
     let mut best = 0;
     let mut most = 0;
     for (place, at) in waiting.iter().enumerate() {
-        let number = drops.number(at.node).saturating_add(at.height);
-        if number > most {
-            most = number;
+        let reach = drops.reach(*at);
+        if reach > most {
+            most = reach;
             best = place;
         }
     }
     best
 }
 
-// All nodes.
+// All nodes from which arcs are looked over.
 fn all_nodes(alloc: Global, valid: &Potentials) -> Result<Vec<Waiting>, NoMemory> {
     let mut nodes = Vec::new(alloc);
     nodes.push(Waiting {
-        node: Node::Root,
+        trip: None,
         height: MIDDLE,
     })?;
     for trip in 0..valid.len() {
         nodes.push(Waiting {
-            node: Node::Left(trip),
+            trip: Some(trip),
             height: MIDDLE.saturating_add(valid.u(trip).unsigned_abs()),
-        })?;
-        nodes.push(Waiting {
-            node: Node::Right(trip),
-            height: MIDDLE.saturating_sub(valid.v(trip).unsigned_abs()),
         })?;
     }
     Ok(nodes)
-}
-
-// For each trip the one before it; where there is none, how many trips there are.
-fn before(alloc: Global, plan: &Plan) -> Result<Vec<usize>, NoMemory> {
-    let mut before = Vec::new(alloc);
-    for _trip in 0..plan.len() {
-        before.push(plan.len())?;
-    }
-    for trip in 0..plan.len() {
-        put(&mut before, plan.next(trip), trip);
-    }
-    Ok(before)
-}
-
-// A trip comes before another one, if there is one.
-fn put(before: &mut Vec<usize>, next: Option<usize>, trip: usize) {
-    if let Some(next) = next {
-        if next < before.len() {
-            before[next] = trip;
-        }
-    }
 }

@@ -1,9 +1,9 @@
 -- Claims and the order in which they were made.
-use Rattle.std.proofs.Common.{◌≡◌, ◌⊎◌, inl, inr, ℕ, zero, suc, ◌<◌, ◌≤◌, ◌+◌, List, [], ◌∷◌, ◌++◌, length, sum_by, get_or, slice_get, slice_set, replicate, Option, Some, None, refl, ap, sym, ◌∙◌, subst, arith, get_or-set_same, get_or-set_other}
+use Rattle.std.proofs.Common.{◌≡◌, ◌⊎◌, inl, inr, ℕ, zero, suc, ◌<◌, ◌+◌, List, [], ◌∷◌, ◌++◌, length, sum_by, get_or, slice_get, slice_set, replicate, Option, Some, None, refl, ap, sym, ◌∙◌, subst, arith, get_or-set_same, get_or-set_other}
 use Rattle.std.proofs.lemmas.List.{length-set, length-replicate, length_push}
 use Rattle.std.proofs.lemmas.List.Folds.{sum_by-replicate}
 use Rattle.std.proofs.lemmas.List.Sums.{sum_by-set}
-use Rattle.std.proofs.lemmas.Option.{none-some, same_Some, slice_get_within}
+use Rattle.std.proofs.lemmas.Option.{none-some, same_Some}
 use Rattle.vehicle_model.proofs.Linking.{by_number}
 use Rattle.vehicle_flow.specs.declared.claim.Claim.{Claim}
 use Rattle.vehicle_flow.specs.Claims.{ClaimsParts, claim_at, one_if_open, AreClaims}
@@ -19,48 +19,6 @@ pub all_none : {X : Type 0} (xs : List (Option X)) → ((i : ℕ) → i < length
 all_none [] none = refl
 all_none (x ∷ xs) none = ap (λ y. y ∷ xs) (none 0 (omega arith))
     ∙ ap (λ rest. None ∷ rest) (all_none xs (λ i h. none (suc i) (omega (arith, h))))
-
--- the first places have no claim
-pub record AreReset (claims : List (Option Claim)) (size place : ℕ) : Type 0 where
-  pub each : length claims ≡ size
-  pub none : (i : ℕ) → i < place → get_or claims i None ≡ None
-
-pub reset_more : (claims : List (Option Claim)) (size place : ℕ) → AreReset claims size place
-    → place < size → AreReset (slice_set claims place None) size (place + 1)
-reset_more claims size place are inside = record {
-  each = length-set claims place None ∙ are.each;
-  none = λ i h. by_number i place
-      (λ here. ap (λ k. get_or (slice_set claims place None) k None) here
-      ∙ get_or-set_same claims place None None (omega (arith, inside, are.each)))
-      (λ apart. get_or-set_other claims place i None None apart ∙ are.none i (omega (arith, h, apart)));
-}
-
-pub reset_all : (claims : List (Option Claim)) (size place : ℕ) → AreReset claims size place
-    → size ≤ place → claims ≡ replicate size None
-reset_all claims size place are past = all_none claims
-    (λ i h. are.none i (omega (arith, h, past, are.each)))
-    ∙ ap (λ n. replicate n None) are.each
-
--- where no place stands in the order, there is no claim
-pub none_claimed : (claims : ClaimsParts) → AreClaims claims → 0 ≡ length claims.order
-    → claims ≡ record { at = replicate (length claims.at) None; order = [] }
-none_claimed claims are empty = ap (λ at. record { at = at; order = claims.order }) (all_none claims.at none)
-    ∙ ap (λ order. record { at = replicate (length claims.at) None; order = order }) (nil claims.order (sym empty))
-  where
-    nil : (xs : List ℕ) → length xs ≡ 0 → xs ≡ []
-    nil [] e = refl
-    nil (x ∷ xs) e = absurd (omega (arith, e))
-
-    none : (i : ℕ) → i < length claims.at → claim_at claims i ≡ None
-    none i inside = split (claim_at claims i) refl
-      where
-        split : (it : Option Claim) → claim_at claims i ≡ it → claim_at claims i ≡ None
-        split None e = e
-        split (Some found) e = absurd (omega (
-          arith,
-          empty,
-          slice_get_within claims.order found.step i (are.placed i found e),
-        ))
 
 abbrev no_claim : Option Claim
 no_claim = None

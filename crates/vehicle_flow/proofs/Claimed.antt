@@ -1,13 +1,15 @@
 -- What one more claim leaves, and what is claimed where places are expanded.
-use Rattle.std.proofs.Common.{◌≡◌, ◌≢◌, ℕ, zero, suc, ◌<◌, true, is_some, List, [], ◌∷◌, ◌++◌, length, slice_set, slice_get, Option, Some, None, MatchOption, refl, ap, sym, ◌∙◌, subst, arith, length-append}
+use Rattle.std.proofs.Common.{◌≡◌, ◌≢◌, ℕ, zero, suc, ◌+◌, ◌<◌, true, is_some, List, [], ◌∷◌, ◌++◌, length, slice_set, slice_get, Option, Some, None, MatchOption, refl, ap, sym, ◌∙◌, subst, arith, length-append}
 use Rattle.std.proofs.lemmas.List.{length-set, get_or-set_same, get_or-set_other}
 use Rattle.std.proofs.lemmas.Option.{none-some, same_Some}
 use Rattle.vehicle_model.proofs.Linking.{by_number}
+use Rattle.bit_rows.specs.Bits.{Bits}
 use Rattle.flow_potentials.specs.Potentials.{at}
 use Rattle.vehicle_flow.specs.declared.claim.Claim.{Claim}
+use Rattle.vehicle_flow.specs.ClaimablePlaces.{AreClaimable}
 use Rattle.vehicle_flow.specs.Claims.{ClaimsParts, claim_at}
-use Rattle.vehicle_flow.specs.Searches.{Search, IsClaim, ComesFrom}
-use Rattle.vehicle_flow.specs.Choices.{IsUndecided, is_claimed, AreExpanded, AreRight, AreMore, AreOthers}
+use Rattle.vehicle_flow.specs.Searches.{Search, IsClaim, IsTightBy, ComesFrom}
+use Rattle.vehicle_flow.specs.Choices.{ArePlaces, IsUndecided, is_claimed, AreExpanded, AreRight, AreMore, AreOthers}
 
 -- a search goes on: what it keeps, against the claims at its start
 pub record AreGoing (search : Search) (plan : List (Option ℕ)) (start claims : ClaimsParts) : Type 0
@@ -20,12 +22,14 @@ pub record AreGoing (search : Search) (plan : List (Option ℕ)) (start claims :
 -- before one are claimed where they come before the trip's own, and what the trip claims itself is
 -- among them
 pub record IsSeeking (search : Search) (plan : List (Option ℕ)) (claims : ClaimsParts)
-    (places : List ℕ) (own index : ℕ) : Type 0 where
+    (places : List ℕ) (own index : ℕ) (bits : Bits) : Type 0 where
   pub right : AreRight search plan claims
+  pub claimable : AreClaimable search.links.count search.low plan claims bits
+  pub are : ArePlaces (λ place. IsTightBy search.links search.potentials place (Some search.trip)
+      × IsUndecided plan search.low place) (search.links.count + 1) places
   pub expanded : AreExpanded search plan claims (length claims.order)
   pub free : claim_at claims own ≡ None
-  pub before : (k : ℕ) → k < index → at places k < own → IsUndecided plan search.low (at places k)
-      → is_claimed claims (at places k) ≡ true
+  pub before : (k : ℕ) → k < index → at places k < own → is_claimed claims (at places k) ≡ true
   pub mine : (place : ℕ) (found : Claim) → claim_at claims place ≡ Some found
       → found.by ≡ Some search.trip → (k : ℕ) × ((k < index) × (at places k ≡ place))
 

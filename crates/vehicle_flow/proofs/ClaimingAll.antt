@@ -1,21 +1,27 @@
 -- A trip or none claims all open places of a list.
-use Rattle.std.proofs.Common.{◌≡◌, ◌≢◌, ℕ, ◌+◌, ◌<◌, ◌≤◌, true, List, length, Option, Some, None, IfSome, refl, ap, sym, ◌∙◌, subst, arith}
+use Rattle.std.proofs.Common.{◌≡◌, ◌≢◌, ℕ, ◌+◌, ◌<◌, ◌≤◌, true, false, List, length, Option, Some, None, IfSome, inl, inr, refl, ap, sym, ◌∙◌, subst, arith}
+use Rattle.std.proofs.lemmas.Bool.{cases_Bool}
 use Rattle.std.proofs.lemmas.Option.{none-some, same_Some, slice_get_within}
 use Rattle.vehicle_model.proofs.Following.{some_of}
 use Rattle.vehicle_model.proofs.Linking.{by_number}
 use Rattle.flow_potentials.specs.Potentials.{at}
 use Rattle.vehicle_flow.specs.declared.claim.Claim.{Claim}
 use Rattle.vehicle_flow.specs.Claims.{ClaimsParts, claim_at}
+use Rattle.vehicle_flow.specs.ClaimablePlaces.{AreClaimable, AreTies, IsPut, IsRowOf}
+use Rattle.vehicle_flow.specs.Places.{place_of}
 use Rattle.vehicle_flow.specs.Searches.{Search, IsTightBy, IsLeft, IsClaim}
 use Rattle.vehicle_flow.specs.Choices.{ArePlaces, IsUndecided, is_claimed, AllClaimed, AreRight, AreMore, AreOthers}
+use Rattle.bit_rows.specs.Bits.{Bits, has}
+use Rattle.vehicle_flow.proofs.Claimables.{claimable_less}
 use Rattle.vehicle_flow.proofs.Claimed.{AreGoing, with_claim, claims_more, claims_right, at_place, old_or_new, some_is}
 
--- the places of a list so far are claimed
+-- the places of a list so far are claimed, and the others can be
 pub record IsClaiming (search : Search) (plan : List (Option ℕ)) (start claims : ClaimsParts)
-    (places : List ℕ) (index : ℕ) : Type 0 where
+    (places : List ℕ) (index : ℕ) (bits : Bits) : Type 0 where
   pub going : AreGoing search plan start claims
-  pub done : (k : ℕ) → k < index → IsUndecided plan search.low (at places k)
-      → is_claimed claims (at places k) ≡ true
+  pub claimable : AreClaimable search.links.count search.low plan claims bits
+  pub done : (k : ℕ) → k < index → is_claimed claims (at places k) ≡ true
+  pub still : (k : ℕ) → index ≤ k → k < length places → has bits 0 (at places k) ≡ true
 
 -- what is claimed stays claimed
 pub still_claimed : (before after : ClaimsParts) (place : ℕ) → AreMore before after
@@ -56,86 +62,123 @@ gone_on search plan start claims after going right more others = record {
   others = λ place found e own. going.others place found (others place found e own) own;
 }
 
-module _ (search : Search) (plan : List (Option ℕ)) (start claims : ClaimsParts) (by : Option ℕ)
-    (from : ℕ)
-    (places : List ℕ) (index : ℕ)
-    (are : ArePlaces (λ place. IsTightBy search.links search.potentials place by)
-    (search.links.count + 1) places)
-    (movable : IfSome by (λ i. (search.low ≤ i) × (i < search.links.count)))
-    (left : IsLeft search plan from by) (from_claimed : is_claimed start from ≡ true)
-    (is : IsClaiming search plan start claims places index) where
-  -- the next claim
-  abbrev latest : Claim
-  latest = record { by = by; from = Some from; step = length claims.order }
-
-  latest_is : index < length places → IsClaim search plan claims (at places index) latest
-  latest_is h =
-      let before = some_of (claim_at claims from) (still_claimed start claims from is.going.more
-      from_claimed) in
-      record {
-        tight = are.right index h;
-        movable = movable;
-        from = record {
-          before = before.0;
-          is = before.1;
-          sooner = slice_get_within claims.order before.0.step from
-              (is.going.right.placed from before.0 before.1);
-          left = left;
-        };
-      }
-
-  -- an open place is claimed
-  pub claiming_more : index < length places → claim_at claims (at places index) ≡ None
-      → length claims.order < length claims.at → IsUndecided plan search.low (at places index)
-      → (new : ClaimsParts) → new ≡ with_claim claims (at places index) latest
-      → IsClaiming search plan start new places (index + 1)
-  claiming_more h free few undecided new new_is =
-      subst (λ some. IsClaiming search plan start some places (index + 1)) (sym new_is) (record {
-        going = gone_on search plan start claims (with_claim claims (at places index) latest)
-            is.going
-            (claims_right search plan claims (at places index) latest is.going.right inside free few
-            undecided refl (latest_is h))
-            more (λ place found e own. old_or_new search plan claims (at places index) latest
-            is.going.right inside free few
-            undecided refl (latest_is h) place found e
-            (λ old. old)
-            (λ same is_found. absurd (left_apart search plan from by left
-            (ap (λ claim. claim.by) is_found ∙ own))));
-        done = λ k bound open_place. by_number k index
-            (λ same. some_is (claim_at (with_claim claims (at places index) latest) (at places k))
-            latest
-            (ap (λ i. claim_at (with_claim claims (at places index) latest) (at places i)) same
-            ∙ at_place search plan claims (at places index) latest is.going.right inside free few
-            undecided refl (latest_is h)))
-            (λ apart. still_claimed claims (with_claim claims (at places index) latest)
-            (at places k) more
-            (is.done k (omega (arith, bound, apart)) open_place));
-      })
+module _ (search : Search) (plan : List (Option ℕ)) (start : ClaimsParts) (by : Option ℕ) (from : ℕ)
+    (ties first : Bits) (row : ℕ) (places : List ℕ)
+    (row_is : row ≡ place_of search.links.count by)
+    (all_ties : AreTies search.links search.potentials ties)
+    (at_first : AreClaimable search.links.count search.low plan start first)
+    (are : ArePlaces (λ place. (has ties row place ≡ true) × (has first 0 place ≡ true))
+    ties.columns places)
+    (movable : IfSome by (λ i. (search.low ≤ i) × (i < search.links.count))) where
+  -- the row of who claims
+  tie : IsRowOf (λ place. IsTightBy search.links search.potentials place by)
+      (search.links.count + 1) ties row
+  tie = subst (IsRowOf (λ place. IsTightBy search.links search.potentials place by)
+      (search.links.count + 1) ties) (sym row_is) (all_ties.row by (few by movable))
     where
-      inside : at places index < length claims.at
-      inside = omega (arith, are.within index h, is.going.right.places)
+      few : (by : Option ℕ) → IfSome by (λ i. (search.low ≤ i) × (i < search.links.count))
+          → IfSome by (λ i. i < search.links.count)
+      few None h = tt
+      few (Some i) h = h.1
 
-      more : AreMore claims (with_claim claims (at places index) latest)
-      more = claims_more search plan claims (at places index) latest is.going.right inside free few
-          undecided refl (latest_is h)
-
-  -- or is claimed already, or decided
-  pub claiming_kept : (IsUndecided plan search.low (at places index) → is_claimed claims
-      (at places index) ≡ true)
-      → IsClaiming search plan start claims places (index + 1)
-  claiming_kept already = record {
-    going = is.going;
-    done = λ k bound open_place. by_number k index
-        (λ same. subst (λ i. IsUndecided plan search.low (at places i) → is_claimed claims
-        (at places i) ≡ true) (sym same)
-        already open_place)
-        (λ apart. is.done k (omega (arith, bound, apart)) open_place);
+  -- none is claimed at first
+  pub claiming_none : AreRight search plan start → IsClaiming search plan start start places 0 first
+  claiming_none right = record {
+    going = begun search plan start right;
+    claimable = at_first;
+    done = λ k bound. absurd (omega (arith, bound));
+    still = λ k _ bound. (are.right k bound).1;
   }
 
-  -- in the end all that it is tight at is claimed
-  pub claiming_all : length places ≤ index → AllClaimed search plan claims by
-  claiming_all past place within undecided tight =
-      let k = are.all place within tight in
-      subst (λ some. is_claimed claims some ≡ true) k.1.1
-      (is.done k.0 (omega (arith, k.1.0, past)) (subst (IsUndecided plan search.low)
-      (sym k.1.1) undecided))
+  module _ (claims : ClaimsParts) (index : ℕ) (bits : Bits)
+      (is : IsClaiming search plan start claims places index bits) where
+    -- one place more
+    module _ (h : index < length places) where
+      here : has bits 0 (at places index) ≡ true
+      here = is.still index (omega arith) h
+
+      pub inside : at places index < length claims.at
+      inside = let low : at places index < search.links.count + 1 =
+          (tie.right (at places index) (are.right index h).0).0 in
+          omega (arith, low, is.going.right.places)
+
+      pub unclaimed : claim_at claims (at places index) ≡ None
+      unclaimed = is.claimable.unclaimed (at places index) here
+
+      -- the next claim
+      abbrev latest : Claim
+      latest = record { by = by; from = Some from; step = length claims.order }
+
+      module _ (left : IsLeft search plan from by) (from_claimed : is_claimed start from ≡ true)
+          (few : length claims.order < length claims.at) where
+        latest_is : IsClaim search plan claims (at places index) latest
+        latest_is =
+            let before = some_of (claim_at claims from)
+            (still_claimed start claims from is.going.more from_claimed) in
+            record {
+              tight = (tie.right (at places index) (are.right index h).0).1;
+              movable = movable;
+              from = record {
+                before = before.0;
+                is = before.1;
+                sooner = slice_get_within claims.order before.0.step from
+                    (is.going.right.placed from before.0 before.1);
+                left = left;
+              };
+            }
+
+        undecided : IsUndecided plan search.low (at places index)
+        undecided = is.claimable.undecided (at places index) here
+
+        more : AreMore claims (with_claim claims (at places index) latest)
+        more = claims_more search plan claims (at places index) latest is.going.right inside
+            unclaimed few undecided refl latest_is
+
+        pub claiming_more : (new : ClaimsParts) (after : Bits)
+            → new ≡ with_claim claims (at places index) latest
+            → IsPut bits after 0 (at places index) false
+            → IsClaiming search plan start new places (index + 1) after
+        claiming_more new after new_is put =
+            subst (λ some. IsClaiming search plan start some places (index + 1) after) (sym new_is)
+            (record {
+              going = gone_on search plan start claims (with_claim claims (at places index) latest)
+                  is.going
+                  (claims_right search plan claims (at places index) latest is.going.right inside
+                  unclaimed few undecided refl latest_is)
+                  more (λ place found e own. old_or_new search plan claims (at places index) latest
+                  is.going.right inside unclaimed few undecided refl latest_is place found e
+                  (λ old. old)
+                  (λ same is_found. absurd (left_apart search plan from by left
+                  (ap (λ claim. claim.by) is_found ∙ own))));
+              claimable = claimable_less search.links.count search.low plan claims bits after
+                  (at places index) latest is.claimable inside put;
+              done = λ k bound. by_number k index
+                  (λ same. some_is (claim_at (with_claim claims (at places index) latest)
+                  (at places k)) latest
+                  (ap (λ i. claim_at (with_claim claims (at places index) latest) (at places i))
+                  same ∙ at_place search plan claims (at places index) latest is.going.right inside
+                  unclaimed few undecided refl latest_is))
+                  (λ apart. still_claimed claims (with_claim claims (at places index) latest)
+                  (at places k) more (is.done k (omega (arith, bound, apart))));
+              still = λ k past bound.
+                  let later : at places index < at places k =
+                  are.rising index k (omega (arith, past)) bound in
+                  put.others 0 (at places k) (omega (arith, is.claimable.rows))
+                  (λ _ same. apart k later same)
+                  ∙ is.still k (omega (arith, past)) bound;
+            })
+          where
+            apart : (k : ℕ) → at places index < at places k → at places k ≢ at places index
+            apart k later same = omega (arith, later, same)
+
+    -- in the end all that it is tight at is claimed
+    pub claiming_all : length places ≤ index → AllClaimed search plan claims by
+    claiming_all past place within undecided tight = elim (cases_Bool (has first 0 place)) [
+      | inl was ↦
+          let k = are.all place (omega (arith, within, all_ties.columns))
+          (tie.all place within tight, was) in
+          subst (λ some. is_claimed claims some ≡ true) k.1.1
+          (is.done k.0 (omega (arith, k.1.0, past)))
+      | inr gone ↦ still_claimed start claims place is.going.more
+          (at_first.all place within undecided gone)
+    ]

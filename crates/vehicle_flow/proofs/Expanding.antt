@@ -153,6 +153,17 @@ last_more search plan start claims after index is right more others all = record
       none other within undecided tight));
 }
 
+-- or it has a next one
+pub last_kept : (search : Search) (plan : List (Option ℕ)) (start claims : ClaimsParts) (index : ℕ)
+    → AreLast search plan start claims index → (next plan index ≡ None → ⊥)
+    → AreLast search plan start claims (index + 1)
+last_kept search plan start claims index is has = record {
+  going = is.going;
+  done = λ i low bound none. by_number i index
+      (λ same. absurd (has (ap (next plan) (sym same) ∙ none)))
+      (λ apart. is.done i low (omega (arith, bound, apart)) none);
+}
+
 -- ---- from one place to the next
 
 -- the places that were claimed before a step are expanded

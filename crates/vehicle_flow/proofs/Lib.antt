@@ -1,7 +1,9 @@
 mod Below
 pub mod Bidding
+pub mod BitsOfPlaces
 pub mod ChosenIsOne
 pub mod ChosenThere
+pub mod Claimables
 pub mod Claimed
 pub mod Claiming
 pub mod ClaimingAll
@@ -18,7 +20,6 @@ pub mod GivenTrips
 pub mod Grown
 mod HandingOn
 mod Hands
-mod Late
 pub mod LeastPotentials
 pub mod LinkLooks
 pub mod LinkRows
@@ -36,7 +37,6 @@ pub mod Shifting
 pub mod Shifts
 pub mod Sought
 pub mod TakenIn
-pub mod TieLists
 pub mod TightValid
 pub mod Told
 mod Tried

@@ -1,5 +1,7 @@
 -- The links of a trip in a list: how it grows, and that no link is left out between two of them.
-use Rattle.std.proofs.Common.{◌≡◌, ℕ, zero, suc, ◌<◌, ◌≤◌, ◌+◌, ◌-◌, cond, List, [], ◌∷◌, ◌++◌, length, slice_get, get_or, Option, Some, None, IfSome, refl, ap, sym, ◌∙◌, subst, arith}
+use Rattle.std.proofs.Common.{◌≡◌, ℕ, zero, suc, ◌<◌, ◌≤◌, ◌+◌, ◌-◌, cond, List, [], ◌∷◌, ◌++◌, length, slice_get, get_or, Option, Some, None, IfSome, refl, ap, sym, ◌∙◌, subst, arith, map, length-append}
+use Rattle.std.proofs.lemmas.List.{get_or_append_left}
+use Rattle.std.proofs.Math.Seq.{get_or-append_seam}
 use Rattle.std.proofs.lemmas.Bool.{lt-ltb}
 use Rattle.std.proofs.lemmas.Option.{none-some, same_Some, slice_get-get_or, slice_get_within}
 use Rattle.vehicle_model.specs.Trips.{Links}
@@ -199,3 +201,30 @@ module _ (links : Links) (i : ℕ) (row : List Link) (is : IsRow links i links.c
     link_covered covers k link e = subst (λ it. IfSome it
         (λ gain. gain ≤ at potentials.u i + at potentials.v link.to)) (is.right k link e).is
         (covers link.to)
+
+-- one trip's list more
+pub lists_more : {X Y : Type 0} (items : X → List Y) (Q : ℕ → List Y → Type 0) (lists : List X)
+    (list : X) (new : List X)
+    (n : ℕ) → new ≡ lists ++ list ∷ [] → length (map items lists) ≡ n
+    → ((i : ℕ) → i < n → Q i (get_or (map items lists) i [])) → Q n (items list)
+    → (length (map items new) ≡ n + 1) × ((i : ℕ) → i < n + 1 → Q i (get_or (map items new) i []))
+lists_more {X} {Y} items Q lists list new n new_is size each one = (
+  ap length whole ∙ length-append (map items lists) (items list ∷ []) ∙ ap (λ k. k + 1) size,
+  (λ i bound. subst (λ all. Q i (get_or all i [])) (sym whole) (at_number i bound)),
+)
+  where
+    map_more : (xs : List X) → map items (xs ++ list ∷ []) ≡ map items xs ++ items list ∷ []
+    map_more [] = refl
+    map_more (x ∷ xs) = ap (λ rest. items x ∷ rest) (map_more xs)
+
+    whole : map items new ≡ map items lists ++ items list ∷ []
+    whole = ap (map items) new_is ∙ map_more lists
+
+    at_number : (i : ℕ) → i < n + 1 → Q i (get_or (map items lists ++ items list ∷ []) i [])
+    at_number i bound = by_number i n
+        (λ same. subst (λ k. Q k (get_or (map items lists ++ items list ∷ []) k [])) (sym same)
+        (subst (Q n) (sym (ap (λ k. get_or (map items lists ++ items list ∷ []) k []) (sym size)
+        ∙ get_or-append_seam (map items lists) (items list) [] [])) one))
+        (λ apart. subst (Q i) (sym (get_or_append_left (map items lists) (items list ∷ []) [] i
+        (omega (arith, bound, apart, size))))
+        (each i (omega (arith, bound, apart))))

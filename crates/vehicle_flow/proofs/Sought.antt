@@ -1,6 +1,7 @@
 -- The places that a trip claims, one after another: those before the first that it may have are
 -- refused.
-use Rattle.std.proofs.Common.{◌≡◌, ℕ, zero, suc, ◌+◌, ◌-◌, ◌<◌, ◌≤◌, true, List, [], ◌∷◌, ◌++◌, length, replicate, get_or, slice_get, Option, Some, None, refl, ap, sym, ◌∙◌, subst, arith, length-append}
+use Rattle.std.proofs.Common.{◌≡◌, ℕ, zero, suc, ◌+◌, ◌-◌, ◌<◌, ◌≤◌, true, false, is_some, inl, inr, List, [], ◌∷◌, ◌++◌, length, replicate, slice_get, Option, Some, None, refl, ap, sym, ◌∙◌, subst, arith, length-append}
+use Rattle.std.proofs.lemmas.Bool.{cases_Bool, false≢true}
 use Rattle.std.proofs.lemmas.List.{length-replicate}
 use Rattle.std.proofs.lemmas.Option.{none-some}
 use Rattle.vehicle_model.specs.Plans.{next}
@@ -11,8 +12,12 @@ use Rattle.vehicle_flow.specs.declared.claim.Claim.{Claim}
 use Rattle.vehicle_flow.specs.Claims.{ClaimsParts, claim_at}
 use Rattle.vehicle_flow.specs.Places.{place_of}
 use Rattle.vehicle_flow.specs.Searches.{Search, IsTightBy, IsClaim}
-use Rattle.vehicle_flow.specs.Choices.{ArePlaces, TiesParts, AreTies, IsUndecided, is_claimed, AreExpanded, AreRight, AreMore, AreOthers, IsSearch, IsFirst, IsSought}
+use Rattle.vehicle_flow.specs.ClaimablePlaces.{AreClaimable, AreTies, IsPut}
+use Rattle.vehicle_flow.specs.Choices.{ArePlaces, IsUndecided, is_claimed, AreExpanded, AreRight, AreMore, AreOthers, IsSearch, IsFirst, IsSought}
 use Rattle.vehicle_flow.proofs.Claimed.{IsSeeking, with_claim, claims_more, claims_right, at_place, old_or_new, some_is}
+use Rattle.bit_rows.specs.Bits.{Bits, has}
+use Rattle.vehicle_flow.proofs.Claimables.{claimable_less, places_as}
+use Rattle.vehicle_flow.proofs.ClaimLists.{none_at}
 use Rattle.vehicle_flow.proofs.ClaimingAll.{still_claimed}
 use Rattle.vehicle_flow.proofs.Expanding.{still_expanded}
 use Rattle.vehicle_flow.proofs.Refused.{inside, refused, other_tight, other_undecided}
@@ -31,11 +36,9 @@ own_claim_is search claims got place trip same got_is = got_is
 module _ (search : Search) (plan : List (Option ℕ)) (is : IsSearch search plan) where
   -- ---- one place after another
 
-  module _ (claims : ClaimsParts) (places : List ℕ) (own index : ℕ)
-      (are : ArePlaces (λ place. IsTightBy search.links search.potentials place (Some search.trip))
-      (search.links.count + 1) places)
+  module _ (claims : ClaimsParts) (places : List ℕ) (own index : ℕ) (bits : Bits)
       (own_is : own ≡ place_of search.links.count (next plan search.trip))
-      (seeking : IsSeeking search plan claims places own index) where
+      (seeking : IsSeeking search plan claims places own index bits) where
     -- its own place is one of the places
     own_most : (to : Option ℕ) → next plan search.trip ≡ to → place_of search.links.count
         to ≤ search.links.count
@@ -50,20 +53,18 @@ module _ (search : Search) (plan : List (Option ℕ)) (is : IsSearch search plan
     nothing_before bound most seen other fits in_other tight agrees =
         by_bound (place_of search.links.count (next other search.trip)) bound
         (λ before.
-        let k = are.all (place_of search.links.count (next other search.trip))
-        (omega (arith, before, most, own_is, own_most (next plan search.trip) refl))
-        (other_tight search plan is other fits in_other tight agrees (next other search.trip) refl)
+        let k = seeking.are.all (place_of search.links.count (next other search.trip))
+        (omega (arith, before, most, own_is, own_most (next plan search.trip) refl)) (
+          other_tight search plan is other fits in_other tight agrees (next other search.trip) refl,
+          other_undecided search plan is other fits in_other tight agrees (next other search.trip) refl,
+        )
         in
         let here : at places k.0 < bound = omega (arith, before, k.1.1) in
-        let undecided : IsUndecided plan search.low (at places k.0) = subst
-        (IsUndecided plan search.low) (sym k.1.1)
-        (other_undecided search plan is other fits in_other tight agrees (next other search.trip)
-        refl) in
         absurd (refused search plan is claims seeking.right seeking.expanded
         (subst (λ some. claim_at claims some ≡ None) own_is seeking.free) other fits in_other tight
         agrees
         (subst (λ some. is_claimed claims some ≡ true) k.1.1
-        (seeking.before k.0 (seen k.0 k.1.0 here) (omega (arith, here, most)) undecided))))
+        (seeking.before k.0 (seen k.0 k.1.0 here) (omega (arith, here, most))))))
         (λ past. past)
 
     -- at the end, none before the trip's own
@@ -71,54 +72,63 @@ module _ (search : Search) (plan : List (Option ℕ)) (is : IsSearch search plan
     sought_none past = nothing_before own (omega arith) (λ k within h. omega (arith, within, past))
 
     -- the present one is passed over
-    pub seeking_past : own ≤ at places index → IsSeeking search plan claims places own (index + 1)
+    pub seeking_past : own ≤ at places index
+        → IsSeeking search plan claims places own (index + 1) bits
     seeking_past past = record {
       right = seeking.right;
+      claimable = seeking.claimable;
+      are = seeking.are;
       expanded = seeking.expanded;
       free = seeking.free;
-      before = λ k bound h undecided. by_number k index
+      before = λ k bound h. by_number k index
           (λ same. let here : at places k ≡ at places index = ap (at places) same in absurd
           (omega (arith, here, h, past)))
-          (λ apart. seeking.before k (omega (arith, bound, apart)) h undecided);
+          (λ apart. seeking.before k (omega (arith, bound, apart)) h);
       mine = λ place found e own_claim.
           let k = seeking.mine place found e own_claim in (k.0, (omega (arith, k.1.0), k.1.1));
     }
 
-    -- or it is claimed already, or decided
-    pub seeking_kept : (IsUndecided plan search.low (at places index) → is_claimed claims
-        (at places index) ≡ true)
-        → IsSeeking search plan claims places own (index + 1)
-    seeking_kept already = record {
+    -- or it is claimed already
+    pub seeking_kept : index < length places → has bits 0 (at places index) ≡ false
+        → IsSeeking search plan claims places own (index + 1) bits
+    seeking_kept within gone = record {
       right = seeking.right;
+      claimable = seeking.claimable;
+      are = seeking.are;
       expanded = seeking.expanded;
       free = seeking.free;
-      before = λ k bound h undecided. by_number k index
-          (λ same. subst (λ i. IsUndecided plan search.low (at places i) → is_claimed claims
-          (at places i) ≡ true) (sym same)
-          already undecided)
-          (λ apart. seeking.before k (omega (arith, bound, apart)) h undecided);
+      before = λ k bound h. by_number k index
+          (λ same. subst (λ i. is_claimed claims (at places i) ≡ true) (sym same)
+          (seeking.claimable.all (at places index) (seeking.are.within index within)
+          (seeking.are.right index within).1 gone))
+          (λ apart. seeking.before k (omega (arith, bound, apart)) h);
       mine = λ place found e own_claim.
           let k = seeking.mine place found e own_claim in (k.0, (omega (arith, k.1.0), k.1.1));
     }
 
     -- or the trip claims it
     module _ (within : index < length places) (before_own : at places index < own)
-        (free : claim_at claims (at places index) ≡ None)
-        (few : length claims.order < length claims.at)
-        (undecided : IsUndecided plan search.low (at places index)) where
+        (here : has bits 0 (at places index) ≡ true)
+        (few : length claims.order < length claims.at) where
+      free : claim_at claims (at places index) ≡ None
+      free = seeking.claimable.unclaimed (at places index) here
+
+      undecided : IsUndecided plan search.low (at places index)
+      undecided = seeking.claimable.undecided (at places index) here
+
       -- the claim
       abbrev latest : Claim
       latest = record { by = Some search.trip; from = None; step = length claims.order }
 
       latest_is : IsClaim search plan claims (at places index) latest
       latest_is = record {
-        tight = are.right index within;
+        tight = (seeking.are.right index within).0;
         movable = (omega (arith, is.first), is.within);
         from = refl;
       }
 
       in_places : at places index < length claims.at
-      in_places = omega (arith, are.within index within, seeking.right.places)
+      in_places = omega (arith, seeking.are.within index within, seeking.right.places)
 
       abbrev new : ClaimsParts
       new = with_claim claims (at places index) latest
@@ -154,7 +164,7 @@ module _ (search : Search) (plan : List (Option ℕ)) (is : IsSearch search plan
           (λ k bound h. by_bound k index (λ before. before) (λ past. by_number k index
           (λ same. let here : at places k ≡ at places index = ap (at places) same in absurd
           (omega (arith, here, h)))
-          (λ apart. let later : at places index < at places k = are.rising index k
+          (λ apart. let later : at places index < at places k = seeking.are.rising index k
           (omega (arith, past, apart)) bound in
           absurd (omega (arith, later, h)))))
 
@@ -184,7 +194,7 @@ module _ (search : Search) (plan : List (Option ℕ)) (is : IsSearch search plan
             by_number k.0 index
             (λ same. let here : at places k.0 ≡ at places index = ap (at places) same in omega
             (arith, here, k.1.1, least))
-            (λ apart. let earlier : at places k.0 < at places index = are.rising k.0 index
+            (λ apart. let earlier : at places k.0 < at places index = seeking.are.rising k.0 index
             (omega (arith, k.1.0, apart)) within in
             omega (arith, earlier, k.1.1, least));
       }
@@ -193,19 +203,22 @@ module _ (search : Search) (plan : List (Option ℕ)) (is : IsSearch search plan
       pub seeking_more : (after : ClaimsParts) → AreRight search plan after → AreMore new after
           → AreOthers search new after
           → AreExpanded search plan after (length after.order) → claim_at after own ≡ None
-          → IsSeeking search plan after places own (index + 1)
-      seeking_more after right more others expanded none = record {
+          → (left : Bits) → AreClaimable search.links.count search.low plan after left
+          → IsSeeking search plan after places own (index + 1) left
+      seeking_more after right more others expanded none left claimable = record {
         right = right;
+        claimable = claimable;
+        are = seeking.are;
         expanded = expanded;
         free = none;
-        before = λ k bound h open_place. still_claimed new after (at places k) more
+        before = λ k bound h. still_claimed new after (at places k) more
             (by_number k index
             (λ same. some_is (claim_at new (at places k)) latest
             (ap (λ i. claim_at new (at places i)) same
             ∙ at_place search plan claims (at places index) latest seeking.right in_places free few
             undecided refl latest_is))
             (λ apart. still_claimed claims new (at places k) new_more
-            (seeking.before k (omega (arith, bound, apart)) h open_place)));
+            (seeking.before k (omega (arith, bound, apart)) h)));
         mine = mine_now after others;
       }
 
@@ -216,13 +229,13 @@ module _ (search : Search) (plan : List (Option ℕ)) (is : IsSearch search plan
         is_new : got ≡ new
         is_new = own_claim_is search claims got (at places index) trip same got_is
 
-        pub got_right : AreRight search plan got
+        got_right : AreRight search plan got
         got_right = subst (AreRight search plan) (sym is_new) new_right
 
-        pub got_some : 0 < length got.order
+        got_some : 0 < length got.order
         got_some = omega (arith, new_size, ap (λ some. length some.order) is_new)
 
-        pub got_expanded : AreExpanded search plan got (length got.order - 1)
+        got_expanded : AreExpanded search plan got (length got.order - 1)
         got_expanded = subst (λ some. AreExpanded search plan some (length some.order - 1))
             (sym is_new) new_expanded
 
@@ -236,17 +249,38 @@ module _ (search : Search) (plan : List (Option ℕ)) (is : IsSearch search plan
         pub got_seeking : (after : ClaimsParts) → AreRight search plan after → AreMore got after
             → AreOthers search got after
             → AreExpanded search plan after (length after.order) → claim_at after own ≡ None
-            → IsSeeking search plan after places own (index + 1)
+            → (left : Bits) → AreClaimable search.links.count search.low plan after left
+            → IsSeeking search plan after places own (index + 1) left
         got_seeking after right more others expanded none =
             seeking_more after right (subst (λ some. AreMore some after) is_new more)
             (subst (λ some. AreOthers search some after) is_new others) expanded none
 
+        got_claimable : (after : Bits) → IsPut bits after 0 (at places index) false
+            → AreClaimable search.links.count search.low plan got after
+        got_claimable after put = subst
+            (λ some. AreClaimable search.links.count search.low plan some after) (sym is_new)
+            (claimable_less search.links.count search.low plan claims bits after (at places index)
+            latest seeking.claimable in_places put)
+
+        pub got_ready : (after : Bits) → IsPut bits after 0 (at places index) false
+            → AreClaimable search.links.count search.low plan got after
+            × (AreRight search plan got × ((0 < length got.order)
+            × AreExpanded search plan got (length got.order - 1)))
+        got_ready after put =
+            (got_claimable after put, (got_right, (got_some, got_expanded)))
+
   -- nothing is claimed at first
-  pub seeking_none : (claims : ClaimsParts) (places : List ℕ) (own : ℕ)
+  pub seeking_none : (claims : ClaimsParts) (places : List ℕ) (own : ℕ) (bits : Bits)
       → claims ≡ record { at = replicate (search.links.count + 1) None; order = [] }
-      → IsSeeking search plan claims places own 0
-  seeking_none claims places own none_is =
-      subst (λ some. IsSeeking search plan some places own 0) (sym none_is) (record {
+      → AreClaimable search.links.count search.low plan claims bits
+      → ArePlaces (λ place. IsTightBy search.links search.potentials place (Some search.trip)
+      × IsUndecided plan search.low place) (search.links.count + 1) places
+      → IsSeeking search plan claims places own 0 bits
+  seeking_none claims places own bits none_is claimable are =
+      subst (λ some. IsSeeking search plan some places own 0 bits) (sym none_is) (record {
+        claimable = subst (λ some. AreClaimable search.links.count search.low plan some bits)
+            none_is claimable;
+        are = are;
         right = record {
           places = length-replicate (search.links.count + 1) None;
           few = omega arith;
@@ -264,20 +298,40 @@ module _ (search : Search) (plan : List (Option ℕ)) (is : IsSearch search plan
         mine = λ place found e. absurd
             (none-some found (sym (none_at (search.links.count + 1) place) ∙ e));
       })
-    where
-      none_at : (n place : ℕ) → claim_at (record { at = replicate n None; order = [] }) place ≡ None
-      none_at zero place = refl
-      none_at (suc n) zero = refl
-      none_at (suc n) (suc place) = none_at n place
 
   -- the places at which the trip is tight
-  pub ties_of : (ties : TiesParts) (trip : ℕ) (places : List ℕ)
-      → AreTies search.links search.potentials ties
-      → search.trip ≡ trip → places ≡ get_or ties.by trip []
-      → ArePlaces (λ place. IsTightBy search.links search.potentials place (Some search.trip))
-      (search.links.count + 1) places
-  ties_of ties trip places are same places_are =
-      subst (ArePlaces (λ place. IsTightBy search.links search.potentials place (Some search.trip))
-      (search.links.count + 1))
-      (sym (places_are ∙ ap (λ i. get_or ties.by i []) (sym same)))
-      (are.of_trip search.trip is.within)
+  pub ties_of : (ties : Bits) (trip : ℕ) (bits : Bits) (claims : ClaimsParts)
+      (found places : List ℕ)
+      → AreTies search.links search.potentials ties → search.trip ≡ trip
+      → claims ≡ record { at = replicate (search.links.count + 1) None; order = [] }
+      → AreClaimable search.links.count search.low plan claims bits
+      → places ≡ found
+      → ArePlaces (λ place. (has ties trip place ≡ true) × (has bits 0 place ≡ true)) ties.columns
+      found
+      → ArePlaces (λ place. IsTightBy search.links search.potentials place (Some search.trip)
+      × IsUndecided plan search.low place) (search.links.count + 1) places
+  ties_of ties trip bits claims found places are same none_is claimable places_are found_are =
+      places_as (λ place. (has ties trip place ≡ true) × (has bits 0 place ≡ true))
+      (λ place. IsTightBy search.links search.potentials place (Some search.trip)
+      × IsUndecided plan search.low place) ties.columns (search.links.count + 1) places are.columns
+      (λ place h. (
+        ((are.row (Some search.trip) is.within).right place
+            (ap (λ i. has ties i place) same ∙ h.0)).1,
+        claimable.undecided place h.1,
+      ))
+      (λ place within h. (
+        ap (λ i. has ties i place) (sym same)
+            ∙ (are.row (Some search.trip) is.within).all place within h.0,
+        there place within h.1,
+      ))
+      (subst (ArePlaces (λ place. (has ties trip place ≡ true) × (has bits 0 place ≡ true))
+      ties.columns) (sym places_are) found_are)
+    where
+      there : (place : ℕ) → place < search.links.count + 1 → IsUndecided plan search.low place
+          → has bits 0 place ≡ true
+      there place within undecided = elim (cases_Bool (has bits 0 place)) [
+        | inl h ↦ h
+        | inr gone ↦ absurd (false≢true (sym (ap is_some (none_at (search.links.count + 1) place))
+            ∙ ap (λ some. is_claimed some place) (sym none_is)
+            ∙ claimable.all place within undecided gone))
+      ]

@@ -1,6 +1,6 @@
 -- Inner words of the choice among the plans of least cost: the places that undecided trips may take,
 -- and which of them a search has claimed.
-use Rattle.std.specs.Prelude.{ℕ, ◌≡◌, ◌+◌, ◌<◌, ◌≤◌, nat_eq, if◌then◌else◌, Bool, true, false, is_some, List, [], ◌∷◌, ◌++◌, length, slice_get, get_or, Option, Some, None}
+use Rattle.std.specs.Prelude.{ℕ, ◌≡◌, ◌+◌, ◌<◌, ◌≤◌, Bool, true, false, is_some, List, length, slice_get, Option, Some, None}
 use Rattle.vehicle_model.specs.Plans.{next, is_next, IsPlan, AreSuccessors, ComesNoLater}
 use Rattle.flow_potentials.specs.Potentials.{PotentialParts, at, AreOver, IsTight}
 use Rattle.vehicle_flow.specs.declared.claim.Claim.{Claim}
@@ -16,24 +16,6 @@ pub record ArePlaces (P : ℕ → Type 0) (below : ℕ) (places : List ℕ) : Ty
   pub within : (k : ℕ) → k < length places → at places k < below
   pub all : (place : ℕ) → place < below → P place
       → (k : ℕ) × ((k < length places) × (at places k ≡ place))
-
--- some places and one more, where a slack is 0
-abbrev pub and_place : List ℕ → ℕ → ℕ → List ℕ
-and_place places place slack = if nat_eq slack 0 then places ++ place ∷ [] else places
-
--- for each trip the places at which it is tight, and those that need no trip
-pub record TiesParts : Type 0 where
-  pub by : List (List ℕ)
-  pub alone : List ℕ
-
--- the ties are those of links and potentials
-pub record AreTies (links : Links) (potentials : PotentialParts) (ties : TiesParts) : Type 0 where
-  pub each : length ties.by ≡ links.count
-  pub of_trip : (i : ℕ) → i < links.count
-      → ArePlaces (λ place. IsTightBy links potentials place (Some i)) (links.count + 1)
-      (get_or ties.by i [])
-  pub of_none : ArePlaces (λ place. IsTightBy links potentials place None) (links.count + 1)
-      ties.alone
 
 -- a place is undecided: no trip before the first movable one has it
 abbrev pub IsUndecided : List (Option ℕ) → ℕ → ℕ → Type 0

@@ -1,6 +1,7 @@
 pub mod AcceptedSchedules
 pub mod Bids
 pub mod Choices
+pub mod ClaimablePlaces
 pub mod Claims
 pub mod Growing
 pub mod LinkRows

@@ -1,6 +1,6 @@
 // Places that trips would take.
 ghost use Rattle.std.specs.Prelude.{◌≡◌, ◌<◌, ◌≤◌, ◌+◌, false, is_some, List, [], ◌∷◌, ◌++◌, length, replicate, slice_get, slice_set, None, Some, IfOk, IfNone, IfSome, OnOk};
-ghost use Rattle.vehicle_flow.specs.Claims.{claim_at, AreClaims};
+ghost use Rattle.vehicle_flow.specs.Claims.{claim_at, AreClaims, AreFlagged};
 
 use plan_num::NoMemory;
 use std::alloc::Global;
@@ -55,16 +55,12 @@ impl Claims {
     }
 
     /// Takes all claims back.
-    #[tactic(auto, using(crate::proofs::Flags::none_flagged, crate::proofs::ClaimLists::none_claimed))]
+    #[tactic(auto, using(crate::proofs::Flags::none_flagged))]
     pub(crate) fn clear(&mut self)
         ensures { self.new ≡ record { at = replicate (length self.old.at) None; order = [] } }
     {
-        if self.count() == 0 {
-            return;
-        }
-        reset(&mut self.claims);
+        take_back(&mut self.claims, &mut self.flags, &self.order);
         self.order.clear();
-        unset(&mut self.flags);
     }
 
     /// How many places are claimed.
@@ -125,23 +121,15 @@ impl Claims {
     }
 }
 
-// Takes all claims back.
-#[tactic(auto, using(crate::proofs::ClaimLists::reset_more, crate::proofs::ClaimLists::reset_all))]
-fn reset(claims: &mut Vec<Option<Claim>>)
-    ensures { claims.new.items ≡ replicate (length claims.old.items) None }
+// Takes all claims back, which stand in an order.
+fn take_back(claims: &mut Vec<Option<Claim>>, flags: &mut Vec<bool>, order: &[usize])
+    requires { AreFlagged (record { at = claims.old.items; order = order.now }) flags.old.items }
+    ensures claims { claims.new.items ≡ replicate (length claims.old.items) None }
+    ensures flags { flags.new.items ≡ replicate (length claims.old.items) false }
 {
-    for place in 0..claims.len() {
-        claims[place] = None;
-    }
-}
-
-// Takes all flags back.
-#[tactic(auto, using(crate::proofs::Flags::unset_more, crate::proofs::Flags::unset_all))]
-fn unset(flags: &mut Vec<bool>)
-    ensures { flags.new.items ≡ replicate (length flags.old.items) false }
-{
-    for place in 0..flags.len() {
-        flags[place] = false;
+    for place in order {
+        claims[*place] = None;
+        flags[*place] = false;
     }
 }
 

@@ -4,6 +4,7 @@ ghost use Rattle.vehicle_model.specs.Trips.{links_of, AreTrips};
 ghost use Rattle.vehicle_flow.specs.LinkRows.{and_link, IsRow};
 ghost use Rattle.vehicle_flow.specs.Slacks.{worth};
 
+use flow_potentials::is_late;
 use plan_num::NoMemory;
 use std::alloc::Global;
 use std::marker::Model;
@@ -121,14 +122,4 @@ pub(crate) fn worth(trips: &Trips, i: usize, j: usize) -> Option<u64>
         }
         None => None,
     }
-}
-
-// Whether a trip starts before another one has ended, which is soon seen.
-#[tactic(auto, using(crate::proofs::Late::late_gain))]
-fn is_late(trips: &Trips, i: usize, j: usize) -> bool
-    requires from { i < length trips.now.trips }
-    requires to { j < length trips.now.trips }
-    ensures { result ≡ true → (links_of trips.now).gain i j ≡ None }
-{
-    trips.trip(j).start.time < trips.trip(i).end.time
 }

@@ -1,133 +1,95 @@
 // The places at which trips are tight.
-ghost use Rattle.std.specs.Prelude.{ℕ, ◌≡◌, ◌+◌, ◌<◌, ◌≤◌, [], List, length, get_or, true, Some, None, IfOk, OnOk};
+ghost use Rattle.std.specs.Prelude.{ℕ, ◌≡◌, ◌+◌, ◌<◌, ◌≤◌, nat_eq, true, false, length, Some, None, IfOk, MatchBool};
+ghost use Rattle.bit_rows.specs.Bits.{has};
 ghost use Rattle.flow_potentials.specs.Potentials.{AreOver, at};
 ghost use Rattle.vehicle_model.specs.Trips.{links_of};
-ghost use Rattle.vehicle_flow.specs.Choices.{and_place, AreTies, ArePlaces};
+ghost use Rattle.vehicle_flow.specs.ClaimablePlaces.{AreTies, IsInRow, IsPut, IsRowOf};
 ghost use Rattle.vehicle_flow.specs.Searches.{IsTightBy};
 ghost use Rattle.vehicle_flow.specs.Slacks.{Covers};
 
+use crate::claimable::set;
 use crate::link_table::LinkTable;
 use crate::slack::{link_slack, of_trip};
+use bit_rows::BitRows;
 use flow_potentials::Potentials;
 use plan_num::NoMemory;
 use std::alloc::Global;
-use std::marker::Model;
 
-/// For each trip the places at which it is tight, and those that need no trip.
-#[derive(Drop)]
-pub(crate) struct Ties {
-    by: Vec<Vec<usize>>,
-    alone: Vec<usize>,
-}
-
-impl Model for Ties {
-    ghost use Rattle.std.specs.Prelude.{map};
-    ghost use Rattle.vehicle_flow.specs.Choices.{TiesParts};
-
-    ghost Value = { TiesParts };
-
-    ghost view = { λ ties. record {
-      by = map (λ places. places.items) ties.by.items;
-      alone = ties.alone.items;
-    } };
-}
-
-impl Ties {
-    /// The ties of trips under potentials that cover their links.
-    pub(crate) fn new(
-        alloc: Global,
-        trips: &LinkTable,
-        potentials: &Potentials,
-    ) -> Result<Ties, NoMemory>
-        requires each { AreOver (length trips.now.trips) potentials.now }
-        requires covered { (i : ℕ) → Covers (links_of trips.now) potentials.now i }
-        ensures { IfOk result (AreTies (links_of trips.now) potentials.now) }
-    {
-        let mut by = Vec::new(alloc);
-        for trip in 0..trips.len() {
-            by.push(places_of(alloc, trips, potentials, trip)?)?;
-        }
-        let alone = places_alone(alloc, trips, potentials)?;
-        Ok(Ties { by, alone })
-    }
-
-    /// The places at which a trip is tight.
-    pub(crate) fn of(&self, trip: usize) -> &[usize]
-        requires { trip < length self.now.by }
-        ensures { result.now ≡ get_or self.now.by trip [] }
-    {
-        &self.by[trip]
-    }
-
-    /// The places that need no trip.
-    pub(crate) fn alone(&self) -> &[usize]
-        ensures { result.now ≡ self.now.alone }
-    {
-        &self.alone
-    }
-}
-
-// The places at which a trip is tight.
-fn places_of(
+/// For each trip the places at which it is tight under potentials that cover its links, and in a
+/// last row those that need no trip.
+pub(crate) fn ties_of(
     alloc: Global,
     trips: &LinkTable,
     potentials: &Potentials,
-    trip: usize,
-) -> Result<Vec<usize>, NoMemory>
+) -> Result<BitRows, NoMemory>
+    requires each { AreOver (length trips.now.trips) potentials.now }
+    requires covered { (i : ℕ) → Covers (links_of trips.now) potentials.now i }
+    ensures { IfOk result (AreTies (links_of trips.now) potentials.now) }
+{
+    let mut ties = BitRows::none(alloc, trips.len() + 1, trips.len() + 1)?;
+    for trip in 0..trips.len() {
+        mark_trip(trips, potentials, trip, &mut ties);
+    }
+    mark_alone(trips, potentials, &mut ties);
+    Ok(ties)
+}
+
+// Marks the places at which a trip is tight.
+fn mark_trip(trips: &LinkTable, potentials: &Potentials, trip: usize, ties: &mut BitRows)
     requires each { AreOver (length trips.now.trips) potentials.now }
     requires trip { trip < length trips.now.trips }
     requires covered { Covers (links_of trips.now) potentials.now trip }
-    ensures { IfOk result (λ made. ArePlaces
-        (λ place. IsTightBy (links_of trips.now) potentials.now place (Some trip))
-        (length trips.now.trips + 1) made.items) }
+    requires rows { ties.old.rows ≡ length trips.now.trips + 1 }
+    requires columns { ties.old.columns ≡ length trips.now.trips + 1 }
+    requires none { (place : ℕ) → has ties.old trip place ≡ false }
+    ensures others { IsInRow ties.old ties.new trip }
+    ensures row { IsRowOf (λ place. IsTightBy (links_of trips.now) potentials.now place (Some trip))
+        (length trips.now.trips + 1) ties.new trip }
 {
     let own = of_trip(potentials, trip);
     let links = trips.row(trip);
-    let mut places = Vec::new(alloc);
     for link in links {
         let slack = link_slack(own, potentials, *link);
-        push_if_exact(&mut places, link.to, slack)?;
+        mark_if_exact(ties, trip, link.to, slack);
     }
-    push_if_exact(&mut places, trips.len(), own)?;
-    Ok(places)
+    mark_if_exact(ties, trip, trips.len(), own);
 }
 
-// Adds a place, where a slack is 0.
-fn push_if_exact(places: &mut Vec<usize>, place: usize, slack: u64) -> Result<(), NoMemory>
-    ensures { OnOk result (places.new.items ≡ and_place places.old.items place slack) }
+// Marks the places that need no trip in the last row.
+fn mark_alone(trips: &LinkTable, potentials: &Potentials, ties: &mut BitRows)
+    requires each { AreOver (length trips.now.trips) potentials.now }
+    requires rows { ties.old.rows ≡ length trips.now.trips + 1 }
+    requires columns { ties.old.columns ≡ length trips.now.trips + 1 }
+    requires none { (place : ℕ) → has ties.old (length trips.now.trips) place ≡ false }
+    ensures others { IsInRow ties.old ties.new (length trips.now.trips) }
+    ensures row { IsRowOf (λ place. IsTightBy (links_of trips.now) potentials.now place None)
+        (length trips.now.trips + 1) ties.new (length trips.now.trips) }
+{
+    for place in 0..trips.len() + 1 {
+        mark_if_exact(ties, trips.len(), place, of_place(trips, potentials, place));
+    }
+}
+
+// Sets a bit where a slack is 0.
+fn mark_if_exact(ties: &mut BitRows, row: usize, place: usize, slack: u64)
+    requires row { row < ties.old.rows }
+    requires place { place < ties.old.columns }
+    ensures { MatchBool (nat_eq slack 0) (IsPut ties.old ties.new row place true)
+        (ties.new ≡ ties.old) }
 {
     if slack == 0 {
-        places.push(place)?;
+        set(ties, row, place);
     }
-    Ok(())
 }
 
-// The places that need no trip.
-fn places_alone(
-    alloc: Global,
-    trips: &LinkTable,
-    potentials: &Potentials,
-) -> Result<Vec<usize>, NoMemory>
+// The potential of a place; 0 behind all trips.
+fn of_place(trips: &LinkTable, potentials: &Potentials, place: usize) -> u64
     requires each { AreOver (length trips.now.trips) potentials.now }
-    ensures { IfOk result (λ made. ArePlaces
-        (λ place. IsTightBy (links_of trips.now) potentials.now place None)
-        (length trips.now.trips + 1) made.items) }
+    ensures { result ≡ at potentials.now.v place }
 {
-    let mut places = Vec::new(alloc);
-    for place in 0..trips.len() + 1 {
-        if needs_none(trips, potentials, place) {
-            places.push(place)?;
-        }
+    if place < trips.len() {
+        potentials.v(place).unsigned_abs()
+    } else {
+        0
     }
-    Ok(places)
-}
-
-// Whether a place needs no trip.
-fn needs_none(trips: &LinkTable, potentials: &Potentials, place: usize) -> bool
-    requires each { AreOver (length trips.now.trips) potentials.now }
-    requires place { place ≤ length trips.now.trips }
-    ensures yes { result ≡ true → at potentials.now.v place ≡ 0 }
-    ensures no { at potentials.now.v place ≡ 0 → result ≡ true }
-{
-    place == trips.len() || potentials.v(place) == 0
 }

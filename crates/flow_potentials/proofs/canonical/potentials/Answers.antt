@@ -1,13 +1,21 @@
+use Rattle.std.proofs.Common.{IfOk, subst, sym}
 use Rattle.vehicle_model.specs.Trips.{links_of}
+use Rattle.flow_potentials.specs.Canonical.{AreCanonical}
+use Rattle.flow_potentials.specs.Drops.{IsSearched}
 use Rattle.flow_potentials.proofs.Rounds.{told_canonical}
 use Rattle.flow_potentials.proofs.Settled.{searched_first}
 use Rattle.flow_potentials.proofs.canonical.potentials.Goals as goal
 
 pub walk-requires-clause-known : goal.walk-requires-clause-known
-walk-requires-clause-known c = searched_first (links_of c.args.trips.now) c.args.plan.now c.args.valid.now
+walk-requires-clause-known c = subst
+    (λ plan. IsSearched (links_of c.args.trips.now) plan c.in_ok-drops.drops)
+    (sym c.in_ok-linked.ensures)
+    (searched_first (links_of c.args.trips.now) c.args.plan.now c.args.valid.now
     c.requires.plan c.requires.valid c.len-2.result c.len-2.ensures.count c.in_ok-drops.drops
-    c.in_ok-drops.ensures
+    c.in_ok-drops.ensures)
 
 pub returns-clause-made : goal.returns-clause-made
 returns-clause-made c = told_canonical c.args.trips.now c.args.plan.now c.args.valid.now
-    c.requires.plan c.requires.valid c.into_potentials.result c.into_potentials.ensures.least
+    c.requires.plan c.requires.valid c.into_potentials.result
+    (subst (λ plan. IfOk c.into_potentials.result (AreCanonical (links_of c.args.trips.now) plan))
+    c.in_ok-linked.ensures c.into_potentials.ensures.least)

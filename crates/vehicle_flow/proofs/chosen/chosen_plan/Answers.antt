@@ -1,6 +1,8 @@
-use Rattle.std.proofs.Common.{◌+◌, None, length, refl, ap, sym, ◌∙◌, subst, arith}
-use Rattle.std.proofs.lemmas.List.{length-replicate}
+use Rattle.std.proofs.Common.{◌+◌, [], replicate, None, length, refl, ap, sym, ◌∙◌, subst, arith}
 use Rattle.vehicle_model.specs.Trips.{links_of}
+use Rattle.vehicle_flow.specs.Claims.{claim_at}
+use Rattle.vehicle_flow.proofs.Claimables.{claimable_first}
+use Rattle.vehicle_flow.proofs.ClaimLists.{none_at}
 use Rattle.vehicle_flow.proofs.Settling.{IsDeciding, deciding_none, deciding_more, search_is, chosen_all, chosen_told}
 use Rattle.vehicle_flow.proofs.chosen.chosen_plan.Goals as goal
 
@@ -10,9 +12,15 @@ loop-trip-init c = record {
       0) (sym c.in_ok-assignment.ensures)
       (deciding_none c.args.trips.now c.args.solved.now.potentials c.args.solved.now.plan
       c.requires.plan c.requires.valid);
-  places = ap (λ claims. length claims.at) c.in_ok-claims.ensures ∙ length-replicate
-      (c.len.result + 1) None
-      ∙ ap (λ n. n + 1) c.len.ensures.count;
+  none = c.in_ok-claims.ensures ∙ ap (λ n. record { at = replicate (n + 1) None; order = [] })
+      c.len.ensures.count;
+  claimable = claimable_first (length c.args.trips.now.trips) c.in_ok-assignment.assignment
+      c.in_ok-claims.claims
+      c.in_ok-places.places (λ place. ap (λ claims. claim_at claims place) c.in_ok-claims.ensures
+      ∙ none_at (c.len.result + 1) place) c.in_ok-places.ensures.rows
+      (c.in_ok-places.ensures.columns ∙ ap (λ n. n + 1) c.len-2.ensures.count)
+      (λ place bound. c.in_ok-places.ensures.all place
+      (omega (arith, bound, c.len-2.ensures.count)));
 }
 
 pub settle-requires : goal.settle-requires
@@ -21,7 +29,7 @@ settle-requires c = (
       c.loop-trip.assignment c.loop-trip.trip
       c.requires.valid (omega (arith, c.loop-trip-test.true, c.len-trip-end.ensures.count))
       c.loop-trip.invariant.deciding,
-  (refl, (c.in_ok-ties.ensures, c.loop-trip.invariant.places)),
+  (refl, (c.in_ok-ties.ensures, (c.loop-trip.invariant.none, c.loop-trip.invariant.claimable))),
 )
 
 pub loop-trip-preserved : goal.loop-trip-preserved
@@ -34,7 +42,8 @@ loop-trip-preserved c = record {
   }) c.loop-trip.assignment c.settle.new.assignment c.loop-trip.trip refl
       c.loop-trip.invariant.deciding
       c.in_ok-settle.ensures.settled;
-  places = c.in_ok-settle.ensures.places;
+  none = c.in_ok-settle.ensures.none ∙ c.loop-trip.invariant.none;
+  claimable = c.in_ok-settle.ensures.places;
 }
 
 pub returns : goal.returns

@@ -1,15 +1,17 @@
-use Rattle.std.proofs.Common.{MatchBool, None, ap, sym, slice_set, subst}
-use Rattle.vehicle_flow.specs.Choices.{IsSought, IsFirst}
-use Rattle.vehicle_flow.proofs.Settling.{settled_one}
+use Rattle.std.proofs.Common.{ap, subst, sym, ◌∙◌}
+use Rattle.vehicle_model.specs.Plans.{next}
+use Rattle.vehicle_flow.specs.ClaimablePlaces.{IsTakenOut}
+use Rattle.vehicle_flow.specs.Claims.{claim_at}
+use Rattle.vehicle_flow.proofs.Claimables.{claimable_next}
+use Rattle.vehicle_flow.proofs.ClaimLists.{none_at}
 use Rattle.vehicle_flow.proofs.chosen.settle.Goals as goal
 
-pub returns-then-branch-clause-settled : goal.returns-then-branch-clause-settled
-returns-then-branch-clause-settled g c = settled_one g.search c.args.assignment.now c.requires.0
-    (slice_set c.args.assignment.now c.args.trip None)
-    (ap (λ i. slice_set c.args.assignment.now i None) (sym c.requires.1.0))
-    c.seek.new.claims c.place-own.result c.move_to.new.assignment
-    (subst (λ b. MatchBool b (IsSought g.search c.args.assignment.now c.seek.new.claims
-    c.place-own.result)
-    (IsFirst g.search c.args.assignment.now c.place-own.result)) c.if-branch.true
-    c.in_ok-seek.ensures.sought)
-    c.move_to.ensures
+pub returns-clause-places : goal.returns-clause-places
+returns-clause-places g c = claimable_next g.search c.args.assignment.now c.decide.new.assignment
+    c.decide.new.claims c.clear.new.self c.decide.new.places c.put_back.new.places
+    c.take_out.new.places c.requires.0.first c.in_ok-decide.ensures.right
+    c.in_ok-decide.ensures.places c.put_back.ensures c.in_ok-decide.ensures.settled.same
+    (subst (λ to. IsTakenOut to c.put_back.new.places c.take_out.new.places)
+    (c.next.ensures.value ∙ ap (next c.decide.new.assignment) (sym c.requires.1.0))
+    c.take_out.ensures)
+    (λ place. ap (λ claims. claim_at claims place) c.clear.ensures ∙ none_at _ place)

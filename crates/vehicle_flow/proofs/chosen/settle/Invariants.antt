@@ -1,8 +1,5 @@
 -- The search is the same.
 use Rattle.vehicle_flow.proofs.chosen.settle.Given as goal
 
-abbrev pub ghost-seek : goal.ghost-seek
-ghost-seek g a = g.search
-
-abbrev pub ghost-move_to : goal.ghost-move_to
-ghost-move_to g a = g.search
+abbrev pub ghost-decide : goal.ghost-decide
+ghost-decide g a = g.search
