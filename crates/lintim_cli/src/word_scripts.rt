@@ -91,9 +91,32 @@ closes
 writes
 ";
 
+// A day of 64 stops.
+const EIGHT: &str = "\
+run demo 8
+ends 0 5294
+report
+| load: 112 edges
+| cost: 18 lines
+| concept: cost 504, optimal, 4417 entries
+| ean: 896 events, 2420 activities
+| timetable: 896 events, 868 entries
+| rollout: 1036 trips, 16576 events, 43289 activities
+| vehicles: 60 vehicles, cost 6000, optimal
+| disposition: delay 0, 0 missed, optimal
+| statistic: 14 values
+| done
+writes
+";
+
 #[test]
 fn one_stop_has_nothing_to_run(rt: HostRuntime) -> Result<(), Fail> {
     play(&rt, ONE_STOP)
+}
+
+#[test]
+fn many_trips_of_a_demo_have_a_cheapest_schedule(rt: HostRuntime) -> Result<(), Fail> {
+    play(&rt, EIGHT)
 }
 
 // A demo reports what its files make in a folder.
