@@ -24,7 +24,7 @@ use Rattle.giv_files.proofs.Inputs.{faults_of_table, limit_kept, no_faults, part
 use Rattle.giv_files.proofs.Ranges.{back_none, front_none, unmapped}
 use Rattle.ptn_network.specs.declared.edge.Edge.{Edge}
 use Rattle.ptn_network.specs.Ids.{known_edge}
-use Rattle.line_pool.specs.PoolCosts.{CostRow as PoolCost, cost_row_of, known_line as of_pool, pool_cost_input}
+use Rattle.line_pool.specs.PoolCosts.{cost_row_of, known_line as of_pool, pool_cost_input}
 use Rattle.line_pool.specs.Pools.{LineParts, differs as differs_first, first_frequency, joined_edges, line_limit as pool_limit, line_row as pool_row, line_rules, new_edge, next_place, one_frequency as same_frequency, rows_of}
 use Rattle.line_search.specs.ConceptTables.{concept_rows, line_rows, row_at}
 use Rattle.line_search.specs.GivenProblems.{costed_by, problem_of}
@@ -232,6 +232,14 @@ none_lacks has (line ∷ lines) none = by (has line.id) refl none (none_lacks ha
     by false is none rest = absurd (cc)
 
 -- ---- the two files
+
+-- what cells are read as
+abbrev Told : {X : Type 0} → (List ℤ → X) → Type 0
+Told {X} read = X
+
+-- a row of the costs of a pool
+abbrev PoolCost : Type 0
+PoolCost = Told cost_row_of
 
 module _ (lines : List LineParts) (costs : List ℕ)
     (accepted : input_faults (pool_cost_input lines) costs ≡ []) where
