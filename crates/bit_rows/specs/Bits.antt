@@ -78,13 +78,13 @@ with_word bits place word = record {
   words = slice_set bits.words place word;
 }
 
--- no bit of a word at a place is set behind the columns
+-- no bit of a word at a place is set past the columns
 abbrev pub FitsAt : ℕ → ℕ → ℕ → ℕ → Type 0
 FitsAt rows columns place word =
     (row column : ℕ) → row < rows → columns ≤ column → column < 64 * words_of columns
     → place_of columns row column ≡ place → has_bit word (column % 64) ≡ false
 
--- there are words for each row, and no bit is set behind the columns
+-- there are words for each row, and no bit is set past the columns
 pub record AreBits (bits : Bits) : Type 0 where
   pub each : length bits.words ≡ bits.rows * words_of bits.columns
   pub few : bits.columns ≤ 1000000

@@ -191,7 +191,7 @@ impl BitRows {
         self.words[place] = word;
     }
 
-    /// Puts the columns at which both of two rows have a bit behind others, in rising order.
+    /// Puts the columns at which both of two rows have a bit after those of a list, in rising order.
     pub fn push_common(
         &self,
         row: usize,

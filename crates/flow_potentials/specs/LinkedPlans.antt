@@ -1,8 +1,8 @@
--- Inner words: the trips before those of a plan.
+-- Inner words: which trips of a plan have one before them.
 use Rattle.std.specs.Prelude.{ℕ, ◌≡◌, is_some, List, length, slice_set, get_or, Option, Some, None}
 use Rattle.vehicle_model.specs.Plans.{is_next}
 
--- for each trip of a plan the one before it, if there is one
+-- for each trip of a plan whether one comes before it; which one is told, but nothing rests on it
 pub record AreBefore (plan before : List (Option ℕ)) : Type 0 where
   pub each : length before ≡ length plan
   pub is : (j : ℕ) → is_some (get_or before j None) ≡ is_next plan j

@@ -54,7 +54,8 @@ impl<'a> LinkedPlan<'a> {
         self.plan.next(i)
     }
 
-    /// The trip before one, if there is one.
+    /// The trip before one, if there is one. It only says where a walk goes on first, so it promises
+    /// nothing.
     pub(crate) fn before(&self, j: usize) -> Option<usize> {
         self.before.get(j).copied().flatten()
     }
