@@ -3,7 +3,9 @@ pub mod Checked
 mod Deeper
 pub mod FaultlessTables
 mod Late
+pub mod LinkRows
 mod Linked
+mod PassedRows
 mod Loops
 pub mod Rounds
 pub mod Settled

@@ -1,9 +1,12 @@
 -- Steps over many arcs.
-use Rattle.std.proofs.Common.{◌≡◌, ℕ, ◌+◌, ◌-◌, ◌<◌, ◌≤◌, ◌||◌, Bool, true, false, List, get_or, Option, Some, ap, sym, ◌∙◌, subst, arith}
+use Rattle.std.proofs.Common.{◌≡◌, ℕ, ◌+◌, ◌-◌, ◌<◌, ◌≤◌, ◌||◌, Bool, true, false, List, length, slice_get, get_or, Option, Some, ap, sym, ◌∙◌, subst, arith}
 use Rattle.std.proofs.lemmas.Bool.{or_parts}
+use Rattle.std.proofs.lemmas.Option.{same_Some, slice_get_within}
 use Rattle.vehicle_model.specs.Plans.{next, is_next}
 use Rattle.vehicle_model.specs.Trips.{Links}
-use Rattle.flow_potentials.specs.Drops.{DropParts, one_if, IsStep, PairKept, PairsKept, LinkKept, NextKept, RootKept, TripKept}
+use Rattle.flow_potentials.specs.Drops.{DropParts, one_if, IsStep, RowKept, LinkKept, NextKept, RootKept, TripPassed}
+use Rattle.flow_potentials.specs.LinkRows.{link_to, IsRow}
+use Rattle.flow_potentials.specs.declared.link_table.Link.{Link}
 use Rattle.flow_potentials.proofs.Certified.{by_bound}
 use Rattle.flow_potentials.proofs.Deeper.{no_step, two_steps}
 
@@ -14,7 +17,15 @@ pub record IsPassed (links : Links) (plan : List (Option ℕ)) (before after : D
 
 -- the trips so far
 abbrev pub TripsKept : Links → List (Option ℕ) → DropParts → ℕ → Type 0
-TripsKept links plan drops most = (i : ℕ) → i < most → TripKept links plan drops i
+TripsKept links plan drops most = (i : ℕ) → i < most → TripPassed links plan drops i
+
+-- a link finds no better walk
+abbrev pub LinkPassed : DropParts → ℕ → Link → Type 0
+LinkPassed drops i link = get_or drops.left i 0 + link.gain ≤ get_or drops.right link.to 0
+
+-- nor do the first links of a row
+abbrev pub LinksKept : DropParts → ℕ → List Link → ℕ → Type 0
+LinksKept drops i row most = (k : ℕ) → k < most → (link : Link) → slice_get row k ≡ Some link → LinkPassed drops i link
 
 module _ (links : Links) (plan : List (Option ℕ)) (before : DropParts) where
   pub passed_none : (Kept : Type 0) → Kept → IsPassed links plan before before false Kept
@@ -37,25 +48,33 @@ below_next P i before here k h = by_bound k i (before k)
     (λ past. let same : i ≡ k = omega (arith, past, h) in subst P same here)
 
 module _ (links : Links) (plan : List (Option ℕ)) (before : DropParts) (i : ℕ) where
-  pub one_pair : (j : ℕ) (now after : DropParts) (changed better both : Bool)
-      → IsPassed links plan before now changed (PairsKept links before i j) → IsStep links plan now after better
-      → (better ≡ false → PairKept links now i j) → both ≡ (changed || better)
-      → IsPassed links plan before after both (PairsKept links before i (j + 1))
-  one_pair j now after changed better both passed step kept is =
-      passed_more links plan before now after changed better both (PairsKept links before i j) (PairKept links before i j)
-      (PairsKept links before i (j + 1)) passed step
-      (λ e same. subst (λ drops. PairKept links drops i j) same (kept e))
-      (below_next (PairKept links before i) j) is
+  pub one_link : (row : List Link) (k : ℕ) (link : Link) → slice_get row k ≡ Some link → (now after : DropParts) (changed better both : Bool)
+      → IsPassed links plan before now changed (LinksKept before i row k) → IsStep links plan now after better
+      → (better ≡ false → get_or now.left i 0 + link.gain ≤ get_or now.right link.to 0) → both ≡ (changed || better)
+      → IsPassed links plan before after both (LinksKept before i row (k + 1))
+  one_link row k link here now after changed better both passed step kept is =
+      passed_more links plan before now after changed better both (LinksKept before i row k) (LinkPassed before i link)
+      (LinksKept before i row (k + 1)) passed step
+      (λ e same. subst (λ drops. LinkPassed drops i link) same (kept e))
+      (λ sooner one. below_next (λ m. (other : Link) → slice_get row m ≡ Some other → LinkPassed before i other) k sooner
+      (λ other there. subst (LinkPassed before i) (same_Some link other (sym here ∙ there)) one)) is
+
+  -- all links of a row
+  pub row_kept : (row : List Link) → IsRow links i links.count row → (k : ℕ) → length row ≤ k → LinksKept before i row k
+      → RowKept links before i
+  row_kept row is k past all j gain within worth_is =
+      let found = is.all j gain within worth_is in
+      all found.0 (omega (arith, past, slice_get_within row found.0 (link_to j gain) found.1)) (link_to j gain) found.1
 
   pub one_trip : (now after : DropParts) (changed better both : Bool)
       → IsPassed links plan before now changed (TripsKept links plan before i) → IsStep links plan now after better
-      → (better ≡ false → TripKept links plan now i) → both ≡ (changed || better)
+      → (better ≡ false → TripPassed links plan now i) → both ≡ (changed || better)
       → IsPassed links plan before after both (TripsKept links plan before (i + 1))
   one_trip now after changed better both passed step kept is =
-      passed_more links plan before now after changed better both (TripsKept links plan before i) (TripKept links plan before i)
+      passed_more links plan before now after changed better both (TripsKept links plan before i) (TripPassed links plan before i)
       (TripsKept links plan before (i + 1)) passed step
-      (λ e same. subst (λ drops. TripKept links plan drops i) same (kept e))
-      (below_next (TripKept links plan before) i) is
+      (λ e same. subst (λ drops. TripPassed links plan drops i) same (kept e))
+      (below_next (TripPassed links plan before) i) is
 
   -- two arcs of a trip that has a successor
   module _ (j : ℕ) (mid after : DropParts) (link back both : Bool) (is : both ≡ (link || back))
@@ -70,24 +89,24 @@ module _ (links : Links) (plan : List (Option ℕ)) (before : DropParts) (i : �
         (subst (λ drops. get_or drops.left i 0 ≤ drops.root) (first.same parts.0) (other parts.1), one parts.0)
 
   -- all arcs of a trip
-  module _ (one two after : DropParts) (next_better pairs_better root_better part all : Bool)
-      (part_is : part ≡ (next_better || pairs_better)) (all_is : all ≡ (part || root_better))
-      (first : IsStep links plan before one next_better) (second : IsStep links plan one two pairs_better)
+  module _ (one two after : DropParts) (next_better row_better root_better part all : Bool)
+      (part_is : part ≡ (next_better || row_better)) (all_is : all ≡ (part || root_better))
+      (first : IsStep links plan before one next_better) (second : IsStep links plan one two row_better)
       (third : IsStep links plan two after root_better) where
     pub trip_step : IsStep links plan before after all
     trip_step = two_steps links plan before two after part root_better all all_is
-        (two_steps links plan before one two next_better pairs_better part part_is first second) third
+        (two_steps links plan before one two next_better row_better part part_is first second) third
 
     pub trip_kept : (next_better ≡ false → NextKept links before i (next plan i))
-        → (pairs_better ≡ false → PairsKept links one i links.count)
-        → (root_better ≡ false → RootKept two i (is_next plan i)) → all ≡ false → TripKept links plan before i
-    trip_kept nexts pairs roots e =
+        → (row_better ≡ false → RowKept links one i)
+        → (root_better ≡ false → RootKept two i (is_next plan i)) → all ≡ false → TripPassed links plan before i
+    trip_kept nexts rows roots e =
         let outer = or_parts part root_better (sym all_is ∙ e) in
-        let inner = or_parts next_better pairs_better (sym part_is ∙ outer.0) in
+        let inner = or_parts next_better row_better (sym part_is ∙ outer.0) in
         let same_one = first.same inner.0 in
         let same_two = second.same inner.1 ∙ same_one in
         record {
-          pairs = subst (λ drops. PairsKept links drops i links.count) same_one (pairs inner.1);
+          row = subst (λ drops. RowKept links drops i) same_one (rows inner.1);
           next_kept = nexts inner.0;
           root_kept = subst (λ drops. RootKept drops i (is_next plan i)) same_two (roots outer.1);
         }

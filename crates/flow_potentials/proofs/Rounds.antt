@@ -405,7 +405,7 @@ pub canonical_small : (trips : TripsParts) (plan : List (Option ℕ)) (potential
 unfolding canonical
 canonical_small trips plan potentials are is valid =
     let all = rounds_end trips plan potentials is valid in
-    settled_small trips plan _ all.known all.kept are
+    settled_small trips plan _ all.known are
 
 -- ---- there are no others
 
@@ -416,7 +416,7 @@ one_least links plan node a b first second =
     let high = second.least first.walk a first.has_it in
     omega (arith, ints, low, high)
 
-same_numbers : (some other : List ℕ) → length some ≡ length other → ((k : ℕ) → k < length some → at some k ≡ at other k) → some ≡ other
+pub same_numbers : (some other : List ℕ) → length some ≡ length other → ((k : ℕ) → k < length some → at some k ≡ at other k) → some ≡ other
 same_numbers [] [] size each = refl
 same_numbers [] (b ∷ other) size each = absurd (omega (arith, size))
 same_numbers (a ∷ some) [] size each = absurd (omega (arith, size))

@@ -12,9 +12,9 @@ use Rattle.vehicle_model.specs.Trips.{TripsParts, Links, AreTrips, links_of}
 use Rattle.vehicle_model.proofs.Following.{some_of, links_within}
 use Rattle.vehicle_model.proofs.Linking.{next_found, followed, is_trip_same}
 use Rattle.flow_potentials.specs.Canonical.{AreCanonical}
-use Rattle.flow_potentials.specs.Drops.{DropParts, drop_at, AreFound, IsSearched, NextKept, RootKept, AreKept, potentials_by}
+use Rattle.flow_potentials.specs.Drops.{DropParts, drop_at, AreFound, AreDropsOver, IsSearched, NextKept, RootKept, AreKept, potentials_by}
 use Rattle.flow_potentials.specs.Potentials.{PotentialParts, at, IsSmall, ArePotentials, AreOver, AreValid}
-use Rattle.flow_potentials.specs.Residual.{Node, root, left, right, arc, IsLeastCost}
+use Rattle.flow_potentials.specs.Residual.{Node, root, left, right, arc, walk_cost, IsLeastCost}
 use Rattle.flow_potentials.proofs.Certified.{by_bound}
 use Rattle.flow_potentials.proofs.Deeper.{walk_bound}
 use Rattle.flow_potentials.proofs.Shallow.{free_is, none_there, untrue, found_most}
@@ -44,26 +44,26 @@ searched_first links plan potentials is valid n counted drops drops_is = subst (
 
 -- ---- behind all passes
 
-module _ (trips : TripsParts) (plan : List (Option ℕ)) (drops : DropParts) (known : IsSearched (links_of trips) plan drops) (kept : AreKept (links_of trips) plan drops) where
+module _ (trips : TripsParts) (plan : List (Option ℕ)) (drops : DropParts) (plan_is : IsPlan (links_of trips) plan) (sized : AreDropsOver (length trips.trips) drops) (kept : AreKept (links_of trips) plan drops) where
   abbrev n : ℕ
   n = length trips.trips
 
   abbrev made : PotentialParts
   made = potentials_by drops
 
-  u_at : (i : ℕ) → i < n → at made.u i ≡ drops.root - get_or drops.left i 0
-  u_at i within = get_or-map (λ number. drops.root - number) drops.left i 0 0 (omega (arith, within, known.over.left))
+  pub u_at : (i : ℕ) → i < n → at made.u i ≡ drops.root - get_or drops.left i 0
+  u_at i within = get_or-map (λ number. drops.root - number) drops.left i 0 0 (omega (arith, within, sized.left))
 
-  v_at : (j : ℕ) → j < n → at made.v j ≡ get_or drops.right j 0 - drops.root
-  v_at j within = get_or-map (λ number. number - drops.root) drops.right j 0 0 (omega (arith, within, known.over.right))
+  pub v_at : (j : ℕ) → j < n → at made.v j ≡ get_or drops.right j 0 - drops.root
+  v_at j within = get_or-map (λ number. number - drops.root) drops.right j 0 0 (omega (arith, within, sized.right))
 
   next_in : (i j : ℕ) → next plan i ≡ Some j → (i < n) × (j < n)
-  next_in i j e = links_within trips i j (known.plan_is.follow i j e)
+  next_in i j e = links_within trips i j (plan_is.follow i j e)
 
-  over_all : AreOver n made
+  pub over_all : AreOver n made
   over_all = record {
-    each_u = length-map drops.left (λ number. drops.root - number) ∙ known.over.left;
-    each_v = length-map drops.right (λ number. number - drops.root) ∙ known.over.right;
+    each_u = length-map drops.left (λ number. drops.root - number) ∙ sized.left;
+    each_v = length-map drops.right (λ number. number - drops.root) ∙ sized.right;
   }
 
   covered : (i j : ℕ) → IfSome ((links_of trips).gain i j) (λ gain. gain ≤ℤ pos (at made.u i + at made.v j))
@@ -98,10 +98,10 @@ module _ (trips : TripsParts) (plan : List (Option ℕ)) (drops : DropParts) (kn
 
   covering : AreCovering (links_of trips).gain 0 plan made.u made.v
   covering = record {
-    size = over_all.each_u ∙ sym known.plan_is.each;
-    once = known.plan_is.once;
+    size = over_all.each_u ∙ sym plan_is.each;
+    once = plan_is.once;
     covered = λ k j e. subst (λ i. unwrap_or ((links_of trips).gain i j) (pos 0) ≤ℤ pos (at made.u k + at made.v j)) (plain k)
-        (let found = some_of ((links_of trips).gain k j) (known.plan_is.follow k j e) in
+        (let found = some_of ((links_of trips).gain k j) (plan_is.follow k j e) in
         let exact = linked k j e found.0 found.1 in
         subst (λ some. unwrap_or some (pos 0) ≤ℤ pos (at made.u k + at made.v j)) (sym found.1) (omega (arith, ints, exact)));
   }
@@ -109,10 +109,10 @@ module _ (trips : TripsParts) (plan : List (Option ℕ)) (drops : DropParts) (kn
   tight : AreTight (links_of trips).gain 0 plan made.u made.v
   tight = record {
     linked = λ k j e. ap (λ i. unwrap_or ((links_of trips).gain i j) (pos 0)) (sym (plain k))
-        ∙ (let found = some_of ((links_of trips).gain k j) (known.plan_is.follow k j e) in
+        ∙ (let found = some_of ((links_of trips).gain k j) (plan_is.follow k j e) in
         ap (λ some. unwrap_or some (pos 0)) found.1 ∙ linked k j e found.0 found.1);
     last = λ k h e.
-        let within : k < length trips.trips = omega (arith, h, known.plan_is.each) in
+        let within : k < length trips.trips = omega (arith, h, plan_is.each) in
         let low = subst (NextKept (links_of trips) drops k) e (kept k within).next_kept in
         omega (arith, low, u_at k within);
     first = λ j h. by_bound j (length trips.trips)
@@ -122,8 +122,8 @@ module _ (trips : TripsParts) (plan : List (Option ℕ)) (drops : DropParts) (kn
         (λ past. get_or-eq_default made.v 0 (omega (arith, past, over_all.each_v)));
   }
 
-  pub settled_valid : AreValid (links_of trips) plan made
-  settled_valid = record {
+  pub kept_valid : AreValid (links_of trips) plan made
+  kept_valid = record {
     over = over_all;
     covered = covered;
     exact = sym (tight_gains (links_of trips).gain 0 plan made.u made.v covering tight);
@@ -189,49 +189,61 @@ module _ (trips : TripsParts) (plan : List (Option ℕ)) (drops : DropParts) (kn
   unfolding height
   low_all node = omega (arith, ints)
 
-  least_at : (node : Node) → IsLeastCost (links_of trips) plan node (neg_ℤ (pos (drop_at drops node)))
+  -- a walk that was found costs the least
+  pub least_of : (node : Node) (walk : List Node) → walk_cost (links_of trips) plan node walk ≡ Some (neg_ℤ (pos (drop_at drops node)))
+      → IsLeastCost (links_of trips) plan node (neg_ℤ (pos (drop_at drops node)))
   unfolding height
-  least_at node = record {
-    walk = (known.found node).0;
-    has_it = (known.found node).1;
+  least_of node walk found = record {
+    walk = walk;
+    has_it = found;
     least = λ other more e. walk_bound (links_of trips) plan height low_all rises node other more e;
   }
 
-  greater : (a b : ℕ) → pos (a - b) ≡ int_max (pos 0) (neg_ℤ (pos b) -ℤ neg_ℤ (pos a))
-  greater a b = omega (arith, ints, int_max_is (pos 0) (neg_ℤ (pos b) -ℤ neg_ℤ (pos a)))
+pub greater : (a b : ℕ) → pos (a - b) ≡ int_max (pos 0) (neg_ℤ (pos b) -ℤ neg_ℤ (pos a))
+greater a b = omega (arith, ints, int_max_is (pos 0) (neg_ℤ (pos b) -ℤ neg_ℤ (pos a)))
 
-  pub settled_canonical : AreCanonical (links_of trips) plan made
+module _ (trips : TripsParts) (plan : List (Option ℕ)) (drops : DropParts) (known : IsSearched (links_of trips) plan drops) (kept : AreKept (links_of trips) plan drops) where
+  pub settled_valid : AreValid (links_of trips) plan (potentials_by drops)
+  settled_valid = kept_valid trips plan drops known.plan_is known.over kept
+
+  least_at : (node : Node) → IsLeastCost (links_of trips) plan node (neg_ℤ (pos (drop_at drops node)))
+  least_at node = least_of trips plan drops known.plan_is known.over kept node (known.found node).0 (known.found node).1
+
+  pub settled_canonical : AreCanonical (links_of trips) plan (potentials_by drops)
   settled_canonical = record {
-    over = over_all;
+    over = over_all trips plan drops known.plan_is known.over kept;
     base = neg_ℤ (pos drops.root);
     base_least = least_at root;
     u = λ i within. (
       neg_ℤ (pos (get_or drops.left i 0)),
       (
         least_at (left i),
-        ap pos (u_at i within) ∙ greater drops.root (get_or drops.left i 0),
+        ap pos (u_at trips plan drops known.plan_is known.over kept i within) ∙ greater drops.root (get_or drops.left i 0),
       ),
     );
     v = λ j within. (
       neg_ℤ (pos (get_or drops.right j 0)),
       (
         least_at (right j),
-        ap pos (v_at j within) ∙ greater (get_or drops.right j 0) drops.root,
+        ap pos (v_at trips plan drops known.plan_is known.over kept j within) ∙ greater (get_or drops.right j 0) drops.root,
       ),
     );
   }
 
-  pub settled_small : AreTrips trips → ArePotentials made
-  settled_small are = record {
-    each = over_all.each_u ∙ sym over_all.each_v;
-    u_small = All-map IsSmall (λ number. drops.root - number) drops.left
-        (λ k d h. omega (arith, found_most trips plan drops are known root));
-    v_small = All-map IsSmall (λ number. number - drops.root) drops.right
-        (λ k d h.
-        let small = found_most trips plan drops are known (right k) in
-        let same = get_or_default drops.right k d 0 h in
-        omega (arith, small, same));
-  }
+-- their potentials are in their range
+pub settled_small : (trips : TripsParts) (plan : List (Option ℕ)) (drops : DropParts) → IsSearched (links_of trips) plan drops
+    → AreTrips trips → ArePotentials (potentials_by drops)
+settled_small trips plan drops known are = record {
+  each = length-map drops.left (λ number. drops.root - number) ∙ known.over.left ∙ sym known.over.right
+      ∙ sym (length-map drops.right (λ number. number - drops.root));
+  u_small = All-map IsSmall (λ number. drops.root - number) drops.left
+      (λ k d h. omega (arith, found_most trips plan drops are known root));
+  v_small = All-map IsSmall (λ number. number - drops.root) drops.right
+      (λ k d h.
+      let small = found_most trips plan drops are known (right k) in
+      let same = get_or_default drops.right k d 0 h in
+      omega (arith, small, same));
+}
 
 -- potentials that are made of numbers
 pub made_is : (drops : DropParts) (u v : List ℕ) → u ≡ map (λ number. drops.root - number) drops.left

@@ -1,15 +1,16 @@
 -- Steps over arcs, as they are made.
-use Rattle.std.proofs.Common.{◌≡◌, ℕ, ℤ, pos, neg_ℤ, ◌+◌, ◌*◌, ◌<◌, ◌≤◌, ◌+ℤ◌, ◌-ℤ◌, ◌≤ℤ◌, ◌&&◌, not, is_some, Bool, true, false, List, [], ◌∷◌, suc, length, sum, get_or, slice_set, Option, Some, None, IfSome, MatchOption, option_map, refl, ap, sym, ◌∙◌, subst, arith}
+use Rattle.std.proofs.Common.{◌≡◌, ℕ, ℤ, pos, neg_ℤ, ◌+◌, ◌*◌, ◌<◌, ◌≤◌, ◌+ℤ◌, ◌-ℤ◌, ◌≤ℤ◌, ◌&&◌, not, is_some, Bool, true, false, List, [], ◌∷◌, suc, length, sum, get_or, slice_set, Option, Some, None, IfSome, option_map, refl, ap, sym, ◌∙◌, subst, arith}
 use Rattle.std.proofs.lemmas.Bool.{false≢true, lt-ltb}
 use Rattle.std.proofs.lemmas.Int.{ints}
 use Rattle.std.proofs.lemmas.List.Sums.{sum_by-cons}
-use Rattle.std.proofs.lemmas.Option.{none-some}
 use Rattle.vehicle_model.specs.Plans.{next, is_next}
 use Rattle.vehicle_model.specs.Trips.{TripsParts, Links, AreTrips, links_of}
-use Rattle.flow_potentials.specs.Drops.{DropParts, depth, IsStep, IsSearched, IsRaised, PairKept, LinkKept}
+use Rattle.flow_potentials.specs.Drops.{DropParts, depth, IsStep, IsSearched, IsRaised, LinkKept}
+use Rattle.flow_potentials.specs.LinkRows.{worth}
 use Rattle.flow_potentials.specs.Potentials.{at}
 use Rattle.flow_potentials.specs.Residual.{root, left, right, free_arc}
 use Rattle.flow_potentials.proofs.Deeper.{step_root, step_left, step_right}
+use Rattle.flow_potentials.proofs.LinkRows.{worth_is}
 use Rattle.flow_potentials.proofs.Shallow.{pair_most, back_most, back_arc, found_most}
 
 -- what is known stays known behind a step
@@ -23,22 +24,15 @@ still_searched links plan before after changed known step = record {
 }
 
 module _ (links : Links) (plan : List (Option ℕ)) (drops : DropParts) (known : IsSearched links plan drops) (i j : ℕ) where
-  -- over a pair
-  pub pair_step : j < links.count → (from to number : ℕ) → from ≡ get_or drops.left i 0 → to ≡ get_or drops.right j 0
-      → (told : Option ℕ) → MatchOption (links.gain i j) (told ≡ None) (λ gain. IsRaised from gain to told)
-      → told ≡ Some number → (after : DropParts)
+  -- over a link of a row
+  pub row_step : (gain : ℕ) → worth (links.gain i j) ≡ Some gain → j < links.count
+      → (number : ℕ) → number ≡ get_or drops.left i 0 + gain → get_or drops.right j 0 < number → (after : DropParts)
       → after ≡ record { root = drops.root; left = drops.left; right = slice_set drops.right j number }
       → IsStep links plan drops after true
-  pair_step within from to number from_is to_is told raised is after after_is = split (links.gain i j) refl raised
-    where
-      split : (at : Option ℤ) → links.gain i j ≡ at → MatchOption at (told ≡ None) (λ gain. IsRaised from gain to told)
-          → IsStep links plan drops after true
-      split None e r = absurd (none-some number (sym r ∙ is))
-      split (Some gain) e r =
-          let facts = subst (IsRaised from gain to) is r in
-          subst (λ some. IsStep links plan drops some true) (sym after_is)
-          (step_right links plan drops (left i) (neg_ℤ gain) number (omega (arith, ints, facts.0, from_is)) j
-          (omega (arith, within, known.over.right)) (ap (option_map neg_ℤ) e) (omega (arith, facts.1, to_is)))
+  row_step gain is within number number_is less after after_is =
+      subst (λ some. IsStep links plan drops some true) (sym after_is)
+      (step_right links plan drops (left i) (neg_ℤ (pos gain)) number (omega (arith, ints, number_is)) j
+      (omega (arith, within, known.over.right)) (ap (option_map neg_ℤ) (worth_is (links.gain i j) gain is)) less)
 
   -- back over a link
   module _ (linked : next plan i ≡ Some j) where
@@ -71,35 +65,14 @@ module _ (links : Links) (plan : List (Option ℕ)) (drops : DropParts) (known :
             let fact = subst (IsRaised from (neg_ℤ gain) to) none r in
             omega (arith, ints, fact, from_is, to_is)
 
-  pub pair_kept : (from to : ℕ) → from ≡ get_or drops.left i 0 → to ≡ get_or drops.right j 0
-      → (told : Option ℕ) → MatchOption (links.gain i j) (told ≡ None) (λ gain. IsRaised from gain to told) → told ≡ None
-      → PairKept links drops i j
-  pair_kept from to from_is to_is told raised none = split (links.gain i j) raised
-    where
-      split : (at : Option ℤ) → MatchOption at (told ≡ None) (λ gain. IsRaised from gain to told)
-          → IfSome at (λ gain. (pos (get_or drops.left i 0) +ℤ gain) ≤ℤ pos (get_or drops.right j 0))
-      split None r = tt
-      split (Some gain) r =
-          let fact = subst (IsRaised from gain to) none r in
-          omega (arith, ints, fact, from_is, to_is)
-
--- where no gain is more than a number, it raises nothing that is as high
-pub not_raised : (gain : Option ℤ) (from high to : ℕ) (told : Option ℕ) → IfSome gain (λ gain. gain ≤ℤ pos high)
-    → from + high ≤ to → told ≡ None → MatchOption gain (told ≡ None) (λ gain. IsRaised from gain to told)
-not_raised None from high to told most low none = none
-not_raised (Some gain) from high to told most low none =
-    let below : (pos from +ℤ gain) ≤ℤ pos to = omega (arith, ints, most, low) in
-    subst (IsRaised from gain to) (sym none) below
-
 -- what is asked of numbers over arcs
-pub pair_asks : (trips : TripsParts) (plan : List (Option ℕ)) (drops : DropParts) → AreTrips trips
-    → IsSearched (links_of trips) plan drops → (i j from : ℕ) → from ≡ get_or drops.left i 0
-    → IfSome ((links_of trips).gain i j) (λ gain. (pos from +ℤ gain) ≤ℤ pos 2000000000000000)
-pair_asks trips plan drops are known i j from from_is = split ((links_of trips).gain i j) refl
-  where
-    split : (at : Option ℤ) → (links_of trips).gain i j ≡ at → IfSome at (λ gain. (pos from +ℤ gain) ≤ℤ pos 2000000000000000)
-    split None e = tt
-    split (Some gain) e = omega (arith, ints, pair_most trips plan drops are known i j gain e, from_is)
+pub row_asks : (trips : TripsParts) (plan : List (Option ℕ)) (drops : DropParts) → AreTrips trips
+    → IsSearched (links_of trips) plan drops → (i j gain : ℕ) → worth ((links_of trips).gain i j) ≡ Some gain
+    → get_or drops.left i 0 + gain ≤ 2000000000000000
+row_asks trips plan drops are known i j gain is =
+    let most : (pos (get_or drops.left i 0) +ℤ pos gain) ≤ℤ pos 2000000000000000 =
+    pair_most trips plan drops are known i j (pos gain) (worth_is ((links_of trips).gain i j) gain is) in
+    omega (arith, ints, most)
 
 pub link_asks : (trips : TripsParts) (plan : List (Option ℕ)) (drops : DropParts) → AreTrips trips
     → IsSearched (links_of trips) plan drops → (i j from : ℕ) → next plan i ≡ Some j → from ≡ get_or drops.right j 0

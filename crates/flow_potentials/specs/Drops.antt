@@ -4,6 +4,7 @@ use Rattle.std.specs.Prelude.{ℕ, ℤ, pos, neg_ℤ, ◌≡◌, ◌+◌, ◌<�
 use Rattle.vehicle_model.specs.Trips.{Links}
 use Rattle.vehicle_model.specs.Plans.{next, is_next, IsPlan}
 use Rattle.flow_potentials.specs.Potentials.{PotentialParts, AreValid}
+use Rattle.flow_potentials.specs.LinkRows.{worth}
 use Rattle.flow_potentials.specs.Residual.{Node, root, left, right, walk_cost}
 
 -- a number for the root, and for the left and the right node of each trip
@@ -66,6 +67,21 @@ pub record TripKept (links : Links) (plan : List (Option ℕ)) (drops : DropPart
 -- no arc finds a better walk
 abbrev pub AreKept : Links → List (Option ℕ) → DropParts → Type 0
 AreKept links plan drops = (i : ℕ) → i < links.count → TripKept links plan drops i
+
+-- no link of a trip that is worth something finds a better walk
+abbrev pub RowKept : Links → DropParts → ℕ → Type 0
+RowKept links drops i = (j gain : ℕ) → j < links.count → worth (links.gain i j) ≡ Some gain
+    → get_or drops.left i 0 + gain ≤ get_or drops.right j 0
+
+-- no arc of a trip that a round looks at finds a better walk
+pub record TripPassed (links : Links) (plan : List (Option ℕ)) (drops : DropParts) (i : ℕ) : Type 0 where
+  pub row : RowKept links drops i
+  pub next_kept : NextKept links drops i (next plan i)
+  pub root_kept : RootKept drops i (is_next plan i)
+
+-- no arc that a round looks at finds a better walk
+abbrev pub ArePassed : Links → List (Option ℕ) → DropParts → Type 0
+ArePassed links plan drops = (i : ℕ) → i < links.count → TripPassed links plan drops i
 
 -- one, where something has changed
 abbrev pub one_if : Bool → ℕ

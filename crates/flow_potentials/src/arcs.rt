@@ -1,45 +1,42 @@
 // The arcs of the residual graph: each may make a better walk.
 ghost use Rattle.std.specs.Prelude.{◌+◌, ◌≡◌, ◌<◌, ◌≤◌, ◌+ℤ◌, ◌-ℤ◌, ◌≤ℤ◌, ◌||◌, pos, neg_ℤ, true, false, length, get_or, is_some, MatchOption, Some, None, IfSome};
-ghost use Rattle.flow_potentials.specs.Drops.{PairKept, LinkKept, NextKept, RootKept, IsSearched, IsStep, IsRaised};
-ghost use Rattle.flow_potentials.specs.Potentials.{AreValid};
+ghost use Rattle.flow_potentials.specs.Drops.{LinkKept, NextKept, RootKept, IsSearched, IsStep, IsRaised};
+ghost use Rattle.flow_potentials.specs.LinkRows.{IsLinkOf};
 ghost use Rattle.vehicle_model.specs.Plans.{next, is_next};
 ghost use Rattle.vehicle_model.specs.Trips.{links_of};
 
 use crate::drops::Drops;
+use crate::link_table::{Link, LinkTable};
 use crate::linked_plan::LinkedPlan;
-use crate::numbers::Potentials;
-use vehicle_model::Trips;
 
 impl Drops {
-    /// The link from a trip to another may make a better walk.
-    pub(crate) fn relax_pair(
+    /// A link from a trip may make a better walk.
+    pub(crate) fn relax_link_of(
         &mut self,
-        trips: &Trips,
+        trips: &LinkTable,
         plan: &LinkedPlan,
-        valid: &Potentials,
         i: usize,
-        j: usize,
+        link: Link,
     ) -> bool
         requires known { IsSearched (links_of trips.now) plan.now self.old }
-        requires valid { AreValid (links_of trips.now) plan.now valid.now }
         requires from { i < length trips.now.trips }
-        requires to { j < length trips.now.trips }
+        requires link { IsLinkOf (links_of trips.now) i (length trips.now.trips) link }
         ensures step { IsStep (links_of trips.now) plan.now self.old self.new result }
-        ensures kept { result ≡ false → PairKept (links_of trips.now) self.old i j }
+        ensures kept { result ≡ false
+            → get_or self.old.left i 0 + link.gain ≤ get_or self.old.right link.to 0 }
     {
         let _ = trips.len();
-        let _ = plan.len();
-        match over_pair(trips, i, j, self.left(i), self.right(j), valid.both(i, j)) {
-            Some(number) => {
-                self.set_right(j, number);
-                true
-            }
-            None => false,
+        let number = self.left(i) + link.gain;
+        if self.right(link.to) < number {
+            self.set_right(link.to, number);
+            true
+        } else {
+            false
         }
     }
 
     // A link of the plan that is given up may make a better walk.
-    fn relax_link(&mut self, trips: &Trips, plan: &LinkedPlan, i: usize, j: usize) -> bool
+    fn relax_link(&mut self, trips: &LinkTable, plan: &LinkedPlan, i: usize, j: usize) -> bool
         requires known { IsSearched (links_of trips.now) plan.now self.old }
         requires link { next plan.now i ≡ Some j }
         ensures step { IsStep (links_of trips.now) plan.now self.old self.new result }
@@ -57,7 +54,7 @@ impl Drops {
     }
 
     // The arc from the left node of a trip with a successor to the root may make a better walk.
-    fn relax_back(&mut self, trips: &Trips, plan: &LinkedPlan, i: usize) -> bool
+    fn relax_back(&mut self, trips: &LinkTable, plan: &LinkedPlan, i: usize) -> bool
         requires known { IsSearched (links_of trips.now) plan.now self.old }
         requires within { i < length trips.now.trips }
         requires link { is_some (next plan.now i) ≡ true }
@@ -76,7 +73,7 @@ impl Drops {
     }
 
     // Both arcs from where a trip has a successor.
-    fn relax_linked(&mut self, trips: &Trips, plan: &LinkedPlan, i: usize, j: usize) -> bool
+    fn relax_linked(&mut self, trips: &LinkTable, plan: &LinkedPlan, i: usize, j: usize) -> bool
         requires known { IsSearched (links_of trips.now) plan.now self.old }
         requires within { i < length trips.now.trips }
         requires link { next plan.now i ≡ Some j }
@@ -89,7 +86,7 @@ impl Drops {
     }
 
     // The arc from the root to the left node of a trip without a successor may make a better walk.
-    fn relax_alone(&mut self, trips: &Trips, plan: &LinkedPlan, i: usize) -> bool
+    fn relax_alone(&mut self, trips: &LinkTable, plan: &LinkedPlan, i: usize) -> bool
         requires known { IsSearched (links_of trips.now) plan.now self.old }
         requires within { i < length trips.now.trips }
         requires alone { next plan.now i ≡ None }
@@ -108,7 +105,7 @@ impl Drops {
     }
 
     /// The arcs between the left node of a trip and its link or the root.
-    pub(crate) fn relax_next(&mut self, trips: &Trips, plan: &LinkedPlan, i: usize) -> bool
+    pub(crate) fn relax_next(&mut self, trips: &LinkTable, plan: &LinkedPlan, i: usize) -> bool
         requires known { IsSearched (links_of trips.now) plan.now self.old }
         requires within { i < length trips.now.trips }
         ensures step { IsStep (links_of trips.now) plan.now self.old self.new result }
@@ -122,7 +119,7 @@ impl Drops {
     }
 
     /// The arc between the right node of a trip and the root.
-    pub(crate) fn relax_root(&mut self, trips: &Trips, plan: &LinkedPlan, j: usize) -> bool
+    pub(crate) fn relax_root(&mut self, trips: &LinkTable, plan: &LinkedPlan, j: usize) -> bool
         requires known { IsSearched (links_of trips.now) plan.now self.old }
         requires within { j < length trips.now.trips }
         ensures step { IsStep (links_of trips.now) plan.now self.old self.new result }
@@ -135,7 +132,7 @@ impl Drops {
         }
     }
 
-    fn relax_from_root(&mut self, trips: &Trips, plan: &LinkedPlan, j: usize) -> bool
+    fn relax_from_root(&mut self, trips: &LinkTable, plan: &LinkedPlan, j: usize) -> bool
         requires known { IsSearched (links_of trips.now) plan.now self.old }
         requires within { j < length trips.now.trips }
         requires linked { is_next plan.now j ≡ true }
@@ -153,7 +150,7 @@ impl Drops {
         }
     }
 
-    fn relax_to_root(&mut self, trips: &Trips, plan: &LinkedPlan, j: usize) -> bool
+    fn relax_to_root(&mut self, trips: &LinkTable, plan: &LinkedPlan, j: usize) -> bool
         requires known { IsSearched (links_of trips.now) plan.now self.old }
         requires within { j < length trips.now.trips }
         requires alone { is_next plan.now j ≡ false }
@@ -172,59 +169,14 @@ impl Drops {
     }
 }
 
-// A number and what the link from a trip to another gains, where they are more than another number. What
-// it gains at most spares most looks at it.
-#[tactic(auto, using(crate::proofs::Steps::not_raised))]
-fn over_pair(trips: &Trips, i: usize, j: usize, from: u64, to: u64, high: u64) -> Option<u64>
-    requires i { i < length trips.now.trips }
-    requires j { j < length trips.now.trips }
-    requires high { IfSome ((links_of trips.now).gain i j) (λ gain. gain ≤ℤ pos high) }
-    requires most { IfSome ((links_of trips.now).gain i j)
-        (λ gain. (pos from +ℤ gain) ≤ℤ pos 2000000000000000) }
-    ensures { MatchOption ((links_of trips.now).gain i j) (result ≡ None)
-        (λ gain. IsRaised from gain to result) }
-{
-    if is_below(from, high, to) || is_late(trips, i, j) {
-        return None;
-    }
-    match trips.link_gain(i, j) {
-        Some(gain) => {
-            let number = i128::from(from) + gain;
-            if number > i128::from(to) {
-                Some(number as u64)
-            } else {
-                None
-            }
-        }
-        None => None,
-    }
-}
-
-/// Whether a trip starts before another one has ended, so that it cannot follow it.
-#[tactic(auto, using(crate::proofs::Late::late_gain))]
-pub fn is_late(trips: &Trips, i: usize, j: usize) -> bool
-    requires from { i < length trips.now.trips }
-    requires to { j < length trips.now.trips }
-    ensures { result ≡ true → (links_of trips.now).gain i j ≡ None }
-{
-    trips.trip(j).start.time < trips.trip(i).end.time
-}
-
-// Whether two numbers together are no more than another one.
-fn is_below(a: u64, b: u64, most: u64) -> bool
-    ensures { result ≡ true → a + b ≤ most }
-{
-    a <= most && b <= most - a
-}
-
 // A number without what a link gains, where this is more than another number.
-fn over_link(trips: &Trips, i: usize, j: usize, from: u64, to: u64) -> Option<u64>
+fn over_link(trips: &LinkTable, i: usize, j: usize, from: u64, to: u64) -> Option<u64>
     requires link { is_some ((links_of trips.now).gain i j) ≡ true }
     requires most { IfSome ((links_of trips.now).gain i j)
         (λ gain. (pos from -ℤ gain) ≤ℤ pos 2000000000000000) }
     ensures { IfSome ((links_of trips.now).gain i j) (λ gain. IsRaised from (neg_ℤ gain) to result) }
 {
-    let number = i128::from(from) - trips.gain(i, j);
+    let number = i128::from(from) - trips.trips().gain(i, j);
     if number > i128::from(to) {
         Some(number as u64)
     } else {

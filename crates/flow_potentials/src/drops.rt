@@ -1,16 +1,16 @@
 // How far below 0 walks of the residual graph go.
 ghost use Rattle.std.specs.Prelude.{map, ◌-◌, ◌≡◌, ◌<◌, length, replicate, slice_set, get_or, IfOk};
 ghost use Rattle.flow_potentials.specs.Canonical.{AreCanonical};
-ghost use Rattle.flow_potentials.specs.Drops.{AreKept, IsSearched};
+ghost use Rattle.flow_potentials.specs.Drops.{ArePassed, IsSearched};
 ghost use Rattle.flow_potentials.specs.Potentials.{AreValid};
 ghost use Rattle.vehicle_model.specs.Trips.{links_of};
 
+use crate::link_table::LinkTable;
 use crate::linked_plan::LinkedPlan;
 use crate::numbers::{Potentials, zeros};
 use plan_num::NoMemory;
 use std::alloc::Global;
 use std::marker::Model;
-use vehicle_model::Trips;
 
 /// For the root, and for the left and the right node of each trip, how much less than nothing some
 /// walk costs that ends there.
@@ -50,11 +50,11 @@ impl Drops {
     pub(crate) fn into_potentials(
         self,
         alloc: Global,
-        trips: &Trips,
+        trips: &LinkTable,
         plan: &LinkedPlan,
     ) -> Result<Potentials, NoMemory>
         requires known { IsSearched (links_of trips.now) plan.now self }
-        requires kept { AreKept (links_of trips.now) plan.now self }
+        requires kept { ArePassed (links_of trips.now) plan.now self }
         ensures least { IfOk result (AreCanonical (links_of trips.now) plan.now) }
         ensures valid { IfOk result (AreValid (links_of trips.now) plan.now) }
     {

@@ -1,5 +1,5 @@
 // Potentials of trips.
-ghost use Rattle.std.specs.Prelude.{◌≡◌, ◌+◌, ◌<◌, ◌≤ℤ◌, pos, length, replicate, slice_set, unsigned_abs, IfOk};
+ghost use Rattle.std.specs.Prelude.{◌≡◌, ◌+◌, ◌<◌, ◌≤◌, ◌≤ℤ◌, pos, length, replicate, slice_set, unsigned_abs, IfOk};
 ghost use Rattle.flow_potentials.specs.Potentials.{at, ArePotentials, AreOver};
 
 use plan_num::NoMemory;
@@ -63,6 +63,15 @@ impl Potentials {
         ensures high { result ≤ℤ pos 1000000000000000000 }
     {
         self.v[trip] as i64
+    }
+
+    /// The same without a sign.
+    pub fn natural_v(&self, trip: usize) -> u64
+        requires { trip < length self.now.v }
+        ensures value { result ≡ at self.now.v trip }
+        ensures small { result ≤ 1000000000000000000 }
+    {
+        self.v[trip]
     }
 
     // The numbers of a link from a trip to another, together.

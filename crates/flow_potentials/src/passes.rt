@@ -1,79 +1,69 @@
 // Rounds over all arcs of the residual graph.
 ghost use Rattle.std.specs.Prelude.{◌≡◌, ◌<◌, false, length};
-ghost use Rattle.flow_potentials.specs.Drops.{PairsKept, TripKept, AreKept, IsSearched, IsStep};
-ghost use Rattle.flow_potentials.specs.Potentials.{AreValid};
+ghost use Rattle.flow_potentials.specs.Drops.{RowKept, TripPassed, ArePassed, IsSearched, IsStep};
 ghost use Rattle.vehicle_model.specs.Trips.{links_of};
 
 use crate::arcs::either;
 use crate::drops::Drops;
+use crate::link_table::LinkTable;
 use crate::linked_plan::LinkedPlan;
-use crate::numbers::Potentials;
-use vehicle_model::Trips;
 
 impl Drops {
-    // The links from a trip to all others may make better walks.
-    fn relax_pairs(
-        &mut self,
-        trips: &Trips,
-        plan: &LinkedPlan,
-        valid: &Potentials,
-        i: usize,
-    ) -> bool
+    // The links of a trip that are worth something may make better walks. One that gains less than
+    // nothing makes none that matters: its trip lies no further below 0 than the root, and the
+    // place to which it leads counts only where it lies further.
+    fn relax_row(&mut self, trips: &LinkTable, plan: &LinkedPlan, i: usize) -> bool
         requires known { IsSearched (links_of trips.now) plan.now self.old }
-        requires valid { AreValid (links_of trips.now) plan.now valid.now }
         requires within { i < length trips.now.trips }
         ensures step { IsStep (links_of trips.now) plan.now self.old self.new result }
-        ensures kept { result ≡ false → PairsKept (links_of trips.now) self.old i
-            (length trips.now.trips) }
+        ensures kept { result ≡ false → RowKept (links_of trips.now) self.old i }
     {
+        let links = trips.row(i);
         let mut changed = false;
-        for j in 0..trips.len() {
-            let better = self.relax_pair(trips, plan, valid, i, j);
+        for link in links {
+            let better = self.relax_link_of(trips, plan, i, *link);
             changed = either(changed, better);
         }
         changed
     }
 
     // All arcs that leave the left node of a trip, or join its nodes to a link or to the root.
-    fn relax_trip(&mut self, trips: &Trips, plan: &LinkedPlan, valid: &Potentials, i: usize) -> bool
+    fn relax_trip(&mut self, trips: &LinkTable, plan: &LinkedPlan, i: usize) -> bool
         requires known { IsSearched (links_of trips.now) plan.now self.old }
-        requires valid { AreValid (links_of trips.now) plan.now valid.now }
         requires within { i < length trips.now.trips }
         ensures step { IsStep (links_of trips.now) plan.now self.old self.new result }
-        ensures kept { result ≡ false → TripKept (links_of trips.now) plan.now self.old i }
+        ensures kept { result ≡ false → TripPassed (links_of trips.now) plan.now self.old i }
     {
         let next = self.relax_next(trips, plan, i);
-        let pairs = self.relax_pairs(trips, plan, valid, i);
+        let row = self.relax_row(trips, plan, i);
         let root = self.relax_root(trips, plan, i);
-        either(either(next, pairs), root)
+        either(either(next, row), root)
     }
 
     // All arcs.
-    fn relax_all(&mut self, trips: &Trips, plan: &LinkedPlan, valid: &Potentials) -> bool
+    fn relax_all(&mut self, trips: &LinkTable, plan: &LinkedPlan) -> bool
         requires known { IsSearched (links_of trips.now) plan.now self.old }
-        requires valid { AreValid (links_of trips.now) plan.now valid.now }
         ensures step { IsStep (links_of trips.now) plan.now self.old self.new result }
-        ensures kept { result ≡ false → AreKept (links_of trips.now) plan.now self.old }
+        ensures kept { result ≡ false → ArePassed (links_of trips.now) plan.now self.old }
     {
         let mut changed = false;
         for i in 0..trips.len() {
-            let better = self.relax_trip(trips, plan, valid, i);
+            let better = self.relax_trip(trips, plan, i);
             changed = either(changed, better);
         }
         changed
     }
 
     /// Looks for better walks until there are none.
-    pub(crate) fn settle(&mut self, trips: &Trips, plan: &LinkedPlan, valid: &Potentials)
+    pub(crate) fn settle(&mut self, trips: &LinkTable, plan: &LinkedPlan)
         requires known { IsSearched (links_of trips.now) plan.now self.old }
-        requires valid { AreValid (links_of trips.now) plan.now valid.now }
         ensures known { IsSearched (links_of trips.now) plan.now self.new }
-        ensures kept { AreKept (links_of trips.now) plan.now self.new }
+        ensures kept { ArePassed (links_of trips.now) plan.now self.new }
     {
         let _ = trips.len();
         let mut changed = true;
         while changed {
-            changed = self.relax_all(trips, plan, valid);
+            changed = self.relax_all(trips, plan);
         }
     }
 }

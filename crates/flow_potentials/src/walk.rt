@@ -1,15 +1,15 @@
 // One walk over all nodes of the residual graph of a plan, along potentials that are valid for it.
 ghost use Rattle.std.specs.Prelude.{◌<◌, length, OnOk};
 ghost use Rattle.flow_potentials.specs.Drops.{IsSearched};
-ghost use Rattle.flow_potentials.specs.Potentials.{AreValid};
+ghost use Rattle.flow_potentials.specs.LinkRows.{IsLinkOf};
 ghost use Rattle.vehicle_model.specs.Trips.{links_of};
 
 use crate::drops::Drops;
+use crate::link_table::{Link, LinkTable};
 use crate::linked_plan::LinkedPlan;
 use crate::numbers::Potentials;
 use plan_num::NoMemory;
 use std::alloc::Global;
-use vehicle_model::Trips;
 
 // The height of the root.
 const MIDDLE: u64 = 1_000_000_000_000_000_000;
@@ -30,43 +30,35 @@ impl Drops {
     pub(crate) fn walk(
         &mut self,
         alloc: Global,
-        trips: &Trips,
+        trips: &LinkTable,
         plan: &LinkedPlan,
         valid: &Potentials,
     ) -> Result<(), NoMemory>
-        requires known { IsSearched (links_of trips.now) plan.now self.old }
-        requires valid { AreValid (links_of trips.now) plan.now valid.now }
+        requires { IsSearched (links_of trips.now) plan.now self.old }
         ensures { OnOk result (IsSearched (links_of trips.now) plan.now self.new) }
     {
         let mut waiting = all_nodes(alloc, valid)?;
         for _turn in 0..waiting.len() {
             if let Some(node) = take_furthest(self, &mut waiting) {
-                self.relax_node(trips, plan, valid, node.trip);
+                self.relax_node(trips, plan, node.trip);
             }
         }
         Ok(())
     }
 
     // The arcs from a node may make better walks.
-    fn relax_node(
-        &mut self,
-        trips: &Trips,
-        plan: &LinkedPlan,
-        valid: &Potentials,
-        trip: Option<usize>,
-    )
-        requires known { IsSearched (links_of trips.now) plan.now self.old }
-        requires valid { AreValid (links_of trips.now) plan.now valid.now }
+    fn relax_node(&mut self, trips: &LinkTable, plan: &LinkedPlan, trip: Option<usize>)
+        requires { IsSearched (links_of trips.now) plan.now self.old }
         ensures { IsSearched (links_of trips.now) plan.now self.new }
     {
         match trip {
-            Some(i) => self.relax_left(trips, plan, valid, i),
+            Some(i) => self.relax_left(trips, plan, i),
             None => self.relax_ends(trips, plan),
         }
     }
 
     // The arcs between the root and all trips.
-    fn relax_ends(&mut self, trips: &Trips, plan: &LinkedPlan)
+    fn relax_ends(&mut self, trips: &LinkTable, plan: &LinkedPlan)
         requires { IsSearched (links_of trips.now) plan.now self.old }
         ensures { IsSearched (links_of trips.now) plan.now self.new }
     {
@@ -77,40 +69,45 @@ impl Drops {
     }
 
     // The arcs from the left node of a trip.
-    fn relax_left(&mut self, trips: &Trips, plan: &LinkedPlan, valid: &Potentials, i: usize)
-        requires known { IsSearched (links_of trips.now) plan.now self.old }
-        requires valid { AreValid (links_of trips.now) plan.now valid.now }
+    fn relax_left(&mut self, trips: &LinkTable, plan: &LinkedPlan, i: usize)
+        requires { IsSearched (links_of trips.now) plan.now self.old }
         ensures { IsSearched (links_of trips.now) plan.now self.new }
     {
         self.relax_next_of(trips, plan, Some(i));
-        for j in 0..trips.len() {
-            self.relax_through(trips, plan, valid, i, j);
+        if i < trips.len() {
+            self.relax_links(trips, plan, i);
         }
     }
 
-    // The link from a trip to another, and where it makes a better walk the arcs that go on.
-    #[tactic(auto, using(crate::proofs::Steps::still_searched))]
-    fn relax_through(
-        &mut self,
-        trips: &Trips,
-        plan: &LinkedPlan,
-        valid: &Potentials,
-        i: usize,
-        j: usize,
-    )
+    // The links of a trip that are worth something, and where one makes a better walk the arcs that
+    // go on.
+    fn relax_links(&mut self, trips: &LinkTable, plan: &LinkedPlan, i: usize)
         requires known { IsSearched (links_of trips.now) plan.now self.old }
-        requires valid { AreValid (links_of trips.now) plan.now valid.now }
-        requires to { j < length trips.now.trips }
+        requires within { i < length trips.now.trips }
         ensures { IsSearched (links_of trips.now) plan.now self.new }
     {
-        if i < trips.len() && self.relax_pair(trips, plan, valid, i, j) {
-            self.relax_end(trips, plan, j);
+        let links = trips.row(i);
+        for link in links {
+            self.relax_through(trips, plan, i, *link);
+        }
+    }
+
+    // A link of a trip, and where it makes a better walk the arcs that go on.
+    #[tactic(auto, using(crate::proofs::Steps::still_searched))]
+    fn relax_through(&mut self, trips: &LinkTable, plan: &LinkedPlan, i: usize, link: Link)
+        requires known { IsSearched (links_of trips.now) plan.now self.old }
+        requires from { i < length trips.now.trips }
+        requires link { IsLinkOf (links_of trips.now) i (length trips.now.trips) link }
+        ensures { IsSearched (links_of trips.now) plan.now self.new }
+    {
+        if self.relax_link_of(trips, plan, i, link) {
+            self.relax_end(trips, plan, link.to);
         }
     }
 
     // The arc between the right node of a trip and the root, and those of the trip before it.
     #[tactic(auto, using(crate::proofs::Steps::still_searched))]
-    fn relax_end(&mut self, trips: &Trips, plan: &LinkedPlan, j: usize)
+    fn relax_end(&mut self, trips: &LinkTable, plan: &LinkedPlan, j: usize)
         requires known { IsSearched (links_of trips.now) plan.now self.old }
         requires within { j < length trips.now.trips }
         ensures { IsSearched (links_of trips.now) plan.now self.new }
@@ -121,7 +118,7 @@ impl Drops {
 
     // The arcs between the left node of a trip and its link or the root, if there is a trip.
     #[tactic(auto, using(crate::proofs::Steps::still_searched))]
-    fn relax_next_of(&mut self, trips: &Trips, plan: &LinkedPlan, trip: Option<usize>)
+    fn relax_next_of(&mut self, trips: &LinkTable, plan: &LinkedPlan, trip: Option<usize>)
         requires { IsSearched (links_of trips.now) plan.now self.old }
         ensures { IsSearched (links_of trips.now) plan.now self.new }
     {

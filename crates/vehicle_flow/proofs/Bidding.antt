@@ -9,12 +9,13 @@ use Rattle.vehicle_model.proofs.Linking.{by_number, never_next, not_next}
 use Rattle.flow_potentials.proofs.Certified.{by_bound}
 use Rattle.flow_potentials.specs.Potentials.{PotentialParts, at}
 use Rattle.vehicle_flow.specs.declared.bid.Offer.{Offer}
-use Rattle.vehicle_flow.specs.declared.link_table.Link.{Link}
+use Rattle.flow_potentials.specs.declared.link_table.Link.{Link}
 use Rattle.vehicle_flow.specs.Bids.{next_offer, AreOthersBelow, IsBid, IsTakenBut}
 use Rattle.vehicle_flow.specs.Growing.{IsTaken}
-use Rattle.vehicle_flow.specs.LinkRows.{link_to, IsLinkOf, IsRow}
+use Rattle.flow_potentials.specs.LinkRows.{link_to, IsLinkOf, IsRow}
 use Rattle.vehicle_flow.specs.Places.{successor_at}
-use Rattle.vehicle_flow.specs.Slacks.{worth, Covers}
+use Rattle.flow_potentials.specs.LinkRows.{worth}
+use Rattle.vehicle_flow.specs.Slacks.{Covers}
 use Rattle.vehicle_flow.proofs.Moves.{has_next}
 use Rattle.vehicle_flow.proofs.Shifting.{pos_worth}
 

@@ -14,7 +14,8 @@ use Rattle.vehicle_flow.specs.declared.near.Near.{Near}
 use Rattle.vehicle_flow.specs.Claims.{ClaimsParts, claim_at, AreClaims}
 use Rattle.vehicle_flow.specs.Growing.{links_from, looking, is_placed, is_claimed, in_tree, nearer, looked, IsFrom, IsNearest, IsNear, AreLooked, AreNear, IsTreeClaim, IsGrowing, IsPlaceFound}
 use Rattle.vehicle_flow.specs.Searches.{IsTightAt, ComesFrom, IsClaim, AreClaimsBefore}
-use Rattle.vehicle_flow.specs.Slacks.{worth, slack_of, slack_to}
+use Rattle.flow_potentials.specs.LinkRows.{worth}
+use Rattle.vehicle_flow.specs.Slacks.{slack_of, slack_to}
 use Rattle.vehicle_flow.proofs.Moves.{successor_within}
 use Rattle.vehicle_flow.proofs.Shifting.{some_gain, pos_worth, slack_inside, slack_past, tree_trip, tree_linked, tree_is, claim_there, tree_placed, tree_inside, claimed_inside}
 

@@ -6,9 +6,10 @@ use Rattle.vehicle_model.proofs.Following.{links_within}
 use Rattle.vehicle_model.proofs.Linking.{by_number}
 use Rattle.flow_potentials.proofs.Certified.{by_bound}
 use Rattle.flow_potentials.specs.Potentials.{PotentialParts, at}
-use Rattle.vehicle_flow.specs.declared.link_table.Link.{Link}
-use Rattle.vehicle_flow.specs.LinkRows.{link_to, IsRow}
-use Rattle.vehicle_flow.specs.Slacks.{worth, Covers}
+use Rattle.flow_potentials.specs.declared.link_table.Link.{Link}
+use Rattle.flow_potentials.specs.LinkRows.{link_to, IsRow}
+use Rattle.flow_potentials.specs.LinkRows.{worth}
+use Rattle.vehicle_flow.specs.Slacks.{Covers}
 
 -- a number covers the first links of a list
 pub record CoversLinks (row : List Link) (potentials : PotentialParts) (most done : ℕ) : Type 0 where

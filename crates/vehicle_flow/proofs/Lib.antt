@@ -22,10 +22,11 @@ mod HandingOn
 mod Hands
 pub mod LeastPotentials
 pub mod LinkLooks
-pub mod LinkRows
+pub mod LinkSlacks
 pub mod LinkTies
 pub mod Moves
 pub mod NearPlaces
+pub mod NearSlacks
 pub mod Refused
 pub mod SameGains
 pub mod ScheduleAccepted

@@ -2,13 +2,14 @@
 use Rattle.std.proofs.Common.{◌≡◌, ℕ, ◌<◌, ◌≤◌, ◌+◌, ◌-◌, List, length, slice_get, get_or, Option, Some, None, refl, ap, sym, ◌∙◌, subst, arith}
 use Rattle.vehicle_model.specs.Trips.{Links}
 use Rattle.flow_potentials.specs.Potentials.{PotentialParts, at}
-use Rattle.vehicle_flow.specs.declared.link_table.Link.{Link}
+use Rattle.flow_potentials.specs.declared.link_table.Link.{Link}
 use Rattle.vehicle_flow.specs.declared.near.Near.{Near}
 use Rattle.vehicle_flow.specs.Claims.{ClaimsParts, claim_at}
 use Rattle.vehicle_flow.specs.Growing.{looked, AreAsBefore, AreLooked}
-use Rattle.vehicle_flow.specs.LinkRows.{end_of, reached, IsRow}
+use Rattle.flow_potentials.specs.LinkRows.{end_of, reached, IsRow}
 use Rattle.vehicle_flow.specs.Slacks.{slack_to}
-use Rattle.vehicle_flow.proofs.LinkRows.{gap_first, gap_next, gap_slack, link_slack, reached_last, reached_next, reached_within}
+use Rattle.flow_potentials.proofs.LinkRows.{gap_first, gap_next, reached_last, reached_next, reached_within}
+use Rattle.vehicle_flow.proofs.LinkSlacks.{gap_slack, link_slack}
 use Rattle.vehicle_flow.proofs.Shifting.{slack_past}
 use Rattle.vehicle_flow.proofs.Told.{IsTold, told_at, told_start, told_up}
 

@@ -6,12 +6,14 @@ use Rattle.bit_rows.specs.Bits.{Bits, has}
 use Rattle.vehicle_model.proofs.Linking.{by_number}
 use Rattle.vehicle_model.specs.Trips.{Links}
 use Rattle.flow_potentials.specs.Potentials.{PotentialParts, at}
-use Rattle.vehicle_flow.specs.declared.link_table.Link.{Link}
+use Rattle.flow_potentials.specs.declared.link_table.Link.{Link}
 use Rattle.vehicle_flow.specs.ClaimablePlaces.{AreTies, IsInRow, IsPut, IsRowOf}
-use Rattle.vehicle_flow.specs.LinkRows.{end_of, reached, IsRow}
+use Rattle.flow_potentials.specs.LinkRows.{end_of, reached, IsRow}
 use Rattle.vehicle_flow.specs.Searches.{IsTightBy}
-use Rattle.vehicle_flow.specs.Slacks.{worth, Covers}
-use Rattle.vehicle_flow.proofs.LinkRows.{gap_first, gap_next, link_covered, reached_last, reached_next, reached_within}
+use Rattle.flow_potentials.specs.LinkRows.{worth}
+use Rattle.vehicle_flow.specs.Slacks.{Covers}
+use Rattle.flow_potentials.proofs.LinkRows.{gap_first, gap_next, reached_last, reached_next, reached_within}
+use Rattle.vehicle_flow.proofs.LinkSlacks.{link_covered}
 use Rattle.vehicle_flow.proofs.Shifting.{pos_worth}
 use Rattle.vehicle_flow.specs.Places.{place_of}
 use Rattle.vehicle_flow.proofs.BitsOfPlaces.{row_step, row_up}

@@ -13,7 +13,8 @@ use Rattle.vehicle_flow.specs.declared.near.Near.{Near}
 use Rattle.vehicle_flow.specs.Claims.{ClaimsParts, claim_at}
 use Rattle.vehicle_flow.specs.Growing.{links_from, looking, is_placed, StillCovers, is_claimed, is_claimed_at, in_tree, moved_near, shifted, IsFrom, IsNearest, IsNear, AreNear, IsTreeClaim, IsGrowing, AreShifted}
 use Rattle.vehicle_flow.specs.Searches.{IsTightAt, IsTightBy, IsTightBut, IsLeft, ComesFrom, AreClaimsBefore}
-use Rattle.vehicle_flow.specs.Slacks.{worth, slack_of, slack_to}
+use Rattle.flow_potentials.specs.LinkRows.{worth}
+use Rattle.vehicle_flow.specs.Slacks.{slack_of, slack_to}
 use Rattle.vehicle_flow.proofs.Moves.{has_next}
 
 -- ---- the links from some trips

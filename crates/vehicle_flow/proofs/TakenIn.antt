@@ -16,7 +16,8 @@ use Rattle.vehicle_flow.specs.declared.near.Near.{Near}
 use Rattle.vehicle_flow.specs.Claims.{ClaimsParts, claim_at, AreClaims}
 use Rattle.vehicle_flow.specs.Growing.{looking, is_placed, in_tree, StillCovers, looked, IsTaken, IsNear, AreLooked, AreNear, IsGrowing, IsPlaceFound}
 use Rattle.vehicle_flow.specs.Searches.{IsTightBut, IsHandedOn}
-use Rattle.vehicle_flow.specs.Slacks.{worth, slack_to, Covers}
+use Rattle.flow_potentials.specs.LinkRows.{worth}
+use Rattle.vehicle_flow.specs.Slacks.{slack_to, Covers}
 use Rattle.vehicle_flow.proofs.Claiming.{nearest_more, from_more}
 use Rattle.vehicle_flow.proofs.ClaimLists.{none_at}
 use Rattle.vehicle_flow.proofs.Shifting.{gain_of_some, some_gain, placed_next, placed_is, tree_is}

@@ -1,6 +1,6 @@
 -- Lists that are written from the first place on: what is told of the places that are written, and that
 -- the others are as before.
-use Rattle.std.proofs.Common.{◌≡◌, ℕ, ◌<◌, ◌≤◌, ◌+◌, List, length, get_or, slice_set, refl, ap, sym, ◌∙◌, arith, get_or-set_same, get_or-set_other}
+use Rattle.std.proofs.Common.{◌≡◌, ℕ, ◌<◌, ◌≤◌, ◌+◌, List, length, get_or, slice_set, refl, ap, sym, ◌∙◌, subst, arith, get_or-set_same, get_or-set_other}
 use Rattle.std.proofs.lemmas.List.{length-set}
 use Rattle.flow_potentials.proofs.Certified.{by_bound}
 use Rattle.vehicle_model.proofs.Linking.{by_number}
@@ -29,6 +29,14 @@ told_more none told old now done x are inside is = record {
   left = λ i h. get_or-set_other now done i x none (λ same. omega (arith, h, same))
       ∙ are.left i (omega (arith, h));
 }
+
+-- the same by what the list is then
+pub told_set : {X : Type 0} (none : X) (told : ℕ → X) (old now after : List X) (done : ℕ) (x : X)
+    → IsTold none told old now done → done < length now → x ≡ told done → after ≡ slice_set now done x
+    → IsTold none told old after (done + 1)
+told_set none told old now after done x are inside is after_is =
+    subst (λ list. IsTold none told old list (done + 1)) (sym after_is)
+    (told_more none told old now done x are inside is)
 
 -- the same where what is told rests on what was there
 pub told_on : {X : Type 0} (none : X) (step : ℕ → X → X) (old now : List X) (done : ℕ) (x : X)

@@ -4,11 +4,12 @@ use Rattle.vehicle_model.specs.Plans.{next}
 use Rattle.vehicle_model.specs.Trips.{Links}
 use Rattle.flow_potentials.specs.Potentials.{PotentialParts, at, AreOver}
 use Rattle.vehicle_flow.specs.declared.bid.Offer.{Offer}
-use Rattle.vehicle_flow.specs.declared.link_table.Link.{Link}
+use Rattle.flow_potentials.specs.declared.link_table.Link.{Link}
 use Rattle.vehicle_flow.specs.Growing.{settled}
-use Rattle.vehicle_flow.specs.LinkRows.{IsLinkOf}
+use Rattle.flow_potentials.specs.LinkRows.{IsLinkOf}
 use Rattle.vehicle_flow.specs.Searches.{IsTightBut}
-use Rattle.vehicle_flow.specs.Slacks.{worth, Covers}
+use Rattle.flow_potentials.specs.LinkRows.{worth}
+use Rattle.vehicle_flow.specs.Slacks.{Covers}
 
 -- a plan as of trips that are taken in, but the potential of a place without a trip may be any
 pub record IsTakenBut (links : Links) (potentials : PotentialParts) (place : ℕ) (plan : List (Option ℕ)) : Type 0 where

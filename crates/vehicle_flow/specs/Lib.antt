@@ -4,7 +4,7 @@ pub mod Choices
 pub mod ClaimablePlaces
 pub mod Claims
 pub mod Growing
-pub mod LinkRows
+pub mod Nears
 pub mod Places
 pub mod RightVehicles
 pub mod ScheduleChecks

@@ -1,13 +1,8 @@
 -- How much the potentials of a trip and of a place are more than what the link gains.
-use Rattle.std.specs.Prelude.{ℕ, ℤ, pos, negsuc, ◌+◌, ◌-◌, ◌≤◌, nat_lt, if◌then◌else◌, Option, Some, None, IfSome}
+use Rattle.std.specs.Prelude.{ℕ, ◌+◌, ◌-◌, ◌≤◌, nat_lt, if◌then◌else◌, Option, Some, None, IfSome}
 use Rattle.vehicle_model.specs.Trips.{Links}
+use Rattle.flow_potentials.specs.LinkRows.{worth}
 use Rattle.flow_potentials.specs.Potentials.{PotentialParts, at}
-
--- what a link gains, where this is not less than nothing
-abbrev pub worth : Option ℤ → Option ℕ
-worth None = None
-worth (Some (pos gain)) = Some gain
-worth (Some (negsuc less)) = None
 
 -- what two potentials are more than a gain
 abbrev pub slack_of : ℕ → Option ℕ → Option ℕ

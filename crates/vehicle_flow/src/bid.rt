@@ -5,12 +5,11 @@ ghost use Rattle.vehicle_model.specs.Plans.{next, is_next};
 ghost use Rattle.vehicle_model.specs.Trips.{links_of};
 ghost use Rattle.vehicle_flow.specs.Bids.{next_offer, AreOthersBelow, IsBid, IsTakenBut};
 ghost use Rattle.vehicle_flow.specs.Growing.{IsTaken};
-ghost use Rattle.vehicle_flow.specs.LinkRows.{IsLinkOf};
+ghost use Rattle.flow_potentials.specs.LinkRows.{IsLinkOf};
 
 use crate::assignment::Assignment;
-use crate::link_table::{Link, LinkTable};
 use crate::slack::{link_rest, set_place, set_trip};
-use flow_potentials::Potentials;
+use flow_potentials::{Link, LinkTable, Potentials};
 
 /// What a trip offers: its best link, what this gains beyond the potential of the place, and what the
 /// best of its other links does.

@@ -9,11 +9,10 @@ use crate::assignment::Assignment;
 use crate::bid::bid;
 use crate::claim::Claims;
 use crate::hints::Hints;
-use crate::link_table::LinkTable;
-use crate::near::Near;
+use crate::near::Nears;
 use crate::solved::Solved;
 use crate::taking::take_in;
-use flow_potentials::Potentials;
+use flow_potentials::{LinkTable, Potentials};
 use plan_num::NoMemory;
 use std::alloc::Global;
 use vehicle_model::Trips;
@@ -44,7 +43,7 @@ pub(crate) fn cheapest_of(alloc: Global, trips: &LinkTable) -> Result<Solved, No
     let mut potentials = Potentials::zeros(alloc, count)?;
     bid_all(trips, &order, &mut assignment, &mut potentials);
     let mut claims = Claims::new(alloc, count + 1)?;
-    let mut nears = nothing_near(alloc, count + 1)?;
+    let mut nears = Nears::new(alloc, count + 1)?;
     let mut hints = Hints::new(alloc, count + 1)?;
     for step in 0..count + count {
         take_in(
@@ -134,15 +133,4 @@ fn trip_of(order: &[Ending], count: usize, step: usize) -> usize
         },
         None => step,
     }
-}
-
-// So many places to which nothing is near.
-fn nothing_near(alloc: Global, places: usize) -> Result<Vec<Option<Near>>, NoMemory>
-    ensures { IfOk result (λ nears. length nears.items ≡ places) }
-{
-    let mut nears = Vec::new(alloc);
-    for _place in 0..places {
-        nears.push(None)?;
-    }
-    Ok(nears)
 }

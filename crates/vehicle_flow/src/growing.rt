@@ -7,11 +7,10 @@ ghost use Rattle.vehicle_model.specs.Trips.{links_of};
 use crate::assignment::Assignment;
 use crate::claim::Claims;
 use crate::hints::Hints;
-use crate::link_table::LinkTable;
-use crate::near::{Near, look, shift_nears};
+use crate::near::{Nears, look, shift_nears};
 use crate::nearest::nearest;
 use crate::shift::shift;
-use flow_potentials::Potentials;
+use flow_potentials::{LinkTable, Potentials};
 use plan_num::NoMemory;
 
 /// Claims the nearest place of a tree. Where a trip has it the tree grows by this trip, which may find a
@@ -22,17 +21,17 @@ pub(crate) fn grow(
     assignment: &Assignment,
     potentials: &mut Potentials,
     claims: &mut Claims,
-    nears: &mut Vec<Option<Near>>,
+    nears: &mut Nears,
     hints: &mut Hints,
 ) -> Result<Option<usize>, NoMemory>
     requires growing { IsGrowing (links_of trips.now) potentials.old trip assignment.now claims.old }
-    requires near { AreNear (links_of trips.now) potentials.old trip assignment.now claims.old nears.old.items }
+    requires near { AreNear (links_of trips.now) potentials.old trip assignment.now claims.old nears.old }
     ensures found { IfOk result (λ found. MatchOption found
         (IsGrowing (links_of trips.now) potentials.new trip assignment.now claims.new)
         (IsPlaceFound (links_of trips.now) potentials.new trip assignment.now claims.new)) }
     ensures near { IfOk result (λ found. MatchOption found
-        (AreNear (links_of trips.now) potentials.new trip assignment.now claims.new nears.new.items)
-        (λ _. length nears.new.items ≡ length nears.old.items)) }
+        (AreNear (links_of trips.now) potentials.new trip assignment.now claims.new nears.new)
+        (λ _. length nears.new ≡ length nears.old)) }
     ensures kept { OnOk result (StillCovers (links_of trips.now) potentials.old potentials.new) }
     ensures more { IfOk result (λ found. MatchOption found
         (length claims.new.order ≡ length claims.old.order + 1) (λ _. ⊤)) }
@@ -70,7 +69,7 @@ pub(crate) fn look_from(
     assignment: &Assignment,
     potentials: &Potentials,
     claims: &mut Claims,
-    nears: &mut Vec<Option<Near>>,
+    nears: &mut Nears,
     hints: &mut Hints,
     by: usize,
     from: Option<usize>,
@@ -78,12 +77,12 @@ pub(crate) fn look_from(
     requires growing { IsGrowing (links_of trips.now) potentials.now trip assignment.now claims.old }
     requires trip { by < length trips.now.trips }
     requires covered { Covers (links_of trips.now) potentials.now by }
-    requires nears { length nears.old.items ≡ length trips.now.trips + 1 }
+    requires nears { length nears.old ≡ length trips.now.trips + 1 }
     requires from { IsFrom trip assignment.now claims.old by from }
-    ensures each { length nears.new.items ≡ length nears.old.items }
+    ensures each { length nears.new ≡ length nears.old }
     ensures looked { IfOk result (λ found. MatchOption found
         ((claims.new ≡ claims.old)
-        × AreLooked (links_of trips.now) potentials.now claims.old by from nears.old.items nears.new.items)
+        × AreLooked (links_of trips.now) potentials.now claims.old by from nears.old nears.new)
         (IsPlaceFound (links_of trips.now) potentials.now trip assignment.now claims.new)) }
 {
     let _ = claims.count();

@@ -14,7 +14,6 @@ mod growing;
 mod handing;
 mod hints;
 mod judge;
-mod link_table;
 mod made;
 mod near;
 mod nearest;

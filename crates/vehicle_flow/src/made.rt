@@ -9,10 +9,9 @@ ghost use Rattle.vehicle_model.specs.Trips.{links_of};
 
 use crate::cheapest::cheapest_of;
 use crate::chosen::chosen_plan;
-use crate::link_table::LinkTable;
 use crate::report::vehicles_line;
 use crate::solved::Solved;
-use flow_potentials::{potentials, write_potentials};
+use flow_potentials::{LinkTable, potentials_over_links, write_potentials};
 use giv_files::{FileId, Made, MadeFile, MadeList};
 use plan_num::{NoMemory, Text};
 use std::alloc::Global;
@@ -51,7 +50,7 @@ fn chosen_solution(alloc: Global, trips: &Trips) -> Result<Solved, NoMemory>
     let table = LinkTable::new(alloc, trips)?;
     let solved = cheapest_of(alloc, &table)?;
     let plan = chosen_plan(alloc, &table, &solved)?;
-    let potentials = potentials(alloc, trips, &plan, &solved.potentials)?;
+    let potentials = potentials_over_links(alloc, &table, &plan, &solved.potentials)?;
     Ok(Solved { plan, potentials })
 }
 

@@ -1,8 +1,9 @@
 // How near places are to the trips of a tree.
-ghost use Rattle.std.specs.Prelude.{ℕ, ◌≡◌, ◌+◌, ◌<◌, true, false, length, get_or, replicate, Some, None, MatchOption};
+ghost use Rattle.std.specs.Prelude.{ℕ, ◌≡◌, ◌+◌, ◌<◌, ◌≤◌, true, false, length, get_or, replicate, slice_set, Some, None, IfOk, MatchOption};
 ghost use Rattle.flow_potentials.specs.Potentials.{AreOver};
 ghost use Rattle.vehicle_flow.specs.Claims.{claim_at};
 ghost use Rattle.vehicle_flow.specs.Growing.{looked, is_nearer, shifted, AreAsBefore, AreLooked, IsFreeAt};
+ghost use Rattle.vehicle_flow.specs.Nears.{slack_or_most};
 ghost use Rattle.vehicle_model.specs.Plans.{is_next};
 ghost use Rattle.vehicle_flow.specs.Slacks.{Covers};
 ghost use Rattle.vehicle_model.specs.Trips.{links_of};
@@ -10,9 +11,11 @@ ghost use Rattle.vehicle_model.specs.Trips.{links_of};
 use crate::assignment::Assignment;
 use crate::claim::Claims;
 use crate::hints::Hints;
-use crate::link_table::LinkTable;
 use crate::slack::{link_slack, of_trip};
-use flow_potentials::Potentials;
+use flow_potentials::{LinkTable, Potentials};
+use plan_num::NoMemory;
+use std::alloc::Global;
+use std::marker::Model;
 
 /// How near a place is: the least slack at it of the trips of the tree, the trip that has it, and the
 /// place that this would leave.
@@ -26,13 +29,94 @@ pub(crate) struct Near {
     pub from: Option<usize>,
 }
 
+/// How near each place is. Contracts see it as the list of what is nearest to each.
+#[derive(Drop)]
+pub(crate) struct Nears {
+    nears: Vec<Option<Near>>,
+    // The slack at each place, which is asked most; more than any where nothing is near.
+    slacks: Vec<u64>,
+}
+
+impl Model for Nears {
+    ghost use Rattle.std.specs.Prelude.{List, Option};
+    ghost use Rattle.vehicle_flow.specs.declared.near.Near.{Near};
+    ghost use Rattle.vehicle_flow.specs.Nears.{AreSlacks};
+
+    ghost Value = { List (Option Near) };
+
+    ghost view = { λ nears. nears.nears.items };
+
+    ghost invariant = { λ nears. AreSlacks nears.nears.items nears.slacks.items };
+}
+
+impl Nears {
+    /// So many places to which nothing is near.
+    #[tactic(auto, using(crate::proofs::NearSlacks::no_slacks))]
+    pub(crate) fn new(alloc: Global, places: usize) -> Result<Nears, NoMemory>
+        ensures { IfOk result (λ nears. nears ≡ replicate places None) }
+    {
+        let mut nears = Vec::new(alloc);
+        let mut slacks = Vec::new(alloc);
+        for _place in 0..places {
+            nears.push(None)?;
+            slacks.push(u64::MAX)?;
+        }
+        Ok(Nears { nears, slacks })
+    }
+
+    /// How many places there are.
+    pub(crate) fn len(&self) -> usize
+        ensures { result ≡ length self.now }
+    {
+        self.nears.len()
+    }
+
+    /// What is nearest to a place.
+    pub(crate) fn at(&self, place: usize) -> Option<Near>
+        requires { place < length self.now }
+        ensures { result ≡ get_or self.now place None }
+    {
+        self.nears[place]
+    }
+
+    /// Puts something nearest to a place, or nothing.
+    #[tactic(auto, using(crate::proofs::NearSlacks::slacks_set))]
+    pub(crate) fn set(&mut self, place: usize, near: Option<Near>)
+        requires { place < length self.old }
+        ensures { self.new ≡ slice_set self.old place near }
+    {
+        self.nears[place] = near;
+        self.slacks[place] = slack_or_most(near);
+    }
+
+    // Whether a slack is less than that of the nearest trip so far.
+    #[tactic(auto, using(crate::proofs::NearSlacks::nearer_by_slack))]
+    fn is_nearer(&self, place: usize, slack: u64) -> bool
+        requires place { place < length self.now }
+        requires small { slack ≤ 2000000000000000000 }
+        ensures { result ≡ is_nearer slack (get_or self.now place None) }
+    {
+        slack < self.slacks[place]
+    }
+}
+
+// The slack of what is near; more than any where nothing is.
+fn slack_or_most(near: Option<Near>) -> u64
+    ensures { result ≡ slack_or_most near }
+{
+    match near {
+        Some(near) => near.slack,
+        None => u64::MAX,
+    }
+}
+
 /// Nothing is near any place.
-#[tactic(auto, using(crate::proofs::Told::told_start, crate::proofs::Told::told_more, crate::proofs::NearPlaces::forgotten_all))]
-pub(crate) fn forget(nears: &mut Vec<Option<Near>>)
-    ensures { nears.new.items ≡ replicate (length nears.old.items) None }
+#[tactic(auto, using(crate::proofs::Told::told_start, crate::proofs::Told::told_set, crate::proofs::NearPlaces::forgotten_all))]
+pub(crate) fn forget(nears: &mut Nears)
+    ensures { nears.new ≡ replicate (length nears.old) None }
 {
     for place in 0..nears.len() {
-        nears[place] = None;
+        nears.set(place, None);
     }
 }
 
@@ -43,7 +127,7 @@ pub(crate) fn look(
     potentials: &Potentials,
     claims: &Claims,
     assignment: &Assignment,
-    nears: &mut Vec<Option<Near>>,
+    nears: &mut Nears,
     hints: &mut Hints,
     by: usize,
     from: Option<usize>,
@@ -52,10 +136,10 @@ pub(crate) fn look(
     requires trip { by < length trips.now.trips }
     requires covered { Covers (links_of trips.now) potentials.now by }
     requires places { length claims.now.at ≡ length trips.now.trips + 1 }
-    requires nears { length nears.old.items ≡ length trips.now.trips + 1 }
-    ensures each { length nears.new.items ≡ length nears.old.items }
+    requires nears { length nears.old ≡ length trips.now.trips + 1 }
+    ensures each { length nears.new ≡ length nears.old }
     ensures looked { MatchOption result
-        (AreLooked (links_of trips.now) potentials.now claims.now by from nears.old.items nears.new.items)
+        (AreLooked (links_of trips.now) potentials.now claims.now by from nears.old nears.new)
         (IsFreeAt (links_of trips.now) potentials.now assignment.now claims.now by) }
 {
     let own = of_trip(potentials, by);
@@ -84,37 +168,27 @@ pub(crate) fn look(
 fn bring(
     claims: &Claims,
     assignment: &Assignment,
-    nears: &mut Vec<Option<Near>>,
+    nears: &mut Nears,
     hints: &mut Hints,
     place: usize,
     near: Near,
 ) -> bool
     requires place { place < length claims.now.at }
-    requires nears { length nears.old.items ≡ length claims.now.at }
-    ensures others { AreAsBefore place nears.old.items nears.new.items }
-    ensures here { get_or nears.new.items place None
+    requires nears { length nears.old ≡ length claims.now.at }
+    requires small { near.slack ≤ 2000000000000000000 }
+    ensures others { AreAsBefore place nears.old nears.new }
+    ensures here { get_or nears.new place None
         ≡ looked (claim_at claims.now place) (Some near.slack) near.by near.from
-        (get_or nears.old.items place None) }
+        (get_or nears.old place None) }
     ensures open_place { result ≡ true → claim_at claims.now place ≡ None }
     ensures exact { result ≡ true → near.slack ≡ 0 }
     ensures free { result ≡ true → is_next assignment.now place ≡ false }
 {
-    if !is_nearer(nears, place, near.slack) || claims.is_claimed(place) {
+    if !nears.is_nearer(place, near.slack) || claims.is_claimed(place) {
         return false;
     }
-    nears[place] = Some(near);
+    nears.set(place, Some(near));
     near.slack == 0 && is_free_or_hint(assignment, hints, place)
-}
-
-// Whether a slack is less than that of the nearest trip so far.
-fn is_nearer(nears: &[Option<Near>], place: usize, slack: u64) -> bool
-    requires { place < length nears.now }
-    ensures { result ≡ is_nearer slack (get_or nears.now place None) }
-{
-    match &nears[place] {
-        Some(old) => slack < old.slack,
-        None => true,
-    }
 }
 
 // Whether a place has no trip; one with a trip is kept in mind.
@@ -128,33 +202,20 @@ fn is_free_or_hint(assignment: &Assignment, hints: &mut Hints, place: usize) -> 
     false
 }
 
-/// What is nearest to a place.
-pub(crate) fn near_at(nears: &[Option<Near>], place: usize) -> Option<Near>
-    requires { place < length nears.now }
-    ensures { result ≡ get_or nears.now place None }
-{
-    nears[place]
-}
-
 /// Every place without a claim is nearer by a slack.
-#[tactic(auto, using(crate::proofs::Told::told_start, crate::proofs::Told::told_more, crate::proofs::NearPlaces::unmoved))]
-pub(crate) fn shift_nears(
-    claims: &Claims,
-    nears: &mut Vec<Option<Near>>,
-    hints: &mut Hints,
-    slack: u64,
-)
-    requires { length claims.now.at ≡ length nears.old.items }
-    ensures each { length nears.new.items ≡ length nears.old.items }
-    ensures shifted { (place : ℕ) → place < length nears.old.items → get_or nears.new.items place None
-        ≡ shifted (claim_at claims.now place) slack (get_or nears.old.items place None) }
+#[tactic(auto, using(crate::proofs::Told::told_start, crate::proofs::Told::told_set, crate::proofs::NearPlaces::unmoved))]
+pub(crate) fn shift_nears(claims: &Claims, nears: &mut Nears, hints: &mut Hints, slack: u64)
+    requires { length claims.now.at ≡ length nears.old }
+    ensures each { length nears.new ≡ length nears.old }
+    ensures shifted { (place : ℕ) → place < length nears.old → get_or nears.new place None
+        ≡ shifted (claim_at claims.now place) slack (get_or nears.old place None) }
 {
     if slack == 0 {
         return;
     }
     for place in 0..nears.len() {
-        let near = shifted(claims, place, slack, near_at(nears, place));
-        nears[place] = near;
+        let near = shifted(claims, place, slack, nears.at(place));
+        nears.set(place, near);
         hint_if_exact(hints, place, near);
     }
 }

@@ -6,14 +6,14 @@ ghost use Rattle.vehicle_flow.specs.Growing.{open_near, IsNearestPlace, IsNearer
 use crate::assignment::Assignment;
 use crate::claim::Claims;
 use crate::hints::Hints;
-use crate::near::{Near, near_at};
+use crate::near::{Near, Nears};
 
 /// The nearest place without a claim, and of two that are as near one without a trip. A hint spares
 /// the look at all places.
 pub(crate) fn nearest(
     claims: &Claims,
     assignment: &Assignment,
-    nears: &[Option<Near>],
+    nears: &Nears,
     hints: &mut Hints,
 ) -> Option<(usize, Near)>
     requires { length claims.now.at ≡ length nears.now }
@@ -28,7 +28,7 @@ pub(crate) fn nearest(
 }
 
 // The first place of the hints that is as near as can be.
-fn hinted(claims: &Claims, nears: &[Option<Near>], hints: &mut Hints) -> Option<(usize, Near)>
+fn hinted(claims: &Claims, nears: &Nears, hints: &mut Hints) -> Option<(usize, Near)>
     requires { length claims.now.at ≡ length nears.now }
     ensures { IfSome result (λ best. IsNearestPlace claims.now nears.now best.0 best.1) }
 {
@@ -45,7 +45,7 @@ fn hinted(claims: &Claims, nears: &[Option<Near>], hints: &mut Hints) -> Option<
 
 // The nearest trip of a place without a claim, where its slack is 0.
 #[tactic(auto, using(crate::proofs::NearPlaces::exact_is_nearest))]
-fn exact_near(claims: &Claims, nears: &[Option<Near>], place: usize) -> Option<Near>
+fn exact_near(claims: &Claims, nears: &Nears, place: usize) -> Option<Near>
     requires { length claims.now.at ≡ length nears.now }
     ensures { IfSome result (IsNearestPlace claims.now nears.now place) }
 {
@@ -60,11 +60,7 @@ fn exact_near(claims: &Claims, nears: &[Option<Near>], place: usize) -> Option<N
 
 // The nearest of all places without a claim, and of two that are as near one without a trip.
 #[tactic(auto, using(crate::proofs::NearPlaces::best_more, crate::proofs::NearPlaces::best_all))]
-fn nearest_of_all(
-    claims: &Claims,
-    assignment: &Assignment,
-    nears: &[Option<Near>],
-) -> Option<(usize, Near)>
+fn nearest_of_all(claims: &Claims, assignment: &Assignment, nears: &Nears) -> Option<(usize, Near)>
     requires { length claims.now.at ≡ length nears.now }
     ensures { MatchOption result
         ((place : ℕ) → place < length nears.now → claim_at claims.now place ≡ None → get_or nears.now place None ≡ None)
@@ -78,7 +74,7 @@ fn nearest_of_all(
 }
 
 // What is nearest to a place without a claim.
-fn open_near(claims: &Claims, nears: &[Option<Near>], place: usize) -> Option<Near>
+fn open_near(claims: &Claims, nears: &Nears, place: usize) -> Option<Near>
     requires claims { place < length claims.now.at }
     requires nears { place < length nears.now }
     ensures { result ≡ open_near (claim_at claims.now place) (get_or nears.now place None) }
@@ -86,7 +82,7 @@ fn open_near(claims: &Claims, nears: &[Option<Near>], place: usize) -> Option<Ne
     if claims.is_claimed(place) {
         None
     } else {
-        near_at(nears, place)
+        nears.at(place)
     }
 }
 

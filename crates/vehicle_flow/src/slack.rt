@@ -4,8 +4,7 @@ ghost use Rattle.flow_potentials.specs.Potentials.{at, AreOver};
 ghost use Rattle.vehicle_model.specs.Trips.{links_of};
 ghost use Rattle.vehicle_flow.specs.Slacks.{Covers};
 
-use crate::link_table::{Link, LinkTable};
-use flow_potentials::Potentials;
+use flow_potentials::{Link, LinkTable, Potentials};
 
 /// How much the potential of a trip and that of the place to which its link leads are more than the
 /// link gains.
@@ -16,7 +15,7 @@ pub(crate) fn link_slack(own: u64, potentials: &Potentials, link: Link) -> u64
     ensures value { result ≡ own + at potentials.now.v link.to - link.gain }
     ensures small { result ≤ 2000000000000000000 }
 {
-    own + potentials.v(link.to).unsigned_abs() - link.gain
+    own + potentials.natural_v(link.to) - link.gain
 }
 
 /// Raises the potential of a trip that has none so that it covers its links, by no more than it has to.
@@ -75,8 +74,7 @@ pub(crate) fn link_rest(potentials: &Potentials, link: Link) -> u64
     requires { link.to < length potentials.now.v }
     ensures { result ≡ link.gain - at potentials.now.v link.to }
 {
-    link.gain
-        .saturating_sub(potentials.v(link.to).unsigned_abs())
+    link.gain.saturating_sub(potentials.natural_v(link.to))
 }
 
 /// A small number as a signed one.

@@ -11,10 +11,9 @@ use crate::claim::Claims;
 use crate::growing::{grow, look_from};
 use crate::handing::hand_on;
 use crate::hints::Hints;
-use crate::link_table::LinkTable;
-use crate::near::{Near, forget};
+use crate::near::{Nears, forget};
 use crate::slack::cover;
-use flow_potentials::Potentials;
+use flow_potentials::{LinkTable, Potentials};
 use plan_num::NoMemory;
 
 /// Takes one trip more into a plan that is cheapest among the trips so far.
@@ -24,18 +23,18 @@ pub(crate) fn take_in(
     assignment: &mut Assignment,
     potentials: &mut Potentials,
     claims: &mut Claims,
-    nears: &mut Vec<Option<Near>>,
+    nears: &mut Nears,
     hints: &mut Hints,
 ) -> Result<(), NoMemory>
     requires taken { IsTaken (links_of trips.now) potentials.old assignment.old }
     requires within { trip < length trips.now.trips }
     requires places { length claims.old.at ≡ length trips.now.trips + 1 }
-    requires nears { length nears.old.items ≡ length trips.now.trips + 1 }
+    requires nears { length nears.old ≡ length trips.now.trips + 1 }
     ensures taken { OnOk result (IsTaken (links_of trips.now) potentials.new assignment.new) }
     ensures own { OnOk result (Covers (links_of trips.now) potentials.new trip) }
     ensures kept { OnOk result (StillCovers (links_of trips.now) potentials.old potentials.new) }
     ensures places { OnOk result (length claims.new.at ≡ length trips.now.trips + 1) }
-    ensures nears { OnOk result (length nears.new.items ≡ length trips.now.trips + 1) }
+    ensures nears { OnOk result (length nears.new ≡ length trips.now.trips + 1) }
 {
     if assignment.next(trip).is_some() {
         return Ok(());
@@ -53,18 +52,18 @@ fn find_place(
     assignment: &Assignment,
     potentials: &mut Potentials,
     claims: &mut Claims,
-    nears: &mut Vec<Option<Near>>,
+    nears: &mut Nears,
     hints: &mut Hints,
 ) -> Result<usize, NoMemory>
     requires taken { IsTaken (links_of trips.now) potentials.old assignment.now }
     requires waits { next assignment.now trip ≡ None }
     requires within { trip < length trips.now.trips }
     requires places { length claims.old.at ≡ length trips.now.trips + 1 }
-    requires nears { length nears.old.items ≡ length trips.now.trips + 1 }
+    requires nears { length nears.old ≡ length trips.now.trips + 1 }
     ensures found { IfOk result
         (IsPlaceFound (links_of trips.now) potentials.new trip assignment.now claims.new) }
     ensures kept { OnOk result (StillCovers (links_of trips.now) potentials.old potentials.new) }
-    ensures nears { OnOk result (length nears.new.items ≡ length trips.now.trips + 1) }
+    ensures nears { OnOk result (length nears.new ≡ length trips.now.trips + 1) }
 {
     if let Some(place) = start(trips, trip, assignment, potentials, claims, nears, hints)? {
         return Ok(place);
@@ -101,21 +100,21 @@ fn start(
     assignment: &Assignment,
     potentials: &mut Potentials,
     claims: &mut Claims,
-    nears: &mut Vec<Option<Near>>,
+    nears: &mut Nears,
     hints: &mut Hints,
 ) -> Result<Option<usize>, NoMemory>
     requires taken { IsTaken (links_of trips.now) potentials.old assignment.now }
     requires waits { next assignment.now trip ≡ None }
     requires within { trip < length trips.now.trips }
     requires places { length claims.old.at ≡ length trips.now.trips + 1 }
-    requires nears { length nears.old.items ≡ length trips.now.trips + 1 }
+    requires nears { length nears.old ≡ length trips.now.trips + 1 }
     ensures found { IfOk result (λ found. MatchOption found
         (IsGrowing (links_of trips.now) potentials.new trip assignment.now claims.new)
         (IsPlaceFound (links_of trips.now) potentials.new trip assignment.now claims.new)) }
     ensures kept { StillCovers (links_of trips.now) potentials.old potentials.new }
     ensures near { IfOk result (λ found. MatchOption found
-        (AreNear (links_of trips.now) potentials.new trip assignment.now claims.new nears.new.items)
-        (λ _. length nears.new.items ≡ length nears.old.items)) }
+        (AreNear (links_of trips.now) potentials.new trip assignment.now claims.new nears.new)
+        (λ _. length nears.new ≡ length nears.old)) }
 {
     let _ = assignment.len();
     cover(trips, potentials, trip);

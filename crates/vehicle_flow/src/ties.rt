@@ -8,10 +8,9 @@ ghost use Rattle.vehicle_flow.specs.Searches.{IsTightBy};
 ghost use Rattle.vehicle_flow.specs.Slacks.{Covers};
 
 use crate::claimable::set;
-use crate::link_table::LinkTable;
 use crate::slack::{link_slack, of_trip};
 use bit_rows::BitRows;
-use flow_potentials::Potentials;
+use flow_potentials::{LinkTable, Potentials};
 use plan_num::NoMemory;
 use std::alloc::Global;
 

@@ -1,9 +1,9 @@
 use Rattle.std.proofs.Common.{get_or, arith}
 use Rattle.vehicle_model.specs.Trips.{links_of}
-use Rattle.vehicle_flow.specs.LinkRows.{link_to}
+use Rattle.flow_potentials.specs.LinkRows.{link_to}
 use Rattle.vehicle_flow.proofs.Bidding.{offer_all, offer_more}
 use Rattle.vehicle_flow.proofs.Covering.{none_past}
-use Rattle.vehicle_flow.proofs.LinkRows.{item}
+use Rattle.flow_potentials.proofs.LinkRows.{item}
 use Rattle.vehicle_flow.proofs.bid.best_offer.Goals as goal
 
 pub link_rest-rest-requires : goal.link_rest-rest-requires

@@ -1,9 +1,10 @@
-use Rattle.std.proofs.Common.{◌+◌, ◌-◌, ap, ◌∙◌, sym, subst, arith}
+use Rattle.std.proofs.Common.{◌+◌, ◌-◌, length, ap, ◌∙◌, sym, subst, arith}
+use Rattle.std.proofs.lemmas.List.{length-replicate}
 use Rattle.flow_potentials.specs.Potentials.{AreValid}
 use Rattle.flow_potentials.proofs.Certified.{certified_cheapest}
 use Rattle.vehicle_model.specs.Plans.{IsPlan}
 use Rattle.vehicle_model.specs.Trips.{links_of}
-use Rattle.vehicle_flow.proofs.TakenIn.{begun, none_taken_in, taken_step, all_plan, all_valid}
+use Rattle.vehicle_flow.proofs.TakenIn.{begun, no_near, none_taken_in, taken_step, all_plan, all_valid}
 use Rattle.vehicle_flow.proofs.cheapest.cheapest_of.Goals as goal
 
 pub bid_all-requires : goal.bid_all-requires
@@ -12,14 +13,14 @@ bid_all-requires c = none_taken_in (links_of c.args.trips.now) c.len-count.resul
 
 pub loop-step-init : goal.loop-step-init
 loop-step-init c = begun (links_of c.args.trips.now) c.len-count.result c.bid_all.new.potentials
-    c.bid_all.new.assignment c.in_ok-claims.claims c.in_ok-nears.nears.items c.len-count.ensures.count
+    c.bid_all.new.assignment c.in_ok-claims.claims c.in_ok-nears.nears c.len-count.ensures.count
     c.bid_all.ensures c.in_ok-claims.ensures
-    (c.in_ok-nears.ensures ∙ ap (λ n. n + 1) c.len-count.ensures.count)
+    (ap length c.in_ok-nears.ensures ∙ length-replicate _ no_near ∙ ap (λ n. n + 1) c.len-count.ensures.count)
 
 pub loop-step-preserved : goal.loop-step-preserved
 loop-step-preserved c = taken_step (links_of c.args.trips.now) c.loop-step.potentials c.take_in.new.potentials
     c.loop-step.assignment c.take_in.new.assignment c.loop-step.step c.trip_of.result c.loop-step.claims
-    c.take_in.new.claims c.loop-step.nears.items c.take_in.new.nears.items c.loop-step.invariant
+    c.take_in.new.claims c.loop-step.nears c.take_in.new.nears c.loop-step.invariant
     c.in_ok-take_in.ensures.taken c.in_ok-take_in.ensures.kept c.in_ok-take_in.ensures.own
     (λ past. c.trip_of.ensures.again (omega (arith, past, c.len-count.ensures.count))
     ∙ ap (λ n. c.loop-step.step - n) c.len-count.ensures.count)

@@ -5,4 +5,4 @@ use Rattle.vehicle_flow.proofs.cheapest.cheapest_of.Given as goal
 
 abbrev pub invariant-loop-step : goal.invariant-loop-step
 invariant-loop-step l =
-    AreTakenIn (links_of l.trips) l.potentials l.assignment l.step l.claims l.nears.items
+    AreTakenIn (links_of l.trips) l.potentials l.assignment l.step l.claims l.nears

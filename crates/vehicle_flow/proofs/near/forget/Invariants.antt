@@ -4,4 +4,4 @@ use Rattle.vehicle_flow.proofs.Told.{IsTold}
 use Rattle.vehicle_flow.proofs.near.forget.Given as goal
 
 abbrev pub invariant-loop-place : goal.invariant-loop-place
-invariant-loop-place l = IsTold None (λ i. None) l.fn.nears.items l.nears.items l.place
+invariant-loop-place l = IsTold None (λ i. None) l.fn.nears l.nears l.place

@@ -2,14 +2,15 @@ use Rattle.std.proofs.Common.{Some, None, get_or, ap, ◌∙◌, arith}
 use Rattle.vehicle_model.specs.Trips.{links_of}
 use Rattle.vehicle_flow.specs.Claims.{claim_at}
 use Rattle.vehicle_flow.specs.Growing.{looked}
-use Rattle.vehicle_flow.specs.LinkRows.{link_to}
+use Rattle.flow_potentials.specs.LinkRows.{link_to}
 use Rattle.vehicle_flow.proofs.LinkLooks.{looked_all, looked_more, looked_start}
-use Rattle.vehicle_flow.proofs.LinkRows.{item, link_covered, link_slack}
+use Rattle.flow_potentials.proofs.LinkRows.{item}
+use Rattle.vehicle_flow.proofs.LinkSlacks.{link_covered, link_slack}
 use Rattle.vehicle_flow.proofs.near.look.Goals as goal
 
 pub loop-link-init : goal.loop-link-init
 loop-link-init c = looked_start (links_of c.args.trips.now) c.args.potentials.now c.args.claims.now c.args.by
-    c.args.from c.row-links.result.now c.row-links.ensures c.args.nears.now.items
+    c.args.from c.row-links.result.now c.row-links.ensures c.args.nears.now
 
 pub link_slack-slack-requires-clause-to : goal.link_slack-slack-requires-clause-to
 link_slack-slack-requires-clause-to c = omega (
@@ -59,20 +60,20 @@ returns-then-bring-clause-looked c =
 
 pub loop-link-preserved : goal.loop-link-preserved
 loop-link-preserved c = looked_more (links_of c.args.trips.now) c.args.potentials.now c.args.claims.now c.args.by
-    c.args.from c.row-links.result.now c.row-links.ensures c.args.nears.now.items c.loop-link.nears.items
-    c.bring.new.nears.items c.loop-link.link-index
+    c.args.from c.row-links.result.now c.row-links.ensures c.args.nears.now c.loop-link.nears
+    c.bring.new.nears c.loop-link.link-index
     (get_or c.row-links.result.now c.loop-link.link-index (link_to 0 0)) c.loop-link.invariant
     (item c.row-links.result.now c.loop-link.link-index c.loop-link-test.true) c.bring.ensures.others
     (c.bring.ensures.here ∙ ap (λ slack. looked
     (claim_at c.args.claims.now (get_or c.row-links.result.now c.loop-link.link-index (link_to 0 0)).to)
     (Some slack) c.args.by c.args.from
-    (get_or c.loop-link.nears.items (get_or c.row-links.result.now c.loop-link.link-index (link_to 0 0)).to None))
+    (get_or c.loop-link.nears (get_or c.row-links.result.now c.loop-link.link-index (link_to 0 0)).to None))
     (omega (arith, c.of_trip-own.ensures.value, c.link_slack-slack.ensures.value)))
 
 pub returns-clause-looked : goal.returns-clause-looked
 returns-clause-looked c = looked_all (links_of c.args.trips.now) c.args.potentials.now c.args.claims.now c.args.by
-    c.args.from c.row-links.result.now c.row-links.ensures c.args.nears.now.items c.loop-link.nears.items
-    c.bring-2.new.nears.items c.loop-link.link-index c.len-last.result c.loop-link.invariant
+    c.args.from c.row-links.result.now c.row-links.ensures c.args.nears.now c.loop-link.nears
+    c.bring-2.new.nears c.loop-link.link-index c.len-last.result c.loop-link.invariant
     (omega (arith, c.loop-link-test.false)) c.len-last.ensures.count c.requires.nears c.bring-2.ensures.others
     (c.bring-2.ensures.here ∙ ap (λ slack. looked (claim_at c.args.claims.now c.len-last.result) (Some slack)
-    c.args.by c.args.from (get_or c.loop-link.nears.items c.len-last.result None)) c.of_trip-own.ensures.value)
+    c.args.by c.args.from (get_or c.loop-link.nears c.len-last.result None)) c.of_trip-own.ensures.value)

@@ -2,7 +2,7 @@
 use Rattle.std.proofs.Common.{get_or, length, None}
 use Rattle.vehicle_flow.specs.Claims.{claim_at}
 use Rattle.vehicle_flow.specs.Growing.{looked}
-use Rattle.vehicle_flow.specs.LinkRows.{reached}
+use Rattle.flow_potentials.specs.LinkRows.{reached}
 use Rattle.vehicle_model.specs.Trips.{links_of}
 use Rattle.vehicle_flow.specs.Slacks.{slack_to}
 use Rattle.vehicle_flow.proofs.Told.{IsTold}
@@ -10,5 +10,5 @@ use Rattle.vehicle_flow.proofs.near.look.Given as goal
 
 abbrev pub invariant-loop-link : goal.invariant-loop-link
 invariant-loop-link l = IsTold None (λ i. looked (claim_at l.claims i)
-    (slack_to (links_of l.trips) l.potentials l.by i) l.by l.from (get_or l.fn.nears.items i None)) l.fn.nears.items
-    l.nears.items (reached (length l.trips.trips) l.links l.link-index)
+    (slack_to (links_of l.trips) l.potentials l.by i) l.by l.from (get_or l.fn.nears i None)) l.fn.nears
+    l.nears (reached (length l.trips.trips) l.links l.link-index)

@@ -7,4 +7,4 @@ use Rattle.vehicle_flow.proofs.near.shift_nears.Given as goal
 
 abbrev pub invariant-loop-place : goal.invariant-loop-place
 invariant-loop-place l = IsTold None (λ i. shifted (claim_at l.claims i) l.slack
-    (get_or l.fn.nears.items i None)) l.fn.nears.items l.nears.items l.place
+    (get_or l.fn.nears i None)) l.fn.nears l.nears l.place

@@ -1,9 +1,9 @@
 use Rattle.std.proofs.Common.{max, get_or, ap, sym, ◌∙◌, subst, arith}
 use Rattle.vehicle_model.specs.Trips.{links_of}
-use Rattle.vehicle_flow.specs.LinkRows.{link_to}
+use Rattle.flow_potentials.specs.LinkRows.{link_to}
 use Rattle.vehicle_flow.specs.Slacks.{Covers}
 use Rattle.vehicle_flow.proofs.Covering.{covers_more, covers_all, none_past}
-use Rattle.vehicle_flow.proofs.LinkRows.{item}
+use Rattle.flow_potentials.proofs.LinkRows.{item}
 use Rattle.vehicle_flow.proofs.slack.cover.Goals as goal
 
 pub link_rest-rest-requires : goal.link_rest-rest-requires

@@ -5,7 +5,7 @@ use Rattle.vehicle_flow.proofs.TakenIn.{IsTree}
 use Rattle.vehicle_flow.proofs.taking.find_place.Given as goal
 
 abbrev pub invariant-loop-place : goal.invariant-loop-place
-invariant-loop-place l = IsTree (links_of l.trips) l.fn.potentials l.potentials l.trip l.assignment l.claims l.nears.items
+invariant-loop-place l = IsTree (links_of l.trips) l.fn.potentials l.potentials l.trip l.assignment l.claims l.nears
 
 abbrev pub decreases-loop-place : goal.decreases-loop-place
 decreases-loop-place l = length l.trips.trips + 2 - length l.claims.order

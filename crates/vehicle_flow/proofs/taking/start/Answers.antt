@@ -30,11 +30,11 @@ returns-clause-kept c = kept_now (links_of c.args.trips.now) c.args.potentials.n
 pub returns-clause-near : goal.returns-clause-near
 returns-clause-near c = then_found c.look_from.result c.look_from.ensures.looked
     (λ looked. subst (λ x. AreNear (links_of c.args.trips.now) c.cover.new.potentials c.args.trip
-    c.args.assignment.now x c.look_from.new.nears.items) (sym looked.0)
+    c.args.assignment.now x c.look_from.new.nears) (sym looked.0)
     (near_started (links_of c.args.trips.now) c.args.potentials.now c.args.assignment.now
     c.args.trip c.requires.taken c.requires.waits c.requires.within c.cover.ensures.0 c.cover.new.potentials
     c.cover.ensures.1.1.0 c.cover.ensures.1.1.1 c.clear.new.self
     (c.clear.ensures ∙ ap (λ n. record { at = replicate n None; order = [] }) c.requires.places)
-    c.forget.new.nears.items c.look_from.new.nears.items
+    c.forget.new.nears c.look_from.new.nears
     (c.forget.ensures ∙ ap (λ n. replicate n None) c.requires.nears) c.look_from.ensures.each looked.1))
     (λ place found. c.look_from.ensures.each ∙ ap length c.forget.ensures ∙ length-replicate _ no_near)

@@ -1,9 +1,10 @@
 use Rattle.std.proofs.Common.{◌≡◌, get_or, arith, subst, MatchBool, nat_eq, true}
 use Rattle.vehicle_model.specs.Trips.{links_of}
-use Rattle.vehicle_flow.specs.LinkRows.{link_to}
+use Rattle.flow_potentials.specs.LinkRows.{link_to}
 use Rattle.vehicle_flow.specs.ClaimablePlaces.{IsPut}
 use Rattle.vehicle_flow.proofs.BitsOfPlaces.{row_more, row_same}
-use Rattle.vehicle_flow.proofs.LinkRows.{item, link_covered}
+use Rattle.flow_potentials.proofs.LinkRows.{item}
+use Rattle.vehicle_flow.proofs.LinkSlacks.{link_covered}
 use Rattle.vehicle_flow.proofs.LinkTies.{ties_last, ties_more, ties_start}
 use Rattle.vehicle_flow.proofs.ties.mark_trip.Goals as goal
 

@@ -2,7 +2,7 @@
 use Rattle.std.proofs.Common.{Some, length}
 use Rattle.vehicle_model.specs.Trips.{links_of}
 use Rattle.vehicle_flow.specs.ClaimablePlaces.{IsInRow, IsRowOf}
-use Rattle.vehicle_flow.specs.LinkRows.{reached}
+use Rattle.flow_potentials.specs.LinkRows.{reached}
 use Rattle.vehicle_flow.specs.Searches.{IsTightBy}
 use Rattle.vehicle_flow.proofs.ties.mark_trip.Given as goal
 

@@ -1,6 +1,6 @@
 use Rattle.std.proofs.Common.{sym, subst}
 use Rattle.vehicle_model.specs.Trips.{links_of}
-use Rattle.flow_potentials.specs.Drops.{AreKept, depth}
+use Rattle.flow_potentials.specs.Drops.{ArePassed, depth}
 use Rattle.flow_potentials.proofs.Loops.{goes_down}
 use Rattle.flow_potentials.proofs.Steps.{still_searched, depth_most}
 use Rattle.flow_potentials.proofs.drops.Drops.settle.Goals as goal
@@ -20,7 +20,7 @@ loop-changed-preserved c = record {
   known = still_searched (links_of c.args.trips.now) c.args.plan.now c.loop-changed.self
       c.relax_all-changed.new.self c.relax_all-changed.result c.loop-changed.invariant.known
       c.relax_all-changed.ensures.step;
-  kept = λ e. subst (AreKept (links_of c.args.trips.now) c.args.plan.now)
+  kept = λ e. subst (ArePassed (links_of c.args.trips.now) c.args.plan.now)
       (sym (c.relax_all-changed.ensures.step.same e)) (c.relax_all-changed.ensures.kept e);
 }
 

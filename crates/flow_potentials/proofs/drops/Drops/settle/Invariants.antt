@@ -1,13 +1,13 @@
 -- Where nothing has changed no arc finds a better walk; else the depth has risen.
 use Rattle.std.proofs.Common.{◌≡◌, ◌+◌, ◌-◌, false}
 use Rattle.vehicle_model.specs.Trips.{links_of}
-use Rattle.flow_potentials.specs.Drops.{depth, one_if, IsSearched, AreKept}
+use Rattle.flow_potentials.specs.Drops.{depth, one_if, IsSearched, ArePassed}
 use Rattle.flow_potentials.proofs.drops.Drops.settle.Given as goal
 
 abbrev pub invariant-loop-changed : goal.invariant-loop-changed
 invariant-loop-changed l = record {
   known : IsSearched (links_of l.trips) l.plan l.self;
-  kept : l.changed ≡ false → AreKept (links_of l.trips) l.plan l.self;
+  kept : l.changed ≡ false → ArePassed (links_of l.trips) l.plan l.self;
 }
 
 abbrev pub decreases-loop-changed : goal.decreases-loop-changed

@@ -1,8 +1,8 @@
 -- The rows of the trips so far.
 use Rattle.std.proofs.Common.{ℕ, ◌≡◌, ◌<◌, [], length, map, get_or}
 use Rattle.vehicle_model.specs.Trips.{links_of}
-use Rattle.vehicle_flow.specs.LinkRows.{IsRow}
-use Rattle.vehicle_flow.proofs.link_table.LinkTable.new.Given as goal
+use Rattle.flow_potentials.specs.LinkRows.{IsRow}
+use Rattle.flow_potentials.proofs.link_table.LinkTable.new.Given as goal
 
 abbrev pub invariant-loop-trip : goal.invariant-loop-trip
 invariant-loop-trip l = record {

@@ -1,6 +1,6 @@
 use Rattle.vehicle_model.specs.Trips.{links_of}
-use Rattle.vehicle_flow.proofs.LinkRows.{row_more}
-use Rattle.vehicle_flow.proofs.link_table.row_of.Goals as goal
+use Rattle.flow_potentials.proofs.LinkRows.{row_more}
+use Rattle.flow_potentials.proofs.link_table.row_of.Goals as goal
 
 pub loop-to-preserved : goal.loop-to-preserved
 loop-to-preserved c = row_more (links_of c.args.trips.now) c.args.from c.loop-to.to c.loop-to.row.items

@@ -1,9 +1,9 @@
 use Rattle.std.proofs.Common.{ℕ, List, length}
 use Rattle.vehicle_model.specs.Trips.{links_of}
-use Rattle.vehicle_flow.specs.declared.link_table.Link.{Link}
-use Rattle.vehicle_flow.specs.LinkRows.{IsRow}
-use Rattle.vehicle_flow.proofs.LinkRows.{lists_more}
-use Rattle.vehicle_flow.proofs.link_table.LinkTable.new.Goals as goal
+use Rattle.flow_potentials.specs.declared.link_table.Link.{Link}
+use Rattle.flow_potentials.specs.LinkRows.{IsRow}
+use Rattle.flow_potentials.proofs.LinkRows.{lists_more}
+use Rattle.flow_potentials.proofs.link_table.LinkTable.new.Goals as goal
 
 pub loop-trip-preserved : goal.loop-trip-preserved
 loop-trip-preserved c =

@@ -1,16 +1,19 @@
 -- The links of a trip in a list: how it grows, and that no link is left out between two of them.
-use Rattle.std.proofs.Common.{◌≡◌, ℕ, zero, suc, ◌<◌, ◌≤◌, ◌+◌, ◌-◌, cond, List, [], ◌∷◌, ◌++◌, length, slice_get, get_or, Option, Some, None, IfSome, refl, ap, sym, ◌∙◌, subst, arith, map, length-append}
+use Rattle.std.proofs.Common.{◌≡◌, ℕ, ℤ, pos, negsuc, zero, suc, ◌<◌, ◌≤◌, ◌+◌, List, [], ◌∷◌, ◌++◌, length, slice_get, get_or, Option, Some, None, IfSome, refl, ap, sym, ◌∙◌, subst, arith, map, length-append}
 use Rattle.std.proofs.lemmas.List.{get_or_append_left}
 use Rattle.std.proofs.Math.Seq.{get_or-append_seam}
-use Rattle.std.proofs.lemmas.Bool.{lt-ltb}
 use Rattle.std.proofs.lemmas.Option.{none-some, same_Some, slice_get-get_or, slice_get_within}
 use Rattle.vehicle_model.specs.Trips.{Links}
 use Rattle.vehicle_model.proofs.Linking.{by_number}
 use Rattle.flow_potentials.proofs.Certified.{by_bound}
-use Rattle.flow_potentials.specs.Potentials.{PotentialParts, at}
-use Rattle.vehicle_flow.specs.declared.link_table.Link.{Link}
-use Rattle.vehicle_flow.specs.LinkRows.{and_link, end_of, link_to, reached, IsLinkOf, IsRow}
-use Rattle.vehicle_flow.specs.Slacks.{worth, slack_of, slack_to, Covers}
+use Rattle.flow_potentials.specs.declared.link_table.Link.{Link}
+use Rattle.flow_potentials.specs.LinkRows.{worth, and_link, end_of, link_to, reached, IsLinkOf, IsRow}
+
+-- what a link gains that is worth something
+pub worth_is : (gain : Option ℤ) (number : ℕ) → worth gain ≡ Some number → gain ≡ Some (pos number)
+worth_is None number e = absurd (none-some number e)
+worth_is (Some (pos gain)) number e = ap (λ k. Some (pos k)) (same_Some gain number e)
+worth_is (Some (negsuc less)) number e = absurd (none-some number e)
 
 -- ---- one link more
 
@@ -174,33 +177,6 @@ module _ (links : Links) (i : ℕ) (row : List Link) (is : IsRow links i links.c
       split : (at_k : Option Link) → slice_get row (k + 1) ≡ at_k → link.to + 1 ≤ end_of links.count at_k
       split None f = omega (arith, (is.right k link e).within)
       split (Some other) f = omega (arith, is.rising k (k + 1) link other (omega arith) e f)
-
-  -- ---- slacks
-
-  module _ (potentials : PotentialParts) where
-    inside_slack : (j : ℕ) → j < links.count → slack_to links potentials i j
-        ≡ slack_of (at potentials.u i + at potentials.v j) (worth (links.gain i j))
-    inside_slack j within = ap (λ b. cond b (slack_of (at potentials.u i + at potentials.v j)
-        (worth (links.gain i j))) (Some (at potentials.u i))) (lt-ltb j links.count within)
-
-    -- the slack of a trip at a place to which no link leads
-    pub gap_slack : (j : ℕ) → j < links.count → worth (links.gain i j) ≡ None
-        → slack_to links potentials i j ≡ None
-    gap_slack j within none = inside_slack j within ∙ ap (slack_of (at potentials.u i + at potentials.v j)) none
-
-    -- and at one to which a link leads
-    pub link_slack : (k : ℕ) (link : Link) → slice_get row k ≡ Some link
-        → slack_to links potentials i link.to
-        ≡ Some (at potentials.u i + at potentials.v link.to - link.gain)
-    link_slack k link e = inside_slack link.to (is.right k link e).within
-        ∙ ap (slack_of (at potentials.u i + at potentials.v link.to)) (is.right k link e).is
-
-    -- a link that is covered
-    pub link_covered : Covers links potentials i → (k : ℕ) (link : Link) → slice_get row k ≡ Some link
-        → link.gain ≤ at potentials.u i + at potentials.v link.to
-    link_covered covers k link e = subst (λ it. IfSome it
-        (λ gain. gain ≤ at potentials.u i + at potentials.v link.to)) (is.right k link e).is
-        (covers link.to)
 
 -- one trip's list more
 pub lists_more : {X Y : Type 0} (items : X → List Y) (Q : ℕ → List Y → Type 0) (lists : List X)

@@ -1,8 +1,8 @@
 use Rattle.std.proofs.Common.{◌<◌, [], length, ap, sym, ◌∙◌, subst, arith}
 use Rattle.std.proofs.lemmas.List.{get_or-map, length-map}
 use Rattle.vehicle_model.specs.Trips.{links_of}
-use Rattle.vehicle_flow.specs.LinkRows.{IsRow}
-use Rattle.vehicle_flow.proofs.link_table.LinkTable.row.Goals as goal
+use Rattle.flow_potentials.specs.LinkRows.{IsRow}
+use Rattle.flow_potentials.proofs.link_table.LinkTable.row.Goals as goal
 
 pub returns : goal.returns
 returns c =

@@ -1,8 +1,13 @@
 -- The links of a trip that gain no less than nothing, in a list.
-use Rattle.std.specs.Prelude.{ℕ, ◌≡◌, ◌<◌, ◌≤◌, List, [], ◌∷◌, ◌++◌, length, slice_get, get_or, Option, Some, None, option_map, unwrap_or}
+use Rattle.std.specs.Prelude.{ℕ, ℤ, pos, negsuc, ◌≡◌, ◌<◌, ◌≤◌, List, [], ◌∷◌, ◌++◌, length, slice_get, get_or, Option, Some, None, option_map, unwrap_or}
 use Rattle.vehicle_model.specs.Trips.{Links}
-use Rattle.vehicle_flow.specs.declared.link_table.Link.{Link}
-use Rattle.vehicle_flow.specs.Slacks.{worth}
+use Rattle.flow_potentials.specs.declared.link_table.Link.{Link}
+
+-- what a link gains, where this is not less than nothing
+abbrev pub worth : Option ℤ → Option ℕ
+worth None = None
+worth (Some (pos gain)) = Some gain
+worth (Some (negsuc less)) = None
 
 -- a link to a trip
 abbrev pub link_to : ℕ → ℕ → Link

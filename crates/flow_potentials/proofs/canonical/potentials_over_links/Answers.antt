@@ -4,14 +4,14 @@ use Rattle.flow_potentials.specs.Canonical.{AreCanonical}
 use Rattle.flow_potentials.specs.Drops.{IsSearched}
 use Rattle.flow_potentials.proofs.Rounds.{told_canonical}
 use Rattle.flow_potentials.proofs.Settled.{searched_first}
-use Rattle.flow_potentials.proofs.canonical.potentials.Goals as goal
+use Rattle.flow_potentials.proofs.canonical.potentials_over_links.Goals as goal
 
-pub walk-requires-clause-known : goal.walk-requires-clause-known
-walk-requires-clause-known c = subst
+pub walk-requires : goal.walk-requires
+walk-requires c = subst
     (λ plan. IsSearched (links_of c.args.trips.now) plan c.in_ok-drops.drops)
     (sym c.in_ok-linked.ensures)
     (searched_first (links_of c.args.trips.now) c.args.plan.now c.args.valid.now
-    c.requires.plan c.requires.valid c.len-2.result c.len-2.ensures.count c.in_ok-drops.drops
+    c.requires.plan c.requires.valid c.len.result c.len.ensures.count c.in_ok-drops.drops
     c.in_ok-drops.ensures)
 
 pub returns-clause-made : goal.returns-clause-made

@@ -1,10 +1,8 @@
 // The links of each trip that are worth something, and what they gain.
 ghost use Rattle.std.specs.Prelude.{◌≡◌, ◌<◌, ◌≤◌, true, length, None, IfOk, IfSome, OnOk};
 ghost use Rattle.vehicle_model.specs.Trips.{links_of, AreTrips};
-ghost use Rattle.vehicle_flow.specs.LinkRows.{and_link, IsRow};
-ghost use Rattle.vehicle_flow.specs.Slacks.{worth};
+ghost use Rattle.flow_potentials.specs.LinkRows.{and_link, worth, IsRow};
 
-use flow_potentials::is_late;
 use plan_num::NoMemory;
 use std::alloc::Global;
 use std::marker::Model;
@@ -12,7 +10,7 @@ use vehicle_model::Trips;
 
 /// A link from a trip to another one.
 #[derive(Clone, Copy)]
-pub(crate) struct Link {
+pub struct Link {
     /// The other trip.
     pub to: usize,
     /// What the link gains, in millionths.
@@ -22,7 +20,7 @@ pub(crate) struct Link {
 /// Trips, and for each of them its links that gain no less than nothing, by the trips that they lead
 /// to. Contracts see it as the trips.
 #[derive(Drop)]
-pub(crate) struct LinkTable<'a> {
+pub struct LinkTable<'a> {
     trips: &'a Trips,
     rows: Vec<Vec<Link>>,
 }
@@ -30,7 +28,7 @@ pub(crate) struct LinkTable<'a> {
 impl<'a> Model for LinkTable<'a> {
     ghost use Rattle.std.specs.Prelude.{map};
     ghost use Rattle.vehicle_model.specs.Trips.{links_of, TripsParts};
-    ghost use Rattle.vehicle_flow.specs.LinkRows.{AreRows};
+    ghost use Rattle.flow_potentials.specs.LinkRows.{AreRows};
 
     ghost Value = { TripsParts };
 
@@ -42,7 +40,7 @@ impl<'a> Model for LinkTable<'a> {
 
 impl<'a> LinkTable<'a> {
     /// The links of trips.
-    pub(crate) fn new(alloc: Global, trips: &'a Trips) -> Result<LinkTable<'a>, NoMemory>
+    pub fn new(alloc: Global, trips: &'a Trips) -> Result<LinkTable<'a>, NoMemory>
         ensures { IfOk result (λ table. table ≡ trips.now) }
     {
         let mut rows = Vec::new(alloc);
@@ -53,7 +51,7 @@ impl<'a> LinkTable<'a> {
     }
 
     /// How many trips there are.
-    pub(crate) fn len(&self) -> usize
+    pub fn len(&self) -> usize
         ensures count { result ≡ length self.now.trips }
         ensures trips { AreTrips self.now }
     {
@@ -61,14 +59,14 @@ impl<'a> LinkTable<'a> {
     }
 
     /// The trips.
-    pub(crate) fn trips(&self) -> &'a Trips
+    pub fn trips(&self) -> &'a Trips
         ensures { result.now ≡ self.now }
     {
         self.trips
     }
 
     /// The links of a trip.
-    pub(crate) fn row(&self, trip: usize) -> &[Link]
+    pub fn row(&self, trip: usize) -> &[Link]
         requires { trip < length self.now.trips }
         ensures { IsRow (links_of self.now) trip (length self.now.trips) result.now }
     {
@@ -82,10 +80,11 @@ fn row_of(alloc: Global, trips: &Trips, from: usize) -> Result<Vec<Link>, NoMemo
     ensures { IfOk result (λ row.
         IsRow (links_of trips.now) from (length trips.now.trips) row.items) }
 {
-    let mut row = Vec::new(alloc);
+    let mut row = Vec::with_capacity(alloc, trips.len())?;
     for to in 0..trips.len() {
         push_if_worth(&mut row, to, worth(trips, from, to))?;
     }
+    row.shrink_to_fit();
     Ok(row)
 }
 
@@ -100,8 +99,8 @@ fn push_if_worth(row: &mut Vec<Link>, to: usize, worth: Option<u64>) -> Result<(
     Ok(())
 }
 
-/// What the link from a trip to another gains, where this is not less than nothing.
-pub(crate) fn worth(trips: &Trips, i: usize, j: usize) -> Option<u64>
+// What the link from a trip to another gains, where this is not less than nothing.
+fn worth(trips: &Trips, i: usize, j: usize) -> Option<u64>
     requires from { i < length trips.now.trips }
     requires to { j < length trips.now.trips }
     ensures value { result ≡ worth ((links_of trips.now).gain i j) }
@@ -112,14 +111,17 @@ pub(crate) fn worth(trips: &Trips, i: usize, j: usize) -> Option<u64>
         return None;
     }
     match trips.link_gain(i, j) {
-        Some(gain) => {
-            let natural = gain + 0;
-            if natural < 0 {
-                None
-            } else {
-                Some(natural as u64)
-            }
-        }
+        Some(gain) => { if gain < 0 { None } else { Some(gain as u64) } }
         None => None,
     }
+}
+
+// Whether a trip starts before another one has ended, so that it cannot follow it.
+#[tactic(auto, using(crate::proofs::Late::late_gain))]
+fn is_late(trips: &Trips, i: usize, j: usize) -> bool
+    requires from { i < length trips.now.trips }
+    requires to { j < length trips.now.trips }
+    ensures { result ≡ true → (links_of trips.now).gain i j ≡ None }
+{
+    trips.trip(j).start.time < trips.trip(i).end.time
 }
