@@ -82,11 +82,21 @@ pub(crate) fn without_blanks(field: &[u8]) -> &[u8]
     &front[..front.len() - blanks_after(front)]
 }
 
-/// The field without the blanks in front.
-pub(crate) fn behind_blanks(field: &[u8]) -> &[u8]
+// The field without the blanks in front.
+fn behind_blanks(field: &[u8]) -> &[u8]
     ensures { result.now ≡ drop (prefix_len is_blank field.now) field.now }
 {
     &field[blanks_before(field)..]
+}
+
+/// The field behind its first byte, where that is a space.
+pub(crate) fn behind_space(field: &[u8]) -> &[u8]
+    ensures { without_blanks result.now ≡ without_blanks field.now }
+{
+    match field {
+        [b' ', rest @ ..] => rest,
+        _ => field,
+    }
 }
 
 // How many blanks the field begins with.

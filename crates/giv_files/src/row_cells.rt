@@ -3,7 +3,7 @@ ghost use Rattle.std.specs.Prelude.{◌≡◌, ◌+◌, ◌<◌, ◌≤◌, ◌^
 ghost use Rattle.giv_files.specs.InnerReading.{CellsGive};
 ghost use Rattle.giv_files.specs.Reading.{cell_of, cells_from};
 
-use crate::cells::{cell_of, in_range};
+use crate::cells::cell_of;
 use crate::column::ColumnKind;
 use crate::read_fault::{ReadFault, RowFault};
 use crate::row_why::RowWhy;
@@ -33,18 +33,25 @@ pub(crate) fn push_cells(
     Ok(())
 }
 
-// The cell that a field of a row makes in a column. Most are digits alone.
-#[tactic(auto, unfolding(crate::specs::Reading::cell_of))]
+// The cell that a field of a row makes in a column.
 fn cell_in(row: &TextRow, kind: ColumnKind, index: usize) -> Result<i64, RowWhy>
     requires there { index < length row.now.fields }
     requires narrow { index + 1 < 2 ^ 32 }
     ensures { result ≡ cell_of kind (index + 1) (slice_index_or row.now.fields index []) }
 {
-    let column = index as u32 + 1;
-    if let ColumnKind::Whole { min, max } = kind {
-        if let Some(number) = row.plain_number(index) {
-            return in_range(min, max, column, Some(number));
-        }
+    match row.plain_cell(kind, index) {
+        Some(cell) => Ok(cell),
+        None => any_cell(row, kind, index),
     }
-    cell_of(kind, column, row.field(index))
+}
+
+// The same of a field that may not be plain.
+#[cold]
+#[inline(never)]
+fn any_cell(row: &TextRow, kind: ColumnKind, index: usize) -> Result<i64, RowWhy>
+    requires there { index < length row.now.fields }
+    requires narrow { index + 1 < 2 ^ 32 }
+    ensures { result ≡ cell_of kind (index + 1) (slice_index_or row.now.fields index []) }
+{
+    cell_of(kind, index as u32 + 1, row.field(index))
 }
