@@ -9,11 +9,11 @@ use crate::digits::{plain_fixed, plain_whole};
 use crate::line::behind_space;
 
 /// The cell of a field that has not been trimmed yet. None does not say that it makes none.
-pub(crate) fn plain_cell(kind: ColumnKind, piece: &[u8]) -> Option<i64>
+pub(crate) fn plain_cell(kind: &ColumnKind, piece: &[u8]) -> Option<i64>
     ensures { (column : ℕ) → IfSome result
-        (λ cell. cell_of kind column (without_quotes (without_blanks piece.now)) ≡ Ok cell) }
+        (λ cell. cell_of kind.now column (without_quotes (without_blanks piece.now)) ≡ Ok cell) }
 {
-    match kind {
+    match *kind {
         ColumnKind::Whole { min, max } => within(min, max, plain_whole(piece)),
         ColumnKind::Fixed { min, max } => within(min, max, plain_fixed(piece)),
         ColumnKind::Word { words } => match place_of(words, behind_space(piece)) {

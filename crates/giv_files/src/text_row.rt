@@ -78,10 +78,10 @@ impl<'a> TextRow<'a> {
     }
 
     /// The cell of the field at a place, where it is plain.
-    pub(crate) fn plain_cell(&self, kind: ColumnKind, index: usize) -> Option<i64>
+    pub(crate) fn plain_cell(&self, kind: &ColumnKind, index: usize) -> Option<i64>
         requires { index < length self.now.fields }
         ensures { (column : ℕ) → IfSome result
-            (λ cell. cell_of kind column (slice_index_or self.now.fields index []) ≡ Ok cell) }
+            (λ cell. cell_of kind.now column (slice_index_or self.now.fields index []) ≡ Ok cell) }
     {
         plain_cell(kind, piece(self.long, &self.pieces, index))
     }

@@ -16,4 +16,4 @@ returns c column =
     ap (λ (field : List ℕ). without_quotes (without_blanks field)) c.piece.ensures
     ∙ sym (get_cleaned pieces c.args.index within) ∙ rw (← c.self.view_is) refl in
     subst (λ (field : List ℕ). IfSome c.plain_cell.result
-    (λ cell. cell_of c.args.kind column field ≡ Ok cell)) same (c.plain_cell.ensures column)
+    (λ cell. cell_of c.args.kind.now column field ≡ Ok cell)) same (c.plain_cell.ensures column)
