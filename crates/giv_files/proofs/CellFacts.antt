@@ -4,6 +4,9 @@ use Rattle.std.specs.List.{prefix_len, position, slice_get}
 use Rattle.std.proofs.lemmas.List.{length-map, drop_more, drop_all}
 use Rattle.giv_files.specs.declared.column.ColumnKind.{ColumnKind}
 use Rattle.giv_files.specs.declared.row_why.RowWhy.{RowWhy}
+use Rattle.giv_files.specs.declared.read_fault.ReadFault.{ReadFault}
+use Rattle.giv_files.specs.declared.read_fault.ReadFault.TheVariants as fault
+use Rattle.giv_files.specs.InnerReading.{CellsGive, CellsLeft}
 use Rattle.giv_files.specs.Reading.{cell_of, cells_from, errors, values}
 
 prefix_len-map : {X Y : Type 0} (p : Y → Bool) (f : X → Y) (xs : List X) → prefix_len p (map f xs) ≡ prefix_len (λ x. p (f x)) xs
@@ -76,3 +79,21 @@ cells_whole kinds fields i all old whole h left told =
       sym (rw none at left) ∙ errors_none ℤ RowWhy,
       sym (append-nil old) ∙ ap (λ (cells : List ℤ). old ++ cells) (sym (values_none ℤ RowWhy)) ∙ rw none at told,
     )
+
+-- after the last column nothing is left, whichever place that is
+pub left_none : (kinds : List ColumnKind) (fields : List (List ℕ)) (i n : ℕ) (old new : List ℤ)
+    → length kinds ≤ i → length kinds ≤ n → CellsLeft kinds fields i old new
+    → CellsLeft kinds fields n old new
+left_none kinds fields i n old new h k left =
+    rw (cells_done kinds fields (n + 1) n k) (rw (cells_done kinds fields (i + 1) i h) at left)
+
+-- what the rest of the columns gives is what all of them give
+pub cells_joined : (number : ℕ) (made rest : List (Result ℤ RowWhy)) (old now new : List ℤ)
+    (result : Result (Unit {0}) ReadFault) → errors rest ≡ errors made
+    → now ++ values rest ≡ old ++ values made → CellsGive number rest now new result
+    → CellsGive number made old new result
+cells_joined number made rest old now new (Ok done) same whole gives =
+    (sym same ∙ gives.0, gives.1 ∙ whole)
+cells_joined number made rest old now new (Err (fault.Row first)) same whole gives =
+    rw same at gives
+cells_joined number made rest old now new (Err fault.NoMemory) same whole gives = tt

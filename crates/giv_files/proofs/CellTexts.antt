@@ -1,7 +1,10 @@
 -- The texts of cells, and that they are read back.
-use Rattle.std.proofs.Common.{◌≡◌, ℕ, ◌+◌, ◌<◌, ◌≤◌, ◌&&◌, ◌/◌, ◌%◌, ltb, ne_eqb, zero-add, zero, suc, List, [], ◌∷◌, length, get_or, refl, ap, ◌∙◌, arith, ℤ, pos, negsuc, neg_ℤ, ◌≤ℤ◌, Bool, true, false, T, Some, Ok, All, length-append}
+use Rattle.std.proofs.Common.{◌≡◌, ℕ, ◌+◌, ◌<◌, ◌≤◌, ◌&&◌, ◌/◌, ◌%◌, ltb, ne_eqb, zero-add, zero, suc, List, [], ◌∷◌, length, get_or, refl, ap, ◌∙◌, arith, ℤ, pos, negsuc, neg_ℤ, sym, subst, ◌≤ℤ◌, Bool, true, false, T, Some, Ok, All, length-append}
 use Rattle.std.specs.Prelude.{int_le, decimal}
 use Rattle.std.specs.List.{list_all}
+use Rattle.std.specs.Str.{bytes_eq}
+use Rattle.std.proofs.lemmas.Slice.Eq.{bytes_eq-Decides}
+use Rattle.std.proofs.lemmas.List.Quantifiers.{position-Some}
 use Rattle.std.specs.Fmt.{signed_decimal}
 use Rattle.std.proofs.lemmas.Int.{ints}
 use Rattle.std.proofs.lemmas.Fmt.{decimal_nonempty}
@@ -28,7 +31,7 @@ is_true true h = refl
 is_true false h = absurd h
 
 -- a number in a range is its cell
-range_back : (min max cell : ℤ) (column : ℕ) → min ≤ℤ cell → cell ≤ℤ max → in_range min max column (Some cell) ≡ Ok cell
+pub range_back : (min max cell : ℤ) (column : ℕ) → min ≤ℤ cell → cell ≤ℤ max → in_range min max column (Some cell) ≡ Ok cell
 range_back min max cell column low high = rw (is_true (int_le min cell) low.le, is_true (int_le cell max) high.le) refl
 
 -- the bytes of a number mean nothing between cells
@@ -69,6 +72,34 @@ words_good table.ScheduleKind = (plain_word _ refl, refl, (plain_word _ refl, re
 words_good table.ReasonKind = (plain_word _ refl, refl, (plain_word _ refl, refl, (plain_word _ refl, refl, tt)))
 words_good table.PeriodicKind = (plain_word _ refl, refl, (plain_word _ refl, refl, (plain_word _ refl, refl, (plain_word _ refl, refl, (plain_word _ refl, refl, tt)))))
 words_good table.WaitKind = (plain_word _ refl, refl, (plain_word _ refl, refl, (plain_word _ refl, refl, (plain_word _ refl, refl, (plain_word _ refl, refl, tt)))))
+
+-- so a field that is found there is the text of a cell
+pub word_found : (words : WordTable) (field : List ℕ) (place : ℕ)
+    → Some place ≡ place_of (table_words words) field → IsCell field
+word_found words field place found =
+    let at = position-Some (λ (word : List ℕ). bytes_eq word field) (table_words words) place []
+    (sym found) in
+    let same = (bytes_eq-Decides (get_or (table_words words) place []) field).0 at.1 in
+    subst IsCell same
+    (word_good (table_words words) (table_words words) 0 place (words_good words) at.0).0
+
+-- and its place is small
+few_words : (words : WordTable) → length (table_words words) ≤ 5
+few_words table.EventKind = omega arith
+few_words table.ActivityKind = omega arith
+few_words table.PeriodicKind = omega arith
+few_words table.Direction = omega arith
+few_words table.NodeKind = omega arith
+few_words table.ScheduleKind = omega arith
+few_words table.ReasonKind = omega arith
+few_words table.WaitKind = omega arith
+
+pub small_place : (words : WordTable) (field : List ℕ) (place : ℕ)
+    → Some place ≡ place_of (table_words words) field → place < 5
+small_place words field place found =
+    let at = position-Some (λ (word : List ℕ). bytes_eq word field) (table_words words) place []
+    (sym found) in
+    omega (arith, at.0, few_words words)
 
 -- a number within its column is within what can be read back
 within : (min max cell : ℤ) → IsSmall min max → min ≤ℤ cell → cell ≤ℤ max → (neg_ℤ (pos 1000000000000000000) ≤ℤ cell) × (cell ≤ℤ pos 1000000000000000000)

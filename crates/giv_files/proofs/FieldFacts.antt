@@ -1,8 +1,8 @@
 -- The fields of a line, from the pieces between its semicolons.
-use Rattle.std.proofs.Common.{◌≡◌, ℕ, ◌-◌, ◌<◌, ◌≤◌, zero, suc, List, [], ◌∷◌, length, map, take, get_or, refl, ap, sym, ◌∙◌, Bool, true, false, cond, eqb, leb, Some, None, Option, arith, Bor, one-add}
+use Rattle.std.proofs.Common.{◌≡◌, ℕ, ◌-◌, ◌<◌, ◌≤◌, zero, suc, List, [], ◌∷◌, length, map, take, drop, get_or, refl, ap, sym, ◌∙◌, Bool, true, false, cond, eqb, leb, Some, None, Option, arith, Bor, one-add}
 use Rattle.std.specs.Option.{option_map, unwrap_or}
 use Rattle.std.specs.List.{prefix_len, onto_first}
-use Rattle.std.proofs.lemmas.List.{length-map, get_or-map, length-take-le, get_or-take}
+use Rattle.std.proofs.lemmas.List.{take_all, length-map, get_or-map, length-take-le, get_or-take}
 use Rattle.std.proofs.lemmas.Bool.{le-leb, lt-leb}
 use Rattle.csv.specs.Records.{field_at}
 use Rattle.giv_files.specs.Rows.{is_blank, without_blanks, without_quotes, ends_empty, without_last_empty, cleaned, pieces}
@@ -82,6 +82,14 @@ get_cleaned parts i h = get_if (ends_empty (map without_blanks parts)) parts i r
 -- a space before a line changes no field
 pub space_first : (field : List ℕ) → without_blanks (32 ∷ field) ≡ without_blanks field
 space_first field = rw (one-add (prefix_len is_blank field)) refl
+
+-- nor does one that is cut off
+pub space_cut : (field : List ℕ) → 0 < length field → get_or field 0 0 ≡ 32
+    → without_blanks (take (length field - 1) (drop 1 field)) ≡ without_blanks field
+space_cut [] some is = absurd (omega arith)
+space_cut (byte ∷ field) some is =
+    let rest : take (length (byte ∷ field) - 1) field ≡ field = take_all _ field (omega arith) in
+    rw is (ap without_blanks rest ∙ sym (space_first field))
 
 spaced_if : (t : Bool) (c : ℕ) (parts : List (List ℕ))
     → let all : List (List ℕ) = cond t ([] ∷ parts) (onto_first c parts) in map without_blanks (onto_first 32 all) ≡ map without_blanks all

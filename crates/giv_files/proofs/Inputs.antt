@@ -68,9 +68,6 @@ module _ {X : Type 0} (limit : Limit X) (limits : List (Limit X)) (rows : List X
   pub limit_kept : limit.count rows ≤ limit.most → limit_faults limits rows ≡ [] → limit_faults (limit ∷ limits) rows ≡ []
   limit_kept h rest = ap (λ b. cond b (refusal.TooMany limit.what (limit.count rows) ∷ []) [] ++ limit_faults limits rows) (le-ltb limit.most (limit.count rows) h) ∙ rest
 
-  pub limit_next : (fault : StageFault) → limit.count rows ≤ limit.most → Refuses (limit_faults limits rows) fault → Refuses (limit_faults (limit ∷ limits) rows) fault
-  limit_next fault h by = subst (λ (some : List Refusal). Refuses (some ++ limit_faults limits rows) fault) (sym (ap (λ b. cond b (refusal.TooMany limit.what (limit.count rows) ∷ []) []) (le-ltb limit.most (limit.count rows) h))) by
-
   -- where no limit is passed, the first is kept, and those behind it are
   pub limits_sound : limit_faults (limit ∷ limits) rows ≡ [] → (limit.count rows ≤ limit.most) × (limit_faults limits rows ≡ [])
   limits_sound none = (ltb-false limit.most (limit.count rows) (not_passed _ _ (front_none _ _ none)), back_none (limit_fault rows limit) _ none)
@@ -175,10 +172,6 @@ module _ {X : Type 0} (input : Input X) (rows : List TableRow) (what : Counted) 
       (ap (λ some. slice_get (limit_faults some (records input rows)) 0) limits
       ∙ limit_passed (row_limit what most) [] (records input rows) (omega (arith, counted))
       ∙ ap (λ n. Some (refusal.TooMany what n)) counted)
-
-  -- as many as there may be
-  pub few_enough : length rows ≤ most → limit_faults input.limits (records input rows) ≡ []
-  few_enough h = ap (λ some. limit_faults some (records input rows)) limits ∙ limit_kept (row_limit what most) [] (records input rows) (omega (arith, counted)) refl
 
 -- ---- rows, one after the other, which stand for something and have a number
 

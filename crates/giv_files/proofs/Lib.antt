@@ -16,6 +16,7 @@ pub mod Lines
 pub mod LongLines
 pub mod Named
 pub mod PlainBytes
+pub mod PlainCells
 pub mod PlainFields
 pub mod Ranges
 pub mod ReportLines

@@ -1,13 +1,15 @@
 -- Parts of a line that are counted and then cut off.
 use Rattle.std.proofs.Common.{◌≡◌, ◌≢◌, ℕ, ◌+◌, ◌-◌, ◌<◌, ◌≤◌, List, [], ◌∷◌, length, take, drop}
 use Rattle.std.proofs.Common.{get_or, refl, sym, ◌∙◌, Bool, true, false, cond, eqb, ltb, reverse, All}
-use Rattle.std.proofs.Common.{Option, Some, None, arith, length-take, get_or-take, not, one-add}
+use Rattle.std.proofs.Common.{Option, Some, None, arith, length-take, get_or-take, not, one-add, ◌||◌}
 use Rattle.std.specs.List.{find, list_all, take_while, position, position_or_len, prefix_len}
 use Rattle.std.specs.Option.{MatchOption}
-use Rattle.std.proofs.lemmas.Bool.{ltb-true, ltb-false, eqb-false, eqb-true, false≢true}
-use Rattle.std.proofs.lemmas.List.Sums.{fails_before_first}
+use Rattle.std.proofs.lemmas.Bool.{ltb-true, ltb-false, eqb-false, eqb-true, false≢true, ne_eqb}
+use Rattle.std.proofs.lemmas.List.Elements.{All-take}
+use Rattle.std.specs.Str.Lines.{strip_carriage_return}
+use Rattle.std.proofs.lemmas.List.Sums.{fails_before_first, position_or_len_is}
 use Rattle.std.proofs.lemmas.List.Splits.{slice_split_none, slice_split_first}
-use Rattle.std.proofs.lemmas.List.{take_rest}
+use Rattle.std.proofs.lemmas.List.{take_all, take_rest}
 use Rattle.std.proofs.lemmas.List.Folds.{length-prefix_len}
 use Rattle.giv_files.specs.Rows.{is_blank, without_blanks, before_comment, parts_of}
 
@@ -46,17 +48,81 @@ one_part text e =
     (slice_split_none is_feed text none, λ k d h. eqb-false (get_or text k d) 10 (none k d h))
 
 -- with one the first part ends there
+first_at : (text : List ℕ) (end : ℕ) → end ≡ position_or_len is_feed text → end < length text
+    → (parts_of text ≡ take end text ∷ parts_of
+    (take (length text - (end + 1)) (drop (end + 1) text)))
+    × All (λ byte. byte ≢ 10) (take end text)
+first_at text end is within = (
+  rw (take_rest text (end + 1), is) (slice_split_first is_feed text 0 (omega (arith, is, within))),
+  λ k d h. let before : k < end = omega (arith, length-take end text) in eqb-false _ 10
+      (rw (get_or-take end text k d before)
+      (fails_before_first is_feed text k d (omega (arith, is, within)))),
+)
+
 pub first_of_parts : (text : List ℕ) (end : ℕ) → Some end ≡ position is_feed text
     → (parts_of text ≡ take end text ∷ parts_of
     (take (length text - (end + 1)) (drop (end + 1) text)))
     × All (λ byte. byte ≢ 10) (take end text)
 first_of_parts text end e =
-    let at = place_of_feed text (Some end) e in (
-      rw (take_rest text (end + 1), at.0) (slice_split_first is_feed text 0 (omega (arith, at))),
-      λ k d h. let before : k < end = omega (arith, length-take end text) in eqb-false _ 10
-          (rw (get_or-take end text k d before)
-          (fails_before_first is_feed text k d (omega (arith, at)))),
-    )
+    let at = place_of_feed text (Some end) e in first_at text end at.0 at.1
+
+-- a line feed or the sign of a comment
+abbrev is_stop : ℕ → Bool
+is_stop byte = eqb byte 10 || eqb byte 35
+
+neither : (a b : Bool) → (a || b) ≡ false → (a ≡ false) × (b ≡ false)
+neither true b e = absurd (false≢true (sym e))
+neither false b e = (refl, e)
+
+module _ (text : List ℕ) (end : ℕ) (is : end ≡ position_or_len is_stop text) where
+  before_stop : (k d : ℕ) → k < end
+      → (eqb (get_or text k d) 10 ≡ false) × (eqb (get_or text k d) 35 ≡ false)
+  before_stop k d lt = neither _ _ (fails_before_first is_stop text k d (omega (arith, is, lt)))
+
+  -- without both of them the text is one part
+  pub bare_whole : end ≡ length text → (parts_of text ≡ text ∷ [])
+      × All (λ byte. byte ≢ 10) text × All (λ byte. byte ≢ 35) text
+  bare_whole past =
+      let none : All (λ byte. is_feed byte ≡ false) text = λ k d h. (before_stop k d
+      (omega (arith, past, h))).0 in (
+        slice_split_none is_feed text none,
+        λ k d h. eqb-false (get_or text k d) 10 (none k d h),
+        λ k d h. eqb-false (get_or text k d) 35 (before_stop k d (omega (arith, past, h))).1,
+      )
+
+  -- at a line feed that comes first its first part ends, which has no comment
+  pub bare_first : end < length text → get_or text end 0 ≡ 10
+      → (parts_of text ≡ take end text ∷ parts_of
+      (take (length text - (end + 1)) (drop (end + 1) text)))
+      × All (λ byte. byte ≢ 10) (take end text) × All (λ byte. byte ≢ 35) (take end text)
+  bare_first within feed =
+      let first = position_or_len_is is_feed text end 0 (omega (arith, within))
+      (λ k lt. (before_stop k 0 lt).0) (λ lt. rw feed refl) in
+      let cut = first_at text end (sym first) within in (
+        cut.0,
+        cut.1,
+        λ k d h. let before : k < end = omega (arith, length-take end text) in eqb-false _ 35
+            (rw (get_or-take end text k d before) (before_stop k d before).1),
+      )
+
+-- a line without the sign of a comment has none
+pub not_commented : (line : List ℕ) → All (λ byte. byte ≢ 35) line → line ≡ before_comment line
+not_commented line bare =
+    let none : position_or_len (λ byte. eqb byte 35) line ≡ length line =
+    position_or_len_is (λ byte. eqb byte 35) line (length line) 0 (omega arith)
+    (λ k lt. ne_eqb (get_or line k 0) 35 (bare k 0 lt)) (λ lt. absurd (omega arith)) in
+    sym (rw none (take_all (length line) line (omega arith)))
+
+stripped_if : (t : Bool) (n : ℕ) (part : List ℕ) → All (λ byte. byte ≢ 35) part
+    → All (λ byte. byte ≢ 35) (cond t (take n part) part)
+stripped_if true n part bare = All-take (λ byte. byte ≢ 35) n part bare
+stripped_if false n part bare = bare
+
+-- nor has it without a carriage return at its end
+pub bare_stripped : (part line : List ℕ) → line ≡ strip_carriage_return part
+    → All (λ byte. byte ≢ 35) part → All (λ byte. byte ≢ 35) line
+bare_stripped part line is bare =
+    rw is (stripped_if (eqb (get_or part (length part - 1) 0) 13) (length part - 1) part bare)
 
 -- no byte but blanks
 abbrev is_told : ℕ → Bool

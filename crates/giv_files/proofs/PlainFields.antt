@@ -1,19 +1,17 @@
 -- Fields of digits alone.
-use Rattle.std.proofs.Common.{◌≡◌, ℕ, ℤ, pos, ◌^◌, ◌<◌, ◌≤◌, ◌-◌, ◌+◌, ◌*◌, true, false, List}
-use Rattle.std.proofs.Common.{[], ◌∷◌, length, length-take, take, drop, get_or, Option, Some, None}
-use Rattle.std.proofs.Common.{ap, ◌∙◌, arith, refl, sym, append-nil}
-use Rattle.std.specs.Option.{IfSome}
-use Rattle.std.specs.List.{prefix_len}
+use Rattle.std.proofs.Common.{◌≡◌, ℕ, pos, ◌^◌, ◌<◌, ◌≤◌, ◌-◌, ◌+◌, ◌*◌, true, false, List}
+use Rattle.std.proofs.Common.{[], ◌∷◌, length, length-take, take, get_or, Some}
+use Rattle.std.proofs.Common.{ap, ◌∙◌, arith, refl, sym, add-zero, append-nil}
 use Rattle.std.specs.Char.{is_ascii_digit}
-use Rattle.std.proofs.lemmas.Bool.{le-ltb}
+use Rattle.std.proofs.lemmas.Bool.{le-ltb, ne_eqb}
 use Rattle.std.proofs.lemmas.List.{take_all, take_more}
 use Rattle.std.proofs.lemmas.List.Folds.{list_all-append}
 use Rattle.std.proofs.lemmas.Str.Parse.{digits_value_short}
-use Rattle.plan_num.specs.Number.{all_digits, has_minus, spelling_of, value_of, whole_of}
+use Rattle.plan_num.specs.Number.{all_digits, has_minus, spelling_of, value_of, value_at, fixed_of, whole_of}
 use Rattle.plan_num.proofs.Digits.{value_of-push}
 use Rattle.plan_num.proofs.Printed.{no_minus, numerals, parts_of-digits}
-use Rattle.giv_files.specs.Rows.{is_blank, without_blanks, without_quotes}
-use Rattle.giv_files.proofs.PlainBytes.{IsCell, all_weaker, cell_ends, cell_unquoted, is_plain}
+use Rattle.giv_files.specs.Rows.{without_blanks, without_quotes}
+use Rattle.giv_files.proofs.PlainBytes.{IsCell, all_weaker, cell_unblanked, cell_unquoted, is_plain}
 use Rattle.giv_files.proofs.CellTexts.{number_plain}
 
 -- few digits are worth little
@@ -34,39 +32,60 @@ more_digits field i inside digit h =
     )
 
 -- digits alone spell what they are worth
-pub digits_whole : (field : List ℕ) → all_digits field ≡ true → 0 < length field
-    → length field ≤ 18 → whole_of field ≡ Some (pos (value_of field))
+digits_whole : (field : List ℕ) → all_digits field ≡ true → 0 < length field
+    → value_of field < 10 ^ 18 → whole_of field ≡ Some (pos (value_of field))
 unfolding whole_of spelling_of
-digits_whole field h some few =
+digits_whole field h some small =
     let front = no_minus field [] h some in
     let bare : has_minus field ≡ false = rw append-nil at front in
-    let small = few_digits field h few in
     rw bare (rw (parts_of-digits field h some)
     (rw (le-ltb 1000000000000000000 (value_of field) (omega (arith, small))) refl))
 
--- behind the blanks in front of them they are the whole field
-plain_field : (piece : List ℕ) → 0 < length (drop (prefix_len is_blank piece) piece)
-    → all_digits (drop (prefix_len is_blank piece) piece) ≡ true
-    → without_quotes (without_blanks piece) ≡ drop (prefix_len is_blank piece) piece
-plain_field piece some digits =
-    let front = drop (prefix_len is_blank piece) piece in
+-- and as many millionths as a million times that
+digits_fixed : (field : List ℕ) → all_digits field ≡ true → 0 < length field
+    → value_of field < 1000000000000
+    → fixed_of field ≡ Some (pos (value_of field * 1000000))
+unfolding fixed_of spelling_of value_at
+digits_fixed field h some small =
+    let front = no_minus field [] h some in
+    let bare : has_minus field ≡ false = rw append-nil at front in
+    rw bare (rw (parts_of-digits field h some)
+    (rw (
+      le-ltb 1000000000000 (value_of field) (omega (arith, small)),
+      ne_eqb (value_of field) 1000000000000 (λ e. omega arith),
+      add-zero,
+    ) refl))
+
+-- behind a space or none a text of a cell is the whole field
+pub cell_field : (piece front : List ℕ) → without_blanks front ≡ without_blanks piece
+    → IsCell front → without_quotes (without_blanks piece) ≡ front
+cell_field piece front same cell =
+    ap without_quotes (sym same ∙ cell_unblanked front cell) ∙ cell_unquoted front cell
+
+digits_field : (piece front : List ℕ) → without_blanks front ≡ without_blanks piece
+    → 0 < length front → all_digits front ≡ true → without_quotes (without_blanks piece) ≡ front
+digits_field piece front same some digits =
     let cell : IsCell front = record {
       some = some;
       plain = all_weaker is_ascii_digit is_plain front (λ byte h. number_plain byte (rw h refl))
           digits;
     } in
-    let bare : without_blanks piece ≡ front = rw (cell_ends front cell)
-    (take_all (length front - 0) front (omega arith)) in
-    ap without_quotes bare ∙ cell_unquoted front cell
+    cell_field piece front same cell
 
-pub plain_if : (number : Option ℤ) (piece front : List ℕ)
-    → front ≡ drop (prefix_len is_blank piece) piece → IfSome number (λ _. 0 < length front)
-    → IfSome number (λ _. all_digits front ≡ true)
-    → IfSome number (λ n. whole_of front ≡ Some n)
-    → IfSome number (λ n. whole_of (without_quotes (without_blanks piece)) ≡ Some n)
-plain_if None piece front e some digits value = tt
-plain_if (Some n) piece front e some digits value =
-    rw (plain_field piece (rw e at some) (rw e at digits)) (rw e at value)
+-- so digits behind a space or none spell a whole number, and one in millionths
+module _ (piece front : List ℕ) (same : without_blanks front ≡ without_blanks piece) (value : ℕ)
+    (some : 0 < length front) (digits : all_digits front ≡ true) (is : value ≡ value_of front) where
+  pub plain_whole_is : value < 10 ^ 18
+      → whole_of (without_quotes (without_blanks piece)) ≡ Some (pos value)
+  plain_whole_is small =
+      rw (digits_field piece front same some digits, is)
+      (digits_whole front digits some (rw is at small))
+
+  pub plain_fixed_is : value < 1000000000000
+      → fixed_of (without_quotes (without_blanks piece)) ≡ Some (pos (value * 1000000))
+  plain_fixed_is small =
+      rw (digits_field piece front same some digits, is)
+      (digits_fixed front digits some (rw is at small))
 
 -- so are those so far, of a field of few
 pub small_so_far : (field : List ℕ) (i value : ℕ) → length field ≤ 18
@@ -75,10 +94,8 @@ small_so_far field i value few digits is =
     rw is (few_digits (take i field) digits (omega (arith, few, length-take i field)))
 
 -- behind the last byte they are all
-pub all_so_far : (field : List ℕ) (i value : ℕ) → length field ≤ i → 0 < length field
-    → length field ≤ 18 → all_digits (take i field) ≡ true → value ≡ value_of (take i field)
-    → (all_digits field ≡ true) × (whole_of field ≡ Some (pos value))
-all_so_far field i value past some few digits is =
-    let whole = take_all i field past in
-    let all : all_digits field ≡ true = rw whole at digits in
-    (all, digits_whole field all some few ∙ ap (λ n. Some (pos n)) (sym (rw whole at is)))
+pub all_so_far : (field : List ℕ) (i value : ℕ) → length field ≤ i
+    → all_digits (take i field) ≡ true → value ≡ value_of (take i field)
+    → (all_digits field ≡ true) × (value ≡ value_of field)
+all_so_far field i value past digits is =
+    let whole = take_all i field past in (rw whole at digits, rw whole at is)

@@ -9,8 +9,8 @@ use crate::row_why::RowWhy;
 use crate::words::WordTable;
 use plan_num::{parse_fixed, parse_whole};
 
-/// The number, where it lies in the range.
-pub(crate) fn in_range(min: i64, max: i64, column: u32, number: Option<i64>) -> Result<i64, RowWhy>
+// The number, where it lies in the range.
+fn in_range(min: i64, max: i64, column: u32, number: Option<i64>) -> Result<i64, RowWhy>
     ensures { result ≡ in_range min max column number }
 {
     match number {
@@ -20,8 +20,8 @@ pub(crate) fn in_range(min: i64, max: i64, column: u32, number: Option<i64>) -> 
     }
 }
 
-// The place of a word in a table.
-fn place_of(words: WordTable, field: &[u8]) -> Option<usize>
+/// The place of a word in a table.
+pub(crate) fn place_of(words: WordTable, field: &[u8]) -> Option<usize>
     ensures { result ≡ place_of (table_words words) field.now }
 {
     place_among(words.words(), field)

@@ -1,28 +1,45 @@
 // Fields of digits alone, which are most of all fields.
-ghost use Rattle.std.specs.Prelude.{◌≡◌, ◌<◌, ◌^◌, ◌≤ℤ◌, pos, true, length, drop, IfSome, Some};
-ghost use Rattle.std.specs.List.{prefix_len};
-ghost use Rattle.plan_num.specs.Number.{all_digits, whole_of};
-ghost use Rattle.giv_files.specs.Rows.{is_blank, without_blanks, without_quotes};
+ghost use Rattle.std.specs.Prelude.{◌≡◌, ◌<◌, ◌^◌, pos, true, length, IfSome, Some};
+ghost use Rattle.plan_num.specs.Number.{all_digits, fixed_of, value_of, whole_of};
+ghost use Rattle.giv_files.specs.Rows.{without_blanks, without_quotes};
 
-use crate::line::behind_blanks;
+use crate::line::behind_space;
 
 // The most digits of such a field.
 const MOST_DIGITS: usize = 18;
 
+// What such a field is worth less than, where its millionths are wanted.
+const UNITS_LIMIT: u64 = 1_000_000_000_000;
+
 /// The whole number of a field of digits alone, which has not been trimmed yet. None does not say
 /// that it spells no number.
-pub(crate) fn plain_number(piece: &[u8]) -> Option<i64>
+pub(crate) fn plain_whole(piece: &[u8]) -> Option<i64>
     ensures { IfSome result
         (λ number. whole_of (without_quotes (without_blanks piece.now)) ≡ Some number) }
 {
-    digits_number(behind_blanks(piece))
+    match digits_value(behind_space(piece)) {
+        Some(value) => Some(signed(value)),
+        None => None,
+    }
+}
+
+/// The same in millionths.
+pub(crate) fn plain_fixed(piece: &[u8]) -> Option<i64>
+    ensures { IfSome result
+        (λ number. fixed_of (without_quotes (without_blanks piece.now)) ≡ Some number) }
+{
+    match digits_value(behind_space(piece)) {
+        Some(value) if value < UNITS_LIMIT => Some(signed(value * 1_000_000)),
+        _ => None,
+    }
 }
 
 // What digits are worth, of which there are few, and at least one.
-fn digits_number(field: &[u8]) -> Option<i64>
+fn digits_value(field: &[u8]) -> Option<u64>
     ensures some { IfSome result (λ _. 0 < length field.now) }
     ensures digits { IfSome result (λ _. all_digits field.now ≡ true) }
-    ensures value { IfSome result (λ number. whole_of field.now ≡ Some number) }
+    ensures value { IfSome result (λ value. value ≡ value_of field.now) }
+    ensures few { IfSome result (λ value. value < 10 ^ 18) }
 {
     if field.is_empty() || field.len() > MOST_DIGITS {
         return None;
@@ -34,7 +51,7 @@ fn digits_number(field: &[u8]) -> Option<i64>
         }
         value = value * 10 + u64::from(*byte - b'0');
     }
-    Some(signed(value))
+    Some(value)
 }
 
 // A small number as a signed one.

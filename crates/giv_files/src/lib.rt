@@ -21,6 +21,7 @@ mod line;
 mod long_line;
 mod made;
 mod pieces;
+mod plain_cell;
 mod read;
 mod read_fault;
 mod record;

@@ -1,5 +1,5 @@
 // Parts of a line, and of its fields.
-ghost use Rattle.std.specs.Prelude.{◌≡◌, ◌≢◌, ◌==◌, ◌<◌, ◌∷◌, All, IfSome, length, position};
+ghost use Rattle.std.specs.Prelude.{◌≡◌, ◌≢◌, ◌==◌, ◌<◌, ◌∷◌, All, IfSome, length, position, true};
 ghost use Rattle.std.specs.Prelude.{drop, not, reverse, take_while};
 ghost use Rattle.std.specs.Option.{option_copied};
 ghost use Rattle.std.specs.List.{find, list_all, prefix_len};
@@ -7,10 +7,29 @@ ghost use Rattle.std.specs.Str.Lines.{strip_carriage_return};
 ghost use Rattle.giv_files.specs.Rows.{is_blank, parts_left, parts_of, without_blanks};
 ghost use Rattle.giv_files.specs.Rows.{without_quotes, before_comment};
 
-use crate::find::place_of_byte;
+use crate::find::{place_of_byte, place_of_either};
 
-/// The first part of a text, up to a line feed, and what comes behind it where there is one.
-pub(crate) fn first_part(text: &[u8]) -> (&[u8], Option<&[u8]>)
+/// The first part of a text, up to a line feed, what comes after it where there is one, and whether
+/// it is sure that the part has no comment.
+pub(crate) fn first_part(text: &[u8]) -> (&[u8], Option<&[u8]>, bool)
+    ensures parts { parts_of text.now ≡ result.0.now ∷ parts_left (option_copied result.1) }
+    ensures plain { All (λ byte. byte ≢ 10) result.0.now }
+    ensures shorter { IfSome result.1 (λ rest. length rest.now < length text.now) }
+    ensures bare { result.2 ≡ true → All (λ byte. byte ≢ 35) result.0.now }
+{
+    let end = place_of_either(text, b'\n', b'#');
+    if end == text.len() {
+        (text, None, true)
+    } else if text[end] == b'\n' {
+        (&text[..end], Some(&text[end + 1..]), true)
+    } else {
+        let (part, rest) = any_part(text);
+        (part, rest, false)
+    }
+}
+
+// The first part of a text, and what comes after it, where the part may have a comment.
+fn any_part(text: &[u8]) -> (&[u8], Option<&[u8]>)
     ensures parts { parts_of text.now ≡ result.0.now ∷ parts_left (option_copied result.1) }
     ensures plain { All (λ byte. byte ≢ 10) result.0.now }
     ensures shorter { IfSome result.1 (λ rest. length rest.now < length text.now) }
@@ -82,11 +101,21 @@ pub(crate) fn without_blanks(field: &[u8]) -> &[u8]
     &front[..front.len() - blanks_after(front)]
 }
 
-/// The field without the blanks in front.
-pub(crate) fn behind_blanks(field: &[u8]) -> &[u8]
+// The field without the blanks in front.
+fn behind_blanks(field: &[u8]) -> &[u8]
     ensures { result.now ≡ drop (prefix_len is_blank field.now) field.now }
 {
     &field[blanks_before(field)..]
+}
+
+/// The field behind its first byte, where that is a space.
+pub(crate) fn behind_space(field: &[u8]) -> &[u8]
+    ensures { without_blanks result.now ≡ without_blanks field.now }
+{
+    match field {
+        [b' ', rest @ ..] => rest,
+        _ => field,
+    }
 }
 
 // How many blanks the field begins with.

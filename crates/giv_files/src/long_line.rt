@@ -30,6 +30,8 @@ pub(crate) fn short_line(line: &[u8]) -> &[u8]
 }
 
 /// How many pieces a line has between its semicolons.
+#[cold]
+#[inline(never)]
 pub(crate) fn count_pieces(line: &[u8]) -> usize
     ensures { result ≡ length (pieces line.now) }
 {
@@ -37,6 +39,8 @@ pub(crate) fn count_pieces(line: &[u8]) -> usize
 }
 
 /// The piece of a line at a place, and nothing past the last.
+#[cold]
+#[inline(never)]
 pub(crate) fn piece_at(line: &[u8], index: usize) -> &[u8]
     ensures { result.now ≡ slice_index_or (pieces line.now) index [] }
 {

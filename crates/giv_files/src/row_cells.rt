@@ -1,13 +1,15 @@
 // The cells of a row.
-ghost use Rattle.std.specs.Prelude.{◌≡◌, ◌+◌, ◌<◌, ◌≤◌, ◌^◌, [], length, slice_index_or, vec_len};
-ghost use Rattle.giv_files.specs.InnerReading.{CellsGive};
+ghost use Rattle.std.specs.Prelude.{◌≡◌, ◌+◌, ◌<◌, ◌≤◌, ◌^◌, [], IfOk, drop, length, slice_index_or};
+ghost use Rattle.std.specs.Prelude.{vec_len};
+ghost use Rattle.giv_files.specs.InnerReading.{CellsGive, CellsLeft};
 ghost use Rattle.giv_files.specs.Reading.{cell_of, cells_from};
 
-use crate::cells::{cell_of, in_range};
+use crate::cells::cell_of;
 use crate::column::ColumnKind;
 use crate::read_fault::{ReadFault, RowFault};
 use crate::row_why::RowWhy;
 use crate::text_row::TextRow;
+use plan_num::NoMemory;
 
 /// Appends the cells that the fields of a row make, of which there are as many as columns.
 pub(crate) fn push_cells(
@@ -21,8 +23,50 @@ pub(crate) fn push_cells(
     ensures gives { CellsGive row.now.number (cells_from 1 kinds.now row.now.fields)
         cells.old.items cells.new.items result }
 {
+    let done = push_plain(cells, row, kinds)?;
+    if done < kinds.len() {
+        push_rest(cells, row, kinds, done)
+    } else {
+        Ok(())
+    }
+}
+
+// Appends the cells of the first columns, as long as the fields are plain, and returns how many.
+fn push_plain(cells: &mut Vec<i64>, row: &TextRow, kinds: &[ColumnKind]) -> Result<usize, NoMemory>
+    requires whole { length row.now.fields ≡ length kinds.now }
+    ensures grows { vec_len cells.old ≤ vec_len cells.new }
+    ensures within { IfOk result (λ done. done ≤ length kinds.now) }
+    ensures left { IfOk result (λ done.
+        CellsLeft kinds.now row.now.fields done cells.old.items cells.new.items) }
+{
     for (index, kind) in kinds.iter().enumerate() {
-        match cell_in(row, *kind, index) {
+        match row.plain_cell(kind, index) {
+            Some(cell) => cells.push(cell)?,
+            None => return Ok(index),
+        }
+    }
+    Ok(kinds.len())
+}
+
+// Appends the cells of the columns from a place on.
+#[cold]
+#[inline(never)]
+fn push_rest(
+    cells: &mut Vec<i64>,
+    row: &TextRow,
+    kinds: &[ColumnKind],
+    from: usize,
+) -> Result<(), ReadFault>
+    requires whole { length row.now.fields ≡ length kinds.now }
+    requires narrow { length kinds.now < 2 ^ 32 }
+    requires within { from ≤ length kinds.now }
+    ensures grows { vec_len cells.old ≤ vec_len cells.new }
+    ensures gives { CellsGive row.now.number
+        (cells_from (from + 1) (drop from kinds.now) (drop from row.now.fields))
+        cells.old.items cells.new.items result }
+{
+    for index in from..kinds.len() {
+        match cell_in(row, &kinds[index], index) {
             Ok(cell) => cells.push(cell)?,
             Err(why) => {
                 let row = row.number();
@@ -33,18 +77,14 @@ pub(crate) fn push_cells(
     Ok(())
 }
 
-// The cell that a field of a row makes in a column. Most are digits alone.
-#[tactic(auto, unfolding(crate::specs::Reading::cell_of))]
-fn cell_in(row: &TextRow, kind: ColumnKind, index: usize) -> Result<i64, RowWhy>
+// The cell that a field of a row makes in a column.
+fn cell_in(row: &TextRow, kind: &ColumnKind, index: usize) -> Result<i64, RowWhy>
     requires there { index < length row.now.fields }
     requires narrow { index + 1 < 2 ^ 32 }
-    ensures { result ≡ cell_of kind (index + 1) (slice_index_or row.now.fields index []) }
+    ensures { result ≡ cell_of kind.now (index + 1) (slice_index_or row.now.fields index []) }
 {
-    let column = index as u32 + 1;
-    if let ColumnKind::Whole { min, max } = kind {
-        if let Some(number) = row.plain_number(index) {
-            return in_range(min, max, column, Some(number));
-        }
+    match row.plain_cell(kind, index) {
+        Some(cell) => Ok(cell),
+        None => cell_of(*kind, index as u32 + 1, row.field(index)),
     }
-    cell_of(kind, column, row.field(index))
 }

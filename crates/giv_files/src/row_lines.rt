@@ -1,37 +1,16 @@
 // The lines of a text that have rows.
-ghost use Rattle.std.specs.Prelude.{◌≡◌, ◌≢◌, ◌∷◌, [], All, MatchOption, IfSome};
-ghost use Rattle.std.specs.Option.{option_copied};
+ghost use Rattle.std.specs.Prelude.{◌≡◌, ◌≢◌, ◌∷◌, [], All, MatchOption, IfSome, true};
 ghost use Rattle.giv_files.specs.Rows.{before_comment, parts_of};
-ghost use Rattle.giv_files.specs.Told.{long_line, told_left};
+ghost use Rattle.giv_files.specs.Told.{told_left};
 
 use crate::line::{before_comment, first_part, has_row, without_return};
-use crate::long_line::long_line;
 use std::marker::Model;
 
-/// A line that has a row, with its number.
+/// A line that has a row: its number, and what stands before a comment.
 #[derive(Clone, Copy)]
 pub(crate) struct RowLine<'a> {
     pub(crate) number: u64,
-    line: &'a [u8],
-}
-
-impl<'a> RowLine<'a> {
-    /// What stands before a comment.
-    pub(crate) fn told(self) -> &'a [u8]
-        ensures { result.now ≡ before_comment self.entry.line.now }
-    {
-        before_comment(self.line)
-    }
-
-    /// The same, where it is long. A line that is not long is not looked through.
-    pub(crate) fn long(self) -> Option<&'a [u8]>
-        ensures { option_copied result ≡ long_line (before_comment self.entry.line.now) }
-    {
-        match long_line(self.line) {
-            None => None,
-            Some(_) => long_line(self.told()),
-        }
-    }
+    pub(crate) told: &'a [u8],
 }
 
 /// The lines of a text that have rows. Contracts see those that are left.
@@ -69,12 +48,11 @@ impl<'a> RowLines<'a> {
     pub(crate) fn next(&mut self) -> Option<RowLine<'a>>
         ensures next { MatchOption result ((self.old ≡ []) × (self.new ≡ []))
             (λ row. self.old
-            ≡ record { number = row.number; line = before_comment row.line.now } ∷ self.new) }
-        ensures plain { IfSome result
-            (λ row. All (λ byte. byte ≢ 10) (before_comment row.line.now)) }
+            ≡ record { number = row.number; line = row.told.now } ∷ self.new) }
+        ensures plain { IfSome result (λ row. All (λ byte. byte ≢ 10) row.told.now) }
     {
         'lines: while let Some(text) = self.left {
-            let (part, rest) = first_part(text);
+            let (part, rest, bare) = first_part(text);
             self.left = rest;
             let line = without_return(part);
             if !line.is_empty() {
@@ -82,11 +60,19 @@ impl<'a> RowLines<'a> {
                 if has_row(line) {
                     return Some(RowLine {
                         number: self.number,
-                        line,
+                        told: told_in(line, bare),
                     });
                 }
             }
         }
         None
     }
+}
+
+// What stands before a comment in a line, which may be known to have none.
+fn told_in(line: &[u8], bare: bool) -> &[u8]
+    requires { bare ≡ true → All (λ byte. byte ≢ 35) line.now }
+    ensures { result.now ≡ before_comment line.now }
+{
+    if bare { line } else { before_comment(line) }
 }

@@ -50,7 +50,7 @@ impl<'a> Spaced<'a> {
     {
         if let Unread::Nothing = self.line {
             if let Some(row) = self.lines.next() {
-                self.line = Unread::Line(short_line(row.told()));
+                self.line = Unread::Line(short_line(row.told));
             }
         }
     }

@@ -1,17 +1,18 @@
 // A row of a text, with its fields as they are written.
-ghost use Rattle.std.specs.Prelude.{◌≡◌, ◌<◌, ◌≢◌, ◌∷◌, [], List, All, IfSome, OnOk, Some, length};
+ghost use Rattle.std.specs.Prelude.{◌≡◌, ◌<◌, ◌≢◌, ◌∷◌, [], List, All, IfSome, Ok, OnOk, length, ℕ};
 ghost use Rattle.std.specs.Prelude.{slice_index_or};
 ghost use Rattle.std.specs.Option.{option_copied};
 ghost use Rattle.csv.specs.Records.{fields_of};
-ghost use Rattle.plan_num.specs.Number.{whole_of};
+ghost use Rattle.giv_files.specs.Reading.{cell_of};
 ghost use Rattle.giv_files.specs.Rows.{cleaned};
 ghost use Rattle.giv_files.specs.Told.{Told, handed, long_line, pieces_of, row_told};
 ghost use Rattle.giv_files.specs.Spaced.{StandsBefore};
 
-use crate::digits::plain_number;
+use crate::column::ColumnKind;
 use crate::line::{without_blanks, without_quotes};
 use crate::long_line::{count_pieces, piece_at};
 use crate::pieces::next_pieces;
+use crate::plain_cell::plain_cell;
 use crate::spaced::Spaced;
 use csv::{ByteRecord, Reader};
 use plan_num::NoMemory;
@@ -76,13 +77,13 @@ impl<'a> TextRow<'a> {
         without_quotes(without_blanks(piece(self.long, &self.pieces, index)))
     }
 
-    /// The whole number of the field at a place, where it has digits alone.
-    pub(crate) fn plain_number(&self, index: usize) -> Option<i64>
+    /// The cell of the field at a place, where it is plain.
+    pub(crate) fn plain_cell(&self, kind: &ColumnKind, index: usize) -> Option<i64>
         requires { index < length self.now.fields }
-        ensures { IfSome result
-            (λ number. whole_of (slice_index_or self.now.fields index []) ≡ Some number) }
+        ensures { (column : ℕ) → IfSome result
+            (λ cell. cell_of kind.now column (slice_index_or self.now.fields index []) ≡ Ok cell) }
     {
-        plain_number(piece(self.long, &self.pieces, index))
+        plain_cell(kind, piece(self.long, &self.pieces, index))
     }
 
     /// Reads the row of the next line, which has this number, and of which this stands before a

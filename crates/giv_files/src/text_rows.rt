@@ -2,6 +2,7 @@
 ghost use Rattle.std.specs.Prelude.{◌≡◌, ◌∷◌, [], IfOk, MatchBool};
 ghost use Rattle.giv_files.specs.Reading.{RowsGive};
 
+use crate::long_line::long_line;
 use crate::pieces::pieces_reader;
 use crate::read_fault::RowFault;
 use crate::row_lines::RowLines;
@@ -59,7 +60,7 @@ impl<'a> TextRows<'a> {
         match self.lines.next() {
             None => Ok(false),
             Some(line) => {
-                row.read(line.number, line.long(), &mut self.reader)?;
+                row.read(line.number, long_line(line.told), &mut self.reader)?;
                 Ok(true)
             }
         }

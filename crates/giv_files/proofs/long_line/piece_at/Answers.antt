@@ -1,4 +1,4 @@
-use Rattle.std.proofs.Common.{◌≡◌, ◌+◌, ◌-◌, List, ℕ, [], ap, arith, drop, get_or, length, length-drop, length-take, refl}
+use Rattle.std.proofs.Common.{◌≡◌, ◌+◌, ◌-◌, [], ap, arith, drop, get_or, length, length-drop, length-take}
 use Rattle.giv_files.specs.Rows.{pieces}
 use Rattle.giv_files.proofs.LongLines.{piece_behind, piece_first, piece_nowhere}
 use Rattle.giv_files.proofs.long_line.piece_at.Goals as goal

@@ -1,4 +1,4 @@
-use Rattle.std.proofs.Common.{◌≡◌, ◌<◌, length, to_z, of_z, w64, arith, get_or, pos}
+use Rattle.std.proofs.Common.{◌≡◌, to_z, of_z, w64, arith, get_or, pos}
 use Rattle.std.proofs.lemmas.Int.{to_z-of_z}
 use Rattle.giv_files.proofs.WriteFacts.{cells_length, in_column, column_more, no_column, line_done}
 use Rattle.giv_files.proofs.write.push_line.Goals as goal

@@ -1,4 +1,3 @@
-use Rattle.std.proofs.Common.{sym}
 use Rattle.giv_files.proofs.WriteFacts.{row_in_columns}
 use Rattle.giv_files.proofs.write.push_row.Goals as goal
 

@@ -1,7 +1,7 @@
 -- The digits so far are worth the value.
 use Rattle.std.proofs.Common.{◌≡◌, true, take}
 use Rattle.plan_num.specs.Number.{all_digits, value_of}
-use Rattle.giv_files.proofs.digits.digits_number.Given as goal
+use Rattle.giv_files.proofs.digits.digits_value.Given as goal
 
 abbrev pub invariant-loop-byte : goal.invariant-loop-byte
 invariant-loop-byte l =

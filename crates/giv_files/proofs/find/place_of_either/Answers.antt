@@ -1,0 +1,12 @@
+use Rattle.std.proofs.Common.{◌∙◌, ◌||◌, eqb, sym}
+use Rattle.giv_files.proofs.Skipping.{skip_piece}
+use Rattle.giv_files.proofs.find.place_of_either.Goals as goal
+
+pub pieces-preserved : goal.pieces-preserved
+pieces-preserved c =
+    let next = skip_piece (λ other. eqb other c.args.one || eqb other c.args.two) c.args.text.now
+    c.pieces.rest.now c.split_at.result.0.now c.split_at.result.1.now 16 c.pieces-test.true
+    c.split_at.ensures.front c.split_at.ensures.back
+    (sym c.has_either.ensures ∙ c.if-has_either.false)
+    c.pieces.invariant.within c.pieces.invariant.same in
+    record { within = next.0; same = next.1 }

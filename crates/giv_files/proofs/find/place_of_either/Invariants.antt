@@ -1,0 +1,16 @@
+-- The bytes stand in the rest where they stand in the text.
+use Rattle.std.proofs.Common.{◌≡◌, ◌≤◌, ◌+◌, ◌-◌, ◌||◌, length, eqb}
+use Rattle.std.specs.List.{position_or_len}
+use Rattle.giv_files.proofs.find.place_of_either.Given as goal
+
+abbrev pub invariant-pieces : goal.invariant-pieces
+invariant-pieces l =
+    record {
+      within : length l.rest ≤ length l.text;
+      same : position_or_len (λ other. eqb other l.one || eqb other l.two) l.text
+          ≡ length l.text - length l.rest
+          + position_or_len (λ other. eqb other l.one || eqb other l.two) l.rest;
+    }
+
+abbrev pub decreases-pieces : goal.decreases-pieces
+decreases-pieces l = length l.rest
