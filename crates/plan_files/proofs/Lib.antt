@@ -1,5 +1,6 @@
 pub mod Applying
 pub mod Failing
+mod Fronts
 pub mod OtherFiles
 pub mod Reading
 pub mod Writes

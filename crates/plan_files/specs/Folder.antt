@@ -3,6 +3,7 @@ use Rattle.std.specs.Prelude.{ℕ, ◌≤◌, ◌<◌, ⊤, Bool, true, false, i
 use Rattle.std.specs.Prelude.{List, length, Option, Some, None, Result, Ok, Err}
 use Rattle.std.specs.Cmp.Lexicographic.{slice_cmp}
 use Rattle.std.specs.Ordering.{nat_cmp}
+use Rattle.std.specs.Str.{bytes_eq}
 use Rattle.std.specs.FinMap as map
 use Rattle.plan_files.specs.declared.file_fault.FileFault.{FileFault}
 use Rattle.plan_files.specs.declared.file_fault.FileFault.TheVariants.{Failed, NoMemory}
@@ -21,6 +22,12 @@ found (Some bytes) limit = if nat_le (length bytes) limit then Bytes bytes else 
 -- what a read with a limit finds under a name
 abbrev pub got_of : Folder → List ℕ → ℕ → Got
 got_of folder name limit = found (map.get folder name) limit
+
+-- the same bytes, or no file both times
+abbrev pub same_bytes : Option (List ℕ) → Option (List ℕ) → Bool
+same_bytes None None = true
+same_bytes (Some there) (Some bytes) = bytes_eq there bytes
+same_bytes _ _ = false
 
 -- the most bytes that a file can have, as a number of 64 bits
 abbrev pub last_length : ℕ

@@ -1,18 +1,19 @@
 // The files of the real folder.
 ghost use Rattle.std.specs.Prelude.{◌≡◌, ◌≤◌, None, Ok, IfOk};
 ghost use Rattle.plan_files.specs.Counts.{Counts, last_count};
-ghost use Rattle.plan_files.specs.Folder.{has_failed, KeepsLimit};
+ghost use Rattle.plan_files.specs.Folder.{has_failed};
 
 use crate::again::uninterrupted;
 use crate::faults::count_fault;
 use crate::file_fault::FileFault;
 use crate::place::{Place, place_of, stands_at};
+use crate::read::{REPLACED, bytes_behind, has_bytes, may_have_ends, no_file, read_file};
 use crate::store::{Files, Got};
 use crate::trouble::{Failure, Trouble};
-use plan_num::{NoMemory, Tally, Text};
+use plan_num::{Tally, Text};
 use std::alloc::Global;
 use std::fs::{OpenFile, OpenOptions};
-use std::io::{ErrorKind, Read, Seek, SeekFrom, Write};
+use std::io::{ErrorKind, Write};
 use std::os::unix::fs::MetadataExt;
 use std::{fs, io, rt};
 
@@ -79,6 +80,19 @@ impl<R: rt::Files> Files for FolderFiles<'_, R> {
         self.counted(name, read_file(self.rt, alloc, name, limit))
     }
 
+    fn has_bytes(&mut self, alloc: Global, name: &str, bytes: &[u8]) -> Result<bool, FileFault> {
+        self.counted(name, has_bytes(self.rt, alloc, name, bytes))
+    }
+
+    fn get_behind(
+        &mut self,
+        alloc: Global,
+        name: &str,
+        front: &[&[u8]],
+    ) -> Result<Option<Text>, FileFault> {
+        self.counted(name, bytes_behind(self.rt, alloc, name, front))
+    }
+
     fn may_have_ends(&mut self, name: &str, front: &[u8], back: &[u8]) -> Result<bool, FileFault> {
         self.counted(name, may_have_ends(self.rt, self.alloc, name, front, back))
     }
@@ -90,90 +104,6 @@ impl<R: rt::Files> Files for FolderFiles<'_, R> {
     fn remove(&mut self, name: &str) -> Result<(), FileFault> {
         self.counted(name, remove_file(self.rt, name))
     }
-}
-
-const REPLACED: &str = "replaced while it was opened";
-
-// Something stands there, and is no file of the dataset.
-fn no_file() -> Trouble {
-    Trouble::because("not a regular file to which folders lead")
-}
-
-// Reads at most one byte more than the file had when it was opened, and none before what was opened
-// is known to be the file that stands there.
-fn read_file<R: rt::Files>(rt: &R, alloc: Global, name: &str, limit: u64) -> Result<Got, Trouble>
-    ensures { IfOk result (KeepsLimit limit) }
-{
-    match place_of(rt, name)? {
-        Place::Vacant => return Ok(Got::Absent),
-        Place::Regular(_) => {}
-        Place::Other => return Err(no_file()),
-    }
-    let (file, length) = open_there(rt, name)?;
-    if length > limit {
-        return Ok(Got::TooLong);
-    }
-    let most = length.saturating_add(1);
-    let mut bytes = room_for(alloc, most as usize)?;
-    file.take(most).read_to_end(&mut bytes)?;
-    if bytes.len() as u64 > length {
-        return Err(Trouble::because("grew while it was read"));
-    }
-    Ok(Got::Bytes(Text::from_vec(bytes)))
-}
-
-// Opens a file for reading, and tells its length. It is the file that stands there.
-fn open_there<R: rt::Files>(rt: &R, name: &str) -> Result<(R::File, u64), Trouble> {
-    let file = uninterrupted(|| fs::open(rt, name))?;
-    let found = uninterrupted(|| file.metadata())?;
-    if stands_at(rt, name, &found)? {
-        Ok((file, found.len()))
-    } else {
-        Err(Trouble::because(REPLACED))
-    }
-}
-
-// Room for so many bytes. Where they are more than there is memory for, none of them is read.
-fn room_for(alloc: Global, count: usize) -> Result<Vec<u8>, NoMemory> {
-    Ok(Vec::with_capacity(alloc, count)?)
-}
-
-// A file with fewer bytes may as well be read as a whole.
-const LONG: u64 = 67_108_864;
-
-// Reads the two ends of a long file.
-fn may_have_ends<R: rt::Files>(
-    rt: &R,
-    alloc: Global,
-    name: &str,
-    front: &[u8],
-    back: &[u8],
-) -> Result<bool, Trouble> {
-    match place_of(rt, name)? {
-        Place::Vacant => return Ok(false),
-        Place::Regular(seen) if seen.len() < LONG => return Ok(true),
-        Place::Regular(_) => {}
-        Place::Other => return Err(no_file()),
-    }
-    let (mut file, length) = open_there(rt, name)?;
-    let back_length = back.len() as u64;
-    if length < back_length.saturating_add(front.len() as u64) {
-        return Ok(false);
-    }
-    if !has_next(alloc, &mut file, front)? {
-        return Ok(false);
-    }
-    file.seek(SeekFrom::Start(length - back_length))?;
-    Ok(has_next(alloc, &mut file, back)?)
-}
-
-// Whether these are the next bytes of a file.
-fn has_next<F: Read>(alloc: Global, file: &mut F, bytes: &[u8]) -> io::Result<bool> {
-    let mut there = Vec::new(alloc);
-    file.by_ref()
-        .take(bytes.len() as u64)
-        .read_to_end(&mut there)?;
-    Ok(there.as_slice() == bytes)
 }
 
 // Makes the name's folder where it is not there.

@@ -4,6 +4,7 @@
 
 mod again;
 mod apply;
+mod behind;
 mod fault_plan;
 mod faults;
 mod file_fault;
@@ -12,6 +13,7 @@ mod memory_files;
 mod memory_sink;
 mod name;
 mod place;
+mod read;
 mod sink;
 mod sink_fault;
 mod std_sink;

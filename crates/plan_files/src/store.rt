@@ -1,13 +1,14 @@
 // Files by name.
-ghost use Rattle.std.specs.Prelude.{◌≡◌, ◌≤◌, List, ℕ, Option, None, IfSome, IfOk, false};
+ghost use Rattle.std.specs.Prelude.{◌≡◌, ◌≤◌, List, ℕ, Option, Some, None, IfSome, IfOk, false, flat_map};
 ghost use Rattle.std.specs.FinMap as map;
 ghost use Rattle.plan_files.specs.declared.write.Write.{Write};
 ghost use Rattle.plan_files.specs.declared.write.Write.TheVariants.{Put, Removal};
 ghost use Rattle.plan_files.specs.Applied.{Leaves, Notes};
 ghost use Rattle.plan_files.specs.Counts.{Counts, last_count};
-ghost use Rattle.plan_files.specs.Folder.{Folder, got_of, has_failed, KeepsLimit};
-ghost use Rattle.plan_files.specs.Reads.{LacksEnds, OnlyReads};
+ghost use Rattle.plan_files.specs.Folder.{Folder, got_of, has_failed, KeepsLimit, same_bytes};
+ghost use Rattle.plan_files.specs.Reads.{FoundBehind, LacksEnds, OnlyReads};
 
+use crate::behind::bytes_behind;
 use crate::file_fault::FileFault;
 use plan_num::Text;
 use std::alloc::Global;
@@ -39,6 +40,41 @@ pub trait Files {
         ensures within { IfOk result (KeepsLimit limit) }
         ensures reads { OnlyReads contents writes faults self.old self.new (has_failed result) }
         ensures capped { faults self.new ≤ last_count };
+
+    /// Whether a file is there and has these bytes. Files may tell it without room for all of them.
+    fn has_bytes(&mut self, alloc: Global, name: &str, bytes: &[u8]) -> Result<bool, FileFault>
+        ensures same { IfSome (contents self.old) (λ folder. IfOk result (λ same.
+            same ≡ same_bytes (map.get folder name.now) (Some bytes.now))) }
+        ensures reads { OnlyReads contents writes faults self.old self.new (has_failed result) }
+        ensures capped { faults self.new ≤ last_count }
+    {
+        match self.get(alloc, name, bytes.len() as u64)? {
+            Got::Bytes(there) => Ok(there.as_bytes() == bytes),
+            Got::Absent | Got::TooLong => Ok(false),
+        }
+    }
+
+    /// The bytes behind a front, where those under a name begin with it. The front is some pieces, one
+    /// after the other. Files may tell it without room for what they compare.
+    fn get_behind(
+        &mut self,
+        alloc: Global,
+        name: &str,
+        front: &[&[u8]],
+    ) -> Result<Option<Text>, FileFault>
+        ensures behind { IfSome (contents self.old) (λ folder. IfOk result (FoundBehind
+            (flat_map (λ piece. piece.now) front.now) (map.get folder name.now))) }
+        ensures reads { OnlyReads contents writes faults self.old self.new (has_failed result) }
+        ensures capped { faults self.new ≤ last_count }
+    {
+        match self.get(alloc, name, u64::MAX)? {
+            Got::Bytes(there) => match bytes_behind(front, there.as_bytes()) {
+                Some(rest) => Ok(Some(Text::copy(alloc, rest)?)),
+                None => Ok(None),
+            },
+            Got::Absent | Got::TooLong => Ok(None),
+        }
+    }
 
     /// Whether the bytes under a name may begin with some bytes and end with others: a look before a
     /// file that may be long is got. Where they do, the answer is yes; it may be yes of any others.

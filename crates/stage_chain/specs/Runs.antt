@@ -9,6 +9,7 @@ use Rattle.plan_files.specs.declared.write.Write.TheVariants.{Put, Removal}
 use Rattle.plan_files.specs.Applied.{AreCutShort}
 use Rattle.plan_files.specs.Changes.{folder_after, left_by, write_name}
 use Rattle.plan_files.specs.Folder.{Folder}
+pub use Rattle.plan_files.specs.Folder.{same_bytes}
 use Rattle.plan_files.specs.Others.{AreOutside}
 use Rattle.giv_files.specs.declared.made.MadeFile.{MadeFile}
 use Rattle.giv_files.specs.FileNames.{file_name}
@@ -54,12 +55,6 @@ module _ (S : StageParts) where
       map put_of made_files ++ map Removal (names_besides made_files (names_made_by S.places))
 
 -- ---- writes that change something
-
--- the same bytes, or no file both times
-abbrev pub same_bytes : Option (List ℕ) → Option (List ℕ) → Bool
-same_bytes None None = true
-same_bytes (Some there) (Some bytes) = bytes_eq there bytes
-same_bytes _ _ = false
 
 -- a folder has already what a write leaves
 abbrev pub is_met : Folder → Write → Bool

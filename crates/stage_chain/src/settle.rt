@@ -100,26 +100,8 @@ fn is_met<F: Files>(alloc: Global, files: &mut F, write: &Write) -> Result<bool,
         (has_failed result) }
 {
     match write {
-        Write::Put(name, text) => has_bytes(alloc, files, name.as_str(), text.as_bytes()),
+        Write::Put(name, text) => files.has_bytes(alloc, name.as_str(), text.as_bytes()),
         Write::Removal(name) => is_absent(alloc, files, name.as_str()),
-    }
-}
-
-/// Whether a file is there and has these bytes.
-pub(crate) fn has_bytes<F: Files>(
-    alloc: Global,
-    files: &mut F,
-    name: &str,
-    bytes: &[u8],
-) -> Result<bool, FileFault>
-    ensures same { IfSome (F.contents files.old) (λ folder. IfOk result (λ same.
-        same ≡ same_bytes (map.get folder name.now) (Some bytes.now))) }
-    ensures only_reads { OnlyReads F.contents F.writes F.faults files.old files.new
-        (has_failed result) }
-{
-    match files.get(alloc, name, bytes.len() as u64)? {
-        Got::Bytes(there) => Ok(there.as_bytes() == bytes),
-        Got::Absent | Got::TooLong => Ok(false),
     }
 }
 

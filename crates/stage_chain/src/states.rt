@@ -20,7 +20,7 @@ use crate::keep::kept;
 use crate::known::Known;
 use crate::outcome::ChainFault;
 use crate::report::{push_state, refused_states};
-use crate::settle::{has_bytes, is_absent};
+use crate::settle::is_absent;
 use crate::stages::{Stages, place_of};
 use crate::state::{StageState, StatesEnd, StatesOutcome};
 use config_keys::{Config, ConfigEnd, read_config};
@@ -212,7 +212,7 @@ fn stands_as<F: Files>(
         (has_failed result) }
 {
     match text_among(made, file) {
-        Some(text) => has_bytes(alloc, files, file.name(), text.as_bytes()),
+        Some(text) => files.has_bytes(alloc, file.name(), text.as_bytes()),
         None => is_absent(alloc, files, file.name()),
     }
 }

@@ -1,0 +1,36 @@
+-- Pieces at the front of bytes, one after the other.
+use Rattle.std.proofs.Common.{◌≡◌, ℕ, ◌<◌, ◌+◌, List, ◌∷◌, ◌++◌, length, drop, get_or, flat_map, ap, sym, ◌∙◌, arith, suc, append_assoc, Option, Some, None, IfSome, IfNone, MatchOption}
+use Rattle.std.proofs.Math.Seq.{drop-cons}
+use Rattle.std.proofs.lemmas.List.{append_cancel_left}
+
+module _ {X : Type 0} (f : X → List ℕ) (xs : List X) (i : ℕ) (d : X) (inside : i < length xs) where
+  -- the pieces from one on
+  pieces_at : flat_map f (drop i xs) ≡ f (get_or xs i d) ++ flat_map f (drop (i + 1) xs)
+  pieces_at = ap (flat_map f) (drop-cons xs i d inside ∙ ap (λ n. get_or xs i d ∷ drop n xs) (next i))
+    where
+      next : (n : ℕ) → suc n ≡ n + 1
+      next n = omega arith
+
+  -- what stands behind the pieces behind one stands behind those from it on, and the other way round
+  pub passed : (rest more behind : List ℕ) → rest ≡ f (get_or xs i d) ++ more
+      → (more ≡ flat_map f (drop (i + 1) xs) ++ behind → rest ≡ flat_map f (drop i xs) ++ behind)
+      × (rest ≡ flat_map f (drop i xs) ++ behind → more ≡ flat_map f (drop (i + 1) xs) ++ behind)
+  passed rest more behind split =
+      let piece = f (get_or xs i d) in
+      let later = flat_map f (drop (i + 1) xs) in
+      let whole : flat_map f (drop i xs) ++ behind ≡ piece ++ (later ++ behind) =
+      ap (λ (front : List ℕ). front ++ behind) pieces_at ∙ append_assoc piece later behind in (
+        λ is. split ∙ ap (λ (bytes : List ℕ). piece ++ bytes) is ∙ sym whole,
+        λ is. append_cancel_left piece more (later ++ behind) (sym split ∙ is ∙ whole),
+      )
+
+-- what holds where something is found, and where nothing is
+pub if_some : {X : Type 0} (found : Option X) (none : Type 0) (some : X → Type 0)
+    → MatchOption found none some → IfSome found some
+if_some None none some told = tt
+if_some (Some x) none some told = told
+
+pub if_none : {X : Type 0} (found : Option X) (none : Type 0) (some : X → Type 0)
+    → MatchOption found none some → IfNone found none
+if_none None none some told = told
+if_none (Some x) none some told = tt
