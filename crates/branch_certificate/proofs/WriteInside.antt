@@ -6,7 +6,7 @@ use Rattle.std.proofs.lemmas.Int.{ints}
 use Rattle.std.proofs.lemmas.List.Elements.{All-nil, All-cons, All-head, All-tail, All-append}
 use Rattle.giv_files.specs.Columns.{tree_columns}
 use Rattle.giv_files.specs.Tables.{TableRow}
-use Rattle.giv_files.specs.Writing.{CanWrite, InColumns}
+use Rattle.giv_files.specs.Writing.{InColumns}
 use Rattle.line_cost_model.specs.declared.edge.BoundedEdge.{BoundedEdge}
 use Rattle.line_cost_model.specs.declared.multipliers.Multiplier.{Multiplier}
 use Rattle.line_cost_model.specs.declared.side.Side.{Side}
@@ -140,10 +140,3 @@ module _ (problem : ProblemParts) (sound : IsProblem problem) where
       (All-head CanBeWritten one nodes can))
       (rows_inside nodes (All-tail (NamesWhatIs problem) one nodes named)
       (All-tail CanBeWritten one nodes can))
-
-pub columns_written : All CanWrite tree_columns
-columns_written zero d h = tt
-columns_written (suc zero) d h = (omega (arith, ints), omega (arith, ints))
-columns_written (suc (suc zero)) d h = (omega (arith, ints), omega (arith, ints))
-columns_written (suc (suc (suc zero))) d h = (omega (arith, ints), omega (arith, ints))
-columns_written (suc (suc (suc (suc k)))) d h = absurd (omega arith)

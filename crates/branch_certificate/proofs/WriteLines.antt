@@ -15,7 +15,8 @@ use Rattle.branch_certificate.specs.declared.node.Node.{Node}
 use Rattle.branch_certificate.specs.declared.node.Node.TheVariants as node
 use Rattle.branch_certificate.specs.TreeTexts.{CanBeWritten, IsSmallSplit, NamesWhatIs, ReadsBackAs, node_rows}
 use Rattle.branch_certificate.specs.TreeTexts.{tree_header, tree_text}
-use Rattle.branch_certificate.proofs.WriteInside.{columns_written, rows_inside}
+use Rattle.branch_certificate.proofs.WriteInside.{rows_inside}
+use Rattle.giv_files.proofs.WrittenColumns.{columns_written}
 use Rattle.branch_certificate.proofs.WriteRows.{rows_more}
 use Rattle.branch_certificate.proofs.WriteTrees.{nodes_back}
 
@@ -56,7 +57,7 @@ unfolding tree_text
 text_back problem sound nodes named can text is =
     subst (ReadsBackAs problem nodes) (sym is)
     (nodes_back problem sound nodes named can (tree_text problem nodes)
-    (written_back tree_header tree_columns (flat_map (node_rows problem) nodes) (omega arith) columns_written
+    (written_back tree_header tree_columns (flat_map (node_rows problem) nodes) (omega arith) (columns_written tree_columns refl)
     (rows_inside problem sound nodes named can) (refl, plain_header tree_header refl)))
 
 -- the splits of nodes that can be written are not too great

@@ -23,7 +23,7 @@ use Rattle.event_tables.specs.DisposedTimes.{disposed_time_input, disposed_time_
 use Rattle.event_tables.specs.Headers.{disposed_time_header}
 use Rattle.event_tables.specs.Places.{is_none_of}
 use Rattle.giv_files.specs.RowsOfTables.{ReadsAs, records_by, rows_by}
-use Rattle.event_tables.proofs.CellFacts.{columns_written}
+use Rattle.giv_files.proofs.WrittenColumns.{columns_written}
 use Rattle.event_tables.proofs.Numbering.{none_of_places, some_missing}
 use Rattle.delay_management.specs.declared.reason.Reason.{Reason}
 use Rattle.delay_management.specs.declared.reason.Reason.TheVariants as reason

@@ -20,7 +20,8 @@ use Rattle.demand_load.specs.LoadTables.{load_header, load_rows}
 use Rattle.demand_load.specs.RightLoads.{LoadsAreRight}
 use Rattle.demand_load.proofs.LoadCalls.{loads_count}
 use Rattle.giv_files.proofs.Headers.{plain_header}
-use Rattle.demand_load.proofs.LoadRows.{all_rare, columns_written, rows_in_columns}
+use Rattle.demand_load.proofs.LoadRows.{all_rare, rows_in_columns}
+use Rattle.giv_files.proofs.WrittenColumns.{columns_written}
 use Rattle.demand_load.proofs.LoadsAccepted.{loads_accepted}
 use Rattle.demand_load.proofs.SoundLoads.{edges_named, loads_sound}
 
@@ -44,7 +45,7 @@ loads_are_right bundle made _ _ is =
     let text = table_text load_header load_columns rows in
     let each = loads_count bundle.settings (network_in bundle) (input_text bundle 2) in
     let reads : ReadsBack load_columns rows text =
-    written_back load_header load_columns rows (omega arith) columns_written
+    written_back load_header load_columns rows (omega arith) (columns_written load_columns refl)
     (rows_in_columns (network_in bundle).edges (loads_in bundle) edges loads (all_rare (loads_in bundle) none.1))
     (refl, plain_header load_header refl) in
     record {

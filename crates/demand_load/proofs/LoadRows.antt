@@ -4,14 +4,12 @@ use Rattle.std.specs.Int.Signed.{lt_z_no}
 use Rattle.std.proofs.lemmas.Int.{ints}
 use Rattle.std.proofs.lemmas.List.{take_more, take_all, length-take-le}
 use Rattle.std.proofs.lemmas.List.Elements.{All-nil, All-cons, All-head, All-tail}
-use Rattle.giv_files.specs.declared.column.ColumnKind.{ColumnKind}
-use Rattle.giv_files.specs.declared.column.ColumnKind.TheVariants as kind
 use Rattle.giv_files.specs.declared.counted.Counted.TheVariants as counted
 use Rattle.giv_files.specs.declared.refusal.Refusal.{Refusal}
 use Rattle.giv_files.specs.declared.refusal.Refusal.TheVariants as refusal
 use Rattle.giv_files.specs.Columns.{load_columns}
 use Rattle.giv_files.specs.Tables.{TableRow}
-use Rattle.giv_files.specs.Writing.{InColumns, CanWrite}
+use Rattle.giv_files.specs.Writing.{InColumns}
 use Rattle.giv_files.proofs.Ranges.{back_none}
 use Rattle.ptn_network.specs.declared.edge.Edge.{Edge}
 use Rattle.ptn_network.specs.declared.edge_load.EdgeLoad.{EdgeLoad}
@@ -82,20 +80,6 @@ rows_in_columns (edge ∷ edges) (load ∷ loads) ids bounded rare =
     (rows_in_columns edges loads (All-tail HasId edge edges ids)
     (All-tail IsBounded load loads bounded) (All-tail
     (λ load. load.most ≤ℤ pos 1000) load loads rare))
-
--- the columns of loads can be written
-pub columns_written : All CanWrite load_columns
-columns_written =
-    let id : ColumnKind = kind.Whole (pos 1) (pos 1000000000) in
-    let load : ColumnKind = kind.Fixed (pos 0) (pos 1000000000000000000) in
-    let frequency : ColumnKind = kind.Whole (pos 0) (pos 1000) in
-    let first : CanWrite id = (omega (arith, ints), omega (arith, ints)) in
-    let second : CanWrite load = (omega (arith, ints), omega (arith, ints)) in
-    let other : CanWrite frequency = (omega (arith, ints), omega (arith, ints)) in
-    All-cons CanWrite id (load ∷ frequency ∷ frequency ∷ []) first
-    (All-cons CanWrite load (frequency ∷ frequency ∷ []) second
-    (All-cons CanWrite frequency (frequency ∷ []) other
-    (All-cons CanWrite frequency [] other (All-nil CanWrite))))
 
 -- ---- frequencies
 

@@ -1,14 +1,11 @@
 -- The rows of the text of a statistic.
-use Rattle.std.proofs.Common.{◌≡◌, ◌≤◌, ◌<◌, ◌≤ℤ◌, ◌^◌, ◌+◌, ◌*◌, ◌/◌, ◌%◌, ℕ, ℤ, pos, negsuc, neg_ℤ, true, List, [], ◌∷◌, ◌++◌, length, map, refl, ap, sym, ◌∙◌, arith, codes, decimal, ne_eqb, append-nil, append_assoc, length-append, ⊎_elim}
-use Rattle.std.specs.Char.{is_ascii_digit}
-use Rattle.std.specs.Cmp.Derive.{both_true}
+use Rattle.std.proofs.Common.{◌≡◌, ◌≤◌, ◌<◌, ◌≤ℤ◌, ◌^◌, ◌+◌, ◌/◌, ◌%◌, ℕ, ℤ, pos, negsuc, neg_ℤ, true, List, [], ◌∷◌, ◌++◌, length, map, refl, ap, sym, ◌∙◌, arith, codes, decimal, ne_eqb, append-nil, append_assoc, length-append}
 use Rattle.std.specs.List.{flat_map, list_all}
-use Rattle.std.proofs.lemmas.Bool.{cases_lt}
 use Rattle.std.proofs.lemmas.Int.{ints}
-use Rattle.plan_num.specs.Number.{all_digits, is_number_byte}
-use Rattle.plan_num.specs.Print.{digits_at, fixed_text, fraction_text, magnitude_text, places}
-use Rattle.plan_num.proofs.Digits.{both_passed}
-use Rattle.plan_num.proofs.Printed.{decimal_digits, decimal_some, digits_at-digits, tens}
+use Rattle.plan_num.specs.Number.{is_number_byte}
+use Rattle.plan_num.specs.Print.{fixed_text, fraction_text}
+use Rattle.plan_num.proofs.Printed.{decimal_some}
+use Rattle.plan_num.proofs.ReadBack.{magnitude_bytes}
 use Rattle.giv_files.specs.Rows.{Row, parts_of, rows}
 use Rattle.giv_files.specs.Writing.{joined}
 use Rattle.giv_files.proofs.CellTexts.{number_plain, plain_word}
@@ -23,33 +20,6 @@ use Rattle.evaluators.specs.Statistic.{measure_name, measures, value_of}
 use Rattle.evaluators.specs.StatisticStage.{statistic_text, value_line}
 
 -- ---- printed numbers have bytes of numbers alone
-
-digit_byte : (digit : ℕ) → is_ascii_digit digit ≡ true → is_number_byte digit ≡ true
-digit_byte digit h = rw h refl
-
-digits_bytes : (digits rest : List ℕ) → all_digits digits ≡ true
-    → list_all is_number_byte rest ≡ true → list_all is_number_byte (digits ++ rest) ≡ true
-digits_bytes [] rest h more = more
-digits_bytes (d ∷ ds) rest h more =
-    let b = both_passed (is_ascii_digit d) (all_digits ds) h in
-    both_true (digit_byte d b.0) (digits_bytes ds rest b.1 more)
-
-fraction_bytes : (fraction : ℕ) → fraction < 1000000
-    → list_all is_number_byte (fraction_text fraction) ≡ true
-fraction_bytes fraction small =
-    let digits =
-    digits_bytes (digits_at places fraction) []
-    (digits_at-digits places 1000000 fraction tens small) refl in
-    ⊎_elim (λ more. rw (ne_eqb fraction 0 (omega arith)) (rw append-nil at digits))
-    (λ none. let zero_fraction : fraction ≡ 0 = omega arith in rw zero_fraction refl)
-    (cases_lt 0 fraction)
-
-magnitude_bytes : (millionths : ℕ) → millionths < 10 ^ 64
-    → list_all is_number_byte (magnitude_text millionths) ≡ true
-magnitude_bytes millionths fits =
-    digits_bytes (decimal (millionths / 1000000)) _
-    (decimal_digits (millionths / 1000000) (omega arith))
-    (fraction_bytes (millionths % 1000000) (omega arith))
 
 -- a number that can be printed
 abbrev pub IsPrintable : ℤ → Type 0

@@ -24,7 +24,7 @@ use Rattle.event_tables.specs.Headers.{periodic_event_header, periodic_activity_
 use Rattle.event_tables.specs.PeriodicFiles.{periodic_event_input, periodic_activity_input, periodic_event_ids, IsPeriodicActivity}
 use Rattle.giv_files.specs.RowsOfTables.{ReadsAs, rows_by, file_text}
 use Rattle.event_tables.specs.RunRules.{KeepRunRules}
-use Rattle.event_tables.proofs.CellFacts.{columns_written}
+use Rattle.giv_files.proofs.WrittenColumns.{columns_written}
 use Rattle.event_tables.proofs.CellsBack.{periodic_event_same, periodic_activity_same}
 use Rattle.event_tables.proofs.WrittenRecords.{file_back, text_as}
 use Rattle.event_activity.specs.declared.run_event.RunEvent.{RunEvent}

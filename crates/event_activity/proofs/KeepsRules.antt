@@ -15,7 +15,7 @@ use Rattle.event_tables.specs.PeriodicRuns.{headways, is_next, joins, same_run}
 use Rattle.event_tables.specs.RunRules.{lacks_way, goes_between, is_placed, drives_at_once, is_stray, KeepRunRules}
 use Rattle.line_pool.specs.Pools.{LineParts}
 use Rattle.ptn_network.specs.Networks.{NetworkParts, IsEdge}
-use Rattle.ptn_network.proofs.Walks.{Contains-map as contains_map}
+use Rattle.giv_files.proofs.Members.{Contains-map as contains_map}
 use Rattle.event_activity.specs.declared.run_event.RunEvent.{RunEvent}
 use Rattle.event_activity.specs.Activities.{bounds_from, concept_activities, keeps_headway, shares_edge}
 use Rattle.event_activity.specs.ActivitiesOfRuns.{joins_events, bounds_of, IsActivityOf, IsDriveOver}

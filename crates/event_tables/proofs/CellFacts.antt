@@ -1,5 +1,5 @@
 -- The cells of a row in the ranges of their columns, and the record that they stand for.
-use Rattle.std.proofs.Common.{◌≡◌, ℕ, ℤ, pos, negsuc, zero, suc, ◌+◌, ◌<◌, ◌≤◌, ◌≤ℤ◌, arith, true, false, ◌&&◌, Bool, List, [], ◌∷◌, length, map, get_or, int_le, neg_ℤ, refl, ap, sym, subst, ◌∙◌, unsigned_abs, All}
+use Rattle.std.proofs.Common.{◌≡◌, ℕ, ℤ, pos, negsuc, zero, suc, ◌+◌, ◌<◌, ◌≤◌, ◌≤ℤ◌, arith, true, false, ◌&&◌, Bool, List, [], ◌∷◌, length, map, get_or, int_le, refl, ap, sym, subst, ◌∙◌, unsigned_abs}
 use Rattle.std.specs.List.{list_all, range_with_len}
 use Rattle.std.specs.Int.Signed.{le_z_yes}
 use Rattle.std.proofs.lemmas.Bool.{and_parts}
@@ -10,7 +10,7 @@ use Rattle.giv_files.specs.declared.column.ColumnKind.{ColumnKind}
 use Rattle.giv_files.specs.declared.column.ColumnKind.TheVariants as kind
 use Rattle.giv_files.specs.declared.words.WordTable.TheVariants as table
 use Rattle.giv_files.specs.Names.{table_words}
-use Rattle.giv_files.specs.Writing.{InColumn, InColumns, CanWrite, IsSmall as IsSmallRange}
+use Rattle.giv_files.specs.Writing.{InColumn, InColumns}
 use Rattle.event_tables.specs.declared.activity_kind.ActivityKind.{ActivityKind}
 use Rattle.event_tables.specs.declared.activity_kind.ActivityKind.TheVariants as activity
 use Rattle.event_tables.specs.declared.direction.Direction.{Direction}
@@ -98,33 +98,6 @@ listed kinds cells h = listed_from kinds cells (λ i. get_or cells i (pos 0)) 0 
   where
     plus : (i : ℕ) → 0 + i ≡ i
     plus i = omega arith
-
--- the numbers of a column can be written
-abbrev pub can_write : ColumnKind → Bool
-can_write (kind.Whole min max) = int_le (neg_ℤ (pos 1000000000000000000)) min && int_le max (pos 1000000000000000000)
-can_write (kind.Fixed min max) = int_le (neg_ℤ (pos 1000000000000000000)) min && int_le max (pos 1000000000000000000)
-can_write (kind.Word words) = true
-can_write kind.Skip = false
-
-small_range : (min max : ℤ)
-    → (int_le (neg_ℤ (pos 1000000000000000000)) min && int_le max (pos 1000000000000000000)) ≡ true
-    → IsSmallRange min max
-small_range min max h =
-    let parts = and_parts (int_le (neg_ℤ (pos 1000000000000000000)) min) (int_le max (pos 1000000000000000000)) h in
-    (le_z_yes (T_from_true _ parts.0), le_z_yes (T_from_true _ parts.1))
-
-written : (column : ColumnKind) → can_write column ≡ true → CanWrite column
-written (kind.Whole min max) h = small_range min max h
-written (kind.Fixed min max) h = small_range min max h
-written (kind.Word words) h = tt
-written kind.Skip h = cc
-
-pub columns_written : (kinds : List ColumnKind) → list_all can_write kinds ≡ true
-    → All CanWrite kinds
-columns_written [] h = All-nil CanWrite
-columns_written (column ∷ kinds) h =
-    let parts = and_parts (can_write column) (list_all can_write kinds) h in
-    All-cons CanWrite column kinds (written column parts.0) (columns_written kinds parts.1)
 
 -- ---- numbers and words
 

@@ -1,6 +1,6 @@
 -- Other crates cite lemmas of Accepted, CellFacts, CellTexts, FileFaults, Found, Headers, Inputs,
--- InTurn, KeyPlaces, Named, PlainBytes, Ranges, RowsLeft, SettingFacts, SettingsTold, StageCalls,
--- WholeRules, WriteFacts and WrittenBack.
+-- InTurn, KeyPlaces, Members, Named, PlainBytes, Ranges, RowsLeft, SettingFacts, SettingsTold,
+-- StageCalls, WholeRules, WriteFacts, WrittenBack and WrittenColumns.
 pub mod Accepted
 pub mod CellFacts
 pub mod CellTexts
@@ -14,6 +14,7 @@ pub mod InTurn
 pub mod KeyPlaces
 pub mod Lines
 pub mod LongLines
+pub mod Members
 pub mod Named
 pub mod PlainBytes
 pub mod PlainCells
@@ -34,3 +35,4 @@ pub mod ToldFacts
 pub mod WholeRules
 pub mod WriteFacts
 pub mod WrittenBack
+pub mod WrittenColumns

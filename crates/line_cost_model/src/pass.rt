@@ -83,6 +83,7 @@ pub(crate) fn next_multiplier(region: &SummedRegion, edge: usize, left: &[u64]) 
 
 // The least that is left of the costs of the open lines over the edge at an index; 0 where there is
 // none.
+#[tactic(auto, using(crate::proofs::LeastLeft::least_whole, crate::proofs::LeastLeft::least_more))]
 fn least_left(problem: &LineProblem, ranges: &[LineRange], edge: usize, left: &[u64]) -> u64
     requires there { edge < length problem.now.edges }
     requires each { length ranges.now ≡ length problem.now.lines }

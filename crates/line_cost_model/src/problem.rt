@@ -43,6 +43,7 @@ impl Model for LineProblem {
 
 impl LineProblem {
     /// No edge and no line.
+    #[tactic(auto, using(crate::proofs::Pushed::no_problem, crate::proofs::Pushed::crossed_none))]
     pub fn new(alloc: Global) -> LineProblem
         ensures { result ≡ record { edges = []; lines = [] } }
     {

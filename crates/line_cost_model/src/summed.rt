@@ -153,6 +153,7 @@ impl<'a> SummedRegion<'a> {
     }
 
     /// The same without a sign.
+    #[tactic(auto, using(crate::proofs::RunningSums::least_cost_few))]
     pub(crate) fn least_millionths(&self) -> u128
         ensures cost { result ≡ cost_of self.now.problem (least_in self.now.ranges) }
         ensures few { result ≤ 5000000000000000000000000000000000000 }
@@ -169,6 +170,7 @@ impl<'a> SummedRegion<'a> {
     }
 
     /// Whether no edge shows that the region has no feasible concept.
+    #[tactic(auto, using(crate::proofs::MissedEdges::none_empty))]
     pub(crate) fn has_no_empty_edge(&self) -> bool
         ensures { IsTrue result → empty_edge self.now.problem self.now.ranges ≡ None }
     {

@@ -8,6 +8,7 @@ use crate::range::LineRange;
 use crate::region::Region;
 
 /// How often a concept drives the edge at an index.
+#[tactic(auto, using(std::proofs::lemmas::List::take_all, crate::proofs::Driven::sum_is_frequency))]
 pub(crate) fn frequency_on(problem: &LineProblem, frequencies: &[u32], edge: usize) -> u128
     requires there { edge < length problem.now.edges }
     requires each { length frequencies.now ≡ length problem.now.lines }

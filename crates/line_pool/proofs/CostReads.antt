@@ -19,7 +19,8 @@ use Rattle.line_pool.specs.Pools.{pool_faults}
 use Rattle.line_pool.specs.RightCosts.{lines_in, cost_rows, CostsAreRight}
 use Rattle.line_pool.proofs.CostCalls.{settings_modest}
 use Rattle.giv_files.proofs.Headers.{plain_header}
-use Rattle.line_pool.proofs.CostRows.{rows_in_columns, columns_written}
+use Rattle.line_pool.proofs.CostRows.{rows_in_columns}
+use Rattle.giv_files.proofs.WrittenColumns.{columns_written}
 use Rattle.line_pool.proofs.CostsAccepted.{costs_accepted}
 use Rattle.line_pool.proofs.SoundLines.{pool_sound}
 use Rattle.line_pool.proofs.WholeLines.{whole_lines}
@@ -34,7 +35,7 @@ costs_are_right bundle made own fits is =
     let lines = pool_sound kind.Pool (network_in bundle) (input_text bundle 2) network later in
     let text = table_text cost_header pool_cost_columns (cost_rows bundle) in
     let reads : ReadsBack pool_cost_columns (cost_rows bundle) text =
-    written_back cost_header pool_cost_columns (cost_rows bundle) (omega arith) columns_written
+    written_back cost_header pool_cost_columns (cost_rows bundle) (omega arith) (columns_written pool_cost_columns refl)
     (rows_in_columns bundle.settings (network_in bundle).edges
     (settings_modest bundle own fits) (lines_in bundle) lines)
     (refl, plain_header cost_header refl) in

@@ -3,15 +3,13 @@ use Rattle.std.proofs.Common.{◌≡◌, ℕ, ℤ, pos, ◌+◌, ◌*◌, ◌/�
 use Rattle.std.proofs.lemmas.Int.{ints, to_z_pos}
 use Rattle.std.proofs.lemmas.Option.{slice_get-get_or, same_Some}
 use Rattle.std.proofs.lemmas.List.{map_more}
-use Rattle.std.proofs.lemmas.List.Elements.{All-map, All-weaker, All-get_or, All-nil, All-cons}
-use Rattle.giv_files.specs.declared.column.ColumnKind.{ColumnKind}
-use Rattle.giv_files.specs.declared.column.ColumnKind.TheVariants as kind
+use Rattle.std.proofs.lemmas.List.Elements.{All-map, All-weaker, All-get_or}
 use Rattle.giv_files.specs.declared.key.Key.TheVariants as key
 use Rattle.giv_files.specs.declared.setting.Setting.{Setting}
 use Rattle.giv_files.specs.Columns.{pool_cost_columns}
 use Rattle.giv_files.specs.Settings.{amount}
 use Rattle.giv_files.specs.Tables.{TableRow}
-use Rattle.giv_files.specs.Writing.{InColumns, CanWrite}
+use Rattle.giv_files.specs.Writing.{InColumns}
 use Rattle.ptn_network.specs.declared.edge.Edge.{Edge}
 use Rattle.line_pool.specs.Pools.{LineParts}
 use Rattle.line_pool.specs.CostStage.{length_at, line_length, line_cost, cost_row}
@@ -82,12 +80,3 @@ module _ (settings : List Setting) (edges : List Edge) (costs : AreModest settin
         ∙ sym (map_more (cost_row settings edges) lines i no_parts h)
 
 -- ---- the columns and the header
-
--- the columns of costs can be written
-pub columns_written : All CanWrite pool_cost_columns
-columns_written =
-    let first : ColumnKind = kind.Whole (pos 1) (pos 1000000000) in
-    let other : ColumnKind = kind.Fixed (pos 0) (pos 1000000000000000000) in
-    let id : CanWrite first = (omega (arith, ints), omega (arith, ints)) in
-    let fixed : CanWrite other = (omega (arith, ints), omega (arith, ints)) in
-    All-cons CanWrite first (other ∷ other ∷ []) id (All-cons CanWrite other (other ∷ []) fixed (All-cons CanWrite other [] fixed (All-nil CanWrite)))

@@ -34,7 +34,7 @@ use Rattle.branch_certificate.specs.Certified.{Certifies}
 use Rattle.branch_certificate.specs.TreeTexts.{ReadsBackAs, node_rows, tree_header, tree_text}
 use Rattle.branch_certificate.proofs.Certifying.{no_fault_certifies}
 use Rattle.branch_certificate.proofs.Sound.{certified_costs}
-use Rattle.branch_certificate.proofs.WriteInside.{rows_inside, columns_written as tree_written}
+use Rattle.branch_certificate.proofs.WriteInside.{rows_inside}
 use Rattle.branch_certificate.proofs.WriteTrees.{nodes_back}
 use Rattle.line_search.specs.Budgets.{nodes_in, result_within, spent_result, whole_result}
 use Rattle.line_search.specs.ConceptStage.{after_faults, budget_of, concept_made, concept_stage}
@@ -49,7 +49,8 @@ use Rattle.line_search.specs.Searches.{AreWritten}
 use Rattle.line_search.proofs.ChosenFound.{best_feasible, found_is_chosen, listing_finds}
 use Rattle.line_search.proofs.ChosenFound.{nodes_certify, some_find}
 use Rattle.line_search.proofs.ConceptAccepted.{concept_accepted}
-use Rattle.line_search.proofs.ConceptWritten.{columns_written, concept_inside}
+use Rattle.line_search.proofs.ConceptWritten.{concept_inside}
+use Rattle.giv_files.proofs.WrittenColumns.{columns_written}
 use Rattle.line_search.proofs.FrequenciesBack.{frequencies_back}
 use Rattle.line_search.proofs.Judging.{by_tree}
 use Rattle.line_search.proofs.SoundProblems.{problem_sound}
@@ -87,7 +88,7 @@ module _ (problem : ProblemParts) (sound : IsProblem problem) (frequencies : Lis
   pub reads : ReadsBack concept_columns (concept_rows problem frequencies) (concept_text problem frequencies)
   unfolding concept_text
   reads = written_back concept_header concept_columns (concept_rows problem frequencies) (omega arith)
-      columns_written (concept_inside problem sound frequencies few)
+      (columns_written concept_columns refl) (concept_inside problem sound frequencies few)
       (refl, plain_header concept_header refl)
 
   abbrev table : List TableRow
@@ -125,7 +126,7 @@ module _ (problem : ProblemParts) (sound : IsProblem problem) (frequencies : Lis
     back =
         nodes_back problem sound nodes written.names written.written (tree_text problem nodes)
         (written_back tree_header tree_columns (flat_map (node_rows problem) nodes) (omega arith)
-        tree_written (rows_inside problem sound nodes written.names written.written)
+        (columns_written tree_columns refl) (rows_inside problem sound nodes written.names written.written)
         (refl, plain_header tree_header refl))
 
     pub tree_kept : tree_rule problem (cost_of problem frequencies) (Some text) ≡ None

@@ -1,5 +1,5 @@
 -- The rows of a concept can be written, and what it costs can be printed.
-use Rattle.std.proofs.Common.{◌≡◌, ℕ, ℤ, zero, suc, pos, ◌+◌, ◌*◌, ◌≤◌, ◌<◌, ◌≤ℤ◌, ◌∙◌, nat_eq}
+use Rattle.std.proofs.Common.{◌≡◌, ℕ, ℤ, suc, pos, ◌+◌, ◌*◌, ◌≤◌, ◌<◌, ◌≤ℤ◌, ◌∙◌, nat_eq}
 use Rattle.std.proofs.Common.{true, List, [], ◌∷◌, length, map, zip, sum_by, arith}
 use Rattle.std.proofs.Common.{ap, All, Result, Ok, Err, IfOk, to_z, of_z}
 use Rattle.std.specs.Int.{w128}
@@ -13,7 +13,7 @@ use Rattle.std.proofs.lemmas.Nat.{mul-le}
 use Rattle.std.proofs.lemmas.List.Folds.{Any-from_list_any}
 use Rattle.giv_files.specs.Columns.{concept_columns}
 use Rattle.giv_files.specs.Tables.{TableRow}
-use Rattle.giv_files.specs.Writing.{CanWrite, InColumns, table_text}
+use Rattle.giv_files.specs.Writing.{InColumns, table_text}
 use Rattle.line_cost_model.specs.Concepts.{cost_of}
 use Rattle.line_cost_model.specs.Problems.{CostedLine, IsCostedLine, IsId, IsProblem, ProblemParts}
 use Rattle.line_cost_model.proofs.FewLines.{few_edges, few_lines}
@@ -23,13 +23,6 @@ use Rattle.line_search.specs.ConceptTables.{row_at}
 
 abbrev InConcept : TableRow → Type 0
 InConcept row = InColumns concept_columns row.cells
-
-pub columns_written : All CanWrite concept_columns
-columns_written zero d h = (omega (arith, ints), omega (arith, ints))
-columns_written (suc zero) d h = (omega (arith, ints), omega (arith, ints))
-columns_written (suc (suc zero)) d h = (omega (arith, ints), omega (arith, ints))
-columns_written (suc (suc (suc zero))) d h = (omega (arith, ints), omega (arith, ints))
-columns_written (suc (suc (suc (suc k)))) d h = absurd (omega arith)
 
 -- ---- the edges of a line
 

@@ -35,7 +35,6 @@ mod Unrolled
 mod Visiting
 mod Waiting
 mod WindowSums
-mod WordPlaces
 mod WordTurns
 pub mod ListingRight
 pub mod TimetableEnds

@@ -23,7 +23,7 @@ use Rattle.event_tables.specs.Headers.{periodic_time_header}
 use Rattle.event_tables.specs.PeriodicFiles.{periodic_time_input, periodic_time_rules}
 use Rattle.event_tables.specs.Places.{is_none_of}
 use Rattle.giv_files.specs.RowsOfTables.{ReadsAs, records_by, rows_by}
-use Rattle.event_tables.proofs.CellFacts.{columns_written}
+use Rattle.giv_files.proofs.WrittenColumns.{columns_written}
 use Rattle.event_tables.proofs.Numbering.{none_of_places, some_missing}
 use Rattle.pesp_search.specs.TimetableStage.{time_rows, times_text}
 

@@ -155,7 +155,8 @@ fraction_bytes fraction small =
     (λ none. let zero_fraction : fraction ≡ 0 = omega arith in rw zero_fraction refl)
     (cases_lt 0 fraction)
 
-magnitude_bytes : (millionths : ℕ) → millionths < 10 ^ 64
+-- a printed number of millionths without a sign has digits and a point
+pub magnitude_bytes : (millionths : ℕ) → millionths < 10 ^ 64
     → list_all is_number_byte (magnitude_text millionths) ≡ true
 magnitude_bytes millionths fits =
     digits_bytes (decimal (millionths / 1000000)) _

@@ -28,7 +28,8 @@ use Rattle.pool_maker.specs.TerminalPaths.{is_covered, lies_in, lines_between, p
 use Rattle.pool_maker.specs.TerminalPaths.{uncontained, uncovered}
 use Rattle.pool_maker.proofs.Comments.{AreComments, back_with_comments, comment_more, no_comments}
 use Rattle.pool_maker.proofs.PoolsRead.{lines_are, no_pool_faults, numbers_back}
-use Rattle.pool_maker.proofs.RowsInside.{columns_written, header_plain, own_id, rows_inside}
+use Rattle.pool_maker.proofs.RowsInside.{header_plain, own_id, rows_inside}
+use Rattle.giv_files.proofs.WrittenColumns.{columns_written}
 use Rattle.pool_maker.proofs.TerminalWays.{IsTerminalPath, all_stops, few_lines, few_paths}
 use Rattle.pool_maker.proofs.TerminalWays.{lines_too, path_short, paths_right}
 use Rattle.pool_maker.proofs.ServedPaths.{each_path_is_served}
@@ -71,7 +72,7 @@ module _ (network : NetworkParts) (ids : All (λ edge. IsRowId edge.id) network.
       (comments_are (uncovered network lines)
       (All-filter (λ edge. not (is_covered lines edge)) (λ edge. edge < length network.edges)
       (range_with_len 0 (length network.edges)) (range_below (length network.edges))))
-      (written_back pool_header pool_columns (pool_rows network lines) (omega arith) columns_written
+      (written_back pool_header pool_columns (pool_rows network lines) (omega arith) (columns_written pool_columns refl)
       (rows_inside network lines tellable) header_plain)
     where
       range_below : (n : ℕ) → All (λ edge. edge < n) (range_with_len 0 n)

@@ -1,5 +1,5 @@
 -- The rows of a pool are within their columns.
-use Rattle.std.proofs.Common.{ℕ, pos, zero, suc, ◌+◌, ◌<◌, ◌≤◌, List, [], ◌∷◌, length, map, All}
+use Rattle.std.proofs.Common.{ℕ, pos, suc, ◌+◌, ◌<◌, ◌≤◌, List, [], ◌∷◌, length, map, All}
 use Rattle.std.proofs.Common.{Option, option_map, unwrap_or, refl, subst, sym, arith}
 use Rattle.std.specs.List.{enumerate_from, flat_map}
 use Rattle.std.proofs.lemmas.Int.{ints}
@@ -7,7 +7,7 @@ use Rattle.std.proofs.lemmas.List.Elements.{All-append, All-cons, All-get_or, Al
 use Rattle.std.proofs.lemmas.Option.{slice_get-get_or}
 use Rattle.giv_files.specs.Columns.{pool_columns}
 use Rattle.giv_files.specs.Tables.{TableRow}
-use Rattle.giv_files.specs.Writing.{CanWrite, InColumns, IsHeader}
+use Rattle.giv_files.specs.Writing.{InColumns, IsHeader}
 use Rattle.giv_files.proofs.Headers.{plain_header}
 use Rattle.ptn_network.specs.declared.edge.Edge.{Edge}
 use Rattle.ptn_network.specs.Networks.{NetworkParts}
@@ -17,12 +17,6 @@ use Rattle.pool_maker.specs.Tellable.{AreTellable, IsRowId, IsShort}
 
 abbrev InPool : TableRow → Type 0
 InPool row = InColumns pool_columns row.cells
-
-pub columns_written : All CanWrite pool_columns
-columns_written zero d h = (omega (arith, ints), omega (arith, ints))
-columns_written (suc zero) d h = (omega (arith, ints), omega (arith, ints))
-columns_written (suc (suc zero)) d h = (omega (arith, ints), omega (arith, ints))
-columns_written (suc (suc (suc k))) d h = absurd (omega arith)
 
 pub header_plain : IsHeader pool_header
 header_plain = (refl, plain_header pool_header refl)

@@ -5,44 +5,9 @@ use Rattle.std.proofs.lemmas.Bool.Decides.{nat_tests}
 use Rattle.std.proofs.lemmas.List.{map-append}
 use Rattle.std.proofs.lemmas.List.Elements.{All-nil, All-cons, All-head, All-tail, All-append, All-push, All-map, All-contains, All-contains_itself, All-weaker, Contains-append_left, Contains-append_right}
 use Rattle.std.proofs.lemmas.List.Sums.{sum_by-cons, sum_by-append, fold_push}
+use Rattle.giv_files.proofs.Members.{Contains-head, Contains-cons, Contains-map, Contains-flat_map, All-flat_map}
 use Rattle.ptn_network.specs.declared.edge.Edge.{Edge}
 use Rattle.ptn_network.specs.Walks.{across, IsWalk, walk_sum, staying, behind, walks_within, or_less, least_of}
-
--- ---- lists
-
-pub Contains-head : {X : Type 0} (x : X) (xs : List X) → Contains (x ∷ xs) x
-Contains-head x xs = (0, omega arith, refl)
-
-pub Contains-cons : {X : Type 0} (x y : X) (xs : List X) → Contains xs y → Contains (x ∷ xs) y
-Contains-cons x y xs there = Contains-append_right (x ∷ []) xs y there
-
--- a member of a list is its head or a member of its tail
-pub Contains-rec : {X : Type 0} (P : X → Type 0) (x y : X) (xs : List X) → Contains (x ∷ xs) y → P x
-    → ((y : X) → Contains xs y → P y) → P y
-Contains-rec P x y xs there own rest = All-contains P (x ∷ xs) y
-    (All-cons P x xs own (All-weaker (Contains xs) P rest xs (All-contains_itself xs))) there
-
-pub Contains-map : {X Y : Type 0} (f : X → Y) (xs : List X) (x : X) → Contains xs x
-    → Contains (map f xs) (f x)
-Contains-map f [] x there = absurd (omega (arith, there.1))
-Contains-map f (y ∷ xs) x there = Contains-rec (λ z. Contains (map f (y ∷ xs)) (f z)) y x xs there
-    (Contains-head (f y) (map f xs)) (λ z h. Contains-cons (f y) (f z) (map f xs)
-    (Contains-map f xs z h))
-
-pub Contains-flat_map : {X Y : Type 0} (f : X → List Y) (xs : List X) (x : X) (y : Y)
-    → Contains xs x → Contains (f x) y → Contains (flat_map f xs) y
-Contains-flat_map f [] x y there own = absurd (omega (arith, there.1))
-Contains-flat_map f (z ∷ xs) x y there own = Contains-rec (λ w. Contains (f w) y → Contains
-    (flat_map f (z ∷ xs)) y) z x xs there (λ h. Contains-append_left (f z) (flat_map f xs) y h)
-    (λ w h own. Contains-append_right (f z) (flat_map f xs) y (Contains-flat_map f xs w y h own))
-    own
-
-pub All-flat_map : {X Y : Type 0} (P : Y → Type 0) (f : X → List Y) (xs : List X)
-    → All (λ x. All P (f x)) xs → All P (flat_map f xs)
-All-flat_map P f [] all = All-nil P
-All-flat_map P f (x ∷ xs) all = All-append P (f x) (flat_map f xs)
-    (All-head (λ x. All P (f x)) x xs all) (All-flat_map P f xs
-    (All-tail (λ x. All P (f x)) x xs all))
 
 -- ---- one walk
 

@@ -16,7 +16,8 @@ use Rattle.roll_out.specs.DayTrips.{TripParts, departures_of, first_time, is_in_
 use Rattle.roll_out.specs.Plans.{IsDay, IsTimed}
 use Rattle.roll_out.specs.TimedRuns.{TimedParts, minutes_of, no_event, timed_from}
 use Rattle.roll_out.proofs.DayChangesGood.{mapped_from, parts_from, passing_all}
-use Rattle.roll_out.proofs.Members.{contains_filter, contains_map, contains_more, contains_part, contains_range}
+use Rattle.giv_files.proofs.Members.{Contains-cons, Contains-filter as contains_filter, Contains-flat_map as contains_part}
+use Rattle.giv_files.proofs.Members.{Contains-map as contains_map, Contains-range as contains_range}
 use Rattle.roll_out.proofs.SoundPlans.{ids_in, time_in}
 use Rattle.roll_out.proofs.WholeRuns.{runs_some}
 use Rattle.roll_out.proofs.Spaced.{div_low}
@@ -118,8 +119,8 @@ module _ (network : TimedParts) (timed : IsTimed network) (day : Day) (in_week :
       let rest = numbered_there (n + length at.1) departures time events
       (k, omega (arith, h), is) in (
         rest.0,
-        contains_more (record { first = n; start = at.0; run = at.1 })
-            (numbered_trips (n + length at.1) departures) rest.0 rest.1,
+        Contains-cons (record { first = n; start = at.0; run = at.1 }) rest.0
+            (numbered_trips (n + length at.1) departures) rest.1,
         rest.2,
         rest.3,
       )

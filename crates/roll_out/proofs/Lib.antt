@@ -12,7 +12,6 @@ mod GoodTrips
 mod Growing
 mod ListedEvents
 mod Lists
-mod Members
 mod Neighbours
 mod NotedWays
 mod NumberedActivities

@@ -20,7 +20,7 @@ use Rattle.event_tables.specs.Headers.{expanded_activity_header, expanded_event_
 use Rattle.event_tables.specs.Places.{AreNumbered, IsOneOf, bounds_in_order, is_none_of, known_ends}
 use Rattle.giv_files.specs.RowsOfTables.{ReadsAs, file_text, rows_by}
 use Rattle.event_tables.specs.Trips.{lacks_stop, trip_input, trip_rules}
-use Rattle.event_tables.proofs.CellFacts.{columns_written}
+use Rattle.giv_files.proofs.WrittenColumns.{columns_written}
 use Rattle.event_tables.proofs.CellsBack.{expanded_activity_same, expanded_event_same, trip_same}
 use Rattle.event_tables.proofs.PlacesKept.{is_known, places_keep}
 use Rattle.event_tables.proofs.WrittenRecords.{file_back, records_back, text_as}

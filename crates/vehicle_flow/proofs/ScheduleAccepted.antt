@@ -10,7 +10,7 @@ use Rattle.event_tables.specs.Headers.{schedule_header}
 use Rattle.event_tables.specs.Places.{is_none_of}
 use Rattle.giv_files.specs.RowsOfTables.{rows_by}
 use Rattle.event_tables.specs.Schedules.{ends_early, goes_back, is_empty_row, is_trip_row, kind_limit, lacks_room, schedule_input, schedule_rules}
-use Rattle.event_tables.proofs.CellFacts.{columns_written}
+use Rattle.giv_files.proofs.WrittenColumns.{columns_written}
 use Rattle.event_tables.proofs.CellsBack.{schedule_row_same}
 use Rattle.event_tables.proofs.WrittenRecords.{rows_inside}
 use Rattle.giv_files.specs.declared.counted.Counted.TheVariants as counted

@@ -11,7 +11,7 @@ use Rattle.giv_files.specs.Reading.{table_of}
 use Rattle.giv_files.specs.Writing.{table_text}
 use Rattle.giv_files.proofs.Headers.{plain_header}
 use Rattle.giv_files.proofs.WrittenBack.{written_back}
-use Rattle.event_tables.proofs.CellFacts.{columns_written}
+use Rattle.giv_files.proofs.WrittenColumns.{columns_written}
 use Rattle.event_tables.proofs.CellsBack.{schedule_row_same}
 use Rattle.event_tables.proofs.WrittenRecords.{rows_inside, reads_as}
 use Rattle.vehicle_model.specs.declared.plan_fault.PlanFault.TheVariants as fault

@@ -5,7 +5,7 @@ use Rattle.giv_files.specs.Tables.{TableRow}
 use Rattle.giv_files.specs.Writing.{InColumns, table_text}
 use Rattle.giv_files.proofs.Headers.{plain_header}
 use Rattle.giv_files.specs.RowsOfTables.{rows_by}
-use Rattle.event_tables.proofs.CellFacts.{columns_written}
+use Rattle.giv_files.proofs.WrittenColumns.{columns_written}
 use Rattle.delay_management.specs.declared.reason.Reason.{Reason}
 use Rattle.delay_management.specs.declared.reason.Reason.TheVariants as reasons
 use Rattle.delay_management.specs.DispositionStage.{ReasonRow}

@@ -3,7 +3,8 @@ use Rattle.giv_files.specs.Columns.{load_columns}
 use Rattle.giv_files.specs.Writing.{InColumns}
 use Rattle.demand_load.specs.LoadTables.{load_header}
 use Rattle.giv_files.proofs.Headers.{plain_header}
-use Rattle.demand_load.proofs.LoadRows.{rows_in_columns, columns_written}
+use Rattle.demand_load.proofs.LoadRows.{rows_in_columns}
+use Rattle.giv_files.proofs.WrittenColumns.{columns_written}
 use Rattle.demand_load.proofs.load_table.loads_made.Goals as goal
 
 pub write_table-requires : goal.write_table-requires
@@ -18,7 +19,7 @@ write_table-requires c =
           (
             omega arith,
             (
-              columns_written,
+              columns_written load_columns refl,
               (
                 subst (All (λ row. InColumns load_columns row.cells))
                     (sym c.in_ok-table.ensures) rows,

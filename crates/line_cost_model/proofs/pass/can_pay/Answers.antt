@@ -3,9 +3,6 @@ use Rattle.std.proofs.lemmas.List.{drop_all}
 use Rattle.line_cost_model.proofs.Paying.{have_left, paying_more, paying_whole}
 use Rattle.line_cost_model.proofs.pass.can_pay.Goals as goal
 
-pub loop-line-init : goal.loop-line-init
-loop-line-init c = refl
-
 pub returns-then-not-pays : goal.returns-then-not-pays
 returns-then-not-pays c multipliers left_is =
     let over = c.lines_over-line-items in
@@ -21,17 +18,6 @@ returns-then-not-pays c multipliers left_is =
     c.args.left.now
     over.result.now c.args.edge c.args.amount refl left_is over.ensures.lines
     c.requires.each
-
-pub loop-line-preserved : goal.loop-line-preserved
-loop-line-preserved c =
-    let over = c.lines_over-line-items.result.now in
-    let rest = have_left c.args.ranges.now c.args.left.now c.args.amount
-    (drop (c.loop-line.line-index + 1) over) in
-    c.loop-line.invariant
-    ∙ paying_more c.args.ranges.now c.args.left.now over c.args.amount
-    c.loop-line.line-index
-    (get_or over c.loop-line.line-index 0) c.pays.result c.loop-line-test.true refl c.pays.ensures
-    ∙ ap (λ pays. pays && rest) c.if-not-pays.false
 
 pub returns : goal.returns
 returns c multipliers left_is =

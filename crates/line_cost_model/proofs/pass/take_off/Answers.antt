@@ -1,7 +1,7 @@
 use Rattle.std.proofs.Common.{◌<◌, ◌∙◌, ℕ, List, nat_eq, get_or, set, length, ap, sym, subst, arith}
 use Rattle.std.specs.List.{IsDistinct}
 use Rattle.std.proofs.lemmas.List.{length-set}
-use Rattle.line_cost_model.proofs.Lowered.{line_lowered, all_lowered, over_distinct}
+use Rattle.line_cost_model.proofs.Lowered.{line_lowered, over_distinct}
 use Rattle.line_cost_model.proofs.pass.take_off.Goals as goal
 
 pub loop-line-preserved : goal.loop-line-preserved
@@ -19,9 +19,3 @@ loop-line-preserved c =
           ∙ line_lowered over.result.now k apart c.loop-line-test.true c.loop-line.left.items c.args.left.now.items c.args.amount value
           c.loop-line.invariant.size (omega (arith, there, c.requires.each)) c.loop-line.invariant.lowered c.index.ensures at within;
     }
-
-pub returns-clause-lowered : goal.returns-clause-lowered
-returns-clause-lowered c =
-    let over = c.lines_over-line-items in
-    all_lowered c.args.problem.now.lines c.args.edge c.args.amount c.loop-line.line-index over.result.now c.args.left.now.items c.loop-line.left.items
-    over.ensures.lines c.loop-line-test.false c.loop-line.invariant.lowered

@@ -9,11 +9,6 @@ loop-line-preserved c =
     c.in_ok-push.ensures.items ∙ ap (λ ranges. ranges ++ record { lo = 0; hi = c.most_of_line-hi.result } ∷ []) c.loop-line.invariant
     ∙ sym (root_more c.args.problem.now c.loop-line.line c.most_of_line-hi.result c.most_of_line-hi.ensures)
 
-pub returns-clause-root : goal.returns-clause-root
-returns-clause-root c =
-    root_whole c.args.problem.now c.loop-line.ranges.items c.line_count-line-end.result c.loop-line.line
-    c.loop-line.invariant c.loop-line-test.false c.line_count-line-end.ensures.count
-
 pub returns-clause-sound : goal.returns-clause-sound
 returns-clause-sound c =
     subst (λ (ranges : List LineRange). All IsRange ranges)

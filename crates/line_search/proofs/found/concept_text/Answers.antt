@@ -3,7 +3,8 @@ use Rattle.giv_files.specs.Columns.{concept_columns}
 use Rattle.giv_files.specs.Writing.{InColumns}
 use Rattle.giv_files.proofs.Headers.{plain_header}
 use Rattle.line_search.specs.ConceptTables.{concept_header, concept_rows}
-use Rattle.line_search.proofs.ConceptWritten.{columns_written, concept_inside, concept_told}
+use Rattle.line_search.proofs.ConceptWritten.{concept_inside, concept_told}
+use Rattle.giv_files.proofs.WrittenColumns.{columns_written}
 use Rattle.line_search.proofs.found.concept_text.Goals as goal
 
 pub write_table-requires : goal.write_table-requires
@@ -18,7 +19,7 @@ write_table-requires c =
           (
             omega arith,
             (
-              columns_written,
+              columns_written concept_columns refl,
               (
                 subst (All (λ row. InColumns concept_columns row.cells)) (sym (c.in_ok-table.ensures
                     ∙ ap (concept_rows c.args.problem.now) c.deref.ensures.value)) inside,

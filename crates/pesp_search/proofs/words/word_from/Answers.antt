@@ -1,5 +1,5 @@
 use Rattle.std.proofs.Common.{◌∙◌}
-use Rattle.pesp_search.proofs.WordPlaces.{from_place, from_word}
+use Rattle.bit_rows.proofs.WordBits.{from_place, from_word}
 use Rattle.pesp_search.proofs.words.word_from.Goals as goal
 
 pub returns-then-past-eq0 : goal.returns-then-past-eq0

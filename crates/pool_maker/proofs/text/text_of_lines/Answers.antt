@@ -1,7 +1,8 @@
-use Rattle.std.proofs.Common.{All, arith, subst, sym}
+use Rattle.std.proofs.Common.{All, arith, refl, subst, sym}
 use Rattle.giv_files.specs.Columns.{pool_columns}
 use Rattle.giv_files.specs.Writing.{InColumns}
-use Rattle.pool_maker.proofs.RowsInside.{columns_written, header_plain, rows_inside}
+use Rattle.pool_maker.proofs.RowsInside.{header_plain, rows_inside}
+use Rattle.giv_files.proofs.WrittenColumns.{columns_written}
 use Rattle.pool_maker.proofs.text.text_of_lines.Goals as goal
 
 pub write_table-requires : goal.write_table-requires
@@ -14,7 +15,7 @@ write_table-requires c =
         omega arith,
         (
           omega arith,
-          (omega arith, (columns_written, (rows, header_plain))),
+          (omega arith, (columns_written pool_columns refl, (rows, header_plain))),
         ),
       ),
     )

@@ -11,9 +11,6 @@ returns-then-not-keeps_bounds-clause-test c =
     sym (c.loop-edge.invariant ∙ tested_more (keeps_bounds c.args.self.now.lines c.args.f.now) c.args.self.now.edges
     c.loop-edge.edge false (c.keeps_bounds.ensures ∙ ap Some c.if-not-keeps_bounds.true))
 
-pub returns-then-not-keeps_bounds-clause-means : goal.returns-then-not-keeps_bounds-clause-means
-returns-then-not-keeps_bounds-clause-means c = test_means c.args.self.now c.args.f.now false (returns-then-not-keeps_bounds-clause-test c)
-
 pub loop-edge-preserved : goal.loop-edge-preserved
 loop-edge-preserved c =
     c.loop-edge.invariant ∙ tested_more (keeps_bounds c.args.self.now.lines c.args.f.now) c.args.self.now.edges
