@@ -5,8 +5,6 @@ use Rattle.std.proofs.Common.{Option, Some, None, arith, length-take, get_or-tak
 use Rattle.std.specs.List.{find, list_all, take_while, position, position_or_len, prefix_len}
 use Rattle.std.specs.Option.{MatchOption}
 use Rattle.std.proofs.lemmas.Bool.{ltb-true, ltb-false, eqb-false, eqb-true, false≢true, ne_eqb}
-use Rattle.std.proofs.lemmas.List.Elements.{All-take}
-use Rattle.std.specs.Str.Lines.{strip_carriage_return}
 use Rattle.std.proofs.lemmas.List.Sums.{fails_before_first, position_or_len_is}
 use Rattle.std.proofs.lemmas.List.Splits.{slice_split_none, slice_split_first}
 use Rattle.std.proofs.lemmas.List.{take_all, take_rest}
@@ -112,17 +110,6 @@ not_commented line bare =
     position_or_len_is (λ byte. eqb byte 35) line (length line) 0 (omega arith)
     (λ k lt. ne_eqb (get_or line k 0) 35 (bare k 0 lt)) (λ lt. absurd (omega arith)) in
     sym (rw none (take_all (length line) line (omega arith)))
-
-stripped_if : (t : Bool) (n : ℕ) (part : List ℕ) → All (λ byte. byte ≢ 35) part
-    → All (λ byte. byte ≢ 35) (cond t (take n part) part)
-stripped_if true n part bare = All-take (λ byte. byte ≢ 35) n part bare
-stripped_if false n part bare = bare
-
--- nor has it without a carriage return at its end
-pub bare_stripped : (part line : List ℕ) → line ≡ strip_carriage_return part
-    → All (λ byte. byte ≢ 35) part → All (λ byte. byte ≢ 35) line
-bare_stripped part line is bare =
-    rw is (stripped_if (eqb (get_or part (length part - 1) 0) 13) (length part - 1) part bare)
 
 -- no byte but blanks
 abbrev is_told : ℕ → Bool

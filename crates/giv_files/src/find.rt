@@ -1,5 +1,5 @@
 // Finding a byte.
-ghost use Rattle.std.specs.Prelude.{◌≡◌, ◌==◌, ◌||◌, ◌≤◌, if◌then◌else◌, length, min};
+ghost use Rattle.std.specs.Prelude.{◌≡◌, ◌==◌, ◌||◌, ◌≤◌, ◌+◌, ◌-◌, length};
 ghost use Rattle.std.specs.List.{list_any, position_or_len};
 
 // How many bytes are tested at a time. A test of so many has no branch, so it takes a few steps of
@@ -23,11 +23,32 @@ pub(crate) fn place_of_either(text: &[u8], one: u8, two: u8) -> usize
     'pieces: while rest.len() >= WIDTH {
         let (front, behind) = rest.split_at(WIDTH);
         if has_either(front, one, two) {
-            return text.len() - rest.len() + place_among(front, one, two) as usize;
+            break;
         }
         rest = behind;
     }
-    text.len() - rest.len() + place_in(rest, one, two)
+    let near = behind_piece(rest, WIDTH / 2, one, two);
+    let nearer = behind_piece(near, WIDTH / 4, one, two);
+    text.len() - nearer.len() + place_in(nearer, one, two)
+}
+
+// What stands after a piece of so many bytes where the two are not among them, and else the text.
+#[inline(always)]
+fn behind_piece(text: &[u8], width: usize, one: u8, two: u8) -> &[u8]
+    ensures shorter { length result.now ≤ length text.now }
+    ensures same { position_or_len (λ other. (other == one) || (other == two)) text.now
+        ≡ length text.now - length result.now
+        + position_or_len (λ other. (other == one) || (other == two)) result.now }
+{
+    if text.len() < width {
+        return text;
+    }
+    let (front, behind) = text.split_at(width);
+    if has_either(front, one, two) {
+        text
+    } else {
+        behind
+    }
 }
 
 // Whether one of the two is among these.
@@ -39,25 +60,6 @@ fn has_either(bytes: &[u8], one: u8, two: u8) -> bool
         found |= (*other == one) | (*other == two);
     }
     found
-}
-
-// The same place among as many bytes as are tested at a time, found without a branch.
-fn place_among(bytes: &[u8], one: u8, two: u8) -> u8
-    requires { length bytes.now ≡ 16 }
-    ensures { result ≡ position_or_len (λ other. (other == one) || (other == two)) bytes.now }
-{
-    let mut place = 16;
-    for (index, other) in bytes.iter().enumerate() {
-        place = place_or(place, index as u8, (*other == one) | (*other == two));
-    }
-    place
-}
-
-// The first of two places, where the second one counts.
-fn place_or(place: u8, index: u8, counts: bool) -> u8
-    ensures { result ≡ min place (if counts then index else 16) }
-{
-    place.min(if counts { index } else { 16 })
 }
 
 // The same place, found byte by byte.

@@ -78,6 +78,7 @@ impl<'a> TextRow<'a> {
     }
 
     /// The cell of the field at a place, where it is plain.
+    #[inline(always)]
     pub(crate) fn plain_cell(&self, kind: &ColumnKind, index: usize) -> Option<i64>
         requires { index < length self.now.fields }
         ensures { (column : ℕ) → IfSome result
