@@ -25,7 +25,7 @@ pub record LacksFront (front bytes : List ℕ) : Type 0 where
 
 -- some bytes are what stands behind a front in those of a file
 pub record IsBehind (front behind : List ℕ) (there : Option (List ℕ)) : Type 0 where
-  pub counted : length behind ≤ last_length
+  pub counted : length (front ++ behind) ≤ last_length
   pub whole : there ≡ Some (front ++ behind)
 
 -- What is found behind a front: what stands there, and nothing where there is no file or it does not

@@ -1,5 +1,8 @@
 // What stands behind a front.
-ghost use Rattle.std.specs.Prelude.{◌≡◌, ◌≢◌, ◌++◌, List, ℕ, flat_map, option_map, IfSome, IfNone};
+ghost use Rattle.std.specs.Prelude.{◌≡◌, ◌≢◌, ◌++◌, List, ℕ, flat_map, option_map, IfSome, IfNone, IfOk};
+
+use plan_num::NoMemory;
+use std::alloc::Global;
 
 /// What stands behind some pieces, where bytes begin with them, one after the other.
 pub(crate) fn bytes_behind<'a>(front: &[&[u8]], bytes: &'a [u8]) -> Option<&'a [u8]>
@@ -21,4 +24,11 @@ fn behind<'a>(piece: &[u8], bytes: &'a [u8]) -> Option<&'a [u8]>
     ensures none { IfNone result ((rest : List ℕ) → bytes.now ≢ piece.now ++ rest) }
 {
     bytes.strip_prefix(piece)
+}
+
+/// The same bytes, in memory of their own.
+pub(crate) fn copied(alloc: Global, bytes: &[u8]) -> Result<Vec<u8>, NoMemory>
+    ensures { IfOk result (λ copy. copy.items ≡ bytes.now) }
+{
+    Ok(Vec::from_slice(alloc, bytes)?)
 }

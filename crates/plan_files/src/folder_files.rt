@@ -10,7 +10,7 @@ use crate::place::{Place, place_of, stands_at};
 use crate::read::{REPLACED, bytes_behind, has_bytes, may_have_ends, no_file, read_file};
 use crate::store::{Files, Got};
 use crate::trouble::{Failure, Trouble};
-use plan_num::{Tally, Text};
+use plan_num::Tally;
 use std::alloc::Global;
 use std::fs::{OpenFile, OpenOptions};
 use std::io::{ErrorKind, Write};
@@ -89,7 +89,7 @@ impl<R: rt::Files> Files for FolderFiles<'_, R> {
         alloc: Global,
         name: &str,
         front: &[&[u8]],
-    ) -> Result<Option<Text>, FileFault> {
+    ) -> Result<Option<Vec<u8>>, FileFault> {
         self.counted(name, bytes_behind(self.rt, alloc, name, front))
     }
 

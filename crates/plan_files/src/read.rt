@@ -36,7 +36,8 @@ pub(crate) fn read_file<R: rt::Files>(
     if length > limit {
         return Ok(Got::TooLong);
     }
-    Ok(Got::Bytes(read_rest(alloc, &mut file, length)?))
+    let bytes = read_rest(alloc, &mut file, length)?;
+    Ok(Got::Bytes(Text::from_vec(bytes)))
 }
 
 /// Whether a file has these bytes. It is read through a small buffer, and not at all where its length
@@ -58,7 +59,7 @@ pub(crate) fn has_bytes<R: rt::Files>(
         return Ok(false);
     }
     let none = read_rest(alloc, &mut file, 0)?;
-    Ok(none.as_bytes().is_empty())
+    Ok(none.is_empty())
 }
 
 /// The bytes behind some pieces, where a file begins with them, one after the other. Of the pieces
@@ -68,7 +69,7 @@ pub(crate) fn bytes_behind<R: rt::Files>(
     alloc: Global,
     name: &str,
     front: &[&[u8]],
-) -> Result<Option<Text>, Trouble> {
+) -> Result<Option<Vec<u8>>, Trouble> {
     let Some((mut file, length)) = open_regular(rt, name)? else {
         return Ok(None);
     };
@@ -135,8 +136,8 @@ fn open_there<R: rt::Files>(rt: &R, name: &str) -> Result<(R::File, u64), Troubl
 }
 
 // Reads what is left of a file, which is so many bytes.
-fn read_rest<F: Read>(alloc: Global, file: &mut F, size: u64) -> Result<Text, Trouble>
-    ensures { IfOk result (λ text. length text ≤ size) }
+fn read_rest<F: Read>(alloc: Global, file: &mut F, size: u64) -> Result<Vec<u8>, Trouble>
+    ensures { IfOk result (λ bytes. length bytes.items ≤ size) }
 {
     let most = size.saturating_add(1);
     let mut bytes = room_for(alloc, most as usize)?;
@@ -144,7 +145,7 @@ fn read_rest<F: Read>(alloc: Global, file: &mut F, size: u64) -> Result<Text, Tr
     if bytes.len() as u64 > size {
         return Err(Trouble::because("grew while it was read"));
     }
-    Ok(Text::from_vec(bytes))
+    Ok(bytes)
 }
 
 // Room for so many bytes. Where they are more than there is memory for, none of them is read.

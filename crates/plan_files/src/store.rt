@@ -1,5 +1,5 @@
 // Files by name.
-ghost use Rattle.std.specs.Prelude.{◌≡◌, ◌≤◌, List, ℕ, Option, Some, None, IfSome, IfOk, false, flat_map};
+ghost use Rattle.std.specs.Prelude.{◌≡◌, ◌≤◌, List, ℕ, Option, Some, None, IfSome, IfOk, false, flat_map, option_map};
 ghost use Rattle.std.specs.FinMap as map;
 ghost use Rattle.plan_files.specs.declared.write.Write.{Write};
 ghost use Rattle.plan_files.specs.declared.write.Write.TheVariants.{Put, Removal};
@@ -8,7 +8,7 @@ ghost use Rattle.plan_files.specs.Counts.{Counts, last_count};
 ghost use Rattle.plan_files.specs.Folder.{Folder, got_of, has_failed, KeepsLimit, same_bytes};
 ghost use Rattle.plan_files.specs.Reads.{FoundBehind, LacksEnds, OnlyReads};
 
-use crate::behind::bytes_behind;
+use crate::behind::{bytes_behind, copied};
 use crate::file_fault::FileFault;
 use plan_num::Text;
 use std::alloc::Global;
@@ -61,15 +61,16 @@ pub trait Files {
         alloc: Global,
         name: &str,
         front: &[&[u8]],
-    ) -> Result<Option<Text>, FileFault>
-        ensures behind { IfSome (contents self.old) (λ folder. IfOk result (FoundBehind
-            (flat_map (λ piece. piece.now) front.now) (map.get folder name.now))) }
+    ) -> Result<Option<Vec<u8>>, FileFault>
+        ensures behind { IfSome (contents self.old) (λ folder. IfOk result (λ rest. FoundBehind
+            (flat_map (λ piece. piece.now) front.now) (map.get folder name.now)
+            (option_map (λ rest. rest.items) rest))) }
         ensures reads { OnlyReads contents writes faults self.old self.new (has_failed result) }
         ensures capped { faults self.new ≤ last_count }
     {
         match self.get(alloc, name, u64::MAX)? {
             Got::Bytes(there) => match bytes_behind(front, there.as_bytes()) {
-                Some(rest) => Ok(Some(Text::copy(alloc, rest)?)),
+                Some(rest) => Ok(Some(copied(alloc, rest)?)),
                 None => Ok(None),
             },
             Got::Absent | Got::TooLong => Ok(None),

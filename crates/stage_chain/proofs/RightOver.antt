@@ -1,6 +1,6 @@
 -- What is right over one look of texts, stage by stage.
-use Rattle.std.proofs.Common.{◌≡◌, ℕ, ℤ, Bool, true, false, cond, ltb, ◌||◌, List, [], ◌∷◌, map, filter}
-use Rattle.std.proofs.Common.{refl, ap, sym, ◌∙◌, subst}
+use Rattle.std.proofs.Common.{◌≡◌, ℕ, ℤ, Bool, true, false, cond, ltb, ◌||◌, List, [], ◌∷◌, map}
+use Rattle.std.proofs.Common.{refl, ap, subst}
 use Rattle.std.specs.List.{list_any}
 use Rattle.std.specs.Str.{bytes_eq}
 use Rattle.std.proofs.lemmas.Bool.{false≢true}

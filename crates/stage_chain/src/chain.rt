@@ -13,7 +13,7 @@ ghost use Rattle.stage_chain.specs.Progress.{VisitGives, nothing};
 
 use crate::cause::Cause;
 use crate::chain_end::ChainEnd;
-use crate::gather::gather;
+use crate::gather::given;
 use crate::keep::{kept, new_entry};
 use crate::progress::Progress;
 use crate::stages::{Stages, place_of, staged};
@@ -88,13 +88,17 @@ fn visit<S: Stages, F: Files, L: Ledger>(
     ensures no_hand_file { HasNoHandFile progress.new result }
     ensures no_less { steps.old ≤ steps.new }
 {
-    let bundle = gather(alloc, files, config, stage, Some(progress.files()))?;
-    match kept(alloc, files, &bundle)? {
+    let given = given(alloc, files, config, stage, Some(progress.files()))?;
+    match kept(alloc, files, &given)? {
         Some(made) => {
+            drop(given);
             progress.add(made, None)?;
             Ok(())
         }
-        None => make::<S, L>(alloc, &bundle, steps, progress),
+        None => {
+            let bundle = given.into_bundle(alloc)?;
+            make::<S, L>(alloc, &bundle, steps, progress)
+        }
     }
 }
 

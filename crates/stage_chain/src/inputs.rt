@@ -29,7 +29,7 @@ pub fn standing_bundle<F: Files>(
         (is_broken result) }
 {
     let config = read_config(alloc, files)?;
-    gather(alloc, files, &config, stage, None)
+    gather(alloc, files, &config, stage)
 }
 
 /// The text of a file that stands there, or why it is not there: a file that people write has at
@@ -39,5 +39,6 @@ pub fn standing_text<F: Files>(alloc: Global, files: &mut F, file: FileId) -> Re
     ensures only_reads { OnlyReads F.contents F.writes F.faults files.old files.new
         (is_broken result) }
 {
-    input(alloc, files, file, None)
+    let text = input(alloc, files, file, None)?;
+    Ok(text.into_text(alloc)?)
 }

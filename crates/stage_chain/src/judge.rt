@@ -39,7 +39,7 @@ pub(crate) fn judge<S: Stages, F: Files>(
     ensures only_reads { OnlyReads F.contents F.writes F.faults files.old files.new
         (has_failed result) }
 {
-    match gather(alloc, files, config, stage, None) {
+    match gather(alloc, files, config, stage) {
         Ok(bundle) => judge_files::<S, F>(alloc, files, config, &bundle, stage),
         Err(end) => ended(stage, end),
     }

@@ -14,7 +14,7 @@ ghost use Rattle.stage_chain.specs.States.{known_with, nothing_known, stands_as,
 ghost use Rattle.stage_chain.specs.States.{state_line, state_lines, text_among};
 
 use crate::chain_end::ChainEnd;
-use crate::gather::gather;
+use crate::gather::given;
 use crate::holding::Holding;
 use crate::keep::kept;
 use crate::known::Known;
@@ -145,8 +145,8 @@ fn held<F: Files>(
     ensures only_reads { OnlyReads F.contents F.writes F.faults files.old files.new
         (has_broken result) }
 {
-    match gather(alloc, files, config, stage, Some(known.kept())) {
-        Ok(bundle) => Ok(Holding::of(kept(alloc, files, &bundle)?)),
+    match given(alloc, files, config, stage, Some(known.kept())) {
+        Ok(given) => Ok(Holding::of(kept(alloc, files, &given)?)),
         Err(ChainEnd::Stopped(_)) => Ok(Holding::Stale),
         Err(ChainEnd::FileFault) => Err(ChainFault::FileFault),
         Err(ChainEnd::NoMemory) => Err(ChainFault::NoMemory),

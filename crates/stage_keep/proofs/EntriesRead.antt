@@ -99,7 +99,7 @@ blocks_entry at files (s ∷ T) size =
 
 -- ---- what is read are the bytes of an entry
 
-ids_zip : (files : List FileId) (ts : List (List ℕ)) → length files ≤ length ts
+pub ids_zip : (files : List FileId) (ts : List (List ℕ)) → length files ≤ length ts
     → ids_of (map made_file (zip files ts)) ≡ files
 ids_zip [] ts few = refl
 ids_zip (f ∷ files) [] few = absurd (omega (arith, few))
@@ -152,7 +152,7 @@ entry_told at bytes files entry = by (behind (first_line at) bytes) refl
 
 -- ---- an entry is found among its bytes
 
-const_heads : (files : List FileId) (texts : List (List ℕ)) → length texts ≡ length files
+pub const_heads : (files : List FileId) (texts : List (List ℕ)) → length texts ≡ length files
     → map (λ _. codes "input") files ≡ heads_in (map input_block texts)
 const_heads [] [] each = refl
 const_heads [] (t ∷ texts) each = absurd (omega (arith, each))

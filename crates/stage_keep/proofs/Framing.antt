@@ -13,13 +13,13 @@ use Rattle.stage_keep.specs.Honest.{held_for, kept_for, matches}
 use Rattle.stage_keep.proofs.EntriesRead.{reading_is_exact}
 
 -- what stands behind the settings of an entry, but for the last line
-behind_settings : EntryParts → List ℕ
+unfoldable pub behind_settings : EntryParts → List ℕ
 behind_settings entry =
     flat_map block_bytes (map input_block entry.inputs ++ map made_block entry.made.files
     ++ record { head = codes "report"; text = entry.made.report } ∷ [])
 
 -- an entry has the front of each bundle whose settings it has, and the last line
-framed : (bundle : BundleParts) (entry : EntryParts) → entry.settings ≡ settings_text bundle.settings
+pub framed : (bundle : BundleParts) (entry : EntryParts) → entry.settings ≡ settings_text bundle.settings
     → entry_bytes bundle.stage entry ≡ entry_front bundle ++ behind_settings entry ++ last_line
 unfolding entry_bytes behind_settings
 framed bundle entry same =

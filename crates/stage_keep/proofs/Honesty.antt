@@ -17,12 +17,12 @@ use Rattle.stage_keep.specs.Honest.{IsHonest, held_for, kept_for, matches}
 use Rattle.stage_keep.specs.Laws.{FrontsAreHonest, HonestIsMade, WrittenIsEntry, WrittenIsHonest}
 use Rattle.stage_keep.proofs.EntriesRead.{entries_are_read_back, entry_fits, fronts_are_none, read_makes}
 
-texts_decide : (xs ys : List (List ℕ)) → (pointwise bytes_eq xs ys ≡ true → xs ≡ ys)
+pub texts_decide : (xs ys : List (List ℕ)) → (pointwise bytes_eq xs ys ≡ true → xs ≡ ys)
     × (xs ≡ ys → pointwise bytes_eq xs ys ≡ true)
 texts_decide xs ys = slice_eq-Decides bytes_eq-Decides xs ys (pointwise bytes_eq xs ys) refl
 
 -- the entry of a bundle is one of it
-own_entry : (bundle : BundleParts) (made : Made) → matches (entry_for bundle made) bundle ≡ true
+pub own_entry : (bundle : BundleParts) (made : Made) → matches (entry_for bundle made) bundle ≡ true
 own_entry bundle made = rw (
   (bytes_eq-Decides (settings_text bundle.settings) (settings_text bundle.settings)).1 refl,
   (texts_decide bundle.inputs bundle.inputs).1 refl,

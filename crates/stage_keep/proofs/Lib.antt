@@ -4,6 +4,8 @@ pub mod EntriesApart
 pub mod EntriesRead
 pub mod Framing
 pub mod Honesty
+pub mod LastParts
+mod Pieces
 mod Reading
 mod Tried
 mod Writing

@@ -7,13 +7,14 @@ use Rattle.std.proofs.lemmas.List.{get_or-drop, get_or-map, length-drop, map-app
 use Rattle.std.proofs.Math.ListN.{drop_of_length-le}
 use Rattle.std.proofs.Math.Seq.{drop-cons}
 use Rattle.giv_files.specs.declared.file_id.FileId.{FileId}
+use Rattle.giv_files.specs.declared.made.Made.{Made}
 use Rattle.giv_files.specs.declared.made.MadeFile.{MadeFile}
 use Rattle.giv_files.specs.declared.stage.Stage.{Stage}
 use Rattle.giv_files.specs.declared.stage.Stage.TheVariants as stage
 use Rattle.giv_files.specs.MadeLists.{made_lists}
 use Rattle.giv_files.specs.Stages.{stage_inputs, stage_makes}
 use Rattle.stage_keep.specs.Entries.{EntryParts, last_line}
-use Rattle.stage_keep.specs.EntryReading.{block_at, entry_of, entry_with, made_file, read_entry, texts_at}
+use Rattle.stage_keep.specs.EntryReading.{block_at, entry_of, entry_with, made_file, made_with, read_entry, read_made, texts_at}
 
 -- one input more has its head
 pub head_more : (files : List FileId) (i : ℕ) (d : FileId) → i < length files
@@ -137,6 +138,22 @@ later_found stage.Concept bytes is = rw is refl
 later_found stage.PinnedConcept bytes is = rw is refl
 later_found stage.PinnedVehicles bytes is = rw is refl
 later_found _ bytes is = rw is refl
+
+pub first_made : (at : Stage) (bytes : List ℕ) (made : Made)
+    → made_with bytes (stage_makes at) ≡ Some made → read_made at bytes ≡ Some made
+unfolding read_made
+first_made stage.Concept bytes made is = rw is refl
+first_made stage.PinnedConcept bytes made is = rw is refl
+first_made stage.PinnedVehicles bytes made is = rw is refl
+first_made _ bytes made is = rw is refl
+
+pub later_made : (at : Stage) (bytes : List ℕ) → made_with bytes (stage_makes at) ≡ None
+    → slice_get (filter_map (made_with bytes) (drop 1 (made_lists at))) 0 ≡ read_made at bytes
+unfolding read_made
+later_made stage.Concept bytes is = rw is refl
+later_made stage.PinnedConcept bytes is = rw is refl
+later_made stage.PinnedVehicles bytes is = rw is refl
+later_made _ bytes is = rw is refl
 
 -- a block that is found under another view
 pub block_lacks : {B C : Type 0} (f : B → C) (found : Option B) (at : Option C) → found ≡ None

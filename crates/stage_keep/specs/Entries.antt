@@ -77,6 +77,19 @@ entry_front bundle =
     first_line bundle.stage
     ++ block_bytes (record { head = codes "settings"; text = settings_text bundle.settings })
 
+-- the line of an input
+abbrev pub input_line : List ℕ → List ℕ
+input_line text = opening (codes "input") (length text)
+
+-- the lines that stand before the inputs in the entry of a bundle: the front up to the first one,
+-- and the line of each
+abbrev pub front_lines : BundleParts → List (List ℕ)
+front_lines bundle = entry_front bundle ∷ map input_line bundle.inputs
+
+-- the front of the entry of a bundle up to the files that were made: its inputs stand there, too
+abbrev pub given_front : BundleParts → List ℕ
+given_front bundle = entry_front bundle ++ flat_map block_bytes (map input_block bundle.inputs)
+
 -- the name of the file in which the entry of a stage is kept
 abbrev pub keep_name : Stage → List ℕ
 keep_name stage = codes "keep/" ++ stage_name stage ++ codes ".keep"

@@ -28,6 +28,7 @@ use Rattle.std.specs.Prelude.{
 use Rattle.std.specs.List.{starts_with, range_with_len}
 use Rattle.std.specs.Str.{bytes_eq}
 use Rattle.giv_files.specs.declared.file_id.FileId.{FileId}
+use Rattle.giv_files.specs.declared.made.Made.{Made}
 use Rattle.giv_files.specs.declared.made.MadeFile.{MadeFile}
 use Rattle.giv_files.specs.declared.stage.Stage.{Stage}
 use Rattle.giv_files.specs.MadeLists.{made_lists}
@@ -87,6 +88,25 @@ entry_with stage bytes files =
 -- the entry of a stage that bytes are, where they are one
 unfoldable pub read_entry : Stage → List ℕ → Option EntryParts
 read_entry stage bytes = slice_get (filter_map (entry_with stage bytes) (made_lists stage)) 0
+
+-- the heads of the last blocks of an entry that has these made files
+abbrev pub last_heads : List FileId → List (List ℕ)
+last_heads files = map made_head files ++ codes "report" ∷ []
+
+-- what was made, by the texts of the last blocks
+abbrev pub made_of : List FileId → List (List ℕ) → Made
+made_of files texts = record {
+  files = map made_file (zip files texts);
+  report = get_or texts (length files) [];
+}
+
+-- what was made, where bytes are the last part of an entry with these made files
+abbrev pub made_with : List ℕ → List FileId → Option Made
+made_with bytes files = option_map (made_of files) (texts_at (last_heads files) bytes)
+
+-- what was made, where bytes are the last part of an entry of a stage
+unfoldable pub read_made : Stage → List ℕ → Option Made
+read_made stage bytes = slice_get (filter_map (made_with bytes) (made_lists stage)) 0
 
 -- what reading gives: the entry that the bytes are, and none exactly where they are no entry of the stage
 abbrev pub ReadsEntry : Stage → List ℕ → Option EntryParts → Type 0

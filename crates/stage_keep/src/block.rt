@@ -21,8 +21,8 @@ pub(crate) fn push_block(bytes: &mut Vec<u8>, head: &[u8], text: &[u8]) -> Resul
     Ok(())
 }
 
-// Appends the line of a head with the length of its text.
-fn push_opening(bytes: &mut Vec<u8>, head: &[u8], size: usize) -> Result<(), NoMemory>
+/// Appends the line of a head with the length of its text.
+pub(crate) fn push_opening(bytes: &mut Vec<u8>, head: &[u8], size: usize) -> Result<(), NoMemory>
     ensures { OnOk result (bytes.new.items ≡ bytes.old.items ++ opening head.now size) }
 {
     let mut buffer = Buffer::new();

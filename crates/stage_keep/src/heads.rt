@@ -1,7 +1,7 @@
 // The lines that stand round the texts of an entry.
 ghost use Rattle.std.specs.Prelude.{◌≡◌, IfOk};
 ghost use Rattle.stage_keep.specs.Entries.{first_line, made_head};
-ghost use Rattle.stage_keep.specs.EntryReading.{heads};
+ghost use Rattle.stage_keep.specs.EntryReading.{heads, last_heads};
 
 use giv_files::{FileId, Stage};
 use plan_num::{NoMemory, Text};
@@ -27,6 +27,18 @@ pub(crate) fn heads(alloc: Global, stage: Stage, files: &[FileId]) -> Result<Vec
     for _input in stage.inputs() {
         heads.push(Text::copy(alloc, b"input")?)?;
     }
+    for file in files {
+        heads.push(made_head(alloc, *file)?)?;
+    }
+    heads.push(Text::copy(alloc, b"report")?)?;
+    Ok(heads)
+}
+
+/// The heads of the last blocks of an entry, those of its made files and of its line of the report.
+pub(crate) fn last_heads(alloc: Global, files: &[FileId]) -> Result<Vec<Text>, NoMemory>
+    ensures { IfOk result (λ found. found.items ≡ last_heads files.now) }
+{
+    let mut heads = Vec::new(alloc);
     for file in files {
         heads.push(made_head(alloc, *file)?)?;
     }

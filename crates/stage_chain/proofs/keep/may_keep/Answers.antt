@@ -5,6 +5,6 @@ use Rattle.stage_chain.proofs.keep.may_keep.Goals as goal
 
 pub returns-clause-unkept : goal.returns-clause-unkept
 returns-clause-unkept g c =
-    ends_told _ c.args.bundle.now _ _ _ _
+    ends_told _ c.args.given.now _ _ _ _
     (c.keep_name.ensures ∙ ap keep_name c.stage.ensures) (c.as_bytes.ensures ∙ c.in_ok-front.ensures)
     c.last_line.ensures c.may_have_ends.ensures.ends
