@@ -9,6 +9,7 @@ use crate::digits::{plain_fixed, plain_whole};
 use crate::line::behind_space;
 
 /// The cell of a field that has not been trimmed yet. None does not say that it makes none.
+#[inline(always)]
 pub(crate) fn plain_cell(kind: &ColumnKind, piece: &[u8]) -> Option<i64>
     ensures { (column : ℕ) → IfSome result
         (λ cell. cell_of kind.now column (without_quotes (without_blanks piece.now)) ≡ Ok cell) }
