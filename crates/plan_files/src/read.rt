@@ -20,8 +20,8 @@ pub(crate) fn no_file() -> Trouble {
     Trouble::because("not a regular file to which folders lead")
 }
 
-/// Reads at most one byte more than the file had when it was opened, and none before what was opened
-/// is known to be the file that stands there.
+/// Reads at most one byte more than the file had when it was opened, and none before what was
+/// opened is known to be the file that stands there.
 pub(crate) fn read_file<R: rt::Files>(
     rt: &R,
     alloc: Global,
@@ -40,8 +40,8 @@ pub(crate) fn read_file<R: rt::Files>(
     Ok(Got::Bytes(Text::from_vec(bytes)))
 }
 
-/// Whether a file has these bytes. It is read through a small buffer, and not at all where its length
-/// is another one.
+/// Whether a file has these bytes. It is read through a small buffer, and not at all where its
+/// length is another one.
 pub(crate) fn has_bytes<R: rt::Files>(
     rt: &R,
     alloc: Global,

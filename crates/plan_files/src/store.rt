@@ -54,8 +54,8 @@ pub trait Files {
         }
     }
 
-    /// The bytes behind a front, where those under a name begin with it. The front is some pieces, one
-    /// after the other. Files may tell it without room for what they compare.
+    /// The bytes behind a front, where those under a name begin with it. The front is some pieces,
+    /// one after the other. Files may tell it without room for what they compare.
     fn get_behind(
         &mut self,
         alloc: Global,
@@ -77,8 +77,9 @@ pub trait Files {
         }
     }
 
-    /// Whether the bytes under a name may begin with some bytes and end with others: a look before a
-    /// file that may be long is got. Where they do, the answer is yes; it may be yes of any others.
+    /// Whether the bytes under a name may begin with some bytes and end with others: a look before
+    /// a file that may be long is got. Where they do, the answer is yes; it may be yes of any
+    /// others.
     fn may_have_ends(&mut self, _name: &str, _front: &[u8], _back: &[u8]) -> Result<bool, FileFault>
         ensures ends { IfSome (contents self.old) (λ folder. IfOk result (λ may. may ≡ false
             → IfSome (map.get folder _name.now) (LacksEnds _front.now _back.now))) }

@@ -21,8 +21,8 @@ use plan_num::Text;
 use stage_keep::{Given, LentText};
 use std::alloc::Global;
 
-/// A stage with its settings and its inputs over the files that stand in the folder, or why an input
-/// is not there.
+/// A stage with its settings and its inputs over the files that stand in the folder, or why an
+/// input is not there.
 pub(crate) fn gather<F: Files>(
     alloc: Global,
     files: &mut F,

@@ -53,13 +53,13 @@ pub(crate) fn kept<F: Files>(
         return Ok(None);
     }
     match last_part(alloc, files, given)? {
-        Some(part) => Ok(read_made(alloc, given.stage(), part.as_slice())?),
+        Some(part) => Ok(read_made(alloc, given.stage(), part)?),
         None => Ok(None),
     }
 }
 
-// Whether something may be kept of what a stage is given, by the two ends of the keep file: one that
-// no run wrote may be longer than memory.
+// Whether something may be kept of what a stage is given, by the two ends of the keep file: one
+// that no run wrote may be longer than memory.
 fn may_keep<F: Files>(alloc: Global, files: &mut F, given: &Given<'_>) -> Result<bool, FileFault>
     requires { Fits given.now }
     ensures unkept { IfSome (F.contents files.old) (λ folder. IfOk result (λ may. may ≡ false

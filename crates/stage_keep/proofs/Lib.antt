@@ -5,6 +5,7 @@ pub mod EntriesRead
 pub mod Framing
 pub mod Honesty
 pub mod LastParts
+mod Parts
 mod Pieces
 mod Reading
 mod Tried

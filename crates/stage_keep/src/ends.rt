@@ -9,7 +9,8 @@ use crate::heads::first_line;
 use plan_num::{NoMemory, Text};
 use std::alloc::Global;
 
-/// The front of the entry of what a stage is given, whatever was made of it: its first line, and the settings.
+/// The front of the entry of what a stage is given, whatever was made of it: its first line, and
+/// the settings.
 pub fn entry_front(alloc: Global, given: &Given<'_>) -> Result<Text, NoMemory>
     requires { Fits given.now }
     ensures { IfOk result (λ text. text ≡ entry_front given.now) }

@@ -9,8 +9,8 @@ use crate::given::Given;
 use plan_num::{NoMemory, Text};
 use std::alloc::Global;
 
-/// The lines of the entry of what a stage is given that stand before its inputs: the front up to the
-/// first one, and the line of each.
+/// The lines of the entry of what a stage is given that stand before its inputs: the front up to
+/// the first one, and the line of each.
 pub fn front_lines(alloc: Global, given: &Given<'_>) -> Result<Vec<Text>, NoMemory>
     requires { Fits given.now }
     ensures { IfOk result (λ lines. lines.items ≡ front_lines given.now) }
@@ -32,7 +32,8 @@ fn input_line(alloc: Global, size: usize) -> Result<Text, NoMemory>
     Ok(Text::from_vec(line))
 }
 
-/// The front of the entry of what a stage is given in pieces: these lines, and the inputs behind them.
+/// The front of the entry of what a stage is given in pieces: these lines, and the inputs behind
+/// them.
 pub fn front_pieces<'b>(
     alloc: Global,
     lines: &'b [Text],

@@ -72,8 +72,8 @@ fn entry_with<'a>(
     }
 }
 
-/// The texts of the blocks with these heads, where they are the bytes with the last line behind.
-pub(crate) fn texts_at<'a>(
+// The texts of the blocks with these heads, where they are the bytes with the last line behind.
+fn texts_at<'a>(
     alloc: Global,
     heads: &[Text],
     bytes: &'a [u8],
@@ -123,12 +123,8 @@ fn entry_of<'a>(
     Ok(Entry::new(texts[0], inputs, Made { files, report }))
 }
 
-/// Files with the texts that stand first among these.
-pub(crate) fn made_files(
-    alloc: Global,
-    files: &[FileId],
-    texts: &[&[u8]],
-) -> Result<MadeList, NoMemory>
+// Files with the texts that stand first among these.
+fn made_files(alloc: Global, files: &[FileId], texts: &[&[u8]]) -> Result<MadeList, NoMemory>
     requires { length files.now ≤ length texts.now }
     ensures { IfOk result (λ made. made
         ≡ map made_file (zip files.now (map (λ text. text.now) texts.now))) }
