@@ -1,7 +1,6 @@
 -- A byte that does not stand in a piece stands behind it.
 use Rattle.std.proofs.Common.{◌≡◌, ℕ, ◌+◌, ◌-◌, ◌≤◌, List, [], ◌∷◌, ◌++◌, length, take, drop, ap}
 use Rattle.std.proofs.Common.{sym, ◌∙◌, Bool, true, false, cond, ◌||◌, not, arith, zero-add}
-use Rattle.std.proofs.Common.{refl}
 use Rattle.std.proofs.Common.{length-drop, length-take}
 use Rattle.std.specs.List.{list_any, position_or_len}
 use Rattle.std.proofs.lemmas.List.{take-append-drop}
@@ -35,8 +34,3 @@ module _ (test : ℕ → Bool) where
         omega (arith, length-drop n rest),
         omega (arith, length-drop n rest, length-take n rest, parts, same),
       )
-
--- a test that is made twice
-pub twice : (b : Bool) → (b || b) ≡ b
-twice true = refl
-twice false = refl

@@ -11,7 +11,34 @@ pub(crate) fn place_of_byte(text: &[u8], byte: u8) -> usize
     ensures place { result ≡ position_or_len (λ other. other == byte) text.now }
     ensures within { result ≤ length text.now }
 {
-    place_of_either(text, byte, byte)
+    let mut rest = text;
+    'pieces: while rest.len() >= WIDTH {
+        let (front, behind) = rest.split_at(WIDTH);
+        if has_byte(front, byte) {
+            break;
+        }
+        rest = behind;
+    }
+    text.len() - rest.len() + byte_in(rest, byte)
+}
+
+// Whether the byte is among these.
+fn has_byte(bytes: &[u8], byte: u8) -> bool
+    ensures { result ≡ list_any (λ other. other == byte) bytes.now }
+{
+    let mut found = false;
+    for other in bytes {
+        found |= *other == byte;
+    }
+    found
+}
+
+// The same place, found byte by byte.
+fn byte_in(text: &[u8], byte: u8) -> usize
+    ensures place { result ≡ position_or_len (λ other. other == byte) text.now }
+    ensures within { result ≤ length text.now }
+{
+    text.iter().take_while(|other| **other != byte).count()
 }
 
 /// Where one of two bytes stands first, or the length where none does.

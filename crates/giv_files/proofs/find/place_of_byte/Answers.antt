@@ -1,9 +1,11 @@
-use Rattle.std.proofs.Common.{◌∙◌, ℕ, Bool, ap, eqb}
-use Rattle.std.specs.List.{position_or_len}
-use Rattle.giv_files.proofs.Skipping.{twice}
+use Rattle.std.proofs.Common.{◌∙◌, eqb, sym}
+use Rattle.giv_files.proofs.Skipping.{skip_piece}
 use Rattle.giv_files.proofs.find.place_of_byte.Goals as goal
 
-pub returns-clause-place : goal.returns-clause-place
-returns-clause-place c =
-    c.place_of_either.ensures.place ∙ ap (λ (test : ℕ → Bool). position_or_len test c.args.text.now)
-    (λ i other. twice (eqb other c.args.byte) i)
+pub pieces-preserved : goal.pieces-preserved
+pieces-preserved c =
+    let next = skip_piece (λ other. eqb other c.args.byte) c.args.text.now c.pieces.rest.now
+    c.split_at.result.0.now c.split_at.result.1.now 16 c.pieces-test.true
+    c.split_at.ensures.front c.split_at.ensures.back (sym c.has_byte.ensures ∙ c.if-has_byte.false)
+    c.pieces.invariant.within c.pieces.invariant.same in
+    record { within = next.0; same = next.1 }
