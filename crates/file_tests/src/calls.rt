@@ -5,7 +5,7 @@ ghost use Rattle.plan_files.specs.Folder.{has_failed};
 
 use crate::script::{cases, cut, same};
 use plan_files::{FileFault, Files, Got};
-use plan_num::{Ledger, Tally};
+use plan_num::{Ledger, Tally, Text};
 use std::alloc::{AllocError, Global};
 use std::process::Abort;
 use std::test::Fail;
@@ -25,10 +25,14 @@ struct Line<'a> {
 enum Call<'a> {
     Put(&'a str),
     Get(u64),
+    Has(&'a str),
+    Behind(&'a str),
     Remove,
 }
 
-// The line `put|name|text|answer`, `get|name|limit|answer` or `remove|name||answer`.
+// The line `put|name|text|answer`, `get|name|limit|answer` or `remove|name||answer`; or
+// `has|name|text|answer`, where the answer is `done` for yes and `absent` for no; or
+// `behind|name|front,more|answer` with a front of two pieces.
 fn line_of(text: &str) -> Line<'_> {
     let (word, rest) = cut(text, '|');
     let (name, rest) = cut(rest, '|');
@@ -41,6 +45,8 @@ fn call_of<'a>(word: &str, given: &'a str) -> Call<'a> {
     match word.as_bytes() {
         [b'p', ..] => Call::Put(given),
         [b'g', ..] => Call::Get(limit_of(given)),
+        [b'h', ..] => Call::Has(given),
+        [b'b', ..] => Call::Behind(given),
         _ => Call::Remove,
     }
 }
@@ -56,6 +62,12 @@ fn make<F: Files>(alloc: Global, files: &mut F, line: &Line<'_>) -> Answer
     match &line.call {
         Call::Put(text) => changed(files.put(line.name, text.as_bytes())),
         Call::Get(limit) => got(files.get(alloc, line.name, *limit)),
+        Call::Has(text) => seen(files.has_bytes(alloc, line.name, text.as_bytes())),
+        Call::Behind(front) => {
+            let (first, second) = cut(front, ',');
+            let pieces = [first.as_bytes(), second.as_bytes()];
+            left(files.get_behind(alloc, line.name, &pieces))
+        }
         Call::Remove => changed(files.remove(line.name)),
     }
 }
@@ -76,6 +88,28 @@ fn got(found: Result<Got, FileFault>) -> Answer
 {
     match found {
         Ok(got) => Ok(Some(got)),
+        Err(fault) => Err(fault),
+    }
+}
+
+// The answer of a `has_bytes`.
+fn seen(has: Result<bool, FileFault>) -> Answer
+    ensures { has_failed result ≡ has_failed has }
+{
+    match has {
+        Ok(true) => Ok(None),
+        Ok(false) => Ok(Some(Got::Absent)),
+        Err(fault) => Err(fault),
+    }
+}
+
+// The answer of a `get_behind`.
+fn left(found: Result<Option<Vec<u8>>, FileFault>) -> Answer
+    ensures { has_failed result ≡ has_failed found }
+{
+    match found {
+        Ok(Some(bytes)) => Ok(Some(Got::Bytes(Text::from_vec(bytes)))),
+        Ok(None) => Ok(Some(Got::Absent)),
         Err(fault) => Err(fault),
     }
 }

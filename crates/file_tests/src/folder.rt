@@ -1,6 +1,6 @@
 // The real folder.
 use crate::calls::plays;
-use plan_files::FolderFiles;
+use plan_files::{Files, FolderFiles};
 use std::env::set_current_dir;
 use std::fs;
 use std::os::unix::fs::symlink;
@@ -22,6 +22,23 @@ const WRITTEN: &str = "get|basis/Edge.giv|9|absent\n\
     put|Report||done\n\
     get|Report|0|\n";
 
+/// Files that are compared: whole, and by a front of two pieces.
+pub(crate) const COMPARED: &str = "has|basis/Edge.giv|1; 2; 3|absent\n\
+    behind|basis/Edge.giv|1,; 2|absent\n\
+    put|basis/Edge.giv|1; 2; 3|done\n\
+    has|basis/Edge.giv|1; 2; 3|done\n\
+    has|basis/Edge.giv|1; 2; 4|absent\n\
+    has|basis/Edge.giv|1; 2; |absent\n\
+    has|basis/Edge.giv|1; 2; 3; |absent\n\
+    has|basis/Edge.giv||absent\n\
+    behind|basis/Edge.giv|,|1; 2; 3\n\
+    behind|basis/Edge.giv|1,; 2|; 3\n\
+    behind|basis/Edge.giv|1; 2; 3,|\n\
+    behind|basis/Edge.giv|1,; 3|absent\n\
+    behind|basis/Edge.giv|2,; 2|absent\n\
+    behind|basis/Edge.giv|1; 2; ,3; 4|absent\n\
+    remove|basis/Edge.giv||done\n";
+
 // The length of the last one is told as 0, and there is more to read.
 const REFUSED: &str = "get|basis|9|file fault\n\
     put|basis|5|file fault\n\
@@ -32,7 +49,11 @@ const REFUSED: &str = "get|basis|9|file fault\n\
     get|/dev/null|9|file fault\n\
     put|/dev/null|5|file fault\n\
     remove|/dev/null||file fault\n\
-    get|/proc/version|9|file fault\n";
+    get|/proc/version|9|file fault\n\
+    has|basis||file fault\n\
+    has|/proc/version||file fault\n\
+    behind|basis|,|file fault\n\
+    behind|/proc/version|,|file fault\n";
 
 const WRITTEN_AFTER: &str = "get|Report|0|\n\
     put|basis/Edge.giv|6|done\n\
@@ -45,11 +66,44 @@ fn works_in_a_real_folder(rt: HostRuntime) -> Result<(), Fail> {
     fs::create_dir_all(&rt, FOLDER)?;
     set_current_dir(&rt, FOLDER)?;
     let mut files = FolderFiles::here(&rt, rt.alloc());
-    for (script, failed) in [(WRITTEN, 0), (REFUSED, 10), (WRITTEN_AFTER, 0)] {
+    for (script, failed) in [
+        (WRITTEN, 0),
+        (COMPARED, 0),
+        (REFUSED, 14),
+        (WRITTEN_AFTER, 0),
+    ] {
         plays(&rt, &mut files, script, failed)?;
     }
     set_current_dir(&rt, "../..")?;
     fs::remove_dir_all(&rt, FOLDER)?;
+    Ok(())
+}
+
+// A file of some parts, and one byte of it changed.
+#[test]
+fn compares_part_by_part(rt: HostRuntime) -> Result<(), Fail> {
+    let alloc = rt.alloc();
+    fs::create_dir_all(&rt, "out")?;
+    let digits = "0123456789";
+    let front = digits.repeat(alloc, 6_554)?;
+    let more = digits.repeat(alloc, 13_445)?;
+    let text = format!(in alloc; "{front}{more}{digits}")?;
+    let other = format!(in alloc; "{front}{more}0123456780")?;
+    fs::write(&rt, "out/parts", text.as_str())?;
+    let mut files = FolderFiles::here(&rt, alloc);
+    assert_eq!(rt;
+        files.has_bytes(alloc, "out/parts", text.as_bytes()),
+        Ok(true)
+    );
+    assert_eq!(rt;
+        files.has_bytes(alloc, "out/parts", other.as_bytes()),
+        Ok(false)
+    );
+    let found = files.get_behind(alloc, "out/parts", &[front.as_bytes(), more.as_bytes()]);
+    assert!(rt; matches!(&found, Ok(Some(rest)) if rest.as_slice() == digits.as_bytes()));
+    let found = files.get_behind(alloc, "out/parts", &[more.as_bytes(), b"1".as_slice()]);
+    assert!(rt; matches!(found, Ok(None)));
+    fs::remove_file(&rt, "out/parts")?;
     Ok(())
 }
 

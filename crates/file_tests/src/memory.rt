@@ -1,5 +1,6 @@
 // Files in memory, and words for faults.
 use crate::calls::plays;
+use crate::folder::COMPARED;
 use crate::script::same;
 use plan_files::{FileFault, SinkFault, SteadyFiles};
 use std::alloc::Global;
@@ -51,6 +52,12 @@ fn writes_of(alloc: Global, files: &SteadyFiles) -> Result<String, Fail> {
         text.push_str("\n")?;
     }
     Ok(text)
+}
+
+#[test]
+fn compares_files(rt: HostRuntime) -> Result<(), Fail> {
+    let mut files = SteadyFiles::new(rt.alloc());
+    plays(&rt, &mut files, COMPARED, 0)
 }
 
 #[test]
