@@ -139,35 +139,13 @@ fn open_there<R: rt::Files>(rt: &R, name: &str) -> Result<(R::File, u64), Troubl
 fn read_rest<F: Read>(alloc: Global, file: &mut F, size: u64) -> Result<Vec<u8>, Trouble>
     ensures { IfOk result (λ bytes. length bytes.items ≤ size) }
 {
-    let mut left = size.saturating_add(1);
-    let mut bytes = room_for(alloc, left as usize)?;
-    let mut part = room_for(alloc, (left as usize).min(PART))?;
-    'parts: while left > 0 {
-        read_part(file, left, &mut part)?;
-        if part.is_empty() {
-            break;
-        }
-        append(&mut bytes, &part)?;
-        left = left.saturating_sub(part.len() as u64);
-    }
+    let most = size.saturating_add(1);
+    let mut bytes = room_for(alloc, most as usize)?;
+    file.by_ref().take(most).read_to_end(&mut bytes)?;
     if bytes.len() as u64 > size {
         return Err(Trouble::because("grew while it was read"));
     }
     Ok(bytes)
-}
-
-// Reads the next bytes of a file, at most so many and at most as many as are read at a time. Reading
-// all of it at once is dearer: room for bytes is cleared before each call of the system.
-fn read_part<F: Read>(file: &mut F, most: u64, part: &mut Vec<u8>) -> io::Result<()> {
-    part.clear();
-    file.by_ref().take(most.min(PART as u64)).read_to_end(part)?;
-    Ok(())
-}
-
-// Appends the bytes of a part.
-fn append(bytes: &mut Vec<u8>, part: &[u8]) -> Result<(), NoMemory> {
-    bytes.extend_from_slice(part)?;
-    Ok(())
 }
 
 // Room for so many bytes. Where they are more than there is memory for, none of them is read.
@@ -175,7 +153,7 @@ fn room_for(alloc: Global, count: usize) -> Result<Vec<u8>, NoMemory> {
     Ok(Vec::with_capacity(alloc, count)?)
 }
 
-// How many bytes are read or compared at a time.
+// How many bytes are compared at a time.
 const PART: usize = 65_536;
 
 // Room for the bytes that are compared at a time.
