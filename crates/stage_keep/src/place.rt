@@ -32,9 +32,8 @@ impl Place {
         ensures { result ≡ part_of bytes.items self.now }
     {
         let mut bytes = bytes;
-        bytes.copy_within(self.start..self.start + self.size, 0);
-        bytes.truncate(self.size);
-        Text::from_vec(bytes)
+        bytes.truncate(self.start + self.size);
+        Text::behind(bytes, self.start)
     }
 }
 
