@@ -1,11 +1,11 @@
 -- The fields of a line, from the pieces between its semicolons.
-use Rattle.std.proofs.Common.{◌≡◌, ℕ, ◌-◌, ◌<◌, ◌≤◌, zero, suc, List, [], ◌∷◌, length, map, take, drop, get_or, refl, ap, sym, ◌∙◌, Bool, true, false, cond, eqb, leb, Some, None, Option, arith, Bor, one-add}
+use Rattle.std.proofs.Common.{◌≡◌, ℕ, ◌-◌, ◌<◌, ◌≤◌, zero, suc, List, [], ◌∷◌, length, map, take, drop, get_or, refl, ap, sym, ◌∙◌, Bool, true, false, eqb, leb, Some, None, Option, arith, Bor, one-add}
 use Rattle.std.specs.Option.{option_map, unwrap_or}
-use Rattle.std.specs.List.{prefix_len, onto_first}
+use Rattle.std.specs.List.{prefix_len}
 use Rattle.std.proofs.lemmas.List.{take_all, length-map, get_or-map, length-take-le, get_or-take}
 use Rattle.std.proofs.lemmas.Bool.{le-leb, lt-leb}
 use Rattle.csv.specs.Records.{field_at}
-use Rattle.giv_files.specs.Rows.{is_blank, without_blanks, without_quotes, ends_empty, without_last_empty, cleaned, pieces}
+use Rattle.giv_files.specs.Rows.{is_blank, without_blanks, without_quotes, ends_empty, cleaned}
 
 -- a field that may be there, and nothing where it is not
 field_or_nothing : (fields : List (List ℕ)) (i : ℕ) → unwrap_or (field_at fields i) [] ≡ get_or fields i []
@@ -90,17 +90,3 @@ space_cut [] some is = absurd (omega arith)
 space_cut (byte ∷ field) some is =
     let rest : take (length (byte ∷ field) - 1) field ≡ field = take_all _ field (omega arith) in
     rw is (ap without_blanks rest ∙ sym (space_first field))
-
-spaced_if : (t : Bool) (c : ℕ) (parts : List (List ℕ))
-    → let all : List (List ℕ) = cond t ([] ∷ parts) (onto_first c parts) in map without_blanks (onto_first 32 all) ≡ map without_blanks all
-spaced_if true c parts = refl
-spaced_if false c [] = ap (λ (field : List ℕ). field ∷ []) (space_first (c ∷ []))
-spaced_if false c (part ∷ parts) = ap (λ (field : List ℕ). field ∷ map without_blanks parts) (space_first (c ∷ part))
-
-spaced_parts : (line : List ℕ) → map without_blanks (pieces (32 ∷ line)) ≡ map without_blanks (pieces line)
-spaced_parts [] = refl
-spaced_parts (c ∷ rest) = spaced_if (eqb c 59) c (pieces rest)
-
-pub cleaned_spaced : (line : List ℕ) → cleaned (pieces (32 ∷ line)) ≡ cleaned (pieces line)
-unfolding cleaned
-cleaned_spaced line = ap (λ (parts : List (List ℕ)). map without_quotes (without_last_empty parts)) (spaced_parts line)

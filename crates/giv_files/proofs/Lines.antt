@@ -1,7 +1,7 @@
 -- Parts of a line that are counted and then cut off.
 use Rattle.std.proofs.Common.{◌≡◌, ◌≢◌, ℕ, ◌+◌, ◌-◌, ◌<◌, ◌≤◌, List, [], ◌∷◌, length, take, drop}
 use Rattle.std.proofs.Common.{get_or, refl, sym, ◌∙◌, Bool, true, false, cond, eqb, ltb, reverse, All}
-use Rattle.std.proofs.Common.{Option, Some, None, arith, length-take, get_or-take, not, one-add, ◌||◌}
+use Rattle.std.proofs.Common.{Option, Some, None, arith, length-take, get_or-take, not, one-add}
 use Rattle.std.specs.List.{find, list_all, take_while, position, position_or_len, prefix_len}
 use Rattle.std.specs.Option.{MatchOption}
 use Rattle.std.proofs.lemmas.Bool.{ltb-true, ltb-false, eqb-false, eqb-true, false≢true, ne_eqb}
@@ -63,45 +63,6 @@ pub first_of_parts : (text : List ℕ) (end : ℕ) → Some end ≡ position is_
     × All (λ byte. byte ≢ 10) (take end text)
 first_of_parts text end e =
     let at = place_of_feed text (Some end) e in first_at text end at.0 at.1
-
--- a line feed or the sign of a comment
-abbrev is_stop : ℕ → Bool
-is_stop byte = eqb byte 10 || eqb byte 35
-
-neither : (a b : Bool) → (a || b) ≡ false → (a ≡ false) × (b ≡ false)
-neither true b e = absurd (false≢true (sym e))
-neither false b e = (refl, e)
-
-module _ (text : List ℕ) (end : ℕ) (is : end ≡ position_or_len is_stop text) where
-  before_stop : (k d : ℕ) → k < end
-      → (eqb (get_or text k d) 10 ≡ false) × (eqb (get_or text k d) 35 ≡ false)
-  before_stop k d lt = neither _ _ (fails_before_first is_stop text k d (omega (arith, is, lt)))
-
-  -- without both of them the text is one part
-  pub bare_whole : end ≡ length text → (parts_of text ≡ text ∷ [])
-      × All (λ byte. byte ≢ 10) text × All (λ byte. byte ≢ 35) text
-  bare_whole past =
-      let none : All (λ byte. is_feed byte ≡ false) text = λ k d h. (before_stop k d
-      (omega (arith, past, h))).0 in (
-        slice_split_none is_feed text none,
-        λ k d h. eqb-false (get_or text k d) 10 (none k d h),
-        λ k d h. eqb-false (get_or text k d) 35 (before_stop k d (omega (arith, past, h))).1,
-      )
-
-  -- at a line feed that comes first its first part ends, which has no comment
-  pub bare_first : end < length text → get_or text end 0 ≡ 10
-      → (parts_of text ≡ take end text ∷ parts_of
-      (take (length text - (end + 1)) (drop (end + 1) text)))
-      × All (λ byte. byte ≢ 10) (take end text) × All (λ byte. byte ≢ 35) (take end text)
-  bare_first within feed =
-      let first = position_or_len_is is_feed text end 0 (omega (arith, within))
-      (λ k lt. (before_stop k 0 lt).0) (λ lt. rw feed refl) in
-      let cut = first_at text end (sym first) within in (
-        cut.0,
-        cut.1,
-        λ k d h. let before : k < end = omega (arith, length-take end text) in eqb-false _ 35
-            (rw (get_or-take end text k d before) (before_stop k d before).1),
-      )
 
 -- a line without the sign of a comment has none
 pub not_commented : (line : List ℕ) → All (λ byte. byte ≢ 35) line → line ≡ before_comment line

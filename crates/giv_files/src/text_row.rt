@@ -1,31 +1,39 @@
 // A row of a text, with its fields as they are written.
-ghost use Rattle.std.specs.Prelude.{◌≡◌, ◌<◌, ◌≢◌, ◌∷◌, [], List, All, IfSome, Ok, OnOk, length, ℕ};
+ghost use Rattle.std.specs.Prelude.{◌≡◌, ◌+◌, ◌<◌, ◌≤◌, ◌^◌, ◌∷◌, [], IfOk, IfSome, List, Ok, length, ℕ};
 ghost use Rattle.std.specs.Prelude.{slice_index_or};
 ghost use Rattle.std.specs.Option.{option_copied};
 ghost use Rattle.csv.specs.Records.{fields_of};
 ghost use Rattle.giv_files.specs.Reading.{cell_of};
 ghost use Rattle.giv_files.specs.Rows.{cleaned};
-ghost use Rattle.giv_files.specs.Told.{Told, handed, long_line, pieces_of, row_told};
-ghost use Rattle.giv_files.specs.Spaced.{StandsBefore};
+ghost use Rattle.giv_files.specs.Told.{LineGives, are_plain, pieces_of, returns};
 
 use crate::column::ColumnKind;
-use crate::line::{without_blanks, without_quotes};
-use crate::long_line::{count_pieces, piece_at};
-use crate::pieces::next_pieces;
+use crate::line::{before_comment, has_row, without_blanks, without_quotes, without_return};
+use crate::line_pieces::{count_pieces, piece_at};
+use crate::line_reader::LineReader;
 use crate::plain_cell::plain_cell;
-use crate::spaced::Spaced;
-use csv::{ByteRecord, Reader};
+use csv::ByteRecord;
 use plan_num::NoMemory;
 use std::alloc::Global;
 use std::marker::Model;
 
 /// A row of a text, which is read in the place of the row before it. Contracts see it as its number
-/// and the list of its fields. The row of a long line takes no memory.
+/// and the list of its fields. A line with a comment, a long
+/// one, and one that ends with a carriage return is looked up where it stands.
 #[derive(Drop)]
 pub struct TextRow<'a> {
     number: u64,
-    long: Option<&'a [u8]>,
+    told: Option<&'a [u8]>,
     pieces: ByteRecord,
+}
+
+/// What a line that was read is: a row, or passed over, with how many lines are numbered then, or
+/// there was none.
+#[derive(Clone, Copy)]
+pub(crate) enum LineRead {
+    Row,
+    Passed(u64),
+    Nothing,
 }
 
 impl<'a> Model for TextRow<'a> {
@@ -38,7 +46,7 @@ impl<'a> Model for TextRow<'a> {
 
     ghost view = { λ row. record {
       number = row.number;
-      fields = cleaned (pieces_of (option_copied row.long) (fields_of row.pieces));
+      fields = cleaned (pieces_of (option_copied row.told) (fields_of row.pieces));
     } };
 }
 
@@ -50,7 +58,7 @@ impl<'a> TextRow<'a> {
     {
         TextRow {
             number: 0,
-            long: None,
+            told: None,
             pieces: ByteRecord::new(alloc),
         }
     }
@@ -66,7 +74,7 @@ impl<'a> TextRow<'a> {
     pub fn len(&self) -> usize
         ensures { result ≡ length self.now.fields }
     {
-        cleaned_count(self.long, &self.pieces)
+        cleaned_count(self.told, &self.pieces)
     }
 
     /// The field at a place.
@@ -74,7 +82,7 @@ impl<'a> TextRow<'a> {
         requires { index < length self.now.fields }
         ensures { result.now ≡ slice_index_or self.now.fields index [] }
     {
-        without_quotes(without_blanks(piece(self.long, &self.pieces, index)))
+        without_quotes(without_blanks(piece(self.told, &self.pieces, index)))
     }
 
     /// The cell of the field at a place, where it is plain.
@@ -84,60 +92,95 @@ impl<'a> TextRow<'a> {
         ensures { (column : ℕ) → IfSome result
             (λ cell. cell_of kind.now column (slice_index_or self.now.fields index []) ≡ Ok cell) }
     {
-        plain_cell(kind, piece(self.long, &self.pieces, index))
+        plain_cell(kind, piece(self.told, &self.pieces, index))
     }
 
-    /// Reads the row of the next line, which has this number, and of which this stands before a
-    /// comment where that is long.
-    pub(crate) fn read(
+    /// Reads the next line after so many that were numbered, and its row in the place of the row
+    /// before, where it has one.
+    pub(crate) fn read_line(
         &mut self,
         number: u64,
-        long: Option<&'a [u8]>,
-        reader: &mut Reader<Spaced<'_>>,
-    ) -> Result<(), NoMemory>
-        ensures read { (told : Told) (more : List Told)
-            → StandsBefore reader.old (handed told ∷ more)
-            → All (λ byte. byte ≢ 10) told.line → told.number ≡ number
-            → option_copied long.entry ≡ long_line told.line
-            → OnOk result (self.new ≡ row_told told) }
-        ensures stands { (told : Told) (more : List Told)
-            → StandsBefore reader.old (handed told ∷ more)
-            → All (λ byte. byte ≢ 10) told.line → StandsBefore reader.new more }
+        lines: &mut LineReader<'a>,
+    ) -> Result<LineRead, NoMemory>
+        requires { number + length lines.old.left < 2 ^ 64 }
+        ensures gives { IfOk result (LineGives number lines.old.left lines.new.left self.new) }
+        ensures less { length lines.new.left ≤ length lines.old.left }
     {
-        self.number = number;
-        self.long = long;
-        next_pieces(reader, &mut self.pieces)
+        if !lines.next(&mut self.pieces)? {
+            return Ok(LineRead::Nothing);
+        }
+        if are_plain(&self.pieces) {
+            self.number = number + 1;
+            self.told = None;
+            return Ok(LineRead::Row);
+        }
+        Ok(self.take_line(number, lines.last()))
+    }
+
+    // Takes a line as it stands.
+    #[inline(never)]
+    fn take_line(&mut self, number: u64, line: &'a [u8]) -> LineRead
+        requires { number + 1 < 2 ^ 64 }
+        ensures { (more : List (List ℕ)) → LineGives number (line.now ∷ more) more self.new result }
+    {
+        let line = without_return(line);
+        if line.is_empty() {
+            return LineRead::Passed(number);
+        }
+        if !has_row(line) {
+            return LineRead::Passed(number + 1);
+        }
+        self.number = number + 1;
+        self.told = Some(before_comment(line));
+        LineRead::Row
     }
 }
 
-// The piece at a place.
-fn piece<'a>(long: Option<&'a [u8]>, pieces: &'a ByteRecord, index: usize) -> &'a [u8]
-    ensures { result.now
-        ≡ slice_index_or (pieces_of (option_copied long.entry) (fields_of pieces.now)) index [] }
+// Whether these are the pieces of a line that has a row, and neither a comment nor a carriage
+// return at its end.
+#[tactic(auto, unfolding(crate::specs::Told::are_plain))]
+fn are_plain(pieces: &ByteRecord) -> bool
+    ensures { result ≡ are_plain (fields_of pieces.now) }
 {
-    match long {
+    let count = pieces.len();
+    count >= 2 && !returns(pieces.get(count - 1).unwrap_or(&[]))
+}
+
+// Whether the last byte of a piece is a carriage return.
+fn returns(piece: &[u8]) -> bool
+    ensures { result ≡ returns piece.now }
+{
+    matches!(piece, [.., b'\r'])
+}
+
+// The piece at a place.
+fn piece<'a>(told: Option<&'a [u8]>, pieces: &'a ByteRecord, index: usize) -> &'a [u8]
+    ensures { result.now
+        ≡ slice_index_or (pieces_of (option_copied told.entry) (fields_of pieces.now)) index [] }
+{
+    match told {
         None => pieces.get(index).unwrap_or(&[]),
         Some(line) => piece_at(line, index),
     }
 }
 
 // How many pieces there are.
-fn piece_count(long: Option<&[u8]>, pieces: &ByteRecord) -> usize
-    ensures { result ≡ length (pieces_of (option_copied long.entry) (fields_of pieces.now)) }
+fn piece_count(told: Option<&[u8]>, pieces: &ByteRecord) -> usize
+    ensures { result ≡ length (pieces_of (option_copied told.entry) (fields_of pieces.now)) }
 {
-    match long {
+    match told {
         None => pieces.len(),
         Some(line) => count_pieces(line),
     }
 }
 
 // How many fields there are, without a last one that is empty.
-fn cleaned_count(long: Option<&[u8]>, pieces: &ByteRecord) -> usize
+fn cleaned_count(told: Option<&[u8]>, pieces: &ByteRecord) -> usize
     ensures { result
-        ≡ length (cleaned (pieces_of (option_copied long.entry) (fields_of pieces.now))) }
+        ≡ length (cleaned (pieces_of (option_copied told.entry) (fields_of pieces.now))) }
 {
-    let count = piece_count(long, pieces);
-    if count >= 2 && without_blanks(piece(long, pieces, count - 1)).is_empty() {
+    let count = piece_count(told, pieces);
+    if count >= 2 && without_blanks(piece(told, pieces, count - 1)).is_empty() {
         count - 1
     } else {
         count

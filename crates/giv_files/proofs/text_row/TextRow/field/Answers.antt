@@ -8,7 +8,7 @@ use Rattle.giv_files.proofs.text_row.TextRow.field.Goals as goal
 
 pub returns : goal.returns
 returns c =
-    let pieces = pieces_of (option_copied c.self.inside.long) (fields_of c.self.inside.pieces) in
+    let pieces = pieces_of (option_copied c.self.inside.told) (fields_of c.self.inside.pieces) in
     let within : c.args.index < length (cleaned pieces) = rw (← c.self.view_is) at c.requires in
     c.without_quotes.ensures ∙ ap without_quotes
     (c.without_blanks.ensures ∙ ap without_blanks c.piece.ensures)

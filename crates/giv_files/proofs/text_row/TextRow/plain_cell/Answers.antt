@@ -9,7 +9,7 @@ use Rattle.giv_files.proofs.text_row.TextRow.plain_cell.Goals as goal
 
 pub returns : goal.returns
 returns c column =
-    let pieces = pieces_of (option_copied c.self.inside.long) (fields_of c.self.inside.pieces) in
+    let pieces = pieces_of (option_copied c.self.inside.told) (fields_of c.self.inside.pieces) in
     let within : c.args.index < length (cleaned pieces) = rw (← c.self.view_is) at c.requires in
     let same : without_quotes (without_blanks c.piece.result.now)
     ≡ get_or c.args.self.now.fields c.args.index [] =
