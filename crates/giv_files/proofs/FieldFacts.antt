@@ -8,7 +8,7 @@ use Rattle.csv.specs.Records.{field_at}
 use Rattle.giv_files.specs.Rows.{is_blank, without_blanks, without_quotes, ends_empty, cleaned}
 
 -- a field that may be there, and nothing where it is not
-field_or_nothing : (fields : List (List ℕ)) (i : ℕ) → unwrap_or (field_at fields i) [] ≡ get_or fields i []
+pub field_or_nothing : (fields : List (List ℕ)) (i : ℕ) → unwrap_or (field_at fields i) [] ≡ get_or fields i []
 unfolding field_at
 field_or_nothing [] i = refl
 field_or_nothing (field ∷ fields) zero = refl

@@ -1,153 +1,200 @@
--- Plain pieces are those of a line that has a row, and that is read as it stands.
-use Rattle.std.proofs.Common.{◌≡◌, ℕ, ◌+◌, ◌-◌, ◌<◌, ◌≤◌, List, [], ◌∷◌, length}
-use Rattle.std.proofs.Common.{get_or, refl, ap, sym, ◌∙◌, Bool, true, false, eqb, arith, zero, suc}
-use Rattle.std.proofs.Common.{cond, ◌&&◌, not, slice_index, eqb-true, map, ne_eqb}
-use Rattle.std.specs.List.{list_all, onto_first}
+-- The pieces of a line without a comment are those of its row.
+use Rattle.std.proofs.Common.{◌≡◌, ◌≢◌, ℕ, ◌+◌, ◌-◌, ◌≤◌, List, [], ◌∷◌, length, take, map, cond}
+use Rattle.std.proofs.Common.{get_or, refl, ap, sym, ◌∙◌, Bool, true, false, eqb, All, arith, zero, suc}
+use Rattle.std.proofs.Common.{ne_eqb, not, slice_index}
+use Rattle.std.specs.List.{list_all, onto_first, position_or_len}
 use Rattle.std.specs.Str.Lines.{strip_carriage_return}
-use Rattle.std.proofs.lemmas.Bool.{leb-true, not-true, false≢true}
+use Rattle.std.proofs.lemmas.Bool.{eqb-false, eqb-true, false≢true}
 use Rattle.std.proofs.lemmas.List.{length-take, take_all}
-use Rattle.std.proofs.lemmas.List.Splits.{length-slice_split}
-use Rattle.giv_files.specs.Rows.{before_comment, cleaned, is_blank, pieces}
+use Rattle.std.proofs.lemmas.List.Elements.{All-take}
+use Rattle.std.proofs.lemmas.List.Splits.{join_with_byte-slice_split, length-slice_split}
+use Rattle.std.proofs.lemmas.List.Sums.{fails_before_first}
+use Rattle.giv_files.specs.Rows.{Row, before_comment, cleaned, is_blank, pieces}
 use Rattle.giv_files.specs.declared.text_row.LineRead.TheVariants as read
-use Rattle.giv_files.specs.Told.{LineGives, are_plain, handed, is_odd, returns, row_told, told_left}
+use Rattle.giv_files.specs.Told.{LineGives, handed, is_odd, returns, row_told, told_left}
+use Rattle.giv_files.specs.Told.{unreturned}
+use Rattle.giv_files.proofs.Lines.{not_commented}
 use Rattle.giv_files.proofs.ToldFacts.{told_first}
 
-both_passed : (one two : Bool) → (one && two) ≡ true → (one ≡ true) × (two ≡ true)
-both_passed true two e = (refl, e)
-both_passed false two e = absurd (false≢true e)
+-- ---- a carriage return at the end of a line is one at the end of its last piece
 
--- the last byte of a text, or another one before it
-last_after : ℕ → List ℕ → ℕ
-last_after byte [] = byte
-last_after byte (next ∷ more) = last_after next more
+strip_next_if : (t : Bool) (c b : ℕ) (rest : List ℕ)
+    → eqb (slice_index (b ∷ rest) (length rest)) 13 ≡ t
+    → strip_carriage_return (c ∷ b ∷ rest) ≡ c ∷ strip_carriage_return (b ∷ rest)
+strip_next_if t c b rest e =
+    let whole : length (c ∷ b ∷ rest) - 1 ≡ suc (length rest) = omega arith in
+    let inner : length (b ∷ rest) - 1 ≡ length rest = omega arith in
+    rw (whole, inner) (cut t e)
+  where
+    cut : (t : Bool) → eqb (slice_index (b ∷ rest) (length rest)) 13 ≡ t
+        → cond (eqb (slice_index (b ∷ rest) (length rest)) 13) (c ∷ take (length rest) (b ∷ rest)) (c ∷ b ∷ rest)
+        ≡ c ∷ cond (eqb (slice_index (b ∷ rest) (length rest)) 13) (take (length rest) (b ∷ rest)) (b ∷ rest)
+    cut true e = rw e refl
+    cut false e = rw e refl
 
--- the same of the last piece, after a semicolon
-last_in : ℕ → List (List ℕ) → ℕ
-last_in byte [] = byte
-last_in byte (piece ∷ []) = last_after byte piece
-last_in byte (piece ∷ next ∷ more) = last_in 59 (next ∷ more)
+strip_next : (c b : ℕ) (rest : List ℕ)
+    → strip_carriage_return (c ∷ b ∷ rest) ≡ c ∷ strip_carriage_return (b ∷ rest)
+strip_next c b rest = strip_next_if (eqb (slice_index (b ∷ rest) (length rest)) 13) c b rest refl
 
-last_if : (t : Bool) (byte c : ℕ) (parts : List (List ℕ)) → eqb c 59 ≡ t → 0 < length parts
-    → last_in c parts ≡ last_in byte (cond t ([] ∷ parts) (onto_first c parts))
-unfolding last_in last_after
-last_if t byte c [] e some = absurd (omega arith)
-last_if true byte c (piece ∷ more) e some = ap (λ n. last_in n (piece ∷ more)) (eqb-true c 59 e)
-last_if false byte c (piece ∷ []) e some = refl
-last_if false byte c (piece ∷ next ∷ more) e some = refl
+-- a line that is one piece is that piece
+one_piece : (line piece : List ℕ) → pieces line ≡ piece ∷ [] → piece ≡ line
+one_piece line piece e = rw e at (join_with_byte-slice_split 59 line)
 
--- the last byte of a line is that of its last piece
-last_of : (byte : ℕ) (line : List ℕ) → last_after byte line ≡ last_in byte (pieces line)
-unfolding last_in last_after
-last_of byte [] = refl
-last_of byte (c ∷ line) =
-    last_of c line ∙ last_if (eqb c 59) byte c (pieces line) refl
-    (omega (arith, length-slice_split (λ n. eqb n 59) line))
+one_if : (t u : Bool) (c : ℕ) → eqb c 59 ≡ t → eqb c 13 ≡ u
+    → pieces (strip_carriage_return (c ∷ [])) ≡ unreturned (pieces (c ∷ []))
+unfolding unreturned
+one_if true true c e f = absurd (omega (arith, eqb-true c 59 e, eqb-true c 13 f))
+one_if true false c e f = simp (e, f)
+one_if false true c e f = simp (e, f)
+one_if false false c e f = simp (e, f)
 
--- the byte at the last place of a text
-last_at : (byte : ℕ) (text : List ℕ) → last_after byte (byte ∷ text) ≡ slice_index (byte ∷ text) (length text)
-unfolding last_after
-last_at byte [] = refl
-last_at byte (next ∷ more) = last_at next more
+more_if : (t : Bool) (c b : ℕ) (rest : List ℕ) (parts : List (List ℕ))
+    → pieces (b ∷ rest) ≡ parts → eqb c 59 ≡ t
+    → cond t ([] ∷ unreturned parts) (onto_first c (unreturned parts))
+    ≡ unreturned (cond t ([] ∷ parts) (onto_first c parts))
+unfolding unreturned
+more_if t c b rest [] is e =
+    absurd (omega (arith, length-slice_split (λ n. eqb n 59) (b ∷ rest), ap length is))
+more_if true c b rest (piece ∷ []) is e = refl
+more_if true c b rest (piece ∷ next ∷ more) is e = refl
+more_if false c b rest (piece ∷ []) is e =
+    let whole = one_piece (b ∷ rest) piece is in
+    rw whole (ap (λ (line : List ℕ). line ∷ []) (sym (strip_next c b rest)))
+more_if false c b rest (piece ∷ next ∷ more) is e = refl
 
--- after a semicolon or at the start a text without a byte does not return
-returns_is : (text : List ℕ) → returns text ≡ eqb (last_after 0 text) 13
-unfolding last_after
-returns_is [] = refl
-returns_is (byte ∷ text) =
-    let end : length (byte ∷ text) - 1 ≡ length text = omega arith in
-    ap (λ n. eqb (slice_index (byte ∷ text) n) 13) end ∙ ap (λ n. eqb n 13) (sym (last_at byte text))
+pieces_stripped : (line : List ℕ)
+    → pieces (strip_carriage_return line) ≡ unreturned (pieces line)
+unfolding unreturned
+pieces_stripped [] = refl
+pieces_stripped (c ∷ []) = one_if (eqb c 59) (eqb c 13) c refl refl
+pieces_stripped (c ∷ b ∷ rest) =
+    ap pieces (strip_next c b rest)
+    ∙ ap (λ (parts : List (List ℕ)). cond (eqb c 59) ([] ∷ parts) (onto_first c parts))
+    (pieces_stripped (b ∷ rest))
+    ∙ more_if (eqb c 59) c b rest (pieces (b ∷ rest)) refl refl
 
-same_end : (text : List ℕ) → eqb (last_after 59 text) 13 ≡ eqb (last_after 0 text) 13
-unfolding last_after
-same_end [] = refl
-same_end (byte ∷ text) = refl
+-- ---- pieces without it, one by one
 
-last_piece : (byte : ℕ) (parts : List (List ℕ)) (more : ℕ) → length parts ≡ suc (suc more)
-    → last_in byte parts ≡ last_after 59 (get_or parts (suc more) [])
-unfolding last_in
-last_piece byte [] more long = absurd (omega arith)
-last_piece byte (piece ∷ []) more long = absurd (omega arith)
-last_piece byte (piece ∷ next ∷ []) zero long = refl
-last_piece byte (piece ∷ next ∷ []) (suc more) long = absurd (omega arith)
-last_piece byte (piece ∷ next ∷ other ∷ parts) zero long = absurd (omega arith)
-last_piece byte (piece ∷ next ∷ other ∷ parts) (suc more) long =
-    last_piece 59 (next ∷ other ∷ parts) more (omega arith)
+pub length_unreturned : (parts : List (List ℕ)) → length (unreturned parts) ≡ length parts
+unfolding unreturned
+length_unreturned [] = refl
+length_unreturned (piece ∷ []) = refl
+length_unreturned (piece ∷ next ∷ more) = ap suc (length_unreturned (next ∷ more))
 
--- a line of two pieces or more returns where its last piece does
-pub returns_last : (line : List ℕ) → 2 ≤ length (pieces line)
-    → returns line ≡ returns (get_or (pieces line) (length (pieces line) - 1) [])
-returns_last line long =
-    let more = length (pieces line) - 2 in
-    let last : suc more ≡ length (pieces line) - 1 = omega arith in
-    let piece = get_or (pieces line) (length (pieces line) - 1) [] in
-    returns_is line
-    ∙ ap (λ n. eqb n 13) (last_of 0 line ∙ last_piece 0 (pieces line) more (omega arith)
-    ∙ ap (λ n. last_after 59 (get_or (pieces line) n [])) last)
-    ∙ same_end piece ∙ sym (returns_is piece)
+pub last_unreturned : (parts : List (List ℕ)) (i : ℕ) → i + 1 ≡ length parts
+    → get_or (unreturned parts) i [] ≡ strip_carriage_return (get_or parts i [])
+unfolding unreturned
+last_unreturned [] i last = absurd (omega arith)
+last_unreturned (piece ∷ []) zero last = refl
+last_unreturned (piece ∷ []) (suc i) last = absurd (omega arith)
+last_unreturned (piece ∷ next ∷ more) zero last = absurd (omega arith)
+last_unreturned (piece ∷ next ∷ more) (suc i) last = last_unreturned (next ∷ more) i (omega arith)
+
+pub other_unreturned : (parts : List (List ℕ)) (i : ℕ) → (i + 1 ≡ length parts → ⊥)
+    → get_or (unreturned parts) i [] ≡ get_or parts i []
+unfolding unreturned
+other_unreturned [] i other = refl
+other_unreturned (piece ∷ []) zero other = absurd (other (omega arith))
+other_unreturned (piece ∷ []) (suc i) other = refl
+other_unreturned (piece ∷ next ∷ more) zero other = refl
+other_unreturned (piece ∷ next ∷ more) (suc i) other =
+    other_unreturned (next ∷ more) i (λ last. other (omega arith))
+
+pub none_unreturned : (parts : List (List ℕ)) (i : ℕ) → get_or parts i [] ≡ []
+    → get_or (unreturned parts) i [] ≡ []
+unfolding unreturned
+none_unreturned [] i none = refl
+none_unreturned (piece ∷ []) zero none = rw none refl
+none_unreturned (piece ∷ []) (suc i) none = refl
+none_unreturned (piece ∷ next ∷ more) zero none = none
+none_unreturned (piece ∷ next ∷ more) (suc i) none = none_unreturned (next ∷ more) i none
+
+pub all_unreturned : (parts : List (List ℕ)) (i : ℕ) → i + 1 ≡ length parts
+    → returns (get_or parts i []) ≡ false → unreturned parts ≡ parts
+unfolding unreturned
+all_unreturned [] i last none = refl
+all_unreturned (piece ∷ []) zero last none = rw none refl
+all_unreturned (piece ∷ []) (suc i) last none = absurd (omega arith)
+all_unreturned (piece ∷ next ∷ more) zero last none = absurd (omega arith)
+all_unreturned (piece ∷ next ∷ more) (suc i) last none =
+    ap (λ (parts : List (List ℕ)). piece ∷ parts)
+    (all_unreturned (next ∷ more) i (omega arith) none)
+
+-- ---- a line that csv gives as two pieces or more
 
 -- a line of blanks alone is one piece
 blank_piece : (line : List ℕ) → list_all is_blank line ≡ true → length (pieces line) ≡ 1
 blank_piece [] blank = refl
 blank_piece (byte ∷ line) blank = grind (arith, blank_piece line)
 
--- the pieces that csv gives of a line are plain: they are those of the line, which has a row as it
--- stands
-pub record IsPlain (line : List ℕ) (found : List (List ℕ)) : Type 0 where
-  pub pieces : found ≡ pieces line
-  pub bare : before_comment line ≡ line
-  pub whole : strip_carriage_return line ≡ line
-  pub some : list_all is_blank line ≡ false
+not_blank : (line : List ℕ) → 2 ≤ length (pieces line) → (t : Bool) → list_all is_blank line ≡ t
+    → list_all is_blank line ≡ false
+not_blank line long true e = absurd (omega (arith, blank_piece line e))
+not_blank line long false e = e
+
+not_empty : (line : List ℕ) → list_all is_blank line ≡ false → eqb (length line) 0 ≡ false
+not_empty [] some = absurd (false≢true (sym some))
+not_empty (byte ∷ line) some = ne_eqb (length (byte ∷ line)) 0 (omega arith)
 
 -- a line that is not odd has no comment
 not_odd : (line : List ℕ) → is_odd line ≡ false → before_comment line ≡ line
 unfolding is_odd
 not_odd line e = grind (arith, take_all, length-take)
 
--- one that does not return stays whole
-not_returned : (line : List ℕ) → returns line ≡ false → strip_carriage_return line ≡ line
-not_returned line e = rw e refl
+bare_line : (line : List ℕ) → before_comment line ≡ line → All (λ byte. byte ≢ 35) line
+bare_line line is = λ k d h. eqb-false _ 35 (fails_before_first (λ byte. eqb byte 35) line k d
+    (omega (arith, ap length is, length-take (position_or_len (λ byte. eqb byte 35) line) line)))
 
-not_blank : (line : List ℕ) → 2 ≤ length (pieces line) → (t : Bool) → list_all is_blank line ≡ t
-    → list_all is_blank line ≡ false
-not_blank line long true e = absurd (omega (arith, blank_piece line e))
-not_blank line long false e = e
+stripped_if : (line : List ℕ) (t : Bool) → returns line ≡ t → All (λ byte. byte ≢ 35) line
+    → All (λ byte. byte ≢ 35) (strip_carriage_return line)
+stripped_if line true e bare =
+    rw e (All-take (λ byte. byte ≢ 35) (length line - 1) line bare)
+stripped_if line false e bare = rw e bare
+
+stripped_bare : (line : List ℕ) → before_comment line ≡ line
+    → before_comment (strip_carriage_return line) ≡ strip_carriage_return line
+stripped_bare line is =
+    sym (not_commented (strip_carriage_return line)
+    (stripped_if line (returns line) refl (bare_line line is)))
+
+-- without a carriage return its pieces are those of a row
+record IsPlain (line : List ℕ) (found : List (List ℕ)) : Type 0 where
+  pieces : unreturned found ≡ pieces (strip_carriage_return line)
+  bare : before_comment (strip_carriage_return line) ≡ strip_carriage_return line
+  some : list_all is_blank (strip_carriage_return line) ≡ false
 
 plain_if : (line : List ℕ) (found : List (List ℕ)) (t : Bool) → is_odd line ≡ t
-    → found ≡ pieces (handed line) → are_plain found ≡ true → IsPlain line found
-unfolding handed are_plain
-plain_if line found true e is plain =
+    → found ≡ pieces (handed line) → 2 ≤ length found → IsPlain line found
+unfolding handed
+plain_if line found true e is long =
     let same : found ≡ pieces (35 ∷ []) = is ∙ rw e refl in
-    absurd (false≢true (rw same at plain))
-plain_if line found false e is plain =
+    absurd (omega (arith, ap length same))
+plain_if line found false e is long =
     let same : found ≡ pieces line = is ∙ rw e refl in
-    let both = both_passed _ _ (rw same at plain) in
-    let long = leb-true 2 (length (pieces line)) both.0 in
+    let stripped = ap unreturned same ∙ sym (pieces_stripped line) in
     record {
-      pieces = same;
-      bare = not_odd line e;
-      whole = not_returned line (returns_last line long ∙ not-true _ both.1);
-      some = not_blank line long (list_all is_blank line) refl;
+      pieces = stripped;
+      bare = stripped_bare line (not_odd line e);
+      some = not_blank (strip_carriage_return line)
+          (omega (arith, long, length_unreturned found, ap length stripped))
+          (list_all is_blank (strip_carriage_return line)) refl;
     }
-
-pub plain_is : (line : List ℕ) (found : List (List ℕ)) → found ≡ pieces (handed line)
-    → are_plain found ≡ true → IsPlain line found
-plain_is line found is plain = plain_if line found (is_odd line) refl is plain
-
-not_empty : (line : List ℕ) → list_all is_blank line ≡ false → eqb (length line) 0 ≡ false
-not_empty [] some = absurd (false≢true (sym some))
-not_empty (byte ∷ line) some = ne_eqb (length (byte ∷ line)) 0 (omega arith)
 
 -- such pieces make the next row
 pub plain_row : (number : ℕ) (line : List ℕ) (found left more : List (List ℕ))
-    → left ≡ line ∷ more → IsPlain line found
-    → LineGives number left more (record { number = number + 1; fields = cleaned found })
-    read.Row
-plain_row number line found left more is plain =
-    let some : eqb (length line) 0 ≡ false = not_empty line plain.some in
-    let first = told_first number line line left more (told_left number left) is (sym plain.whole)
-    refl some (ap not (ap (list_all is_blank) plain.bare ∙ plain.some)) in (
+    → left ≡ line ∷ more → found ≡ pieces (handed line) → 2 ≤ length found
+    → LineGives number left more
+    (record { number = number + 1; fields = cleaned (unreturned found) }) read.Row
+plain_row number line found left more is given long =
+    let plain = plain_if line found (is_odd line) refl given long in
+    let stripped = strip_carriage_return line in
+    let first = told_first number line stripped left more (told_left number left) is refl refl
+    (not_empty stripped plain.some)
+    (ap not (ap (list_all is_blank) plain.bare ∙ plain.some)) in
+    let row : List (List ℕ) → List Row =
+    λ fields. record { number = number + 1; fields = fields }
+    ∷ map row_told (told_left (number + 1) more) in (
       ap (map row_told) first
-          ∙ ap (λ (fields : List (List ℕ)). record { number = number + 1; fields = fields } ∷ map row_told (told_left (number + 1) more))
-          (ap (λ line. cleaned (pieces line)) plain.bare ∙ ap cleaned (sym plain.pieces)),
+          ∙ ap row (ap (λ line. cleaned (pieces line)) plain.bare ∙ ap cleaned (sym plain.pieces)),
       omega (arith, ap length is),
     )

@@ -1,6 +1,6 @@
 -- Inner words: the lines of a text that have rows. A reader of the contracts of this crate needs
 -- none of them.
-use Rattle.std.specs.Prelude.{ℕ, ◌≡◌, ◌≤◌, ◌+◌, ◌-◌, ◌==◌, ◌||◌, ◌&&◌, nat_le, nat_lt, not, if◌then◌else◌}
+use Rattle.std.specs.Prelude.{ℕ, ◌≡◌, ◌≤◌, ◌+◌, ◌-◌, ◌==◌, ◌||◌, nat_le, nat_lt, if◌then◌else◌}
 use Rattle.std.specs.Prelude.{List, [], ◌∷◌, ◌++◌, length, filter, map, get_or, slice_index, Bool}
 use Rattle.std.specs.Prelude.{Option}
 use Rattle.std.specs.Prelude.{Some, None}
@@ -8,6 +8,8 @@ use Rattle.std.specs.List.{list_all, flat_map, enumerate_from}
 use Rattle.std.specs.Str.Lines.{strip_carriage_return}
 use Rattle.giv_files.specs.declared.text_row.LineRead.{LineRead}
 use Rattle.giv_files.specs.declared.text_row.LineRead.TheVariants as line
+use Rattle.giv_files.specs.declared.text_row.Stands.{Stands}
+use Rattle.giv_files.specs.declared.text_row.Stands.TheVariants as stands
 use Rattle.giv_files.specs.Rows.{Row, is_blank, before_comment, has_byte, cleaned, pieces}
 
 -- a line that has a row: its number, and what stands before a comment
@@ -44,18 +46,22 @@ is_odd line = nat_le 4096 (length line) || nat_lt (length (before_comment line))
 unfoldable pub handed : List ℕ → List ℕ
 handed line = if is_odd line then 35 ∷ [] else line
 
--- the pieces of a row: those of the line where one is at hand, and else those that csv gives
-abbrev pub pieces_of : Option (List ℕ) → List (List ℕ) → List (List ℕ)
-pieces_of None parts = parts
-pieces_of (Some line) parts = pieces line
+-- pieces of which the last has no carriage return at its end
+unfoldable pub unreturned : List (List ℕ) → List (List ℕ)
+unreturned [] = []
+unreturned (piece ∷ []) = strip_carriage_return piece ∷ []
+unreturned (piece ∷ next ∷ more) = piece ∷ unreturned (next ∷ more)
+
+-- the pieces of a row: those that csv gives, those without a carriage return, or those of a line
+-- that is at hand
+abbrev pub pieces_of : Stands → List (List ℕ) → List (List ℕ)
+pieces_of stands.Apart parts = parts
+pieces_of stands.Returned parts = unreturned parts
+pieces_of (stands.Told line) parts = pieces line.now
 
 -- the last byte of a piece is a carriage return
 abbrev pub returns : List ℕ → Bool
 returns piece = slice_index piece (length piece - 1) == 13
-
--- pieces of a line that has a row, and neither a comment nor a carriage return at its end
-unfoldable pub are_plain : List (List ℕ) → Bool
-are_plain pieces = nat_le 2 (length pieces) && not (returns (get_or pieces (length pieces - 1) []))
 
 -- the lines of a text that have a byte: those that were read of late, and those that are left
 pub record LinesRead : Type 0 where

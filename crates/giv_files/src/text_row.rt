@@ -1,11 +1,10 @@
 // A row of a text, with its fields as they are written.
 ghost use Rattle.std.specs.Prelude.{◌≡◌, ◌+◌, ◌<◌, ◌≤◌, ◌^◌, ◌∷◌, [], IfOk, IfSome, List, Ok, length, ℕ};
 ghost use Rattle.std.specs.Prelude.{slice_index_or};
-ghost use Rattle.std.specs.Option.{option_copied};
 ghost use Rattle.csv.specs.Records.{fields_of};
 ghost use Rattle.giv_files.specs.Reading.{cell_of};
 ghost use Rattle.giv_files.specs.Rows.{cleaned};
-ghost use Rattle.giv_files.specs.Told.{LineGives, are_plain, pieces_of, returns};
+ghost use Rattle.giv_files.specs.Told.{LineGives, pieces_of, returns, unreturned};
 
 use crate::column::ColumnKind;
 use crate::line::{before_comment, has_row, without_blanks, without_quotes, without_return};
@@ -18,13 +17,21 @@ use std::alloc::Global;
 use std::marker::Model;
 
 /// A row of a text, which is read in the place of the row before it. Contracts see it as its number
-/// and the list of its fields. A line with a comment, a long
-/// one, and one that ends with a carriage return is looked up where it stands.
+/// and the list of its fields. A line with a comment, and a long one, is looked up where it stands.
 #[derive(Drop)]
 pub struct TextRow<'a> {
     number: u64,
-    told: Option<&'a [u8]>,
+    stands: Stands<'a>,
     pieces: ByteRecord,
+}
+
+// Where the pieces of a row stand: as csv gives them, the last one perhaps with a carriage return at
+// its end, or in what stands before a comment in a line.
+#[derive(Clone, Copy)]
+enum Stands<'a> {
+    Apart,
+    Returned,
+    Told(&'a [u8]),
 }
 
 /// What a line that was read is: a row, or passed over, with how many lines are numbered then, or
@@ -37,7 +44,6 @@ pub(crate) enum LineRead {
 }
 
 impl<'a> Model for TextRow<'a> {
-    ghost use Rattle.std.specs.Option.{option_copied};
     ghost use Rattle.csv.specs.Records.{fields_of};
     ghost use Rattle.giv_files.specs.Rows.{Row, cleaned};
     ghost use Rattle.giv_files.specs.Told.{pieces_of};
@@ -46,7 +52,7 @@ impl<'a> Model for TextRow<'a> {
 
     ghost view = { λ row. record {
       number = row.number;
-      fields = cleaned (pieces_of (option_copied row.told) (fields_of row.pieces));
+      fields = cleaned (pieces_of row.stands (fields_of row.pieces));
     } };
 }
 
@@ -58,7 +64,7 @@ impl<'a> TextRow<'a> {
     {
         TextRow {
             number: 0,
-            told: None,
+            stands: Stands::Apart,
             pieces: ByteRecord::new(alloc),
         }
     }
@@ -74,7 +80,7 @@ impl<'a> TextRow<'a> {
     pub fn len(&self) -> usize
         ensures { result ≡ length self.now.fields }
     {
-        cleaned_count(self.told, &self.pieces)
+        cleaned_count(&self.stands, &self.pieces)
     }
 
     /// The field at a place.
@@ -82,7 +88,7 @@ impl<'a> TextRow<'a> {
         requires { index < length self.now.fields }
         ensures { result.now ≡ slice_index_or self.now.fields index [] }
     {
-        without_quotes(without_blanks(piece(self.told, &self.pieces, index)))
+        without_quotes(without_blanks(piece(&self.stands, &self.pieces, index)))
     }
 
     /// The cell of the field at a place, where it is plain.
@@ -92,7 +98,7 @@ impl<'a> TextRow<'a> {
         ensures { (column : ℕ) → IfSome result
             (λ cell. cell_of kind.now column (slice_index_or self.now.fields index []) ≡ Ok cell) }
     {
-        plain_cell(kind, piece(self.told, &self.pieces, index))
+        plain_cell(kind, piece(&self.stands, &self.pieces, index))
     }
 
     /// Reads the next line after so many that were numbered, and its row in the place of the row
@@ -109,9 +115,9 @@ impl<'a> TextRow<'a> {
         if !lines.next(&mut self.pieces)? {
             return Ok(LineRead::Nothing);
         }
-        if are_plain(&self.pieces) {
+        if self.pieces.len() >= 2 {
             self.number = number + 1;
-            self.told = None;
+            self.stands = apart(&self.pieces);
             return Ok(LineRead::Row);
         }
         Ok(self.take_line(number, lines.last()))
@@ -131,19 +137,21 @@ impl<'a> TextRow<'a> {
             return LineRead::Passed(number + 1);
         }
         self.number = number + 1;
-        self.told = Some(before_comment(line));
+        self.stands = Stands::Told(before_comment(line));
         LineRead::Row
     }
 }
 
-// Whether these are the pieces of a line that has a row, and neither a comment nor a carriage
-// return at its end.
-#[tactic(auto, unfolding(crate::specs::Told::are_plain))]
-fn are_plain(pieces: &ByteRecord) -> bool
-    ensures { result ≡ are_plain (fields_of pieces.now) }
+// How the pieces of a row stand that are read by csv.
+fn apart<'a>(pieces: &ByteRecord) -> Stands<'a>
+    requires { 2 ≤ length (fields_of pieces.now) }
+    ensures { pieces_of result (fields_of pieces.now) ≡ unreturned (fields_of pieces.now) }
 {
-    let count = pieces.len();
-    count >= 2 && !returns(pieces.get(count - 1).unwrap_or(&[]))
+    if returns(pieces.get(pieces.len() - 1).unwrap_or(&[])) {
+        Stands::Returned
+    } else {
+        Stands::Apart
+    }
 }
 
 // Whether the last byte of a piece is a carriage return.
@@ -154,33 +162,52 @@ fn returns(piece: &[u8]) -> bool
 }
 
 // The piece at a place.
-fn piece<'a>(told: Option<&'a [u8]>, pieces: &'a ByteRecord, index: usize) -> &'a [u8]
+fn piece<'a>(stands: &Stands<'a>, pieces: &'a ByteRecord, index: usize) -> &'a [u8]
     ensures { result.now
-        ≡ slice_index_or (pieces_of (option_copied told.entry) (fields_of pieces.now)) index [] }
+        ≡ slice_index_or (pieces_of stands.now (fields_of pieces.now)) index [] }
 {
-    match told {
-        None => pieces.get(index).unwrap_or(&[]),
-        Some(line) => piece_at(line, index),
+    match stands {
+        Stands::Apart => pieces.get(index).unwrap_or(&[]),
+        Stands::Returned => returned_piece(pieces, index),
+        Stands::Told(line) => piece_at(line, index),
+    }
+}
+
+// The piece at a place, where a carriage return ends the last.
+fn returned_piece(pieces: &ByteRecord, index: usize) -> &[u8]
+    ensures { result.now ≡ slice_index_or (unreturned (fields_of pieces.now)) index [] }
+{
+    match pieces.get(index) {
+        None => &[],
+        Some(piece) => {
+            if index + 1 == pieces.len() {
+                without_return(piece)
+            } else {
+                piece
+            }
+        }
     }
 }
 
 // How many pieces there are.
-fn piece_count(told: Option<&[u8]>, pieces: &ByteRecord) -> usize
-    ensures { result ≡ length (pieces_of (option_copied told.entry) (fields_of pieces.now)) }
+#[tactic(auto, using(crate::proofs::PlainRows::length_unreturned))]
+fn piece_count(stands: &Stands<'_>, pieces: &ByteRecord) -> usize
+    ensures { result ≡ length (pieces_of stands.now (fields_of pieces.now)) }
 {
-    match told {
-        None => pieces.len(),
-        Some(line) => count_pieces(line),
+    match stands {
+        Stands::Apart => pieces.len(),
+        Stands::Returned => pieces.len(),
+        Stands::Told(line) => count_pieces(line),
     }
 }
 
 // How many fields there are, without a last one that is empty.
-fn cleaned_count(told: Option<&[u8]>, pieces: &ByteRecord) -> usize
+fn cleaned_count(stands: &Stands<'_>, pieces: &ByteRecord) -> usize
     ensures { result
-        ≡ length (cleaned (pieces_of (option_copied told.entry) (fields_of pieces.now))) }
+        ≡ length (cleaned (pieces_of stands.now (fields_of pieces.now))) }
 {
-    let count = piece_count(told, pieces);
-    if count >= 2 && without_blanks(piece(told, pieces, count - 1)).is_empty() {
+    let count = piece_count(stands, pieces);
+    if count >= 2 && without_blanks(piece(stands, pieces, count - 1)).is_empty() {
         count - 1
     } else {
         count
