@@ -1,13 +1,14 @@
 -- Parts of a line that are counted and then cut off.
 use Rattle.std.proofs.Common.{◌≡◌, ◌≢◌, ℕ, ◌+◌, ◌-◌, ◌<◌, ◌≤◌, List, [], ◌∷◌, length, take, drop}
-use Rattle.std.proofs.Common.{get_or, refl, sym, ◌∙◌, Bool, true, false, cond, eqb, ltb, reverse, All}
+use Rattle.std.proofs.Common.{ap, get_or, refl, sym, ◌∙◌, Bool, true, false, cond, eqb, ltb, reverse, All}
 use Rattle.std.proofs.Common.{Option, Some, None, arith, length-take, get_or-take, not, one-add}
-use Rattle.std.specs.List.{find, list_all, take_while, position, position_or_len, prefix_len}
+use Rattle.std.proofs.Math.Logic.{⊎_elim}
+use Rattle.std.specs.List.{suffix_len, find, list_all, take_while, position, position_or_len, prefix_len}
 use Rattle.std.specs.Option.{MatchOption}
-use Rattle.std.proofs.lemmas.Bool.{ltb-true, ltb-false, eqb-false, eqb-true, false≢true, ne_eqb}
-use Rattle.std.proofs.lemmas.List.Sums.{fails_before_first, position_or_len_is}
+use Rattle.std.proofs.lemmas.Bool.{cases_lt, eq-eqb, ltb-true, ltb-false, eqb-false, eqb-true, false≢true, ne_eqb}
+use Rattle.std.proofs.lemmas.List.Sums.{prefix_len_passes, prefix_len_stops, fails_before_first, position_or_len_is}
 use Rattle.std.proofs.lemmas.List.Splits.{slice_split_none, slice_split_first}
-use Rattle.std.proofs.lemmas.List.{take_all, take_rest}
+use Rattle.std.proofs.lemmas.List.{get_or-drop, get_or-reverse, length-drop, take_all, take_rest}
 use Rattle.std.proofs.lemmas.List.Folds.{length-prefix_len}
 use Rattle.giv_files.specs.Rows.{is_blank, without_blanks, before_comment, parts_of}
 
@@ -95,3 +96,45 @@ pub first_byte : (line : List ℕ)
 first_byte [] = refl
 first_byte (byte ∷ line) =
     told_at byte line (eqb byte 35) (is_blank byte) refl refl (first_byte line)
+
+-- a text of blanks alone begins with one
+suffix_first : (text : List ℕ) → 0 < length text → length text ≤ suffix_len is_blank text
+    → is_blank (get_or text 0 0) ≡ true
+suffix_first text some all =
+    let end : length text - 1 < prefix_len is_blank (reverse text) = omega arith in
+    let last = prefix_len_passes is_blank (reverse text) (length text - 1) 0 end in
+    let place : length text - 1 - (length text - 1) ≡ 0 = omega arith in
+    let first : get_or (reverse text) (length text - 1) 0 ≡ get_or text 0 0 =
+    get_or-reverse text (length text - 1) 0 (omega arith) ∙ ap (λ k. get_or text k 0) place in
+    rw first at last
+
+-- a text that does not begin with a blank does not end with blanks alone
+suffix_less : (text : List ℕ) → 0 < length text → is_blank (get_or text 0 0) ≡ false
+    → suffix_len is_blank text < length text
+suffix_less text some first = ⊎_elim (λ less. less)
+    (λ all. absurd (false≢true (sym first ∙ suffix_first text some all)))
+    (cases_lt (suffix_len is_blank text) (length text))
+
+empty_is : (field front : List ℕ) → front ≡ drop (prefix_len is_blank field) field
+    → (t : Bool) → eqb (length front) 0 ≡ t → t ≡ eqb (length (without_blanks field)) 0
+empty_is field front is true e =
+    let none : length (drop (prefix_len is_blank field) field) ≡ 0 =
+    ap length (sym is) ∙ eqb-true (length front) 0 e in
+    sym (eq-eqb (length (without_blanks field)) 0 (omega (arith, none, length-take (length (drop (prefix_len is_blank field) field) - suffix_len is_blank (drop (prefix_len is_blank field) field)) (drop (prefix_len is_blank field) field))))
+empty_is field front is false e =
+    let rest = drop (prefix_len is_blank field) field in
+    let size : length rest ≡ length front = ap length (sym is) in
+    let other = eqb-false (length front) 0 e in
+    let some : 0 < length rest = omega arith in
+    let within : prefix_len is_blank field < length field =
+    omega (arith, some, length-drop (prefix_len is_blank field) field) in
+    let place : prefix_len is_blank field + 0 ≡ prefix_len is_blank field = omega arith in
+    let first : is_blank (get_or rest 0 0) ≡ false =
+    rw (get_or-drop (prefix_len is_blank field) field 0 0, place)
+    (prefix_len_stops is_blank field 0 within) in
+    sym (ne_eqb (length (without_blanks field)) 0 (λ none. omega (arith, suffix_less rest some first, none, length-take (length rest - suffix_len is_blank rest) rest)))
+
+-- a field is empty where only blanks stand in it
+pub empty_if : (field front : List ℕ) → front ≡ drop (prefix_len is_blank field) field
+    → eqb (length front) 0 ≡ eqb (length (without_blanks field)) 0
+empty_if field front is = empty_is field front is (eqb (length front) 0) refl

@@ -82,6 +82,13 @@ pub(crate) fn without_blanks(field: &[u8]) -> &[u8]
     &front[..front.len() - blanks_after(front)]
 }
 
+/// Whether a field has no byte but blanks.
+pub(crate) fn is_empty_field(field: &[u8]) -> bool
+    ensures { result ≡ (length (without_blanks field.now) == 0) }
+{
+    behind_blanks(field).is_empty()
+}
+
 // The field without the blanks in front.
 fn behind_blanks(field: &[u8]) -> &[u8]
     ensures { result.now ≡ drop (prefix_len is_blank field.now) field.now }

@@ -2,15 +2,14 @@
 ghost use Rattle.std.specs.Prelude.{◌≡◌, ◌+◌, ◌<◌, ◌≤◌, ◌^◌, ◌∷◌, [], IfOk, IfSome, List, Ok, length, ℕ};
 ghost use Rattle.std.specs.Prelude.{slice_index_or};
 ghost use Rattle.csv.specs.Records.{fields_of};
-ghost use Rattle.giv_files.specs.Reading.{cell_of};
 ghost use Rattle.giv_files.specs.Rows.{cleaned};
 ghost use Rattle.giv_files.specs.Told.{LineGives, pieces_of, returns, unreturned};
 
-use crate::column::ColumnKind;
-use crate::line::{before_comment, has_row, without_blanks, without_quotes, without_return};
+use crate::line::{
+    before_comment, has_row, is_empty_field, without_blanks, without_quotes, without_return,
+};
 use crate::line_pieces::{count_pieces, piece_at};
 use crate::line_reader::LineReader;
-use crate::plain_cell::plain_cell;
 use csv::ByteRecord;
 use plan_num::NoMemory;
 use std::alloc::Global;
@@ -91,14 +90,14 @@ impl<'a> TextRow<'a> {
         without_quotes(without_blanks(piece(&self.stands, &self.pieces, index)))
     }
 
-    /// The cell of the field at a place, where it is plain.
-    #[inline(always)]
-    pub(crate) fn plain_cell(&self, kind: &ColumnKind, index: usize) -> Option<i64>
-        requires { index < length self.now.fields }
-        ensures { (column : ℕ) → IfSome result
-            (λ cell. cell_of kind.now column (slice_index_or self.now.fields index []) ≡ Ok cell) }
+    /// The pieces of which its fields are made, where they stand as csv gives them.
+    pub(crate) fn apart(&self) -> Option<&ByteRecord>
+        ensures { IfSome result (λ pieces. self.now.fields ≡ cleaned (fields_of pieces.now)) }
     {
-        plain_cell(kind, piece(&self.stands, &self.pieces, index))
+        match self.stands {
+            Stands::Apart => Some(&self.pieces),
+            _ => None,
+        }
     }
 
     /// Reads the next line after so many that were numbered, and its row in the place of the row
@@ -117,7 +116,7 @@ impl<'a> TextRow<'a> {
         }
         if self.pieces.len() >= 2 {
             self.number = number + 1;
-            self.stands = apart(&self.pieces);
+            self.stands = standing(&self.pieces);
             return Ok(LineRead::Row);
         }
         Ok(self.take_line(number, lines.last()))
@@ -143,7 +142,7 @@ impl<'a> TextRow<'a> {
 }
 
 // How the pieces of a row stand that are read by csv.
-fn apart<'a>(pieces: &ByteRecord) -> Stands<'a>
+fn standing<'a>(pieces: &ByteRecord) -> Stands<'a>
     requires { 2 ≤ length (fields_of pieces.now) }
     ensures { pieces_of result (fields_of pieces.now) ≡ unreturned (fields_of pieces.now) }
 {
@@ -207,7 +206,7 @@ fn cleaned_count(stands: &Stands<'_>, pieces: &ByteRecord) -> usize
         ≡ length (cleaned (pieces_of stands.now (fields_of pieces.now))) }
 {
     let count = piece_count(stands, pieces);
-    if count >= 2 && without_blanks(piece(stands, pieces, count - 1)).is_empty() {
+    if count >= 2 && is_empty_field(piece(stands, pieces, count - 1)) {
         count - 1
     } else {
         count

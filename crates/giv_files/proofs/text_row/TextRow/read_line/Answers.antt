@@ -7,7 +7,7 @@ use Rattle.giv_files.proofs.text_row.TextRow.read_line.Goals as goal
 pub returns-then-len-ge2-clause-gives : goal.returns-then-len-ge2-clause-gives
 returns-then-len-ge2-clause-gives c =
     let took = rw c.if-not-branch.false at c.in_ok-next.ensures.read in
-    rw c.apart-self-inside.ensures (plain_row c.args.number (last_line c.next.new.self)
+    rw c.standing-self-inside.ensures (plain_row c.args.number (last_line c.next.new.self)
     (fields_of c.next.new.pieces) c.args.lines.now.left c.next.new.self.left took.left took.pieces
     (omega (arith, c.len.ensures, c.if-len-ge2.true)))
 

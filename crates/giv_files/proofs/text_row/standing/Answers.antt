@@ -3,7 +3,7 @@ use Rattle.csv.specs.Records.{fields_of}
 use Rattle.giv_files.specs.Told.{returns}
 use Rattle.giv_files.proofs.FieldFacts.{piece_is}
 use Rattle.giv_files.proofs.PlainRows.{all_unreturned}
-use Rattle.giv_files.proofs.text_row.apart.Goals as goal
+use Rattle.giv_files.proofs.text_row.standing.Goals as goal
 
 pub returns-else-returns : goal.returns-else-returns
 returns-else-returns c =
