@@ -2,7 +2,8 @@
 use Rattle.std.proofs.Common.{◌≡◌, ◌≢◌, ℕ, ◌+◌, ◌-◌, ◌<◌, List, [], ◌∷◌, ◌++◌, length, take, drop}
 use Rattle.std.proofs.Common.{map, get_or, refl, ap, sym, ◌∙◌, Bool, true, false, eqb, All, arith}
 use Rattle.std.proofs.Common.{append_assoc, append-nil, length-append, length-take, cond, ne_eqb}
-use Rattle.std.proofs.Common.{eqb-true, add-one, drop-cons, get_or-take, length-drop, filter, not, Option, Some, None, length-take-le}
+use Rattle.std.proofs.Common.{eqb-true, add-one, drop-cons, get_or-take, length-drop, filter, not}
+use Rattle.std.proofs.Common.{Option, Some, None, length-take-le}
 use Rattle.std.specs.List.{onto_first, position_or_len}
 use Rattle.std.proofs.lemmas.Bool.{eqb-false, le-ltb, lt-leb}
 use Rattle.std.specs.Option.{IfSome}
@@ -25,12 +26,7 @@ is_feed byte = eqb byte 10
 pub handed_plain : (line : List ℕ) → All (λ byte. byte ≢ 35) line → length line < 4096
     → handed line ≡ line
 unfolding handed is_odd
-handed_plain line bare short =
-    rw (
-      lt-leb 4096 (length line) short,
-      ← (not_commented line bare),
-      le-ltb (length line) (length line) (omega arith),
-    ) refl
+handed_plain line bare short = grind (arith, lt-leb, not_commented, le-ltb)
 
 pub fed_first : (line : List ℕ) (parts : List (List ℕ))
     → fed (line ∷ parts) ≡ line ++ 10 ∷ fed parts
@@ -41,10 +37,7 @@ fed_first line parts = refl
 fed_plain : (line : List ℕ) (parts : List (List ℕ)) → All (λ byte. byte ≢ 35) line
     → length line < 4096
     → fed (map handed ((line ++ []) ∷ parts)) ≡ line ++ 10 ∷ fed (map handed parts)
-fed_plain line parts bare short =
-    ap (λ (first : List ℕ). fed (handed first ∷ map handed parts)) (append-nil line)
-    ∙ ap (λ (first : List ℕ). fed (first ∷ map handed parts)) (handed_plain line bare short)
-    ∙ fed_first line (map handed parts)
+fed_plain line parts bare short = grind (arith, append-nil, handed_plain, fed_first)
 
 module _ (rest : List ℕ) where
   -- lines up to a line feed, of which this is the front of the first, are handed out as they stand
@@ -57,20 +50,8 @@ module _ (rest : List ℕ) where
       → All (λ byte. byte ≢ 35) line → length line < 4096
       → AreFed [] front → AreFed (line ++ c ∷ []) front → AreFed line (c ∷ front)
   fed_byte true line c front e bare short next more =
-      rw e (
-      fed_plain line (parts_of (front ++ 10 ∷ rest)) bare short
-      ∙ ap (λ (parts : List (List ℕ)). line ++ 10 ∷ fed (map handed parts))
-      (sym (onto_nothing is_feed (front ++ 10 ∷ rest)))
-      ∙ ap (λ (after : List ℕ). line ++ 10 ∷ after) next
-      ∙ ap (λ n. line ++ n ∷ (front ++ 10 ∷ fed (map handed (parts_of rest))))
-      (sym (eqb-true c 10 e))
-      )
-  fed_byte false line c front e bare short next more =
-      rw e (
-      ap (λ (parts : List (List ℕ)). fed (map handed parts))
-      (sym (onto_byte line c (parts_of (front ++ 10 ∷ rest))))
-      ∙ more ∙ append_assoc line (c ∷ []) (front ++ 10 ∷ fed (map handed (parts_of rest)))
-      )
+      grind (arith, fed_plain, onto_nothing, eqb-true)
+  fed_byte false line c front e bare short next more = grind (arith, onto_byte, append_assoc)
 
   lines_fed : (line front : List ℕ) → All (λ byte. byte ≢ 35) line
       → All (λ byte. byte ≢ 35) front → length line + length front < 4096 → AreFed line front
@@ -86,10 +67,7 @@ module _ (rest : List ℕ) where
 -- a text, cut at a line feed
 front_cut : (text : List ℕ) (end : ℕ) → end < length text → get_or text end 0 ≡ 10
     → text ≡ take end text ++ 10 ∷ drop (end + 1) text
-front_cut text end within feed =
-    sym (take-append-drop end text)
-    ∙ ap (λ (rest : List ℕ). take end text ++ rest)
-    (drop-cons text end 0 within ∙ rw (add-one, feed) refl)
+front_cut text end within feed = grind (arith, take-append-drop, drop-cons, add-one)
 
 take_more : (text : List ℕ) (end : ℕ) → end < length text → get_or text end 0 ≡ 10
     → take (end + 1) text ≡ take end text ++ 10 ∷ []
@@ -144,20 +122,8 @@ starts_with_feed text end is = stops_at text end is (drop end text) refl
 first_of : (line rest : List ℕ) → All (λ byte. is_feed byte ≡ false) line → Stops rest
     → fed (map handed (parts_of (line ++ rest))) ≡ handed line ++ fed (map handed (parts_of rest))
 unfolding Stops
-first_of line [] plain stops =
-    ap (λ (parts : List (List ℕ)). fed (map handed parts))
-    (ap parts_of (append-nil line) ∙ slice_split_none is_feed line plain)
-    ∙ fed_first (handed line) []
-    ∙ ap (λ (rest : List ℕ). handed line ++ rest)
-    (sym (rw handed_none (fed_first [] [])))
-first_of line (byte ∷ rest) plain stops =
-    rw stops (
-    ap (λ (parts : List (List ℕ)). fed (map handed parts))
-    (slice_split_at is_feed line 10 rest plain refl)
-    ∙ fed_first (handed line) (map handed (parts_of rest))
-    ∙ ap (λ (rest : List ℕ). handed line ++ rest)
-    (sym (rw handed_none (fed_first [] (map handed (parts_of rest)))))
-    )
+first_of line [] plain stops = grind (arith, append-nil, slice_split_none, fed_first, handed_none)
+first_of line (byte ∷ rest) plain stops = grind (arith, slice_split_at, fed_first, handed_none)
 
 -- so is any other line up to its end, as csv is to be given it
 pub first_fed : (text : List ℕ) (end : ℕ) → end ≡ position_or_len is_feed text
@@ -216,9 +182,7 @@ plain_if : (t : Bool) (c : ℕ) (parts : List (List ℕ)) → eqb c 10 ≡ t →
     → ArePlain (cond t ([] ∷ parts) (onto_first c parts))
 plain_if true c parts e plain =
     All-cons (λ part. All (λ byte. byte ≢ 10) part) [] parts (λ k d h. absurd (omega arith)) plain
-plain_if false c [] e plain =
-    All-cons (λ part. All (λ byte. byte ≢ 10) part) (c ∷ []) []
-    (All-cons (λ byte. byte ≢ 10) c [] (eqb-false c 10 e) (λ k d h. absurd (omega arith))) plain
+plain_if false c [] e plain = grind arith
 plain_if false c (part ∷ parts) e plain =
     All-cons (λ part. All (λ byte. byte ≢ 10) part) (c ∷ part) parts
     (All-cons (λ byte. byte ≢ 10) c part (eqb-false c 10 e)
@@ -227,19 +191,13 @@ plain_if false c (part ∷ parts) e plain =
 
 -- no part of a text has a line feed
 parts_plain : (text : List ℕ) → ArePlain (parts_of text)
-parts_plain [] =
-    All-cons (λ part. All (λ byte. byte ≢ 10) part) [] [] (λ k d h. absurd (omega arith))
-    (λ k d h. absurd (omega arith))
+parts_plain [] = grind arith
 parts_plain (c ∷ text) = plain_if (eqb c 10) c (parts_of text) refl (parts_plain text)
 
 line_plain : (line : List ℕ) (t : Bool) → is_odd line ≡ t → All (λ byte. byte ≢ 10) line
     → All (λ byte. byte ≢ 10) (handed line)
 unfolding handed
-line_plain line true e plain =
-    rw e (
-    All-cons (λ byte. byte ≢ 10) 35 [] (λ same. absurd (omega arith))
-    (λ k d h. absurd (omega arith))
-    )
+line_plain line true e plain = grind arith
 line_plain line false e plain = rw e plain
 
 lines_plain : (parts : List (List ℕ)) → ArePlain parts → ArePlain (map handed parts)
@@ -261,9 +219,7 @@ same_if : (line : List ℕ) (parts : List (List ℕ)) (t : Bool) → eqb (length
     → filter has_byte (map handed parts) ≡ map handed (filter has_byte parts)
     → filter has_byte (handed line ∷ map handed parts) ≡ map handed (filter has_byte (line ∷ parts))
 same_if line parts true e more = rw (e, same_byte line (is_odd line) refl, e) more
-same_if line parts false e more =
-    rw (e, same_byte line (is_odd line) refl, e)
-    (ap (λ (lines : List (List ℕ)). handed line ∷ lines) more)
+same_if line parts false e more = grind (arith, same_byte)
 
 same_lines : (parts : List (List ℕ))
     → filter has_byte (map handed parts) ≡ map handed (filter has_byte parts)
@@ -273,12 +229,7 @@ same_lines (line ∷ parts) = same_if line parts (eqb (length line) 0) refl (sam
 -- the lines of a text that have a byte are what csv is given of them
 pub lines_handed : (text : List ℕ) → AreLines ([] ∷ map handed (parts_of text))
     (map handed (filter has_byte (parts_of text)))
-lines_handed text =
-    record {
-      plain = All-cons (λ part. All (λ byte. byte ≢ 10) part) [] (map handed (parts_of text))
-          (λ k d h. absurd (omega arith)) (lines_plain (parts_of text) (parts_plain text));
-      some = same_lines (parts_of text);
-    }
+lines_handed text = grind (arith, All-cons, lines_plain, parts_plain, same_lines)
 
 -- what stands before the sign of a comment has none
 pub bare_front : (text : List ℕ) (room place : ℕ) (end : Option ℕ)
@@ -286,14 +237,5 @@ pub bare_front : (text : List ℕ) (room place : ℕ) (end : Option ℕ)
     → IfSome end (λ end. end < length (take place (take room text)))
     → IfSome end (λ end. All (λ byte. byte ≢ 35) (take end text))
 bare_front text room place None is within = tt
-bare_front text room place (Some end) is within = λ k d h.
-    let here : k < end = omega (arith, length-take end text) in
-    let before : k < place = omega (arith, length-take place (take room text)) in
-    let near : k < room =
-    omega (arith, length-take place (take room text), length-take room text) in
-    eqb-false _ 35 (
-    rw (get_or-take end text k d here) (
-    rw (get_or-take room text k d near) at
-    (fails_before_first (λ byte. eqb byte 35) (take room text) k d (rw is at before))
-    )
-    )
+bare_front text room place (Some end) is within =
+    grind (arith, length-take, eqb-false, get_or-take, fails_before_first)

@@ -1,11 +1,11 @@
 -- Handing out what is ready piece by piece.
-use Rattle.std.proofs.Common.{◌≡◌, ℕ, ◌+◌, ◌≤◌, List, [], ◌++◌, length, take, drop, ap, sym}
-use Rattle.std.proofs.Common.{◌∙◌, append_assoc, arith, length-append, map, min, ◌-◌, Bor, Option, Some}
+use Rattle.std.proofs.Common.{◌≡◌, ℕ, ◌+◌, ◌≤◌, List, [], ◌++◌, length, take, drop, ap, sym, ◌∙◌}
+use Rattle.std.proofs.Common.{append_assoc, arith, length-append, map, min, ◌-◌, Bor, Option, Some}
 use Rattle.std.proofs.Common.{refl}
 use Rattle.std.specs.Option.{option_copied}
 use Rattle.std.proofs.lemmas.List.{length-take-le, take-append-le, take-append-drop, take_all, take_rest}
 use Rattle.std.proofs.Math.Seq.{take-append-add}
-use borrow.Rule.Slice.PartMut.{post_of, put_mid}
+use borrow.Rule.Slice.PartMut.{put_mid}
 use Rattle.giv_files.specs.Rows.{parts_left}
 use Rattle.giv_files.specs.Told.{handed}
 use Rattle.giv_files.specs.Handed.{fed}
@@ -26,29 +26,15 @@ module _ (buffer behind : List ℕ) (filled room count : ℕ) (within : filled �
     (few : count ≤ length behind) where
   filled_more : take (filled + count) (put_mid filled room buffer behind)
       ≡ take filled buffer ++ take count behind
-  filled_more =
-      ap (λ n. take (n + count) (put_mid filled room buffer behind))
-      (sym (length-take-le filled buffer within))
-      ∙ take-append-add (take filled buffer) (behind ++ post_of filled room buffer) count
-      ∙ ap (λ (rest : List ℕ). take filled buffer ++ rest) (take-append-le count behind _ few)
+  filled_more = grind (arith, length-take-le, take-append-add, take-append-le)
 
   pub given_more : (whole left next : List ℕ) → whole ≡ take filled buffer ++ left
       → left ≡ take count behind ++ next
       → whole ≡ take (filled + count) (put_mid filled room buffer behind) ++ next
-  given_more whole left next given more =
-      given ∙ ap (λ (rest : List ℕ). take filled buffer ++ rest) more
-      ∙ sym (append_assoc (take filled buffer) (take count behind) next)
-      ∙ ap (λ (front : List ℕ). front ++ next) (sym filled_more)
+  given_more whole left next given more = grind (arith, append_assoc, filled_more)
 
   pub within_more : filled + count ≤ length (put_mid filled room buffer behind)
-  within_more =
-      omega (
-        arith,
-        few,
-        length-append (take filled buffer) (behind ++ post_of filled room buffer),
-        length-append behind (post_of filled room buffer),
-        length-take-le filled buffer within,
-      )
+  within_more = grind (arith, length-append, length-take-le)
 
 -- what is copied comes before what is left of what was ready
 pub copied_front : (ready to behind after : List ℕ) (count : ℕ)

@@ -1,6 +1,7 @@
 -- The pieces of a line, one after the other.
 use Rattle.std.proofs.Common.{◌≡◌, ℕ, suc, ◌+◌, ◌-◌, ◌<◌, ◌≤◌, List, [], ◌∷◌, length, take, drop}
-use Rattle.std.proofs.Common.{get_or, refl, ap, sym, ◌∙◌, Bool, true, false, eqb, ltb, arith, filter}
+use Rattle.std.proofs.Common.{get_or, refl, ap, sym, ◌∙◌, Bool, true, false, eqb, ltb, arith}
+use Rattle.std.proofs.Common.{filter}
 use Rattle.std.specs.List.{position_or_len}
 use Rattle.std.proofs.lemmas.Bool.{ltb-true, ltb-false}
 use Rattle.std.proofs.lemmas.List.{take_rest, take_all}
@@ -21,9 +22,7 @@ pieces_counted line count e =
 module _ (line : List ℕ) (end : ℕ) (is : end ≡ position_or_len ends_piece line) where
   -- without a semicolon the line is one piece
   whole : length line ≤ end → pieces line ≡ line ∷ []
-  whole past =
-      slice_split_none ends_piece line
-      (λ k d lt. fails_before_first ends_piece line k d (omega (arith, is, past, lt)))
+  whole past = grind (arith, slice_split_none, fails_before_first)
 
   -- with one the first piece ends there
   cut : end < length line → pieces line ≡ take end line
@@ -34,24 +33,15 @@ module _ (line : List ℕ) (end : ℕ) (is : end ≡ position_or_len ends_piece 
     -- a piece that is not the first stands behind the first semicolon
     pub piece_behind : (next : ℕ) → left ≡ suc next → end < length line
         → get_or (pieces (take (length line - (end + 1)) (drop (end + 1) line))) next [] ≡ all
-    piece_behind next more within =
-        ap (λ (parts : List (List ℕ)). get_or parts (suc next) []) (sym (cut within))
-        ∙ ap (λ n. get_or (pieces line) n []) (sym more) ∙ same
+    piece_behind next more within = grind (arith, get_or, cut)
 
     -- or nowhere
     pub piece_nowhere : (next : ℕ) → left ≡ suc next → length line ≤ end → [] ≡ all
-    piece_nowhere next more past =
-        ap (λ (parts : List (List ℕ)). get_or parts (suc next) []) (sym (whole past))
-        ∙ ap (λ n. get_or (pieces line) n []) (sym more) ∙ same
+    piece_nowhere next more past = grind (arith, get_or, whole)
 
     first_if : (t : Bool) → ltb end (length line) ≡ t → left ≡ 0 → take end line ≡ all
-    first_if true e first =
-        ap (λ (parts : List (List ℕ)). get_or parts 0 []) (sym (cut (ltb-true _ _ e)))
-        ∙ ap (λ n. get_or (pieces line) n []) (sym first) ∙ same
-    first_if false e first =
-        take_all end line (ltb-false _ _ e)
-        ∙ ap (λ (parts : List (List ℕ)). get_or parts 0 []) (sym (whole (ltb-false _ _ e)))
-        ∙ ap (λ n. get_or (pieces line) n []) (sym first) ∙ same
+    first_if true e first = grind (arith, get_or, cut, ltb-true)
+    first_if false e first = grind (arith, take_all, ltb-false, get_or, whole)
 
     -- the first piece ends at the first semicolon
     pub piece_first : left ≡ 0 → take end line ≡ all

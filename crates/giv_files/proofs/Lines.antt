@@ -1,11 +1,12 @@
 -- Parts of a line that are counted and then cut off.
 use Rattle.std.proofs.Common.{◌≡◌, ◌≢◌, ℕ, ◌+◌, ◌-◌, ◌<◌, ◌≤◌, List, [], ◌∷◌, length, take, drop}
-use Rattle.std.proofs.Common.{ap, get_or, refl, sym, ◌∙◌, Bool, true, false, cond, eqb, ltb, reverse, All}
-use Rattle.std.proofs.Common.{Option, Some, None, arith, length-take, get_or-take, not, one-add}
+use Rattle.std.proofs.Common.{ap, get_or, refl, sym, ◌∙◌, Bool, true, false, cond, eqb, ltb}
+use Rattle.std.proofs.Common.{reverse, All, Option, Some, None, arith, length-take, get_or-take}
+use Rattle.std.proofs.Common.{not, one-add}
 use Rattle.std.proofs.Math.Logic.{⊎_elim}
 use Rattle.std.specs.List.{suffix_len, find, list_all, take_while, position, position_or_len, prefix_len}
 use Rattle.std.specs.Option.{MatchOption}
-use Rattle.std.proofs.lemmas.Bool.{cases_lt, eq-eqb, ltb-true, ltb-false, eqb-false, eqb-true, false≢true, ne_eqb}
+use Rattle.std.proofs.lemmas.Bool.{cases_lt, ltb-true, ltb-false, eqb-false, eqb-true, false≢true, ne_eqb}
 use Rattle.std.proofs.lemmas.List.Sums.{prefix_len_passes, prefix_len_stops, fails_before_first, position_or_len_is}
 use Rattle.std.proofs.lemmas.List.Splits.{slice_split_none, slice_split_first}
 use Rattle.std.proofs.lemmas.List.{get_or-drop, get_or-reverse, length-drop, take_all, take_rest}
@@ -42,21 +43,23 @@ place_of_feed text end e =
 pub one_part : (text : List ℕ) → None ≡ position is_feed text → (parts_of text ≡ text ∷ [])
     × All (λ byte. byte ≢ 10) text
 one_part text e =
-    let none : All (λ byte. is_feed byte ≡ false) text = λ k d h. fails_before_first is_feed text k
-    d (omega (arith, place_of_feed text None e)) in
-    (slice_split_none is_feed text none, λ k d h. eqb-false (get_or text k d) 10 (none k d h))
+    grind (arith, fails_before_first, place_of_feed, slice_split_none, eqb-false, get_or)
 
 -- with one the first part ends there
 first_at : (text : List ℕ) (end : ℕ) → end ≡ position_or_len is_feed text → end < length text
     → (parts_of text ≡ take end text ∷ parts_of
     (take (length text - (end + 1)) (drop (end + 1) text)))
     × All (λ byte. byte ≢ 10) (take end text)
-first_at text end is within = (
-  rw (take_rest text (end + 1), is) (slice_split_first is_feed text 0 (omega (arith, is, within))),
-  λ k d h. let before : k < end = omega (arith, length-take end text) in eqb-false _ 10
-      (rw (get_or-take end text k d before)
-      (fails_before_first is_feed text k d (omega (arith, is, within)))),
-)
+first_at text end is within =
+    grind (
+      arith,
+      take_rest,
+      slice_split_first,
+      length-take,
+      eqb-false,
+      get_or-take,
+      fails_before_first,
+    )
 
 pub first_of_parts : (text : List ℕ) (end : ℕ) → Some end ≡ position is_feed text
     → (parts_of text ≡ take end text ∷ parts_of
@@ -111,16 +114,11 @@ suffix_first text some all =
 -- a text that does not begin with a blank does not end with blanks alone
 suffix_less : (text : List ℕ) → 0 < length text → is_blank (get_or text 0 0) ≡ false
     → suffix_len is_blank text < length text
-suffix_less text some first = ⊎_elim (λ less. less)
-    (λ all. absurd (false≢true (sym first ∙ suffix_first text some all)))
-    (cases_lt (suffix_len is_blank text) (length text))
+suffix_less text some first = grind (arith, ⊎_elim, false≢true, suffix_first, cases_lt)
 
 empty_is : (field front : List ℕ) → front ≡ drop (prefix_len is_blank field) field
     → (t : Bool) → eqb (length front) 0 ≡ t → t ≡ eqb (length (without_blanks field)) 0
-empty_is field front is true e =
-    let none : length (drop (prefix_len is_blank field) field) ≡ 0 =
-    ap length (sym is) ∙ eqb-true (length front) 0 e in
-    sym (eq-eqb (length (without_blanks field)) 0 (omega (arith, none, length-take (length (drop (prefix_len is_blank field) field) - suffix_len is_blank (drop (prefix_len is_blank field) field)) (drop (prefix_len is_blank field) field))))
+empty_is field front is true e = grind arith
 empty_is field front is false e =
     let rest = drop (prefix_len is_blank field) field in
     let size : length rest ≡ length front = ap length (sym is) in

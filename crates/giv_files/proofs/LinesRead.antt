@@ -1,6 +1,8 @@
 -- Lines that are read one by one.
-use Rattle.std.proofs.Common.{◌≡◌, ℕ, ◌+◌, ◌-◌, ◌<◌, ◌≤◌, List, [], ◌∷◌, ◌++◌, length, take, drop, map}
-use Rattle.std.proofs.Common.{get_or, refl, ap, sym, ◌∙◌, arith, filter, Bool, true, false, length-drop, add-one, drop-cons, suc, drop_of_length-le, eqb, Bor, Option, Some, None}
+use Rattle.std.proofs.Common.{◌≡◌, ℕ, ◌+◌, ◌-◌, ◌<◌, ◌≤◌, List, [], ◌∷◌, ◌++◌, length, take, drop}
+use Rattle.std.proofs.Common.{map, get_or, refl, ap, sym, ◌∙◌, arith, filter, Bool, true, false}
+use Rattle.std.proofs.Common.{length-drop, add-one, drop-cons, suc, drop_of_length-le, Bor, Option}
+use Rattle.std.proofs.Common.{Some, None}
 use Rattle.std.proofs.lemmas.List.{length-append}
 use Rattle.std.proofs.Math.Seq.{get_or-append_seam, take-suc}
 use Rattle.std.proofs.lemmas.List.Splits.{length-slice_split}
@@ -73,13 +75,7 @@ filter_few test (x ∷ xs) = filter_if test x xs (test x) refl (filter_few test 
 
 -- a text has no more lines with a byte than bytes, and one
 pub lines_few : (text : List ℕ) → length (filter has_byte (parts_of text)) ≤ length text + 1
-lines_few text =
-    omega (
-      arith,
-      filter_few has_byte (parts_of text),
-      length-slice_split (λ byte. eqb byte 10) text,
-      count_by-le-length (λ byte. eqb byte 10) text,
-    )
+lines_few text = grind (arith, filter_few, length-slice_split, count_by-le-length)
 
 -- the next line after so many
 pub next_dropped : (lines old new : List (List ℕ)) (k : ℕ) (next : Option (Bor (List ℕ)))

@@ -1,7 +1,7 @@
 -- The pieces of a line without a comment are those of its row.
 use Rattle.std.proofs.Common.{◌≡◌, ◌≢◌, ℕ, ◌+◌, ◌-◌, ◌≤◌, List, [], ◌∷◌, length, take, map, cond}
-use Rattle.std.proofs.Common.{get_or, refl, ap, sym, ◌∙◌, Bool, true, false, eqb, All, arith, zero, suc}
-use Rattle.std.proofs.Common.{ne_eqb, not, slice_index}
+use Rattle.std.proofs.Common.{get_or, refl, ap, sym, ◌∙◌, Bool, true, false, eqb, All, arith, zero}
+use Rattle.std.proofs.Common.{suc, ne_eqb, not, slice_index}
 use Rattle.std.specs.List.{list_all, onto_first, position_or_len}
 use Rattle.std.specs.Str.Lines.{strip_carriage_return}
 use Rattle.std.proofs.lemmas.Bool.{eqb-false, eqb-true, false≢true}
@@ -67,11 +67,7 @@ pieces_stripped : (line : List ℕ)
 unfolding unreturned
 pieces_stripped [] = refl
 pieces_stripped (c ∷ []) = one_if (eqb c 59) (eqb c 13) c refl refl
-pieces_stripped (c ∷ b ∷ rest) =
-    ap pieces (strip_next c b rest)
-    ∙ ap (λ (parts : List (List ℕ)). cond (eqb c 59) ([] ∷ parts) (onto_first c parts))
-    (pieces_stripped (b ∷ rest))
-    ∙ more_if (eqb c 59) c b rest (pieces (b ∷ rest)) refl refl
+pieces_stripped (c ∷ b ∷ rest) = grind (arith, strip_next, more_if, pieces_stripped (b ∷ rest))
 
 -- ---- pieces without it, one by one
 
@@ -117,8 +113,7 @@ all_unreturned (piece ∷ []) zero last none = rw none refl
 all_unreturned (piece ∷ []) (suc i) last none = absurd (omega arith)
 all_unreturned (piece ∷ next ∷ more) zero last none = absurd (omega arith)
 all_unreturned (piece ∷ next ∷ more) (suc i) last none =
-    ap (λ (parts : List (List ℕ)). piece ∷ parts)
-    (all_unreturned (next ∷ more) i (omega arith) none)
+    grind (arith, all_unreturned (next ∷ more) i (omega arith) none)
 
 -- ---- a line that csv gives as two pieces or more
 
@@ -153,9 +148,7 @@ stripped_if line false e bare = rw e bare
 
 stripped_bare : (line : List ℕ) → before_comment line ≡ line
     → before_comment (strip_carriage_return line) ≡ strip_carriage_return line
-stripped_bare line is =
-    sym (not_commented (strip_carriage_return line)
-    (stripped_if line (returns line) refl (bare_line line is)))
+stripped_bare line is = grind (arith, not_commented, stripped_if, bare_line)
 
 -- without a carriage return its pieces are those of a row
 record IsPlain (line : List ℕ) (found : List (List ℕ)) : Type 0 where
@@ -166,19 +159,9 @@ record IsPlain (line : List ℕ) (found : List (List ℕ)) : Type 0 where
 plain_if : (line : List ℕ) (found : List (List ℕ)) (t : Bool) → is_odd line ≡ t
     → found ≡ pieces (handed line) → 2 ≤ length found → IsPlain line found
 unfolding handed
-plain_if line found true e is long =
-    let same : found ≡ pieces (35 ∷ []) = is ∙ rw e refl in
-    absurd (omega (arith, ap length same))
+plain_if line found true e is long = grind arith
 plain_if line found false e is long =
-    let same : found ≡ pieces line = is ∙ rw e refl in
-    let stripped = ap unreturned same ∙ sym (pieces_stripped line) in
-    record {
-      pieces = stripped;
-      bare = stripped_bare line (not_odd line e);
-      some = not_blank (strip_carriage_return line)
-          (omega (arith, long, length_unreturned found, ap length stripped))
-          (list_all is_blank (strip_carriage_return line)) refl;
-    }
+    grind (arith, pieces_stripped, stripped_bare, not_odd, not_blank, length_unreturned)
 
 -- such pieces make the next row
 pub plain_row : (number : ℕ) (line : List ℕ) (found left more : List (List ℕ))

@@ -1,7 +1,7 @@
 -- How csv splits lines, each before a line feed, with its settings for these tables.
 use Rattle.std.proofs.Common.{◌≡◌, ◌≢◌, ℕ, Bool, true, false, eqb, List, [], ◌∷◌, ◌++◌, refl, ap}
 use Rattle.std.proofs.Common.{◌∙◌, All, Option, Some, None, append_assoc, append-nil, ne_eqb, cond}
-use Rattle.std.proofs.Common.{inl, filter, length, arith}
+use Rattle.std.proofs.Common.{inl, filter, arith}
 use Rattle.std.specs.Bool.{MatchBool}
 use Rattle.std.specs.List.{onto_first, slice_split}
 use Rattle.std.proofs.lemmas.List.Elements.{All-head, All-tail}
@@ -161,9 +161,7 @@ gives_next : (parts lines : List (List ℕ)) → All (λ part. All (λ byte. byt
 gives_next [] lines plain e = gives_none lines e
 gives_next ([] ∷ parts) lines plain e =
     gives_over parts lines (gives_next parts lines (All-tail (λ part. All (λ byte. byte ≢ 10) part) [] parts plain) e)
-gives_next ((c ∷ rest) ∷ parts) lines plain e =
-    let some : eqb (length (c ∷ rest)) 0 ≡ false = ne_eqb (length (c ∷ rest)) 0 (omega arith) in
-    gives_first c rest parts lines plain (rw some at e)
+gives_next ((c ∷ rest) ∷ parts) lines plain e = grind (arith, ne_eqb, gives_first)
 
 -- what a read shows of lines of which these have a byte
 abbrev Shown : List (List ℕ) → Option (List ℕ) → Bool → List (List ℕ) → State → Type 0
@@ -177,9 +175,7 @@ shown : (parts lines : List (List ℕ)) → NextGives parts lines → (left : Li
     → NextIs (next_record table_config st.StartRecord [] [] (fed parts)) found fields after left
     → Shown lines (Some left) found fields after
 shown parts [] next left found fields after read = rw next at read
-shown parts (line ∷ more) next left found fields after read =
-    let all = rw next.2 at read in
-    (next.0, next.1, all.1, all.0, all.2, ap (λ (bytes : List ℕ). Some bytes) all.3)
+shown parts (line ∷ more) next left found fields after read = grind arith
 
 shown_after : (parts lines : List (List ℕ)) → AreLines parts lines → (pending : Option (List ℕ))
     (found : Bool) (fields : List (List ℕ)) (after : State)

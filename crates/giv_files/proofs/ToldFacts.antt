@@ -1,11 +1,11 @@
 -- The lines that have rows, one after the other.
-use Rattle.std.proofs.Common.{◌≡◌, ℕ, ◌+◌, List, [], ◌∷◌, ◌++◌, length, map, refl, ap, ap₂}
-use Rattle.std.proofs.Common.{sym, ◌∙◌, Bool, true, false, not, eqb, arith, filter}
+use Rattle.std.proofs.Common.{◌≡◌, ℕ, ◌+◌, List, [], ◌∷◌, ◌++◌, length, map, refl, sym, ◌∙◌, Bool}
+use Rattle.std.proofs.Common.{true, false, not, eqb, arith, filter}
 use Rattle.std.specs.List.{flat_map, enumerate_from, list_all}
 use Rattle.std.specs.Str.Lines.{strip_carriage_return}
 use Rattle.std.proofs.lemmas.Bool.{eqb-true, false≢true, not-true, not-false}
 use Rattle.std.proofs.lemmas.List.{map-append}
-use Rattle.giv_files.specs.Rows.{Row, is_blank, before_comment, row_of, has_byte, lines, parts_of}
+use Rattle.giv_files.specs.Rows.{is_blank, before_comment, row_of, has_byte, lines, parts_of}
 use Rattle.giv_files.specs.Rows.{rows}
 use Rattle.giv_files.specs.Told.{Told, told_of, told_left, row_told}
 
@@ -57,12 +57,7 @@ row_of_told number line false e = rw e refl
 rows_of_told : (lines : List (ℕ × List ℕ)) → flat_map (λ line. row_of line.0 line.1) lines
     ≡ map row_told (flat_map (λ line. told_of line.0 line.1) lines)
 rows_of_told [] = refl
-rows_of_told (line ∷ lines) =
-    ap₂ (λ (here there : List Row). here ++ there)
-    (row_of_told line.0 line.1 (list_all is_blank (before_comment line.1)) refl)
-    (rows_of_told lines)
-    ∙ sym (map-append row_told (told_of line.0 line.1)
-    (flat_map (λ line. told_of line.0 line.1) lines))
+rows_of_told (line ∷ lines) = grind (arith, row_of_told, map-append, rows_of_told lines)
 
 -- the rows of a text are those of its lines that have rows
 pub rows_told : (text : List ℕ) → rows text ≡ map row_told (told_left 0 (parts_of text))
@@ -81,19 +76,9 @@ told_some_if : (number : ℕ) (part : List ℕ) (parts : List (List ℕ)) (t u :
     → told_left number (filter has_byte (part ∷ parts)) ≡ told_left number (part ∷ parts)
 told_some_if number part parts true true e f more =
     rw f (more number ∙ sym (empty_told number part parts e))
-told_some_if number part parts true false e f more =
-    rw f (
-    empty_told number part (filter has_byte parts) e ∙ more number
-    ∙ sym (empty_told number part parts e)
-    )
+told_some_if number part parts true false e f more = grind (arith, empty_told)
 told_some_if number part parts false true e f more = absurd (false≢true (sym e ∙ no_byte part f))
-told_some_if number part parts false false e f more =
-    rw f (
-    numbered_told number part (filter has_byte parts) e
-    ∙ ap (λ (after : List Told). told_of (number + 1) (strip_carriage_return part) ++ after)
-    (more (number + 1))
-    ∙ sym (numbered_told number part parts e)
-    )
+told_some_if number part parts false false e f more = grind (arith, numbered_told)
 
 pub told_some : (parts : List (List ℕ)) (number : ℕ)
     → told_left number (filter has_byte parts) ≡ told_left number parts
