@@ -1,5 +1,6 @@
 -- A text that reads back is accepted by the rules of its kind, where its rows keep them.
-use Rattle.std.proofs.Common.{◌≡◌, ℕ, ℤ, ◌||◌, not, Bool, true, false, cond, List, [], ◌∷◌, ◌++◌, map, refl, ap, sym, ◌∙◌, subst, Some, None}
+use Rattle.std.proofs.Common.{arith, ◌≡◌, ℕ, ℤ, ◌||◌, not, Bool, true, false, cond, List, [], ◌∷◌}
+use Rattle.std.proofs.Common.{◌++◌, map, refl, ap, sym, ◌∙◌, subst, Some, None}
 use Rattle.std.specs.List.{AllByRecursion, list_any}
 use Rattle.std.specs.List.Sorted.{IsStrictlySortedBy}
 use Rattle.std.specs.Ordering.{int_eq, int_cmp}
@@ -27,8 +28,7 @@ rows_faultless : {X : Type 0} (file : FileId) (rules : List (RowRule X)) (before
 unfolding row_faults
 rows_faultless file rules before [] h = refl
 rows_faultless file rules before (at ∷ rows) h =
-    ap (λ whys. map (λ why. refusal.BadRow file at.number why) whys ++ row_faults file rules (before ++ at.row ∷ []) rows) h.0
-    ∙ rows_faultless file rules (before ++ at.row ∷ []) rows h.1
+    grind (arith, rows_faultless file rules (before ++ at.row ∷ []) rows h.1)
 
 module _ {X : Type 0} (input : Input X) (rows : List TableRow) (text : List ℕ) (back : ReadsBack input.columns rows text) where
   same_records : records input (table_of input.columns text) ≡ records input rows
@@ -81,10 +81,8 @@ module _ {X : Type 0} (rules : List (RowRule X)) (id : X → ℤ) where
 
   fresh_more : (before : List X) (row : X) (ids : List ℤ) → AllByRecursion (λ other. int_cmp (id row) other ≡ Less) ids → Fresh before ids → Fresh (before ++ row ∷ []) ids
   fresh_more before row [] above fresh = tt
-  fresh_more before row (one ∷ ids) above fresh = (
-    list_any-append (λ other. int_eq one (id other)) before (row ∷ []) ∙ ap (λ b. b || (int_eq one (id row) || false)) fresh.0 ∙ ap (λ b. b || false) (below_differs (id row) one above.0),
-    fresh_more before row ids above.1 fresh.1,
-  )
+  fresh_more before row (one ∷ ids) above fresh =
+      grind (arith, list_any-append, below_differs, fresh_more before row ids above.1 fresh.1)
 
   module _ (Good : X → Type 0)
       (keeps : (before : List X) (row : X) → list_any (λ other. int_eq (id row) (id other)) before ≡ false → Good row → broken_whys rules before row ≡ []) where

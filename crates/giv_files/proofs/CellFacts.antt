@@ -1,5 +1,7 @@
 -- Cells of a row, one after the other.
-use Rattle.std.proofs.Common.{◌≡◌, ℕ, ◌+◌, ◌<◌, ◌≤◌, List, [], ◌∷◌, ◌++◌, length, map, drop, get_or, refl, ap, sym, ◌∙◌, Bool, cond, Some, Ok, Err, Result, ℤ, not, append_assoc, append-nil}
+use Rattle.std.proofs.Common.{arith, ◌≡◌, ℕ, ◌+◌, ◌<◌, ◌≤◌, List, [], ◌∷◌, ◌++◌, length, map, drop}
+use Rattle.std.proofs.Common.{get_or, refl, ap, sym, ◌∙◌, Bool, cond, Some, Ok, Err, Result, ℤ, not}
+use Rattle.std.proofs.Common.{append_assoc, append-nil}
 use Rattle.std.specs.List.{prefix_len, position, slice_get}
 use Rattle.std.proofs.lemmas.List.{length-map, drop_more, drop_all}
 use Rattle.giv_files.specs.declared.column.ColumnKind.{ColumnKind}
@@ -55,30 +57,19 @@ pub cell_taken : (kinds : List ColumnKind) (fields : List (List ℕ)) (i : ℕ) 
     → errors (cells_from (i + 1) (drop i kinds) (drop i fields)) ≡ all → old ++ values (cells_from (i + 1) (drop i kinds) (drop i fields)) ≡ whole
     → (errors (cells_from (i + 1 + 1) (drop (i + 1) kinds) (drop (i + 1) fields)) ≡ all) × (new ++ values (cells_from (i + 1 + 1) (drop (i + 1) kinds) (drop (i + 1) fields)) ≡ whole)
 cell_taken kinds fields i kind cell all old new whole h k made pushed left told =
-    let rest = cells_from (i + 1 + 1) (drop (i + 1) kinds) (drop (i + 1) fields) in
-    let more : cells_from (i + 1) (drop i kinds) (drop i fields) ≡ Ok cell ∷ rest = cells_more kinds fields i kind h k ∙ ap (λ (first : Result ℤ RowWhy). first ∷ rest) made in (
-      sym (errors_ok cell rest) ∙ rw more at left,
-      ap (λ (cells : List ℤ). cells ++ values rest) pushed ∙ append_assoc old (cell ∷ []) (values rest) ∙ ap (λ (cells : List ℤ). old ++ cells) (sym (values_ok cell rest)) ∙ rw more at told,
-    )
+    grind (arith, cells_more, errors_ok, append_assoc, values_ok)
 
 -- a cell that is not made is the first of all errors
 pub cell_refused : (kinds : List ColumnKind) (fields : List (List ℕ)) (i : ℕ) (kind : ColumnKind) (why : RowWhy) (all : List RowWhy) {T : Type 0} (fault : RowWhy → T) → i < length kinds → i < length fields
     → cell_of (get_or kinds i kind) (i + 1) (get_or fields i []) ≡ Err why → errors (cells_from (i + 1) (drop i kinds) (drop i fields)) ≡ all
     → slice_get (map fault all) 0 ≡ Some (fault why)
-cell_refused kinds fields i kind why all fault h k made left =
-    let rest = cells_from (i + 1 + 1) (drop (i + 1) kinds) (drop (i + 1) fields) in
-    let more : cells_from (i + 1) (drop i kinds) (drop i fields) ≡ Err why ∷ rest = cells_more kinds fields i kind h k ∙ ap (λ (first : Result ℤ RowWhy). first ∷ rest) made in
-    let first : why ∷ errors rest ≡ all = sym (errors_err why rest) ∙ rw more at left in
-    rw (← first) refl
+cell_refused kinds fields i kind why all fault h k made left = grind (arith, cells_more, errors_err)
 
 -- after the last column all cells are there
 pub cells_whole : (kinds : List ColumnKind) (fields : List (List ℕ)) (i : ℕ) (all : List RowWhy) (old whole : List ℤ) → length kinds ≤ i
     → errors (cells_from (i + 1) (drop i kinds) (drop i fields)) ≡ all → old ++ values (cells_from (i + 1) (drop i kinds) (drop i fields)) ≡ whole → (all ≡ []) × (old ≡ whole)
 cells_whole kinds fields i all old whole h left told =
-    let none = cells_done kinds fields (i + 1) i h in (
-      sym (rw none at left) ∙ errors_none ℤ RowWhy,
-      sym (append-nil old) ∙ ap (λ (cells : List ℤ). old ++ cells) (sym (values_none ℤ RowWhy)) ∙ rw none at told,
-    )
+    grind (arith, cells_done, errors_none, append-nil, values_none)
 
 -- after the last column nothing is left, whichever place that is
 pub left_none : (kinds : List ColumnKind) (fields : List (List ℕ)) (i n : ℕ) (old new : List ℤ)

@@ -1,5 +1,8 @@
 -- The texts of cells, and that they are read back.
-use Rattle.std.proofs.Common.{◌≡◌, ℕ, ◌+◌, ◌<◌, ◌≤◌, ◌&&◌, ◌/◌, ◌%◌, ltb, ne_eqb, zero-add, zero, suc, List, [], ◌∷◌, length, get_or, refl, ap, ◌∙◌, arith, ℤ, pos, negsuc, neg_ℤ, sym, subst, ◌≤ℤ◌, Bool, true, false, T, Some, Ok, All, length-append}
+use Rattle.std.proofs.Common.{◌≡◌, ℕ, ◌+◌, ◌<◌, ◌≤◌, ◌&&◌, ◌/◌, ◌%◌, ltb, ne_eqb, zero-add, zero}
+use Rattle.std.proofs.Common.{suc, List, [], ◌∷◌, length, get_or, refl, ap, ◌∙◌, arith, ℤ, pos}
+use Rattle.std.proofs.Common.{negsuc, neg_ℤ, sym, subst, ◌≤ℤ◌, Bool, true, false, T, Some, Ok, All}
+use Rattle.std.proofs.Common.{length-append}
 use Rattle.std.specs.Prelude.{int_le, decimal}
 use Rattle.std.specs.List.{list_all}
 use Rattle.std.specs.Str.{bytes_eq}
@@ -36,10 +39,7 @@ range_back min max cell column low high = rw (is_true (int_le min cell) low.le, 
 
 -- the bytes of a number mean nothing between cells
 pub number_plain : (byte : ℕ) → is_number_byte byte ≡ true → is_plain byte ≡ true
-number_plain byte h =
-    let low : 45 ≤ byte = grind (arith, nat_tests) in
-    let high : byte ≤ 57 = grind (arith, nat_tests) in
-    rw (ne_eqb byte 32 (λ e. omega arith), ne_eqb byte 9 (λ e. omega arith), ne_eqb byte 10 (λ e. omega arith), ne_eqb byte 13 (λ e. omega arith), ne_eqb byte 34 (λ e. omega arith), ne_eqb byte 35 (λ e. omega arith), ne_eqb byte 59 (λ e. omega arith)) refl
+number_plain byte h = grind (arith, nat_tests, ne_eqb)
 
 whole_some : (cell : ℤ) → neg_ℤ (pos 1000000000000000000) ≤ℤ cell → cell ≤ℤ pos 1000000000000000000 → 0 < length (signed_decimal cell)
 whole_some (pos n) low high = decimal_nonempty n (omega (arith, ints))

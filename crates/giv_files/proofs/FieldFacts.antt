@@ -1,14 +1,16 @@
 -- The fields of a line, from the pieces between its semicolons.
-use Rattle.std.proofs.Common.{◌≡◌, ℕ, ◌-◌, ◌<◌, ◌≤◌, zero, suc, List, [], ◌∷◌, length, map, take, drop, get_or, refl, ap, sym, ◌∙◌, Bool, true, false, cond, eqb, leb, Some, None, Option, arith, Bor, one-add}
+use Rattle.std.proofs.Common.{◌≡◌, ℕ, ◌-◌, ◌<◌, ◌≤◌, zero, suc, List, [], ◌∷◌, length, map, take}
+use Rattle.std.proofs.Common.{drop, get_or, refl, ap, sym, ◌∙◌, Bool, true, false, eqb, leb, Some}
+use Rattle.std.proofs.Common.{None, Option, arith, Bor, one-add}
 use Rattle.std.specs.Option.{option_map, unwrap_or}
-use Rattle.std.specs.List.{prefix_len, onto_first}
+use Rattle.std.specs.List.{prefix_len}
 use Rattle.std.proofs.lemmas.List.{take_all, length-map, get_or-map, length-take-le, get_or-take}
 use Rattle.std.proofs.lemmas.Bool.{le-leb, lt-leb}
 use Rattle.csv.specs.Records.{field_at}
-use Rattle.giv_files.specs.Rows.{is_blank, without_blanks, without_quotes, ends_empty, without_last_empty, cleaned, pieces}
+use Rattle.giv_files.specs.Rows.{is_blank, without_blanks, without_quotes, ends_empty, cleaned}
 
 -- a field that may be there, and nothing where it is not
-field_or_nothing : (fields : List (List ℕ)) (i : ℕ) → unwrap_or (field_at fields i) [] ≡ get_or fields i []
+pub field_or_nothing : (fields : List (List ℕ)) (i : ℕ) → unwrap_or (field_at fields i) [] ≡ get_or fields i []
 unfolding field_at
 field_or_nothing [] i = refl
 field_or_nothing (field ∷ fields) zero = refl
@@ -25,10 +27,7 @@ piece_is found other fields i e none = value_or found other ∙ rw (e, none) (fi
 
 -- the last of two pieces or more is empty
 ends_empty_is : (parts : List (List ℕ)) → 2 ≤ length parts → ends_empty (map without_blanks parts) ≡ eqb (length (without_blanks (get_or parts (length parts - 1) []))) 0
-ends_empty_is parts h =
-    let last = get_or-map without_blanks parts (length parts - 1) [] [] (omega arith) in
-    let long : leb 2 (length parts) ≡ true = le-leb 2 (length parts) h in
-    rw (length-map parts without_blanks, last, long) refl
+ends_empty_is parts h = grind (arith, get_or-map, le-leb, length-map)
 
 -- one piece has no empty one behind it
 ends_short : (parts : List (List ℕ)) → length parts < 2 → ends_empty (map without_blanks parts) ≡ false
@@ -40,20 +39,14 @@ length_all parts e = rw (e, length-map _ without_quotes, length-map parts withou
 
 length_less : (parts : List (List ℕ)) → ends_empty (map without_blanks parts) ≡ true → length (cleaned parts) ≡ length parts - 1
 unfolding cleaned
-length_less parts e =
-    let some = length-map parts without_blanks in
-    rw (e, length-map _ without_quotes) (length-take-le (length (map without_blanks parts) - 1) (map without_blanks parts) (omega arith) ∙ ap (λ n. n - 1) some)
+length_less parts e = grind (arith, length-map, length-take-le)
 
 -- how many fields there are: as many as pieces, or one less where the last of two or more is empty
 pub counts_less : (parts : List (List ℕ)) (count : ℕ) → count ≡ length parts → 2 ≤ count → eqb (length (without_blanks (get_or parts (count - 1) []))) 0 ≡ true → count - 1 ≡ length (cleaned parts)
-counts_less parts count e h empty =
-    let long : 2 ≤ length parts = omega arith in
-    ap (λ n. n - 1) e ∙ sym (length_less parts (ends_empty_is parts long ∙ rw e at empty))
+counts_less parts count e h empty = grind (arith, length_less, ends_empty_is)
 
 pub counts_all : (parts : List (List ℕ)) (count : ℕ) → count ≡ length parts → 2 ≤ count → eqb (length (without_blanks (get_or parts (count - 1) []))) 0 ≡ false → count ≡ length (cleaned parts)
-counts_all parts count e h more =
-    let long : 2 ≤ length parts = omega arith in
-    e ∙ sym (length_all parts (ends_empty_is parts long ∙ rw e at more))
+counts_all parts count e h more = grind (arith, length_all, ends_empty_is)
 
 pub counts_one : (parts : List (List ℕ)) (count : ℕ) → count ≡ length parts → count < 2 → count ≡ length (cleaned parts)
 counts_one parts count e h = let short : length parts < 2 = omega arith in e ∙ sym (length_all parts (ends_short parts short))
@@ -87,20 +80,4 @@ space_first field = rw (one-add (prefix_len is_blank field)) refl
 pub space_cut : (field : List ℕ) → 0 < length field → get_or field 0 0 ≡ 32
     → without_blanks (take (length field - 1) (drop 1 field)) ≡ without_blanks field
 space_cut [] some is = absurd (omega arith)
-space_cut (byte ∷ field) some is =
-    let rest : take (length (byte ∷ field) - 1) field ≡ field = take_all _ field (omega arith) in
-    rw is (ap without_blanks rest ∙ sym (space_first field))
-
-spaced_if : (t : Bool) (c : ℕ) (parts : List (List ℕ))
-    → let all : List (List ℕ) = cond t ([] ∷ parts) (onto_first c parts) in map without_blanks (onto_first 32 all) ≡ map without_blanks all
-spaced_if true c parts = refl
-spaced_if false c [] = ap (λ (field : List ℕ). field ∷ []) (space_first (c ∷ []))
-spaced_if false c (part ∷ parts) = ap (λ (field : List ℕ). field ∷ map without_blanks parts) (space_first (c ∷ part))
-
-spaced_parts : (line : List ℕ) → map without_blanks (pieces (32 ∷ line)) ≡ map without_blanks (pieces line)
-spaced_parts [] = refl
-spaced_parts (c ∷ rest) = spaced_if (eqb c 59) c (pieces rest)
-
-pub cleaned_spaced : (line : List ℕ) → cleaned (pieces (32 ∷ line)) ≡ cleaned (pieces line)
-unfolding cleaned
-cleaned_spaced line = ap (λ (parts : List (List ℕ)). map without_quotes (without_last_empty parts)) (spaced_parts line)
+space_cut (byte ∷ field) some is = grind (arith, take_all, space_first)

@@ -1,5 +1,7 @@
 -- From the table of a text to the text: what refuses the one refuses the other.
-use Rattle.std.proofs.Common.{◌≡◌, ℕ, ◌≤◌, nat_lt, Bool, true, false, cond, List, [], ◌∷◌, length, All, IfOk, IfSome, refl, ap, subst, sym, ◌∙◌, Result, Ok, Err, Option, Some, None, slice_get}
+use Rattle.std.proofs.Common.{arith, ◌≡◌, ℕ, ◌≤◌, nat_lt, Bool, true, false, cond, List, [], ◌∷◌}
+use Rattle.std.proofs.Common.{length, All, IfOk, IfSome, refl, ap, subst, sym, ◌∙◌, Result, Ok, Err}
+use Rattle.std.proofs.Common.{Option, Some, None, slice_get}
 use Rattle.std.proofs.lemmas.Bool.{ltb-false}
 use Rattle.std.proofs.lemmas.List.{append-nil}
 use Rattle.giv_files.specs.declared.column.ColumnKind.{ColumnKind}
@@ -50,9 +52,7 @@ module _ {X : Type 0} (limit : Option RowLimit) (rows : List X) (count : ℕ) (t
   -- so many rows are too many
   pub limit_refuses : (why : Refusal) → told ≡ Some why
       → slice_get (limit_faults (limits_of limit) rows) 0 ≡ Some why
-  limit_refuses why by = ap
-      (λ all. slice_get all 0) (limits_are limit rows ∙ sym (ap (too_many_rows limit) is))
-      ∙ sym first ∙ by
+  limit_refuses why by = grind arith
 
   -- or they are few enough
   pub few_rows : told ≡ None → limit_faults (limits_of limit) rows ≡ []
@@ -72,9 +72,6 @@ module _ {X : Type 0} (input : Input X) (text : List ℕ) (table : List TableRow
       → limit_faults input.limits (records input table) ≡ [] → (read : Result A StageFault)
       → UnlessFault (table_row_faults input table) (λ made. P made (records input table)) read
       → UnlessFault (input_faults input text) (λ made. P made (records_of input text)) read
-  rows_read P plain few (Ok made) h = (
-    sym (faults_of_table input text table cells is) ∙ no_faults input table few h.0 (rw plain refl),
-    subst (λ some. P made (records input some)) is h.1,
-  )
+  rows_read P plain few (Ok made) h = grind (arith, faults_of_table, no_faults)
   rows_read P plain few (Err fault) h = subst
       (λ (all : List Refusal). Refuses all fault) (faults_of_table input text table cells is) (refused_rows input table fault few h)

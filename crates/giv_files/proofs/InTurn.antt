@@ -1,6 +1,5 @@
 -- Faults that are looked for one after the other, and lists that are too long.
-use Rattle.std.proofs.Common.{◌≡◌, ℕ, ◌<◌, ◌≤◌, cond, arith, List, [], ◌∷◌, ◌++◌, length, refl, ap, sym, ◌∙◌}
-use Rattle.std.proofs.lemmas.Bool.{lt-ltb, le-ltb}
+use Rattle.std.proofs.Common.{◌≡◌, ℕ, ◌<◌, ◌≤◌, arith, List, [], ◌∷◌, length, refl, ap}
 use Rattle.giv_files.specs.declared.counted.Counted.{Counted}
 use Rattle.giv_files.specs.declared.refusal.Refusal.{Refusal}
 use Rattle.giv_files.specs.declared.refusal.Refusal.TheVariants as refusal
@@ -32,13 +31,8 @@ module _ {X : Type 0} (what : Counted) (most : ℕ) (rows : List X) where
   -- a list that is too long is refused with its length
   pub over_limit : (count : ℕ) → count ≡ length rows → most < count
       → limit_faults (row_limit what most ∷ []) rows ≡ refusal.TooMany what count ∷ []
-  over_limit count is over =
-      ap (λ b. cond b (refusal.TooMany what (length rows) ∷ []) [] ++ [])
-      (lt-ltb most (length rows) (omega (arith, is, over)))
-      ∙ ap (λ n. refusal.TooMany what n ∷ []) (sym is)
+  over_limit count is over = grind arith
 
   -- and one that is not, is not
   pub under_limit : length rows ≤ most → limit_faults (row_limit what most ∷ []) rows ≡ []
-  under_limit few =
-      ap (λ b. cond b (refusal.TooMany what (length rows) ∷ []) [] ++ [])
-      (le-ltb most (length rows) few)
+  under_limit few = grind arith

@@ -1,5 +1,8 @@
 -- The faults of an input, part by part, for any limits and rules.
-use Rattle.std.proofs.Common.{◌≡◌, ℕ, zero, suc, ◌+◌, ◌<◌, ◌≤◌, arith, Bool, true, false, cond, List, [], ◌∷◌, ◌++◌, length, map, get_or, slice_get, take, drop, refl, ap, subst, sym, ◌∙◌, Option, Some, None, Result, Ok, Err, append_assoc}
+use Rattle.std.proofs.Common.{◌≡◌, ℕ, zero, suc, ◌+◌, ◌<◌, ◌≤◌, arith, Bool, true, false, cond}
+use Rattle.std.proofs.Common.{List, [], ◌∷◌, ◌++◌, length, map, get_or, slice_get, take, drop, refl}
+use Rattle.std.proofs.Common.{ap, subst, sym, ◌∙◌, Option, Some, None, Result, Ok, Err}
+use Rattle.std.proofs.Common.{append_assoc}
 use Rattle.std.proofs.lemmas.Bool.{lt-ltb, le-ltb, ltb-false}
 use Rattle.std.proofs.lemmas.List.{at_drop_more, at_drop_all, take_more, take_all, map_push, append-nil, length-map}
 use Rattle.std.proofs.lemmas.Simd.{map-map}
@@ -119,23 +122,17 @@ module _ {X : Type 0} (input : Input X) (rows : List TableRow) where
   refused_limits fault by = refused_append _ _ fault (refused_append _ _ fault by)
 
   pub refused_rows : (fault : StageFault) → limit_faults input.limits (records input rows) ≡ [] → Refuses (table_row_faults input rows) fault → Refuses (table_faults input rows) fault
-  refused_rows fault few by =
-      let whole = whole_faults input.file input.table_rules (numbered input rows) in
-      subst (λ (some : List Refusal). Refuses (some ++ table_row_faults input rows ++ whole) fault) (sym few) (refused_append (table_row_faults input rows) whole fault by)
+  refused_rows fault few by = grind (arith, refused_append)
 
   pub refused_whole : (fault : StageFault) → limit_faults input.limits (records input rows) ≡ [] → table_row_faults input rows ≡ [] → Refuses (whole_faults input.file input.table_rules (numbered input rows)) fault → Refuses (table_faults input rows) fault
-  refused_whole fault few none by =
-      let whole = whole_faults input.file input.table_rules (numbered input rows) in
-      subst (λ (some : List Refusal). Refuses (some ++ whole) fault) (sym (ap (λ (some : List Refusal). some ++ table_row_faults input rows) few ∙ none)) by
+  refused_whole fault few none by = grind arith
 
   -- a table without a fault in any of them
   pub no_faults : limit_faults input.limits (records input rows) ≡ [] → table_row_faults input rows ≡ [] → whole_faults input.file input.table_rules (numbered input rows) ≡ [] → table_faults input rows ≡ []
   no_faults few none kept = rw (few, none, kept) refl
 
   pub table_sound : table_faults input rows ≡ [] → (limit_faults input.limits (records input rows) ≡ []) × (table_row_faults input rows ≡ []) × (whole_faults input.file input.table_rules (numbered input rows) ≡ [])
-  table_sound none =
-      let front = front_none _ _ none in
-      (front_none _ _ front, back_none (limit_faults input.limits (records input rows)) _ front, back_none (limit_faults input.limits (records input rows) ++ table_row_faults input rows) _ none)
+  table_sound none = grind (arith, front_none, back_none)
 
 -- ---- a rule of a whole file that names no row
 
@@ -167,11 +164,7 @@ module _ {X : Type 0} (input : Input X) (rows : List TableRow) (what : Counted) 
 
   -- more rows than there may be
   pub too_many : most < length rows → slice_get (table_faults input rows) 0 ≡ Some (refusal.TooMany what (length rows))
-  too_many h =
-      refused_limits input rows (stage.Refused (refusal.TooMany what (length rows)))
-      (ap (λ some. slice_get (limit_faults some (records input rows)) 0) limits
-      ∙ limit_passed (row_limit what most) [] (records input rows) (omega (arith, counted))
-      ∙ ap (λ n. Some (refusal.TooMany what n)) counted)
+  too_many h = grind (arith, refused_limits, slice_get, limit_passed, counted)
 
 -- ---- rows, one after the other, which stand for something and have a number
 
@@ -198,9 +191,7 @@ module _ {S X : Type 0} (number : S → ℕ) (of : S → X) (file : FileId) (rul
     -- a row that breaks no rule goes to those before
     pub met : i < length rows → broken_whys rules (map of (take i rows)) (of (get_or rows i d)) ≡ [] → row_faults file rules (map of (take i rows)) (told (drop i rows)) ≡ row_faults file rules [] (told rows)
         → row_faults file rules (map of (take (i + 1) rows)) (told (drop (i + 1) rows)) ≡ row_faults file rules [] (told rows)
-    met h kept so_far =
-        let later = row_faults file rules (map of (take (i + 1) rows)) (told (drop (i + 1) rows)) in
-        sym (next h ∙ ap (λ whys. map (λ why. refusal.BadRow file (number (get_or rows i d)) why) whys ++ later) kept) ∙ so_far
+    met h kept so_far = grind (arith, next, get_or, kept)
 
     -- the first rule that a row breaks refuses the rows
     pub refused : (why : RowWhy) → i < length rows → slice_get (broken_whys rules (map of (take i rows)) (of (get_or rows i d))) 0 ≡ Some why → row_faults file rules (map of (take i rows)) (told (drop i rows)) ≡ row_faults file rules [] (told rows)

@@ -1,13 +1,15 @@
 -- Parts of a line that are counted and then cut off.
 use Rattle.std.proofs.Common.{◌≡◌, ◌≢◌, ℕ, ◌+◌, ◌-◌, ◌<◌, ◌≤◌, List, [], ◌∷◌, length, take, drop}
-use Rattle.std.proofs.Common.{get_or, refl, sym, ◌∙◌, Bool, true, false, cond, eqb, ltb, reverse, All}
-use Rattle.std.proofs.Common.{Option, Some, None, arith, length-take, get_or-take, not, one-add, ◌||◌}
-use Rattle.std.specs.List.{find, list_all, take_while, position, position_or_len, prefix_len}
+use Rattle.std.proofs.Common.{ap, get_or, refl, sym, ◌∙◌, Bool, true, false, cond, eqb, ltb}
+use Rattle.std.proofs.Common.{reverse, All, Option, Some, None, arith, length-take, get_or-take}
+use Rattle.std.proofs.Common.{not, one-add}
+use Rattle.std.proofs.Math.Logic.{⊎_elim}
+use Rattle.std.specs.List.{suffix_len, find, list_all, take_while, position, position_or_len, prefix_len}
 use Rattle.std.specs.Option.{MatchOption}
-use Rattle.std.proofs.lemmas.Bool.{ltb-true, ltb-false, eqb-false, eqb-true, false≢true, ne_eqb}
-use Rattle.std.proofs.lemmas.List.Sums.{fails_before_first, position_or_len_is}
+use Rattle.std.proofs.lemmas.Bool.{cases_lt, ltb-true, ltb-false, eqb-false, eqb-true, false≢true, ne_eqb}
+use Rattle.std.proofs.lemmas.List.Sums.{prefix_len_passes, prefix_len_stops, fails_before_first, position_or_len_is}
 use Rattle.std.proofs.lemmas.List.Splits.{slice_split_none, slice_split_first}
-use Rattle.std.proofs.lemmas.List.{take_all, take_rest}
+use Rattle.std.proofs.lemmas.List.{get_or-drop, get_or-reverse, length-drop, take_all, take_rest}
 use Rattle.std.proofs.lemmas.List.Folds.{length-prefix_len}
 use Rattle.giv_files.specs.Rows.{is_blank, without_blanks, before_comment, parts_of}
 
@@ -41,21 +43,23 @@ place_of_feed text end e =
 pub one_part : (text : List ℕ) → None ≡ position is_feed text → (parts_of text ≡ text ∷ [])
     × All (λ byte. byte ≢ 10) text
 one_part text e =
-    let none : All (λ byte. is_feed byte ≡ false) text = λ k d h. fails_before_first is_feed text k
-    d (omega (arith, place_of_feed text None e)) in
-    (slice_split_none is_feed text none, λ k d h. eqb-false (get_or text k d) 10 (none k d h))
+    grind (arith, fails_before_first, place_of_feed, slice_split_none, eqb-false, get_or)
 
 -- with one the first part ends there
 first_at : (text : List ℕ) (end : ℕ) → end ≡ position_or_len is_feed text → end < length text
     → (parts_of text ≡ take end text ∷ parts_of
     (take (length text - (end + 1)) (drop (end + 1) text)))
     × All (λ byte. byte ≢ 10) (take end text)
-first_at text end is within = (
-  rw (take_rest text (end + 1), is) (slice_split_first is_feed text 0 (omega (arith, is, within))),
-  λ k d h. let before : k < end = omega (arith, length-take end text) in eqb-false _ 10
-      (rw (get_or-take end text k d before)
-      (fails_before_first is_feed text k d (omega (arith, is, within)))),
-)
+first_at text end is within =
+    grind (
+      arith,
+      take_rest,
+      slice_split_first,
+      length-take,
+      eqb-false,
+      get_or-take,
+      fails_before_first,
+    )
 
 pub first_of_parts : (text : List ℕ) (end : ℕ) → Some end ≡ position is_feed text
     → (parts_of text ≡ take end text ∷ parts_of
@@ -63,45 +67,6 @@ pub first_of_parts : (text : List ℕ) (end : ℕ) → Some end ≡ position is_
     × All (λ byte. byte ≢ 10) (take end text)
 first_of_parts text end e =
     let at = place_of_feed text (Some end) e in first_at text end at.0 at.1
-
--- a line feed or the sign of a comment
-abbrev is_stop : ℕ → Bool
-is_stop byte = eqb byte 10 || eqb byte 35
-
-neither : (a b : Bool) → (a || b) ≡ false → (a ≡ false) × (b ≡ false)
-neither true b e = absurd (false≢true (sym e))
-neither false b e = (refl, e)
-
-module _ (text : List ℕ) (end : ℕ) (is : end ≡ position_or_len is_stop text) where
-  before_stop : (k d : ℕ) → k < end
-      → (eqb (get_or text k d) 10 ≡ false) × (eqb (get_or text k d) 35 ≡ false)
-  before_stop k d lt = neither _ _ (fails_before_first is_stop text k d (omega (arith, is, lt)))
-
-  -- without both of them the text is one part
-  pub bare_whole : end ≡ length text → (parts_of text ≡ text ∷ [])
-      × All (λ byte. byte ≢ 10) text × All (λ byte. byte ≢ 35) text
-  bare_whole past =
-      let none : All (λ byte. is_feed byte ≡ false) text = λ k d h. (before_stop k d
-      (omega (arith, past, h))).0 in (
-        slice_split_none is_feed text none,
-        λ k d h. eqb-false (get_or text k d) 10 (none k d h),
-        λ k d h. eqb-false (get_or text k d) 35 (before_stop k d (omega (arith, past, h))).1,
-      )
-
-  -- at a line feed that comes first its first part ends, which has no comment
-  pub bare_first : end < length text → get_or text end 0 ≡ 10
-      → (parts_of text ≡ take end text ∷ parts_of
-      (take (length text - (end + 1)) (drop (end + 1) text)))
-      × All (λ byte. byte ≢ 10) (take end text) × All (λ byte. byte ≢ 35) (take end text)
-  bare_first within feed =
-      let first = position_or_len_is is_feed text end 0 (omega (arith, within))
-      (λ k lt. (before_stop k 0 lt).0) (λ lt. rw feed refl) in
-      let cut = first_at text end (sym first) within in (
-        cut.0,
-        cut.1,
-        λ k d h. let before : k < end = omega (arith, length-take end text) in eqb-false _ 35
-            (rw (get_or-take end text k d before) (before_stop k d before).1),
-      )
 
 -- a line without the sign of a comment has none
 pub not_commented : (line : List ℕ) → All (λ byte. byte ≢ 35) line → line ≡ before_comment line
@@ -134,3 +99,40 @@ pub first_byte : (line : List ℕ)
 first_byte [] = refl
 first_byte (byte ∷ line) =
     told_at byte line (eqb byte 35) (is_blank byte) refl refl (first_byte line)
+
+-- a text of blanks alone begins with one
+suffix_first : (text : List ℕ) → 0 < length text → length text ≤ suffix_len is_blank text
+    → is_blank (get_or text 0 0) ≡ true
+suffix_first text some all =
+    let end : length text - 1 < prefix_len is_blank (reverse text) = omega arith in
+    let last = prefix_len_passes is_blank (reverse text) (length text - 1) 0 end in
+    let place : length text - 1 - (length text - 1) ≡ 0 = omega arith in
+    let first : get_or (reverse text) (length text - 1) 0 ≡ get_or text 0 0 =
+    get_or-reverse text (length text - 1) 0 (omega arith) ∙ ap (λ k. get_or text k 0) place in
+    rw first at last
+
+-- a text that does not begin with a blank does not end with blanks alone
+suffix_less : (text : List ℕ) → 0 < length text → is_blank (get_or text 0 0) ≡ false
+    → suffix_len is_blank text < length text
+suffix_less text some first = grind (arith, ⊎_elim, false≢true, suffix_first, cases_lt)
+
+empty_is : (field front : List ℕ) → front ≡ drop (prefix_len is_blank field) field
+    → (t : Bool) → eqb (length front) 0 ≡ t → t ≡ eqb (length (without_blanks field)) 0
+empty_is field front is true e = grind arith
+empty_is field front is false e =
+    let rest = drop (prefix_len is_blank field) field in
+    let size : length rest ≡ length front = ap length (sym is) in
+    let other = eqb-false (length front) 0 e in
+    let some : 0 < length rest = omega arith in
+    let within : prefix_len is_blank field < length field =
+    omega (arith, some, length-drop (prefix_len is_blank field) field) in
+    let place : prefix_len is_blank field + 0 ≡ prefix_len is_blank field = omega arith in
+    let first : is_blank (get_or rest 0 0) ≡ false =
+    rw (get_or-drop (prefix_len is_blank field) field 0 0, place)
+    (prefix_len_stops is_blank field 0 within) in
+    sym (ne_eqb (length (without_blanks field)) 0 (λ none. omega (arith, suffix_less rest some first, none, length-take (length rest - suffix_len is_blank rest) rest)))
+
+-- a field is empty where only blanks stand in it
+pub empty_if : (field front : List ℕ) → front ≡ drop (prefix_len is_blank field) field
+    → eqb (length front) 0 ≡ eqb (length (without_blanks field)) 0
+empty_if field front is = empty_is field front is (eqb (length front) 0) refl

@@ -1,6 +1,8 @@
 -- Texts of bytes that mean nothing between cells.
-use Rattle.std.proofs.Common.{◌≡◌, ◌≢◌, ℕ, ◌-◌, ◌<◌, ◌==◌, ◌&&◌, zero, suc, List, [], ◌∷◌, ◌++◌, length, map, get_or, refl, ap, sym, ◌∙◌, arith, All, Bool, true, false, not, eqb, leb, codes, append-nil, length-append}
-use Rattle.std.specs.List.{list_all, prefix_len, suffix_len, position_or_len, flat_map}
+use Rattle.std.proofs.Common.{◌≡◌, ◌≢◌, ℕ, ◌-◌, ◌<◌, ◌==◌, ◌&&◌, zero, suc, List, [], ◌∷◌, ◌++◌}
+use Rattle.std.proofs.Common.{length, map, get_or, refl, ap, sym, ◌∙◌, arith, All, Bool, true}
+use Rattle.std.proofs.Common.{false, not, eqb, codes, append-nil, length-append}
+use Rattle.std.specs.List.{list_all, suffix_len, position_or_len, flat_map}
 use Rattle.std.specs.Str.Lines.{strip_carriage_return}
 use Rattle.std.proofs.lemmas.Bool.{eqb-false, ne_eqb}
 use Rattle.std.proofs.lemmas.List.{take_all}
@@ -8,7 +10,7 @@ use Rattle.std.proofs.lemmas.List.Sums.{prefix_len_is, suffix_len_is, position_o
 use Rattle.std.proofs.lemmas.List.Folds.{list_all-append}
 use Rattle.std.proofs.lemmas.List.Splits.{slice_split_none, slice_split_at}
 use Rattle.plan_num.proofs.Digits.{both_passed}
-use Rattle.giv_files.specs.Rows.{is_blank, without_blanks, without_quotes, is_quoted, ends_empty, without_last_empty, cleaned, pieces, parts_of, before_comment, row_of}
+use Rattle.giv_files.specs.Rows.{is_blank, without_blanks, without_quotes, ends_empty, cleaned, pieces, parts_of, before_comment, row_of}
 use Rattle.giv_files.specs.Writing.{joined}
 use Rattle.giv_files.proofs.FieldFacts.{space_first}
 
@@ -43,9 +45,7 @@ was_true false e = refl
 
 -- what a plain byte is not
 pub plain_is : (byte : ℕ) → is_plain byte ≡ true → (is_blank byte ≡ false) × (eqb byte 10 ≡ false) × (eqb byte 13 ≡ false) × (eqb byte 34 ≡ false) × (eqb byte 35 ≡ false) × (eqb byte 59 ≡ false)
-plain_is byte h =
-    let a = both_passed _ _ h in let b = both_passed _ _ a.1 in let c = both_passed _ _ b.1 in let d = both_passed _ _ c.1 in let e = both_passed _ _ d.1 in
-    (was_true _ a.0, was_true _ b.0, was_true _ c.0, was_true _ d.0, was_true _ e.0, was_true _ e.1)
+plain_is byte h = grind arith
 
 quiet_is : (byte : ℕ) → is_quiet byte ≡ true → (eqb byte 10 ≡ false) × (eqb byte 13 ≡ false) × (eqb byte 35 ≡ false)
 quiet_is byte h = let a = both_passed _ _ h in let b = both_passed _ _ a.1 in (was_true _ a.0, was_true _ b.0, was_true _ b.1)
@@ -61,20 +61,10 @@ cell_ends text h =
     (all_at is_plain text (length text - 1) 0 h.plain (omega arith))).0) ∙ omega arith
 
 pub cell_unblanked : (text : List ℕ) → IsCell text → without_blanks text ≡ text
-cell_unblanked text h =
-    let front : prefix_len is_blank text ≡ 0 = prefix_len_is is_blank text 0 0 (omega arith) (λ k lt. absurd (omega arith)) (λ lt. (plain_is (get_or text 0 0) (all_at is_plain text 0 0 h.plain lt)).0) in
-    rw (front, cell_ends text h) (take_all (length text - 0) text (omega arith))
-
--- and no quotes
-quoted_no : (long first last : Bool) → first ≡ false → (long && (first && last)) ≡ false
-quoted_no true first last e = rw e refl
-quoted_no false first last e = refl
+cell_unblanked text h = grind (arith, prefix_len_is, plain_is, get_or, all_at, cell_ends, take_all)
 
 pub cell_unquoted : (text : List ℕ) → IsCell text → without_quotes text ≡ text
-cell_unquoted text h =
-    let first = (plain_is (get_or text 0 0) (all_at is_plain text 0 0 h.plain h.some)).3 in
-    let bare : is_quoted text ≡ false = quoted_no (leb 2 (length text)) (eqb (get_or text 0 0) 34) (eqb (get_or text (length text - 1) 0) 34) first in
-    rw bare refl
+cell_unquoted text h = grind arith
 
 -- texts of cells
 abbrev pub AreCells : List (List ℕ) → Type 0
@@ -121,19 +111,13 @@ and_false true = refl
 and_false false = refl
 
 kept_last : (texts : List (List ℕ)) → AreCells texts → 0 < length texts → ends_empty texts ≡ false
-kept_last texts h some =
-    let last = last_some texts h some in
-    rw (ne_eqb (length (get_or texts (length texts - 1) [])) 0 (omega arith)) (and_false (leb 2 (length texts)))
+kept_last texts h some = grind (arith, last_some, ne_eqb, get_or, and_false)
 
 -- the fields of a line of cells are their texts
 pub cells_cleaned : (first : List ℕ) (texts : List (List ℕ)) → IsCell first → AreCells texts → cleaned (pieces (joined (first ∷ texts))) ≡ first ∷ texts
 unfolding cleaned joined
 cells_cleaned first texts h cells =
-    let cut = cut_cells first texts (cell_no_end first h) cells in
-    let bare : map without_blanks (first ∷ map (λ text. 32 ∷ text) texts) ≡ first ∷ texts = rw (cell_unblanked first h, unblank_cells texts cells) refl in
-    let kept = kept_last (first ∷ texts) (h, cells) (omega arith) in
-    ap (λ (parts : List (List ℕ)). map without_quotes (without_last_empty (map without_blanks parts))) cut
-    ∙ ap (λ (parts : List (List ℕ)). map without_quotes (without_last_empty parts)) bare ∙ rw kept (unquote_cells (first ∷ texts) (h, cells))
+    grind (arith, cut_cells, cell_no_end, cell_unblanked, unblank_cells, kept_last, unquote_cells)
 
 -- a line of cells has quiet bytes
 others_quiet : (texts : List (List ℕ)) → AreCells texts → list_all is_quiet (others texts) ≡ true
@@ -177,8 +161,7 @@ some_text first texts h = begins_plain first (others texts) h
 pub cells_row : (number : ℕ) (first : List ℕ) (texts : List (List ℕ)) → IsCell first → AreCells texts
     → row_of number (joined (first ∷ texts)) ≡ record { number = number; fields = first ∷ texts } ∷ []
 cells_row number first texts h cells =
-    let line = joined (first ∷ texts) in
-    rw (no_comment line (cells_quiet first texts h cells)) (rw (some_text first texts h, cells_cleaned first texts h cells) refl)
+    grind (arith, no_comment, cells_quiet, some_text, cells_cleaned)
 
 -- a line ends at its line feed
 pub line_cut : (line rest : List ℕ) → All (λ byte. byte ≢ 10) line → parts_of (line ++ 10 ∷ rest) ≡ line ∷ parts_of rest

@@ -1,13 +1,13 @@
 -- Fields of digits alone.
-use Rattle.std.proofs.Common.{◌≡◌, ℕ, pos, ◌^◌, ◌<◌, ◌≤◌, ◌-◌, ◌+◌, ◌*◌, true, false, List}
-use Rattle.std.proofs.Common.{[], ◌∷◌, length, length-take, take, get_or, Some}
-use Rattle.std.proofs.Common.{ap, ◌∙◌, arith, refl, sym, add-zero, append-nil}
+use Rattle.std.proofs.Common.{◌≡◌, ℕ, pos, ◌^◌, ◌<◌, ◌≤◌, ◌-◌, ◌+◌, ◌*◌, true, List, [], ◌∷◌}
+use Rattle.std.proofs.Common.{length, length-take, take, get_or, Some, ap, ◌∙◌, arith, refl, sym}
+use Rattle.std.proofs.Common.{add-zero, append-nil}
 use Rattle.std.specs.Char.{is_ascii_digit}
 use Rattle.std.proofs.lemmas.Bool.{le-ltb, ne_eqb}
 use Rattle.std.proofs.lemmas.List.{take_all, take_more}
 use Rattle.std.proofs.lemmas.List.Folds.{list_all-append}
 use Rattle.std.proofs.lemmas.Str.Parse.{digits_value_short}
-use Rattle.plan_num.specs.Number.{all_digits, has_minus, spelling_of, value_of, value_at, fixed_of, whole_of}
+use Rattle.plan_num.specs.Number.{all_digits, spelling_of, value_of, value_at, fixed_of, whole_of}
 use Rattle.plan_num.proofs.Digits.{value_of-push}
 use Rattle.plan_num.proofs.Printed.{no_minus, numerals, parts_of-digits}
 use Rattle.giv_files.specs.Rows.{without_blanks, without_quotes}
@@ -35,11 +35,7 @@ more_digits field i inside digit h =
 digits_whole : (field : List ℕ) → all_digits field ≡ true → 0 < length field
     → value_of field < 10 ^ 18 → whole_of field ≡ Some (pos (value_of field))
 unfolding whole_of spelling_of
-digits_whole field h some small =
-    let front = no_minus field [] h some in
-    let bare : has_minus field ≡ false = rw append-nil at front in
-    rw bare (rw (parts_of-digits field h some)
-    (rw (le-ltb 1000000000000000000 (value_of field) (omega (arith, small))) refl))
+digits_whole field h some small = grind (arith, no_minus, append-nil, parts_of-digits, le-ltb)
 
 -- and as many millionths as a million times that
 digits_fixed : (field : List ℕ) → all_digits field ≡ true → 0 < length field
@@ -47,14 +43,7 @@ digits_fixed : (field : List ℕ) → all_digits field ≡ true → 0 < length f
     → fixed_of field ≡ Some (pos (value_of field * 1000000))
 unfolding fixed_of spelling_of value_at
 digits_fixed field h some small =
-    let front = no_minus field [] h some in
-    let bare : has_minus field ≡ false = rw append-nil at front in
-    rw bare (rw (parts_of-digits field h some)
-    (rw (
-      le-ltb 1000000000000 (value_of field) (omega (arith, small)),
-      ne_eqb (value_of field) 1000000000000 (λ e. omega arith),
-      add-zero,
-    ) refl))
+    grind (arith, no_minus, append-nil, parts_of-digits, le-ltb, ne_eqb, add-zero)
 
 -- behind a space or none a text of a cell is the whole field
 pub cell_field : (piece front : List ℕ) → without_blanks front ≡ without_blanks piece
@@ -65,27 +54,18 @@ cell_field piece front same cell =
 digits_field : (piece front : List ℕ) → without_blanks front ≡ without_blanks piece
     → 0 < length front → all_digits front ≡ true → without_quotes (without_blanks piece) ≡ front
 digits_field piece front same some digits =
-    let cell : IsCell front = record {
-      some = some;
-      plain = all_weaker is_ascii_digit is_plain front (λ byte h. number_plain byte (rw h refl))
-          digits;
-    } in
-    cell_field piece front same cell
+    grind (arith, IsCell, all_weaker, is_plain, number_plain, cell_field)
 
 -- so digits behind a space or none spell a whole number, and one in millionths
 module _ (piece front : List ℕ) (same : without_blanks front ≡ without_blanks piece) (value : ℕ)
     (some : 0 < length front) (digits : all_digits front ≡ true) (is : value ≡ value_of front) where
   pub plain_whole_is : value < 10 ^ 18
       → whole_of (without_quotes (without_blanks piece)) ≡ Some (pos value)
-  plain_whole_is small =
-      rw (digits_field piece front same some digits, is)
-      (digits_whole front digits some (rw is at small))
+  plain_whole_is small = grind (arith, digits_field, digits_whole)
 
   pub plain_fixed_is : value < 1000000000000
       → fixed_of (without_quotes (without_blanks piece)) ≡ Some (pos (value * 1000000))
-  plain_fixed_is small =
-      rw (digits_field piece front same some digits, is)
-      (digits_fixed front digits some (rw is at small))
+  plain_fixed_is small = grind (arith, digits_field, digits_fixed)
 
 -- so are those so far, of a field of few
 pub small_so_far : (field : List ℕ) (i value : ℕ) → length field ≤ 18

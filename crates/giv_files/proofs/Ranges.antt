@@ -1,17 +1,15 @@
 -- The cells that are read are in the ranges of their columns.
-use Rattle.std.proofs.Common.{◌≡◌, ℕ, ℤ, pos, ◌+◌, ◌<◌, ◌≤ℤ◌, arith, true, false, ◌&&◌, cond, List, [], ◌∷◌, ◌++◌, length, map, int_le, refl, subst, eqb, eqb-true, Option, Some, None, Ok, Err}
+use Rattle.std.proofs.Common.{◌≡◌, ℕ, ℤ, pos, ◌+◌, ◌<◌, ◌≤ℤ◌, arith, List, [], ◌∷◌, ◌++◌, length}
+use Rattle.std.proofs.Common.{map, refl, eqb-true, Option, Some, None, Ok, Err}
 use Rattle.std.specs.List.{flat_map, All}
 use Rattle.std.specs.Option.{ok_or, option_map}
-use Rattle.std.specs.Int.Signed.{le_z_yes}
-use Rattle.std.proofs.lemmas.Float.{T_from_true}
 use Rattle.std.proofs.lemmas.List.Elements.{All-cons}
-use Rattle.std.proofs.lemmas.List.Quantifiers.{position-Some}
 use Rattle.giv_files.specs.declared.column.ColumnKind.{ColumnKind}
 use Rattle.giv_files.specs.declared.column.ColumnKind.TheVariants as kind
 use Rattle.giv_files.specs.declared.row_why.RowWhy.TheVariants as why
 use Rattle.giv_files.specs.Names.{table_words}
-use Rattle.giv_files.specs.Rows.{Row, rows}
-use Rattle.giv_files.specs.Reading.{place_of, in_range, cell_of, cells_from, errors, values, row_whys, row_faults, table_row, has_mark, faults, table_of}
+use Rattle.giv_files.specs.Rows.{Row}
+use Rattle.giv_files.specs.Reading.{place_of, in_range, cell_of, cells_from, errors, values, row_whys, row_faults, table_row, faults, table_of}
 use Rattle.giv_files.specs.Writing.{InColumn, InColumns}
 
 -- nothing is put in front of nothing
@@ -32,22 +30,12 @@ unmapped f (x ∷ xs) e = cc
 -- a number that is taken is in its range
 taken : (min max : ℤ) (column : ℕ) (number : Option ℤ) (cell : ℤ) → in_range min max column number ≡ Ok cell → (min ≤ℤ cell) × (cell ≤ℤ max)
 taken min max column None cell e = cc
-taken min max column (Some number) cell e =
-    elim (int_le min number) as (λ a. int_le min number ≡ a → cond (a && int_le number max) (Ok number) (Err (why.OutOfRange column)) ≡ Ok cell → (min ≤ℤ cell) × (cell ≤ℤ max)) [
-      | true ↦ λ low is.
-          elim (int_le number max) as (λ b. int_le number max ≡ b → cond b (Ok number) (Err (why.OutOfRange column)) ≡ Ok cell → (min ≤ℤ cell) × (cell ≤ℤ max)) [
-            | true ↦ λ high same. let at : number ≡ cell = cc in subst (λ n. (min ≤ℤ n) × (n ≤ℤ max)) at (le_z_yes (T_from_true _ low), le_z_yes (T_from_true _ high))
-            | false ↦ λ high same. cc
-          ] refl is
-      | false ↦ λ low is. cc
-    ] refl e
+taken min max column (Some number) cell e = grind arith
 
 -- a word that is taken is in its table
 named : (words : List (List ℕ)) (column : ℕ) (field : List ℕ) (cell : ℤ) (place : Option ℕ) → place_of words field ≡ place → ok_or (option_map pos place) (why.UnknownWord column) ≡ Ok cell → (at : ℕ) × (at < length words) × (cell ≡ pos at)
 named words column field cell None is e = cc
-named words column field cell (Some at) is e =
-    let same : cell ≡ pos at = cc in
-    (at, (position-Some _ words at [] is).0, same)
+named words column field cell (Some at) is e = grind arith
 
 -- a cell that is made is in the range of its column
 in_column : (column_kind : ColumnKind) (column : ℕ) (field : List ℕ) (cell : ℤ) → cell_of column_kind column field ≡ Ok cell → InColumn column_kind cell
@@ -72,11 +60,7 @@ in_columns column (column_kind ∷ kinds) (field ∷ fields) same none =
 -- a row without a fault
 pub row_in_columns : (kinds : List ColumnKind) (row : Row) → row_faults kinds row ≡ [] → InColumns kinds (table_row kinds row).cells
 unfolding row_whys
-row_in_columns kinds row none =
-    elim (eqb (length row.fields) (length kinds)) as (λ b. eqb (length row.fields) (length kinds) ≡ b → cond b (errors (cells_from 1 kinds row.fields)) (why.FieldCount (length row.fields) ∷ []) ≡ [] → InColumns kinds (values (cells_from 1 kinds row.fields))) [
-      | true ↦ λ is rest. in_columns 1 kinds row.fields (eqb-true _ _ is) rest
-      | false ↦ λ is rest. cc
-    ] refl (unmapped _ (row_whys kinds row) none)
+row_in_columns kinds row none = grind (arith, in_columns, eqb-true, unmapped)
 
 rows_in_columns : (kinds : List ColumnKind) (some : List Row) → flat_map (row_faults kinds) some ≡ [] → All (λ row. InColumns kinds row.cells) (map (table_row kinds) some)
 rows_in_columns kinds [] none = λ k d h. absurd (omega arith)
@@ -87,8 +71,4 @@ rows_in_columns kinds (row ∷ some) none =
 -- the cells of a text without a fault are in the ranges of their columns
 pub table_in_columns : (kinds : List ColumnKind) (text : List ℕ) → faults kinds text ≡ [] → All (λ row. InColumns kinds row.cells) (table_of kinds text)
 unfolding faults table_of
-table_in_columns kinds text none =
-    elim (has_mark text) as (λ b. cond b (record { row = 1; why = why.ByteOrderMark } ∷ []) (flat_map (row_faults kinds) (rows text)) ≡ [] → All (λ row. InColumns kinds row.cells) (map (table_row kinds) (rows text))) [
-      | true ↦ λ is. cc
-      | false ↦ λ is. rows_in_columns kinds (rows text) is
-    ] none
+table_in_columns kinds text none = grind (arith, rows_in_columns)

@@ -1,5 +1,6 @@
 -- The parts of a report's line, one after the other.
-use Rattle.std.proofs.Common.{◌≡◌, ℕ, ◌+◌, ◌<◌, ◌≤◌, List, ◌∷◌, ◌++◌, length, drop, get_or, codes, ap, sym, ◌∙◌}
+use Rattle.std.proofs.Common.{arith, ◌≡◌, ℕ, ◌+◌, ◌<◌, ◌≤◌, List, ◌++◌, length, drop, get_or, codes}
+use Rattle.std.proofs.Common.{ap, sym, ◌∙◌}
 use Rattle.std.proofs.lemmas.List.{drop_more, drop_all, append_assoc, append-nil}
 use Rattle.giv_files.specs.ReportLines.{marked}
 
@@ -7,12 +8,7 @@ use Rattle.giv_files.specs.ReportLines.{marked}
 pub part_more : (line mark part : List ℕ) (parts : List (List ℕ)) (i : ℕ) (all : List ℕ)
     → i < length parts → part ≡ get_or parts i part → line ++ marked mark (drop i parts) ≡ all
     → line ++ mark ++ part ++ marked (codes ", ") (drop (i + 1) parts) ≡ all
-part_more line mark part parts i all h is told =
-    let rest = marked (codes ", ") (drop (i + 1) parts) in
-    append_assoc (line ++ mark) part rest ∙ append_assoc line mark (part ++ rest)
-    ∙ ap (λ some. line ++ some) (sym (append_assoc mark part rest))
-    ∙ ap (λ first. line ++ marked mark (first ∷ drop (i + 1) parts)) is
-    ∙ ap (λ some. line ++ marked mark some) (sym (drop_more parts i part h)) ∙ told
+part_more line mark part parts i all h is told = grind (arith, append_assoc, drop_more)
 
 -- none is left
 pub no_part : (line mark : List ℕ) (parts : List (List ℕ)) (i : ℕ) (all : List ℕ) → length parts ≤ i

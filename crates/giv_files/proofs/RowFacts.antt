@@ -5,7 +5,6 @@ use Rattle.std.specs.List.{slice_get}
 use Rattle.giv_files.specs.declared.column.ColumnKind.{ColumnKind}
 use Rattle.giv_files.specs.declared.row_why.RowWhy.{RowWhy}
 use Rattle.giv_files.specs.declared.row_why.RowWhy.TheVariants as why
-use Rattle.giv_files.specs.declared.read_fault.RowFault.{RowFault}
 use Rattle.giv_files.specs.declared.read_fault.ReadFault.{ReadFault}
 use Rattle.giv_files.specs.declared.read_fault.ReadFault.TheVariants as fault
 use Rattle.giv_files.specs.Rows.{Row}
@@ -31,11 +30,7 @@ whys_are kinds row e = rw (eq-eqb (length row.fields) (length kinds) e) refl
 faults_are : (kinds : List ColumnKind) (row : Row) → length row.fields ≡ length kinds
     → row_faults kinds row ≡ map (λ reason. record { row = row.number; why = reason })
     (errors (cells_from 1 kinds row.fields))
-faults_are kinds row e =
-    ap (λ (reasons : List RowWhy). map (λ reason. let told : RowFault = record {
-      row = row.number;
-      why = reason;
-    } in told) reasons) (whys_are kinds row e)
+faults_are kinds row e = grind (arith, whys_are)
 
 -- a fault of the cells is one of the row
 pub row_refused : (kinds : List ColumnKind) (row : Row) (reason : ReadFault) (old new : List ℤ)
@@ -78,15 +73,8 @@ pub row_read : (kinds : List ColumnKind) (row : Row) (width : ℕ) (numbers : Li
     × (new ≡ old ++ values (cells_from 1 kinds row.fields))
     → (row_faults kinds row ≡ []) × (rows_of width (numbers ++ row.number ∷ []) new ≡ rows
     ++ table_row kinds row ∷ [])
-row_read kinds row width numbers old new rows e wide whole view gives = (
-  faults_are kinds row e ∙ ap (λ (reasons : List RowWhy). map
-      (λ reason. let told : RowFault = record { row = row.number; why = reason } in told) reasons)
-      gives.0,
-  ap (λ (cells : List ℤ). rows_of width (numbers ++ row.number ∷ []) cells) gives.1
-      ∙ rows_push width numbers old row.number (values (cells_from 1 kinds row.fields)) whole
-      (row_wide kinds row.fields e gives.0 ∙ wide)
-      ∙ ap (λ (all : List TableRow). all ++ table_row kinds row ∷ []) view,
-)
+row_read kinds row width numbers old new rows e wide whole view gives =
+    grind (arith, faults_are, rows_push, row_wide)
 
 -- with a row more there are still as many cells as rows times columns
 pub row_fits : (kinds : List ColumnKind) (fields : List (List ℕ)) (width count size : ℕ)

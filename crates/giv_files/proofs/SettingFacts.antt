@@ -1,11 +1,12 @@
 -- The keys of settings that fit a stage are there, with values in their ranges.
-use Rattle.std.proofs.Common.{◌≡◌, ℕ, ℤ, pos, negsuc, ◌≤◌, ◌≤ℤ◌, ◌||◌, Bool, eqb-true, cond, true, false, List, [], ◌∷◌, map, Some, int_le, unsigned_abs, unwrap_or, option_map, refl, ap, subst, sym, ◌∙◌, arith}
+use Rattle.std.proofs.Common.{◌≡◌, ℕ, ℤ, pos, negsuc, ◌≤◌, ◌≤ℤ◌, ◌||◌, Bool, eqb-true, cond, true}
+use Rattle.std.proofs.Common.{false, List, [], ◌∷◌, map, Some, int_le, unsigned_abs, unwrap_or}
+use Rattle.std.proofs.Common.{option_map, refl, ap, subst, sym, ◌∙◌, arith}
 use Rattle.std.specs.List.{find, list_all, list_any}
 use Rattle.std.specs.Int.Signed.{le_z_yes}
 use Rattle.std.proofs.lemmas.Bool.{and_parts}
 use Rattle.std.proofs.lemmas.Float.{T_from_true}
 use Rattle.std.proofs.lemmas.Int.{ints}
-use Rattle.std.proofs.lemmas.Map.Views.{any-filter_same}
 use Rattle.std.proofs.lemmas.Option.{same_Some}
 use Rattle.giv_files.specs.declared.key.Key.{Key}
 use Rattle.giv_files.specs.declared.key.Key.TheVariants as key
@@ -67,10 +68,7 @@ among_all _ = refl
 among_keys : (stage : Stage) (k : Key) → has_key stage k ≡ true
     → list_any (is_key k) (stage_keys stage) ≡ true
 unfolding stage_keys
-among_keys stage k has =
-    any-filter_same (is_key k) (has_key stage) true
-    (λ j same. subst (λ other. has_key stage other ≡ true)
-    (sym (same_key j k (eqb-true _ _ same))) has) all_keys ∙ among_all k
+among_keys stage k has = grind arith
 
 -- a key of a stage has a value among settings that fit the stage, and one that it may have
 pub key_there : (stage : Stage) (settings : List Setting) (k : Key) → SettingsFit stage settings

@@ -1,12 +1,13 @@
 -- The text of settings tells them, among those that fit a stage.
-use Rattle.std.proofs.Common.{◌≡◌, ℕ, ℤ, ◌+◌, ◌<◌, ◌≤◌, ◌≤ℤ◌, ◌&&◌, ◌||◌, Bool, true, false, not, eqb, List, [], ◌∷◌, ◌++◌, length, map, take, drop, get_or, cond, zero, suc, pos, negsuc, neg_ℤ, true≢false, refl, ap, sym, subst, ◌∙◌, arith, codes, Option, Some, None, IfSome, int_le, option_map, append-nil, append_assoc}
-use Rattle.std.specs.List.{find, flat_map, list_all, list_any}
+use Rattle.std.proofs.Common.{◌≡◌, ℕ, ℤ, ◌+◌, ◌<◌, ◌≤◌, ◌≤ℤ◌, ◌&&◌, ◌||◌, Bool, true, false, not}
+use Rattle.std.proofs.Common.{eqb, List, [], ◌∷◌, ◌++◌, length, map, take, drop, get_or, cond, zero}
+use Rattle.std.proofs.Common.{suc, pos, negsuc, neg_ℤ, true≢false, refl, ap, sym, subst, ◌∙◌, arith}
+use Rattle.std.proofs.Common.{codes, Option, Some, None, IfSome, int_le, append-nil, append_assoc}
+use Rattle.std.specs.List.{flat_map, list_all, list_any}
 use Rattle.std.specs.Str.{bytes_eq}
 use Rattle.std.specs.Fmt.{signed_decimal}
-use Rattle.std.specs.Int.Signed.{le_z_yes}
 use Rattle.std.proofs.lemmas.Bool.{and_parts, eq-eqb, eqb-true}
 use Rattle.std.proofs.lemmas.Bool.Decides.{nat_tests}
-use Rattle.std.proofs.lemmas.Float.{T_from_true}
 use Rattle.std.proofs.lemmas.Grind.{flat_map-append}
 use Rattle.std.proofs.lemmas.Int.{ints}
 use Rattle.std.proofs.lemmas.List.{append_cancel_left, take_all, take_more}
@@ -27,13 +28,12 @@ use Rattle.giv_files.specs.declared.stage.Stage.{Stage}
 use Rattle.giv_files.specs.declared.stage.Stage.TheVariants as stage
 use Rattle.giv_files.specs.KeyKinds.{all_word, greatest, key_words, least, none_word, spelled_as, wait_of}
 use Rattle.giv_files.specs.Keys.{all_keys, allows, has_key, is_key, key_kind, key_name, stage_keys}
-use Rattle.giv_files.specs.Reading.{place_of}
 use Rattle.giv_files.specs.Settings.{SettingsFit, is_allowed, value_of}
 use Rattle.giv_files.specs.SettingsText.{TellsSettings, key_line, settings_text, value_text, wait_text}
 use Rattle.giv_files.specs.Writing.{IsSmall}
-use Rattle.giv_files.proofs.CellTexts.{WordsGood, number_plain, plain_word, word_good}
+use Rattle.giv_files.proofs.CellTexts.{WordsGood, number_plain, plain_word}
 use Rattle.giv_files.proofs.KeyPlaces.{same_key}
-use Rattle.giv_files.proofs.PlainBytes.{IsCell, all_weaker, is_plain, plain_is}
+use Rattle.giv_files.proofs.PlainBytes.{all_weaker, is_plain, plain_is}
 use Rattle.giv_files.proofs.SettingFacts.{among_all, key_there, value_allowed}
 
 -- one key more adds its line
@@ -93,24 +93,6 @@ wait_back (negsuc zero) reach low = refl
 wait_back (negsuc (suc zero)) reach low = refl
 wait_back (negsuc (suc (suc n))) reach low = absurd (omega (arith, ints))
 
--- a place from 0 on, up to the last one
-place_of_value : (value : ℤ) (last : ℕ) → pos 0 ≤ℤ value → value ≤ℤ pos last
-    → (place : ℕ) × (place ≤ last) × (value ≡ pos place)
-place_of_value (pos n) last low high = (n, omega (arith, ints), refl)
-place_of_value (negsuc n) last low high = absurd (omega (arith, ints))
-
-word_back : (table : KeyWords) (place : ℕ) → place < length (key_words table)
-    → IsCell (get_or (key_words table) place [])
-    × (place_of (key_words table) (get_or (key_words table) place []) ≡ Some place)
-word_back table place inside =
-    let good = word_good (key_words table) (key_words table) 0 place (words_good table) inside in
-    (good.0, good.1 ∙ ap Some (omega arith))
-
-some_words : (table : KeyWords) → 0 < length (key_words table)
-some_words words.Stages = omega arith
-some_words words.LoadSources = omega arith
-some_words words.NoOrYes = omega arith
-
 module _ (k : KeyKind) (value : ℤ) (low : least k ≤ℤ value) (high : value ≤ℤ greatest k)
     (small : IsSmall (least k) (greatest k)) where
   in_reach : IsInReach value
@@ -120,16 +102,9 @@ module _ (k : KeyKind) (value : ℤ) (low : least k ≤ℤ value) (high : value 
 value_back : (k : KeyKind) (value : ℤ) → least k ≤ℤ value → value ≤ℤ greatest k
     → IsSmall (least k) (greatest k) → spelled_as k (value_text k value) ≡ Some value
 unfolding value_text
-value_back (kind.Whole min max) value low high small =
-    let reach = in_reach (kind.Whole min max) value low high small in
-    whole_back value reach.0 reach.1
-value_back (kind.Fixed min max) value low high small =
-    let reach = in_reach (kind.Fixed min max) value low high small in
-    fixed_back value reach.0 reach.1
-value_back (kind.Word table) value low high small =
-    let at = place_of_value value _ low high in
-    let inside : at.0 < length (key_words table) = omega (arith, some_words table) in
-    rw at.2 (rw (word_back table at.0 inside).1 refl)
+value_back (kind.Whole min max) value low high small = grind (arith, in_reach, whole_back)
+value_back (kind.Fixed min max) value low high small = grind (arith, in_reach, fixed_back)
+value_back (kind.Word table) value low high small = grind arith
 value_back (kind.Wait max) value low high small =
     wait_back value (in_reach (kind.Wait max) value low high small) low
 
@@ -152,10 +127,7 @@ value_plain (kind.Fixed min max) value low high small =
     let reach = in_reach (kind.Fixed min max) value low high small in
     all_weaker is_number_byte is_plain (fixed_text value) number_plain
     (fixed_bytes value reach.0 reach.1)
-value_plain (kind.Word table) value low high small =
-    let at = place_of_value value _ low high in
-    let inside : at.0 < length (key_words table) = omega (arith, some_words table) in
-    rw at.2 (word_back table at.0 inside).0.plain
+value_plain (kind.Word table) value low high small = grind arith
 value_plain (kind.Wait max) value low high small =
     wait_plain value (in_reach (kind.Wait max) value low high small)
 
@@ -192,10 +164,7 @@ regrouped front text a =
 -- the bounds of a value that its key may have
 bounds_of : (k : Key) (value : ℤ) → allows k value ≡ true
     → (least (key_kind k) ≤ℤ value) × (value ≤ℤ greatest (key_kind k))
-bounds_of k value is =
-    let both = and_parts (int_le (least (key_kind k)) value)
-    (int_le value (greatest (key_kind k))) is in
-    (le_z_yes (T_from_true _ both.0), le_z_yes (T_from_true _ both.1))
+bounds_of k value is = grind arith
 
 line_told : (k : Key) (value other : ℤ) (a b : List ℕ) → allows k value ≡ true
     → allows k other ≡ true → key_line k (Some value) ++ a ≡ key_line k (Some other) ++ b
@@ -256,12 +225,8 @@ keys_of settings = map (λ setting. setting.key) settings
 
 first_or : (k : Key) (first : Setting) (rest : List Setting) (b : Bool) → is_key k first.key ≡ b
     → value_of (first ∷ rest) k ≡ cond b (Some first.value) (value_of rest k)
-first_or k first rest true is =
-    ap (λ b. option_map (λ setting. setting.value)
-    (cond b (Some first) (find (λ setting. is_key k setting.key) rest))) is
-first_or k first rest false is =
-    ap (λ b. option_map (λ setting. setting.value)
-    (cond b (Some first) (find (λ setting. is_key k setting.key) rest))) is
+first_or k first rest true is = grind arith
+first_or k first rest false is = grind arith
 
 none_of : (a b : Bool) → (a || b) ≡ false → (a ≡ false) × (b ≡ false)
 none_of true b e = absurd (true≢false e)
@@ -308,14 +273,8 @@ same_settings (s ∷ ss) (o ∷ os) keys once same =
     by : (k : Key) → s.key ≡ o.key → keys_of ss ≡ keys_of os
         → list_any (is_key s.key) (keys_of ss) ≡ false → (b : Bool) → is_key k s.key ≡ b
         → value_of (s ∷ ss) k ≡ value_of (o ∷ os) k → value_of ss k ≡ value_of os k
-    by k key rest none true is e =
-        let at : s.key ≡ k = same_key s.key k (eqb-true _ _ is) in
-        subst (λ j. value_of ss j ≡ value_of os j) at
-        (value_none ss s.key none
-        ∙ sym (value_none os s.key (sym (ap (list_any (is_key s.key)) rest) ∙ none)))
-    by k key rest none false is e =
-        sym (first_or k s ss false is) ∙ e
-        ∙ first_or k o os false (sym (ap (is_key k) key) ∙ is)
+    by k key rest none true is e = grind (arith, same_key, eqb-true, value_none)
+    by k key rest none false is e = grind arith
 
 -- ---- settings that fit one stage
 

@@ -1,5 +1,7 @@
 -- The keys of a stage, taken one after the other from all keys.
-use Rattle.std.proofs.Common.{◌≡◌, ℕ, ◌+◌, ◌<◌, ◌≤◌, ◌==◌, ◌↔◌, Bool, true, false, IsTrue, List, [], ◌∷◌, ◌++◌, length, take, drop, get_or, slice_get, Some, cond, ap, sym, ◌∙◌, arith}
+use Rattle.std.proofs.Common.{◌≡◌, ℕ, ◌+◌, ◌<◌, ◌≤◌, ◌==◌, ◌↔◌, Bool, true, false, IsTrue, List, []}
+use Rattle.std.proofs.Common.{◌∷◌, ◌++◌, length, take, drop, get_or, slice_get, Some, cond, ap, sym}
+use Rattle.std.proofs.Common.{◌∙◌, arith}
 use Rattle.std.specs.List.{filter}
 use Rattle.std.proofs.lemmas.Bool.{eqb-true, eq-eqb}
 use Rattle.std.proofs.lemmas.List.{take_all, take_more, take-append-drop, append-nil, append_assoc, length-append, length-take-le}
@@ -59,11 +61,4 @@ module _ {X : Type 0} (test : X → Bool) (all own : List X) (i count : ℕ)
   -- at the end all are those that pass exactly where none is left
   pub at_end : (given : List X) → all ≡ given → count ≤ length own → length all ≤ i
       → IsTrue (count == length own) ↔ (own ≡ filter test given)
-  at_end given is few h =
-      let taken : take count own ≡ filter test given = whole h ∙ ap (filter test) is in (
-        λ last. let none_left : count ≡ length own = eqb-true _ _ last in
-            sym (take_all count own (omega arith)) ∙ taken,
-        λ all_are.
-            let size : length (take count own) ≡ length own = ap length (taken ∙ sym all_are) in
-            eq-eqb _ _ (sym (length-take-le count own few) ∙ size),
-      )
+  at_end given is few h = grind (arith, whole, eqb-true, take_all, eq-eqb, length-take-le)

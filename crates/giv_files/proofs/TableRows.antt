@@ -1,5 +1,7 @@
 -- The rows of a table, against its numbers and its cells one after the other.
-use Rattle.std.proofs.Common.{◌≡◌, ℕ, ◌+◌, ◌*◌, ◌<◌, ◌≤◌, zero, suc, List, [], ◌∷◌, ◌++◌, length, take, drop, get_or, refl, ap, sym, ◌∙◌, arith, ℤ, pos, length-drop, get_or-take, get_or-drop}
+use Rattle.std.proofs.Common.{◌≡◌, ℕ, ◌+◌, ◌*◌, ◌<◌, ◌≤◌, zero, suc, List, [], ◌∷◌, ◌++◌, length}
+use Rattle.std.proofs.Common.{take, drop, get_or, refl, ap, sym, ◌∙◌, arith, ℤ, pos, length-drop}
+use Rattle.std.proofs.Common.{get_or-take, get_or-drop}
 use Rattle.std.proofs.lemmas.List.{take_all, nil_from_length, take-append-le, drop-append-le, drop-drop}
 use Rattle.std.proofs.lemmas.List.{length-take-le}
 use Rattle.std.proofs.lemmas.List.Elements.{All-nil, All-cons}
@@ -26,10 +28,7 @@ less_cells width n cells h = (grind arith, simp length-drop (grind arith))
 pub rows_push : (width : ℕ) (numbers : List ℕ) (cells : List ℤ) (number : ℕ) (row : List ℤ) → length cells ≡ length numbers * width → length row ≡ width
     → rows_of width (numbers ++ number ∷ []) (cells ++ row) ≡ rows_of width numbers cells ++ record { number = number; cells = row } ∷ []
 unfolding rows_of
-rows_push width [] cells number row h wide =
-    let none : cells ≡ [] = nil_from_length cells (omega (arith, h)) in
-    let narrow : length row ≤ width = omega arith in
-    rw none (rw (take_all width row narrow) refl)
+rows_push width [] cells number row h wide = grind (arith, nil_from_length, take_all)
 rows_push width (first ∷ numbers) cells number row h wide =
     let less = less_cells width (length numbers) cells h in
     rw (take-append-le width cells row less.0, drop-append-le width cells row less.0, rows_push width numbers (drop width cells) number row less.1 wide) refl
@@ -71,9 +70,7 @@ row_ends width numbers cells rows i count size whole all e h =
 -- and they are its own
 pub row_cells : (width : ℕ) (numbers : List ℕ) (cells : List ℤ) (rows : List TableRow) (i : ℕ) → rows_of width numbers cells ≡ rows → i < length rows
     → take width (drop (i * width) cells) ≡ (get_or rows i no_row).cells
-row_cells width numbers cells rows i e h =
-    sym (ap (λ (row : TableRow). row.cells) (row_at width numbers cells i (row_within width numbers cells rows i e h)))
-    ∙ ap (λ (all : List TableRow). (get_or all i no_row).cells) e
+row_cells width numbers cells rows i e h = grind (arith, row_at, row_within, get_or)
 
 -- the cell that is read there is that of the row
 pub cell_is : (width : ℕ) (numbers : List ℕ) (cells : List ℤ) (rows : List TableRow) (i j : ℕ) → rows_of width numbers cells ≡ rows → i < length rows → j < width

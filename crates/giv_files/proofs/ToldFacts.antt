@@ -1,28 +1,13 @@
 -- The lines that have rows, one after the other.
-use Rattle.std.proofs.Common.{◌≡◌, ℕ, ◌+◌, ◌<◌, List, [], ◌∷◌, ◌++◌, length, map, refl, ap, ap₂}
-use Rattle.std.proofs.Common.{sym, ◌∙◌, Bool, true, false, not, eqb, arith, Bor, Option, Some, filter}
+use Rattle.std.proofs.Common.{◌≡◌, ℕ, ◌+◌, List, [], ◌∷◌, ◌++◌, length, map, refl, sym, ◌∙◌, Bool}
+use Rattle.std.proofs.Common.{true, false, not, eqb, arith, filter}
 use Rattle.std.specs.List.{flat_map, enumerate_from, list_all}
-use Rattle.std.specs.Option.{IfSome, option_copied}
 use Rattle.std.specs.Str.Lines.{strip_carriage_return}
-use Rattle.std.proofs.lemmas.Bool.{not-true, not-false}
+use Rattle.std.proofs.lemmas.Bool.{eqb-true, false≢true, not-true, not-false}
 use Rattle.std.proofs.lemmas.List.{map-append}
-use Rattle.giv_files.specs.Rows.{Row, is_blank, before_comment, row_of, has_byte, lines, parts_of}
-use Rattle.giv_files.specs.Rows.{parts_left, rows, pieces, cleaned}
-use Rattle.giv_files.specs.Told.{Told, told_of, told_left, row_told, left_size, long_line}
-use Rattle.giv_files.specs.Told.{pieces_of, short_line}
-use Rattle.giv_files.proofs.LongLines.{fields_are}
-use Rattle.giv_files.proofs.RowsLeft.{no_parts, rest_smaller}
-
--- where nothing is left no line is
-none_told : (number : ℕ) → told_left number [] ≡ []
-unfolding told_left
-none_told number = refl
-
-pub nothing_told : (number : ℕ) (left : Option (Bor (List ℕ)))
-    → ((text : Bor (List ℕ)) → left ≡ Some text → ⊥)
-    → told_left number (parts_left (option_copied left)) ≡ []
-nothing_told number left h =
-    ap (λ (parts : List (List ℕ)). told_left number parts) (no_parts left h) ∙ none_told number
+use Rattle.giv_files.specs.Rows.{is_blank, before_comment, row_of, has_byte, lines, parts_of}
+use Rattle.giv_files.specs.Rows.{rows}
+use Rattle.giv_files.specs.Told.{Told, told_of, told_left, row_told}
 
 -- a line without a byte has no number
 empty_told : (number : ℕ) (part : List ℕ) (parts : List (List ℕ))
@@ -63,14 +48,6 @@ module _ (number : ℕ) (part line : List ℕ) (left parts : List (List ℕ)) (a
       ∷ told_left (number + 1) parts
   told_first some told = sym (rw (not-true _ told) at (numbered some))
 
--- the count of numbered lines stays in its range
-pub told_few : (number limit : ℕ) (left rest : Option (Bor (List ℕ))) (text : Bor (List ℕ))
-    → left ≡ Some text → IfSome rest (λ after. length after.now < length text.now)
-    → number + left_size (option_copied left) < limit
-    → number + 1 + left_size (option_copied rest) < limit
-told_few number limit left rest text is shorter few =
-    omega (arith, rw is at few, rest_smaller rest text.now shorter)
-
 -- the row of a line
 row_of_told : (number : ℕ) (line : List ℕ) (t : Bool) → list_all is_blank (before_comment line) ≡ t
     → row_of number line ≡ map row_told (told_of number line)
@@ -80,26 +57,36 @@ row_of_told number line false e = rw e refl
 rows_of_told : (lines : List (ℕ × List ℕ)) → flat_map (λ line. row_of line.0 line.1) lines
     ≡ map row_told (flat_map (λ line. told_of line.0 line.1) lines)
 rows_of_told [] = refl
-rows_of_told (line ∷ lines) =
-    ap₂ (λ (here there : List Row). here ++ there)
-    (row_of_told line.0 line.1 (list_all is_blank (before_comment line.1)) refl)
-    (rows_of_told lines)
-    ∙ sym (map-append row_told (told_of line.0 line.1)
-    (flat_map (λ line. told_of line.0 line.1) lines))
+rows_of_told (line ∷ lines) = grind (arith, row_of_told, map-append, rows_of_told lines)
 
 -- the rows of a text are those of its lines that have rows
 pub rows_told : (text : List ℕ) → rows text ≡ map row_told (told_left 0 (parts_of text))
 unfolding rows told_left
 rows_told text = rows_of_told (enumerate_from 1 (filter has_byte (lines text)))
 
-abbrev row_with : ℕ → List (List ℕ) → Row
-row_with number fields = record { number = number; fields = fields }
+-- lines without a byte count for nothing
+no_byte : (part : List ℕ) → eqb (length part) 0 ≡ true
+    → eqb (length (strip_carriage_return part)) 0 ≡ true
+no_byte [] e = refl
+no_byte (byte ∷ part) e = absurd (omega (arith, eqb-true (length (byte ∷ part)) 0 e))
 
--- the pieces that csv gives of a line behind a space are the row of the line
-pub row_is : (number : ℕ) (told : Told) (long : Option (List ℕ)) (found : List (List ℕ))
-    → told.number ≡ number → long ≡ long_line told.line → found ≡ pieces (32 ∷ short_line told.line)
-    → record { number = number; fields = cleaned (pieces_of long found) } ≡ row_told told
-row_is number told long found same own is =
-    ap₂ row_with (sym same)
-    (ap (λ (line : Option (List ℕ)). cleaned (pieces_of line found)) own
-    ∙ fields_are told.line found is)
+told_some_if : (number : ℕ) (part : List ℕ) (parts : List (List ℕ)) (t u : Bool)
+    → eqb (length (strip_carriage_return part)) 0 ≡ t → eqb (length part) 0 ≡ u
+    → ((n : ℕ) → told_left n (filter has_byte parts) ≡ told_left n parts)
+    → told_left number (filter has_byte (part ∷ parts)) ≡ told_left number (part ∷ parts)
+told_some_if number part parts true true e f more =
+    rw f (more number ∙ sym (empty_told number part parts e))
+told_some_if number part parts true false e f more = grind (arith, empty_told)
+told_some_if number part parts false true e f more = absurd (false≢true (sym e ∙ no_byte part f))
+told_some_if number part parts false false e f more = grind (arith, numbered_told)
+
+pub told_some : (parts : List (List ℕ)) (number : ℕ)
+    → told_left number (filter has_byte parts) ≡ told_left number parts
+told_some [] number = refl
+told_some (part ∷ parts) number =
+    told_some_if number part parts (eqb (length (strip_carriage_return part)) 0)
+    (eqb (length part) 0) refl refl (told_some parts)
+
+pub none_told : (number : ℕ) → told_left number [] ≡ []
+unfolding told_left
+none_told number = refl

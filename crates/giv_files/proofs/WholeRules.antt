@@ -1,12 +1,13 @@
 -- Files that have one rule as a whole, behind the rules of their rows.
-use Rattle.std.proofs.Common.{◌≡◌, ℕ, Bool, true, false, List, [], ◌∷◌, ◌++◌, slice_get, refl, ap, sym, subst, ◌∙◌, Some}
+use Rattle.std.proofs.Common.{arith, ◌≡◌, ℕ, Bool, true, false, List, [], ◌∷◌, ◌++◌, slice_get}
+use Rattle.std.proofs.Common.{refl, ap, sym, subst, ◌∙◌, Some}
 use Rattle.std.proofs.lemmas.List.{append-nil}
 use Rattle.giv_files.specs.declared.row_why.RowWhy.{RowWhy}
 use Rattle.giv_files.specs.declared.refusal.Refusal.{Refusal}
 use Rattle.giv_files.specs.declared.refusal.Refusal.TheVariants as refusal
 use Rattle.giv_files.specs.declared.refusal.StageFault.{StageFault}
 use Rattle.giv_files.specs.declared.refusal.StageFault.TheVariants as stage
-use Rattle.giv_files.specs.Inputs.{Input, whole_rule, records, records_of, numbered, cell_faults, limit_faults, table_row_faults, whole_faults, input_faults, or_else, Refuses}
+use Rattle.giv_files.specs.Inputs.{Input, whole_rule, records_of, numbered, whole_faults, input_faults, or_else, Refuses}
 use Rattle.giv_files.specs.Reading.{table_of}
 use Rattle.giv_files.proofs.Inputs.{parts_sound, table_sound, faults_of_table, refused_append, refused_whole, no_faults, whole_rule_broken, whole_rule_kept}
 
@@ -33,11 +34,7 @@ module _ {X : Type 0} (input : Input X) (text : List ℕ) where
       → Refuses (input_faults (without_whole input) text) fault
       → Refuses (input_faults input text) fault
   unfolding input_faults
-  refused_without fault h =
-      let table = table_of input.columns text in
-      refused_more (cell_faults input.file input.columns text)
-      (limit_faults input.limits (records input table) ++ table_row_faults input table)
-      (whole_faults input.file input.table_rules (numbered input table)) fault h
+  refused_without fault h = grind (arith, refused_more)
 
   module _ (test : List X → Bool) (why : RowWhy) (whole : input.table_rules ≡ whole_rule test why
       ∷ []) (none : input_faults (without_whole input) text ≡ []) where

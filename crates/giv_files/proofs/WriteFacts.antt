@@ -1,6 +1,7 @@
 -- The line of a row, cell by cell.
-use Rattle.std.proofs.Common.{◌≡◌, ℕ, ◌+◌, ◌<◌, ◌≤◌, zero, suc, List, [], ◌∷◌, ◌++◌, length, map, take, get_or, refl, ap, sym, ◌∙◌, arith, ℤ, append_assoc, append-nil, All, codes, Bor}
-use Rattle.std.specs.List.{flat_map}
+use Rattle.std.proofs.Common.{◌≡◌, ℕ, ◌+◌, ◌<◌, ◌≤◌, zero, suc, List, [], ◌∷◌, ◌++◌, length, map}
+use Rattle.std.proofs.Common.{take, get_or, refl, ap, sym, ◌∙◌, arith, ℤ, append_assoc, append-nil}
+use Rattle.std.proofs.Common.{All, Bor}
 use Rattle.std.proofs.lemmas.List.{take_more, take_all, length-take-le, length-map, get_or-map}
 use Rattle.std.proofs.lemmas.Bool.{lt-ltb}
 use Rattle.std.proofs.lemmas.List.Elements.{All-get_or}
@@ -44,11 +45,7 @@ text_at (k ∷ kinds) (c ∷ cells) (suc i) kind cell h lt = text_at kinds cells
 joined_push : (texts : List (List ℕ)) (text : List ℕ) → joined (texts ++ text ∷ []) ≡ joined texts ++ separator (length texts) ++ text
 unfolding joined
 joined_push [] text = append-nil text
-joined_push (first ∷ texts) text =
-    let others = flat_map (λ more. codes "; " ++ more) texts in
-    let between : separator (suc (length texts)) ≡ codes "; " = rw (lt-ltb 0 (suc (length texts)) (omega arith)) refl in
-    ap (λ (line : List ℕ). first ++ line) (flat_map-append (λ more. codes "; " ++ more) texts (text ∷ []))
-    ∙ rw (append-nil (codes "; " ++ text), between) (sym (append_assoc first others (codes "; " ++ text)) ∙ sym (append_assoc (first ++ others) (codes "; ") text))
+joined_push (first ∷ texts) text = grind (arith, lt-ltb, flat_map-append, append-nil, append_assoc)
 
 -- the text of one column more
 pub column_more : (kinds : List ColumnKind) (cells : List ℤ) (i : ℕ) (kind : ColumnKind) (cell : ℤ) (start old between new : List ℕ) → InColumns kinds cells → i < length kinds
@@ -70,9 +67,7 @@ no_column start = sym (append-nil start)
 -- all texts and the end of the line
 pub line_done : (kinds : List ColumnKind) (row : TableRow) (i : ℕ) (start old new : List ℕ) → InColumns kinds row.cells → length kinds ≤ i
     → old ≡ start ++ joined (take i (cell_texts kinds row.cells)) → new ≡ old ++ 10 ∷ [] → new ≡ start ++ line_text kinds row
-line_done kinds row i start old new h past e f =
-    let whole = take_all i (cell_texts kinds row.cells) (omega (arith, texts_length kinds row.cells h)) in
-    f ∙ rw (e, whole) (append_assoc start (joined (cell_texts kinds row.cells)) (10 ∷ []))
+line_done kinds row i start old new h past e f = grind (arith, take_all, texts_length, append_assoc)
 
 -- the row at a place has its cells in the ranges of the columns
 pub row_in_columns : (kinds : List ColumnKind) (rows : List TableRow) (i : ℕ) → All (λ row. InColumns kinds row.cells) rows → i < length rows → InColumns kinds (row_line rows i).cells
@@ -81,6 +76,4 @@ row_in_columns kinds rows i h lt = All-get_or (λ (row : TableRow). InColumns ki
 -- a word by its place
 pub word_is : (words : List (Bor (List ℕ))) (table : List (List ℕ)) (place : ℕ) (other : Bor (List ℕ)) → map (λ word. word.now) words ≡ table → place < length table → other.now ≡ []
     → (get_or words place other).now ≡ get_or table place []
-word_is words table place other e h none =
-    let within : place < length words = omega (arith, ap length e, length-map words (λ (word : Bor (List ℕ)). word.now)) in
-    sym (get_or-map (λ (word : Bor (List ℕ)). word.now) words place other [] within) ∙ ap (λ (all : List (List ℕ)). get_or all place []) e
+word_is words table place other e h none = grind (arith, length-map, get_or-map, get_or)

@@ -1,9 +1,8 @@
 -- Columns whose cells can be written, by a test that computes.
-use Rattle.std.proofs.Common.{◌≡◌, ℤ, pos, neg_ℤ, true, false, ◌&&◌, Bool, List, [], ◌∷◌, All, int_le}
+use Rattle.std.proofs.Common.{arith, ◌≡◌, ℤ, pos, neg_ℤ, true, false, ◌&&◌, Bool, List, [], ◌∷◌}
+use Rattle.std.proofs.Common.{All, int_le}
 use Rattle.std.specs.List.{list_all}
-use Rattle.std.specs.Int.Signed.{le_z_yes}
 use Rattle.std.proofs.lemmas.Bool.{and_parts}
-use Rattle.std.proofs.lemmas.Float.{T_from_true}
 use Rattle.std.proofs.lemmas.List.Elements.{All-nil, All-cons}
 use Rattle.giv_files.specs.declared.column.ColumnKind.{ColumnKind}
 use Rattle.giv_files.specs.declared.column.ColumnKind.TheVariants as kind
@@ -22,10 +21,7 @@ can_write (kind.Word words) = true
 can_write kind.Skip = false
 
 small_range : (min max : ℤ) → is_small_range min max ≡ true → IsSmallRange min max
-small_range min max h =
-    let parts = and_parts (int_le (neg_ℤ (pos 1000000000000000000)) min)
-    (int_le max (pos 1000000000000000000)) h in
-    (le_z_yes (T_from_true _ parts.0), le_z_yes (T_from_true _ parts.1))
+small_range min max h = grind arith
 
 written : (column : ColumnKind) → can_write column ≡ true → CanWrite column
 written (kind.Whole min max) h = small_range min max h

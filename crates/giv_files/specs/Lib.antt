@@ -2,6 +2,7 @@ pub mod Columns
 pub mod CountedTexts
 pub mod CrossRules
 pub mod FileNames
+pub mod Handed
 pub mod InnerReading
 pub mod Inputs
 pub mod KeyKinds
@@ -15,7 +16,6 @@ pub mod Rows
 pub mod RowsOfTables
 pub mod Settings
 pub mod SettingsText
-pub mod Spaced
 pub mod StageCalls
 pub mod StageNames
 pub mod Stages

@@ -1,10 +1,15 @@
 -- Inner words: the lines of a text that have rows. A reader of the contracts of this crate needs
 -- none of them.
-use Rattle.std.specs.Prelude.{ℕ, ◌+◌, nat_lt, if◌then◌else◌, List, [], ◌∷◌, length, filter, map}
+use Rattle.std.specs.Prelude.{ℕ, ◌≡◌, ◌≤◌, ◌+◌, ◌-◌, ◌==◌, ◌||◌, nat_le, nat_lt, if◌then◌else◌}
+use Rattle.std.specs.Prelude.{List, [], ◌∷◌, ◌++◌, length, filter, map, get_or, slice_index, Bool}
 use Rattle.std.specs.Prelude.{Option}
 use Rattle.std.specs.Prelude.{Some, None}
 use Rattle.std.specs.List.{list_all, flat_map, enumerate_from}
 use Rattle.std.specs.Str.Lines.{strip_carriage_return}
+use Rattle.giv_files.specs.declared.text_row.LineRead.{LineRead}
+use Rattle.giv_files.specs.declared.text_row.LineRead.TheVariants as line
+use Rattle.giv_files.specs.declared.text_row.Stands.{Stands}
+use Rattle.giv_files.specs.declared.text_row.Stands.TheVariants as stands
 use Rattle.giv_files.specs.Rows.{Row, is_blank, before_comment, has_byte, cleaned, pieces}
 
 -- a line that has a row: its number, and what stands before a comment
@@ -28,24 +33,58 @@ told_left number parts =
 abbrev pub row_told : Told → Row
 row_told told = record { number = told.number; fields = cleaned (pieces told.line) }
 
--- a line, where it is too long for csv
-unfoldable pub long_line : List ℕ → Option (List ℕ)
-long_line line = if nat_lt 4096 (length line) then Some line else None
-
--- a line, and an empty one in the place of one that is too long
-unfoldable pub short_line : List ℕ → List ℕ
-short_line line = if nat_lt 4096 (length line) then [] else line
-
--- what csv is given of a line
-abbrev pub handed : Told → Told
-handed told = record { number = told.number; line = short_line told.line }
-
--- the pieces of a line: its own where it is too long, and else those that csv gives
-abbrev pub pieces_of : Option (List ℕ) → List (List ℕ) → List (List ℕ)
-pieces_of None parts = parts
-pieces_of (Some line) parts = pieces line
-
 -- how much is left of a text, with one for its end
 abbrev pub left_size : Option (List ℕ) → ℕ
 left_size None = 0
 left_size (Some text) = length text + 1
+
+-- a line has a comment, or it is too long for csv
+unfoldable pub is_odd : List ℕ → Bool
+is_odd line = nat_le 4096 (length line) || nat_lt (length (before_comment line)) (length line)
+
+-- what csv is given of a line: the line, or the sign of a comment alone
+unfoldable pub handed : List ℕ → List ℕ
+handed line = if is_odd line then 35 ∷ [] else line
+
+-- pieces of which the last has no carriage return at its end
+unfoldable pub unreturned : List (List ℕ) → List (List ℕ)
+unreturned [] = []
+unreturned (piece ∷ []) = strip_carriage_return piece ∷ []
+unreturned (piece ∷ next ∷ more) = piece ∷ unreturned (next ∷ more)
+
+-- the pieces of a row: those that csv gives, those without a carriage return, or those of a line
+-- that is at hand
+abbrev pub pieces_of : Stands → List (List ℕ) → List (List ℕ)
+pieces_of stands.Apart parts = parts
+pieces_of stands.Returned parts = unreturned parts
+pieces_of (stands.Told line) parts = pieces line.now
+
+-- the last byte of a piece is a carriage return
+abbrev pub returns : List ℕ → Bool
+returns piece = slice_index piece (length piece - 1) == 13
+
+-- the lines of a text that have a byte: those that were read of late, and those that are left
+pub record LinesRead : Type 0 where
+  pub passed : List (List ℕ)
+  pub left : List (List ℕ)
+
+-- the line that was read last
+abbrev pub last_line : LinesRead → List ℕ
+last_line read = get_or read.passed (length read.passed - 1) []
+
+-- reading the pieces of what csv is given of the next line
+pub record TakesLine (old new : LinesRead) (found : List (List ℕ)) : Type 0 where
+  pub left : old.left ≡ last_line new ∷ new.left
+  pub pieces : found ≡ pieces (handed (last_line new))
+  pub passed : new.passed ≡ old.passed ++ last_line new ∷ []
+
+-- what a line that was read is, of those that were left after so many that were numbered: a row,
+-- or one that is passed over, with how many are numbered then, or nothing was left
+abbrev pub LineGives : ℕ → List (List ℕ) → List (List ℕ) → Row → LineRead → Type 0
+LineGives number left more row line.Row =
+    (map row_told (told_left number left) ≡ row ∷ map row_told (told_left (number + 1) more))
+    × (length left ≡ length more + 1)
+LineGives number left more row (line.Passed now) =
+    (told_left number left ≡ told_left now more) × (now ≤ number + 1)
+    × (length left ≡ length more + 1)
+LineGives number left more row line.Nothing = left ≡ []

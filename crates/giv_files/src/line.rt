@@ -7,29 +7,10 @@ ghost use Rattle.std.specs.Str.Lines.{strip_carriage_return};
 ghost use Rattle.giv_files.specs.Rows.{is_blank, parts_left, parts_of, without_blanks};
 ghost use Rattle.giv_files.specs.Rows.{without_quotes, before_comment};
 
-use crate::find::{place_of_byte, place_of_either};
+use crate::find::place_of_byte;
 
-/// The first part of a text, up to a line feed, what comes after it where there is one, and whether
-/// it is sure that the part has no comment.
-pub(crate) fn first_part(text: &[u8]) -> (&[u8], Option<&[u8]>, bool)
-    ensures parts { parts_of text.now ≡ result.0.now ∷ parts_left (option_copied result.1) }
-    ensures plain { All (λ byte. byte ≢ 10) result.0.now }
-    ensures shorter { IfSome result.1 (λ rest. length rest.now < length text.now) }
-    ensures bare { result.2 ≡ true → All (λ byte. byte ≢ 35) result.0.now }
-{
-    let end = place_of_either(text, b'\n', b'#');
-    if end == text.len() {
-        (text, None, true)
-    } else if text[end] == b'\n' {
-        (&text[..end], Some(&text[end + 1..]), true)
-    } else {
-        let (part, rest) = any_part(text);
-        (part, rest, false)
-    }
-}
-
-// The first part of a text, and what comes after it, where the part may have a comment.
-fn any_part(text: &[u8]) -> (&[u8], Option<&[u8]>)
+/// The first part of a text, up to a line feed, and what comes after it where there is one.
+pub(crate) fn first_part(text: &[u8]) -> (&[u8], Option<&[u8]>)
     ensures parts { parts_of text.now ≡ result.0.now ∷ parts_left (option_copied result.1) }
     ensures plain { All (λ byte. byte ≢ 10) result.0.now }
     ensures shorter { IfSome result.1 (λ rest. length rest.now < length text.now) }
@@ -99,6 +80,13 @@ pub(crate) fn without_blanks(field: &[u8]) -> &[u8]
 {
     let front = behind_blanks(field);
     &front[..front.len() - blanks_after(front)]
+}
+
+/// Whether a field has no byte but blanks.
+pub(crate) fn is_empty_field(field: &[u8]) -> bool
+    ensures { result ≡ (length (without_blanks field.now) == 0) }
+{
+    behind_blanks(field).is_empty()
 }
 
 // The field without the blanks in front.

@@ -1,35 +1,48 @@
 // A row of a text, with its fields as they are written.
-ghost use Rattle.std.specs.Prelude.{◌≡◌, ◌<◌, ◌≢◌, ◌∷◌, [], List, All, IfSome, Ok, OnOk, length, ℕ};
+ghost use Rattle.std.specs.Prelude.{◌≡◌, ◌+◌, ◌<◌, ◌≤◌, ◌^◌, ◌∷◌, [], IfOk, IfSome, List, Ok, length, ℕ};
 ghost use Rattle.std.specs.Prelude.{slice_index_or};
-ghost use Rattle.std.specs.Option.{option_copied};
 ghost use Rattle.csv.specs.Records.{fields_of};
-ghost use Rattle.giv_files.specs.Reading.{cell_of};
 ghost use Rattle.giv_files.specs.Rows.{cleaned};
-ghost use Rattle.giv_files.specs.Told.{Told, handed, long_line, pieces_of, row_told};
-ghost use Rattle.giv_files.specs.Spaced.{StandsBefore};
+ghost use Rattle.giv_files.specs.Told.{LineGives, pieces_of, returns, unreturned};
 
-use crate::column::ColumnKind;
-use crate::line::{without_blanks, without_quotes};
-use crate::long_line::{count_pieces, piece_at};
-use crate::pieces::next_pieces;
-use crate::plain_cell::plain_cell;
-use crate::spaced::Spaced;
-use csv::{ByteRecord, Reader};
+use crate::line::{
+    before_comment, has_row, is_empty_field, without_blanks, without_quotes, without_return,
+};
+use crate::line_pieces::{count_pieces, piece_at};
+use crate::line_reader::LineReader;
+use csv::ByteRecord;
 use plan_num::NoMemory;
 use std::alloc::Global;
 use std::marker::Model;
 
 /// A row of a text, which is read in the place of the row before it. Contracts see it as its number
-/// and the list of its fields. The row of a long line takes no memory.
+/// and the list of its fields. A line with a comment, and a long one, is looked up where it stands.
 #[derive(Drop)]
 pub struct TextRow<'a> {
     number: u64,
-    long: Option<&'a [u8]>,
+    stands: Stands<'a>,
     pieces: ByteRecord,
 }
 
+// Where the pieces of a row stand: as csv gives them, the last one perhaps with a carriage return at
+// its end, or in what stands before a comment in a line.
+#[derive(Clone, Copy)]
+enum Stands<'a> {
+    Apart,
+    Returned,
+    Told(&'a [u8]),
+}
+
+/// What a line that was read is: a row, or passed over, with how many lines are numbered then, or
+/// there was none.
+#[derive(Clone, Copy)]
+pub(crate) enum LineRead {
+    Row,
+    Passed(u64),
+    Nothing,
+}
+
 impl<'a> Model for TextRow<'a> {
-    ghost use Rattle.std.specs.Option.{option_copied};
     ghost use Rattle.csv.specs.Records.{fields_of};
     ghost use Rattle.giv_files.specs.Rows.{Row, cleaned};
     ghost use Rattle.giv_files.specs.Told.{pieces_of};
@@ -38,7 +51,7 @@ impl<'a> Model for TextRow<'a> {
 
     ghost view = { λ row. record {
       number = row.number;
-      fields = cleaned (pieces_of (option_copied row.long) (fields_of row.pieces));
+      fields = cleaned (pieces_of row.stands (fields_of row.pieces));
     } };
 }
 
@@ -50,7 +63,7 @@ impl<'a> TextRow<'a> {
     {
         TextRow {
             number: 0,
-            long: None,
+            stands: Stands::Apart,
             pieces: ByteRecord::new(alloc),
         }
     }
@@ -66,7 +79,7 @@ impl<'a> TextRow<'a> {
     pub fn len(&self) -> usize
         ensures { result ≡ length self.now.fields }
     {
-        cleaned_count(self.long, &self.pieces)
+        cleaned_count(&self.stands, &self.pieces)
     }
 
     /// The field at a place.
@@ -74,70 +87,126 @@ impl<'a> TextRow<'a> {
         requires { index < length self.now.fields }
         ensures { result.now ≡ slice_index_or self.now.fields index [] }
     {
-        without_quotes(without_blanks(piece(self.long, &self.pieces, index)))
+        without_quotes(without_blanks(piece(&self.stands, &self.pieces, index)))
     }
 
-    /// The cell of the field at a place, where it is plain.
-    #[inline(always)]
-    pub(crate) fn plain_cell(&self, kind: &ColumnKind, index: usize) -> Option<i64>
-        requires { index < length self.now.fields }
-        ensures { (column : ℕ) → IfSome result
-            (λ cell. cell_of kind.now column (slice_index_or self.now.fields index []) ≡ Ok cell) }
+    /// The pieces of which its fields are made, where they stand as csv gives them.
+    pub(crate) fn apart(&self) -> Option<&ByteRecord>
+        ensures { IfSome result (λ pieces. self.now.fields ≡ cleaned (fields_of pieces.now)) }
     {
-        plain_cell(kind, piece(self.long, &self.pieces, index))
+        match self.stands {
+            Stands::Apart => Some(&self.pieces),
+            _ => None,
+        }
     }
 
-    /// Reads the row of the next line, which has this number, and of which this stands before a
-    /// comment where that is long.
-    pub(crate) fn read(
+    /// Reads the next line after so many that were numbered, and its row in the place of the row
+    /// before, where it has one.
+    pub(crate) fn read_line(
         &mut self,
         number: u64,
-        long: Option<&'a [u8]>,
-        reader: &mut Reader<Spaced<'_>>,
-    ) -> Result<(), NoMemory>
-        ensures read { (told : Told) (more : List Told)
-            → StandsBefore reader.old (handed told ∷ more)
-            → All (λ byte. byte ≢ 10) told.line → told.number ≡ number
-            → option_copied long.entry ≡ long_line told.line
-            → OnOk result (self.new ≡ row_told told) }
-        ensures stands { (told : Told) (more : List Told)
-            → StandsBefore reader.old (handed told ∷ more)
-            → All (λ byte. byte ≢ 10) told.line → StandsBefore reader.new more }
+        lines: &mut LineReader<'a>,
+    ) -> Result<LineRead, NoMemory>
+        requires { number + length lines.old.left < 2 ^ 64 }
+        ensures gives { IfOk result (LineGives number lines.old.left lines.new.left self.new) }
+        ensures less { length lines.new.left ≤ length lines.old.left }
     {
-        self.number = number;
-        self.long = long;
-        next_pieces(reader, &mut self.pieces)
+        if !lines.next(&mut self.pieces)? {
+            return Ok(LineRead::Nothing);
+        }
+        if self.pieces.len() >= 2 {
+            self.number = number + 1;
+            self.stands = standing(&self.pieces);
+            return Ok(LineRead::Row);
+        }
+        Ok(self.take_line(number, lines.last()))
+    }
+
+    // Takes a line as it stands.
+    #[inline(never)]
+    fn take_line(&mut self, number: u64, line: &'a [u8]) -> LineRead
+        requires { number + 1 < 2 ^ 64 }
+        ensures { (more : List (List ℕ)) → LineGives number (line.now ∷ more) more self.new result }
+    {
+        let line = without_return(line);
+        if line.is_empty() {
+            return LineRead::Passed(number);
+        }
+        if !has_row(line) {
+            return LineRead::Passed(number + 1);
+        }
+        self.number = number + 1;
+        self.stands = Stands::Told(before_comment(line));
+        LineRead::Row
     }
 }
 
-// The piece at a place.
-fn piece<'a>(long: Option<&'a [u8]>, pieces: &'a ByteRecord, index: usize) -> &'a [u8]
-    ensures { result.now
-        ≡ slice_index_or (pieces_of (option_copied long.entry) (fields_of pieces.now)) index [] }
+// How the pieces of a row stand that are read by csv.
+fn standing<'a>(pieces: &ByteRecord) -> Stands<'a>
+    requires { 2 ≤ length (fields_of pieces.now) }
+    ensures { pieces_of result (fields_of pieces.now) ≡ unreturned (fields_of pieces.now) }
 {
-    match long {
-        None => pieces.get(index).unwrap_or(&[]),
-        Some(line) => piece_at(line, index),
+    if returns(pieces.get(pieces.len() - 1).unwrap_or(&[])) {
+        Stands::Returned
+    } else {
+        Stands::Apart
+    }
+}
+
+// Whether the last byte of a piece is a carriage return.
+fn returns(piece: &[u8]) -> bool
+    ensures { result ≡ returns piece.now }
+{
+    matches!(piece, [.., b'\r'])
+}
+
+// The piece at a place.
+fn piece<'a>(stands: &Stands<'a>, pieces: &'a ByteRecord, index: usize) -> &'a [u8]
+    ensures { result.now
+        ≡ slice_index_or (pieces_of stands.now (fields_of pieces.now)) index [] }
+{
+    match stands {
+        Stands::Apart => pieces.get(index).unwrap_or(&[]),
+        Stands::Returned => returned_piece(pieces, index),
+        Stands::Told(line) => piece_at(line, index),
+    }
+}
+
+// The piece at a place, where a carriage return ends the last.
+fn returned_piece(pieces: &ByteRecord, index: usize) -> &[u8]
+    ensures { result.now ≡ slice_index_or (unreturned (fields_of pieces.now)) index [] }
+{
+    match pieces.get(index) {
+        None => &[],
+        Some(piece) => {
+            if index + 1 == pieces.len() {
+                without_return(piece)
+            } else {
+                piece
+            }
+        }
     }
 }
 
 // How many pieces there are.
-fn piece_count(long: Option<&[u8]>, pieces: &ByteRecord) -> usize
-    ensures { result ≡ length (pieces_of (option_copied long.entry) (fields_of pieces.now)) }
+#[tactic(auto, using(crate::proofs::PlainRows::length_unreturned))]
+fn piece_count(stands: &Stands<'_>, pieces: &ByteRecord) -> usize
+    ensures { result ≡ length (pieces_of stands.now (fields_of pieces.now)) }
 {
-    match long {
-        None => pieces.len(),
-        Some(line) => count_pieces(line),
+    match stands {
+        Stands::Apart => pieces.len(),
+        Stands::Returned => pieces.len(),
+        Stands::Told(line) => count_pieces(line),
     }
 }
 
 // How many fields there are, without a last one that is empty.
-fn cleaned_count(long: Option<&[u8]>, pieces: &ByteRecord) -> usize
+fn cleaned_count(stands: &Stands<'_>, pieces: &ByteRecord) -> usize
     ensures { result
-        ≡ length (cleaned (pieces_of (option_copied long.entry) (fields_of pieces.now))) }
+        ≡ length (cleaned (pieces_of stands.now (fields_of pieces.now))) }
 {
-    let count = piece_count(long, pieces);
-    if count >= 2 && without_blanks(piece(long, pieces, count - 1)).is_empty() {
+    let count = piece_count(stands, pieces);
+    if count >= 2 && is_empty_field(piece(stands, pieces, count - 1)) {
         count - 1
     } else {
         count

@@ -2,14 +2,10 @@
 ghost use Rattle.std.specs.Prelude.{◌≡◌, ◌∷◌, [], IfOk, MatchBool};
 ghost use Rattle.giv_files.specs.Reading.{RowsGive};
 
-use crate::long_line::long_line;
-use crate::pieces::pieces_reader;
+use crate::line_reader::LineReader;
 use crate::read_fault::RowFault;
-use crate::row_lines::RowLines;
 use crate::row_why::RowWhy;
-use crate::spaced::Spaced;
-use crate::text_row::TextRow;
-use csv::Reader;
+use crate::text_row::{LineRead, TextRow};
 use plan_num::NoMemory;
 use std::alloc::Global;
 use std::marker::Model;
@@ -19,22 +15,20 @@ use std::marker::Model;
 /// for each further row too, they are of no use.
 #[derive(Drop)]
 pub struct TextRows<'a> {
-    lines: RowLines<'a>,
-    reader: Reader<Spaced<'a>>,
+    number: u64,
+    lines: LineReader<'a>,
 }
 
 impl<'a> Model for TextRows<'a> {
-    ghost use Rattle.std.specs.Prelude.{List, map};
+    ghost use Rattle.std.specs.Prelude.{◌+◌, ◌<◌, ◌^◌, List, length, map};
     ghost use Rattle.giv_files.specs.Rows.{Row};
+    ghost use Rattle.giv_files.specs.Told.{row_told, told_left};
 
     ghost Value = { List Row };
 
-    ghost use Rattle.giv_files.specs.Told.{handed, row_told};
-    ghost use Rattle.giv_files.specs.Spaced.{StandsBefore};
+    ghost view = { λ rows. map row_told (told_left rows.number rows.lines.left) };
 
-    ghost view = { λ rows. map row_told rows.lines };
-
-    ghost invariant = { λ rows. StandsBefore rows.reader (map handed rows.lines) };
+    ghost invariant = { λ rows. rows.number + length rows.lines.left < 2 ^ 64 };
 }
 
 impl<'a> TextRows<'a> {
@@ -47,8 +41,8 @@ impl<'a> TextRows<'a> {
             return Err(RowFault { row: 1, why });
         }
         Ok(TextRows {
-            lines: RowLines::new(text),
-            reader: pieces_reader(alloc, text),
+            number: 0,
+            lines: LineReader::new(alloc, text),
         })
     }
 
@@ -57,11 +51,14 @@ impl<'a> TextRows<'a> {
         ensures { IfOk result (λ found.
             MatchBool found (self.old ≡ row.new ∷ self.new) (self.old ≡ [])) }
     {
-        match self.lines.next() {
-            None => Ok(false),
-            Some(line) => {
-                row.read(line.number, long_line(line.told), &mut self.reader)?;
-                Ok(true)
+        'lines: loop {
+            match row.read_line(self.number, &mut self.lines)? {
+                LineRead::Row => {
+                    self.number += 1;
+                    return Ok(true);
+                }
+                LineRead::Passed(number) => self.number = number,
+                LineRead::Nothing => return Ok(false),
             }
         }
     }

@@ -1,30 +1,14 @@
-use Rattle.std.proofs.Common.{arith}
-use Rattle.giv_files.proofs.Lines.{bare_whole, bare_first}
+use Rattle.giv_files.proofs.Lines.{one_part, first_of_parts}
 use Rattle.giv_files.proofs.line.first_part.Goals as goal
 
-pub returns-then-end-text-clause-parts : goal.returns-then-end-text-clause-parts
-returns-then-end-text-clause-parts c =
-    (bare_whole c.args.text.now _ c.place_of_either-end.ensures.place c.if-end-text.true).0
+pub returns-in-None-clause-parts : goal.returns-in-None-clause-parts
+returns-in-None-clause-parts c = (one_part c.args.text.now c.in-None.ensures).0
 
-pub returns-then-end-text-clause-plain : goal.returns-then-end-text-clause-plain
-returns-then-end-text-clause-plain c =
-    (bare_whole c.args.text.now _ c.place_of_either-end.ensures.place c.if-end-text.true).1
+pub returns-in-None-clause-plain : goal.returns-in-None-clause-plain
+returns-in-None-clause-plain c = (one_part c.args.text.now c.in-None.ensures).1
 
-pub returns-then-end-text-clause-bare : goal.returns-then-end-text-clause-bare
-returns-then-end-text-clause-bare c bare =
-    (bare_whole c.args.text.now _ c.place_of_either-end.ensures.place c.if-end-text.true).2
+pub returns-in-Some-clause-parts : goal.returns-in-Some-clause-parts
+returns-in-Some-clause-parts c = (first_of_parts c.args.text.now c.in-Some.end c.in-Some.ensures).0
 
-pub returns-then-text-end-eq10-clause-parts : goal.returns-then-text-end-eq10-clause-parts
-returns-then-text-end-eq10-clause-parts c =
-    (bare_first c.args.text.now _ c.place_of_either-end.ensures.place (omega arith)
-    c.if-text-end-eq10.true).0
-
-pub returns-then-text-end-eq10-clause-plain : goal.returns-then-text-end-eq10-clause-plain
-returns-then-text-end-eq10-clause-plain c =
-    (bare_first c.args.text.now _ c.place_of_either-end.ensures.place (omega arith)
-    c.if-text-end-eq10.true).1
-
-pub returns-then-text-end-eq10-clause-bare : goal.returns-then-text-end-eq10-clause-bare
-returns-then-text-end-eq10-clause-bare c bare =
-    (bare_first c.args.text.now _ c.place_of_either-end.ensures.place (omega arith)
-    c.if-text-end-eq10.true).2
+pub returns-in-Some-clause-plain : goal.returns-in-Some-clause-plain
+returns-in-Some-clause-plain c = (first_of_parts c.args.text.now c.in-Some.end c.in-Some.ensures).1

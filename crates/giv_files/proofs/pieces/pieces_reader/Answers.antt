@@ -1,11 +1,14 @@
-use Rattle.std.proofs.Common.{◌∙◌, List, ℕ, Some, inr, refl, ap}
+use Rattle.std.proofs.Common.{◌∙◌, List, ℕ, Some, inr, refl, ap, [], ◌∷◌, map}
 use Rattle.std.specs.Option.{option_map}
 use Rattle.csv.specs.Reading.{strip_bom}
+use Rattle.giv_files.specs.Rows.{parts_of}
+use Rattle.giv_files.specs.Told.{handed}
+use Rattle.giv_files.proofs.FedFacts.{lines_handed}
 use Rattle.giv_files.proofs.SplitFacts.{no_mark_first}
 use Rattle.giv_files.proofs.pieces.pieces_reader.Goals as goal
 
 pub returns : goal.returns
-returns c fine =
+returns c =
     let made = c.from_reader.ensures in
     record {
       config = made.config ∙ rw (
@@ -34,6 +37,9 @@ returns c fine =
         ) refl,
         made.headers,
       ));
+      fine = made.fresh;
+      parts = [] ∷ map handed (parts_of c.args.text.now);
+      are = lines_handed c.args.text.now;
       source = made.source ∙ ap (option_map strip_bom) c.new-2.ensures
           ∙ ap (λ (bytes : List ℕ). Some bytes) (no_mark_first _);
     }

@@ -4,7 +4,7 @@ use Rattle.giv_files.proofs.row_cells.push_cells.Goals as goal
 
 pub returns-then-done-kinds-clause-gives : goal.returns-then-done-kinds-clause-gives
 returns-then-done-kinds-clause-gives c =
-    cells_joined _ _ _ _ c.push_plain.new.cells.items _ c.push_rest.result
+    cells_joined _ _ _ _ c.push_front.new.cells.items _ c.push_rest.result
     c.in_ok-done.ensures.left.0 c.in_ok-done.ensures.left.1 c.push_rest.ensures.gives
 
 pub returns-else-done-kinds-clause-gives : goal.returns-else-done-kinds-clause-gives

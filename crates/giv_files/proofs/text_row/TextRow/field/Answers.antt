@@ -2,13 +2,12 @@ use Rattle.std.proofs.Common.{◌<◌, length, ap, ◌∙◌, sym, refl}
 use Rattle.csv.specs.Records.{fields_of}
 use Rattle.giv_files.specs.Rows.{without_quotes, without_blanks, cleaned}
 use Rattle.giv_files.specs.Told.{pieces_of}
-use Rattle.std.specs.Option.{option_copied}
 use Rattle.giv_files.proofs.FieldFacts.{get_cleaned}
 use Rattle.giv_files.proofs.text_row.TextRow.field.Goals as goal
 
 pub returns : goal.returns
 returns c =
-    let pieces = pieces_of (option_copied c.self.inside.long) (fields_of c.self.inside.pieces) in
+    let pieces = pieces_of c.self.inside.stands (fields_of c.self.inside.pieces) in
     let within : c.args.index < length (cleaned pieces) = rw (← c.self.view_is) at c.requires in
     c.without_quotes.ensures ∙ ap without_quotes
     (c.without_blanks.ensures ∙ ap without_blanks c.piece.ensures)
