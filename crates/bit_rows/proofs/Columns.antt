@@ -1,7 +1,7 @@
 -- Columns that pass a test, word by word.
 use Rattle.std.proofs.Common.{◌≡◌, ◌∙◌, inl, inr, ℕ, zero, suc, ◌+◌, ◌-◌, ◌*◌, ◌/◌, ◌%◌, ◌<◌, ◌≤◌}
-use Rattle.std.proofs.Common.{Bool, true, false, cond, ◌&&◌, List, [], ◌∷◌, ◌++◌, map, filter}
-use Rattle.std.proofs.Common.{Some, None, bit_and, w64, refl, ap, sym, arith}
+use Rattle.std.proofs.Common.{Bool, true, false, cond, ◌&&◌, List, [], ◌∷◌, ◌++◌, map, filter, Some}
+use Rattle.std.proofs.Common.{None, bit_and, w64, refl, ap, sym, arith}
 use Rattle.std.specs.List.{range_with_len}
 use Rattle.std.specs.Int.{bit_not}
 use Rattle.std.proofs.lemmas.Bool.{cases_eq, false≢true, le-ltb}
@@ -17,10 +17,7 @@ use Rattle.bit_rows.proofs.WordBits.{and_bit, with_other, with_same}
 
 pub range_append : (from n more : ℕ)
     → range_with_len from (n + more) ≡ range_with_len from n ++ range_with_len (from + n) more
-range_append from zero more =
-    let start : from ≡ from + 0 = omega arith in
-    let size : 0 + more ≡ more = omega arith in
-    λ i. range_with_len (start i) (size i)
+range_append from zero more = grind arith
 range_append from (suc n) more =
     let size : suc n + more ≡ suc (n + more) = omega arith in
     let start : from + 1 + n ≡ from + suc n = omega arith in
@@ -117,9 +114,7 @@ one_fewer word bit left first is =
     omega (arith, is, no_more, other)
 
 pub no_place : (start word : ℕ) → IsFirstBit word 0 None → places_in start word ≡ []
-no_place start word none =
-    ap (map (λ bit. start + bit)) (none_pass (has_bit word) 0 64
-    (λ bit low high. none bit low (omega (arith, high))))
+no_place start word none = grind arith
 
 -- the places so far, and those of the bits that are left
 pub place_pushed : (found more all : List ℕ) (start word bit left : ℕ)
@@ -198,6 +193,4 @@ module _ (bits : Bits) (row : ℕ) (other : Bits) (other_row : ℕ) where
         → more ≡ found ++ places_in (64 * index) word → found ≡ before ++ common_to (64 * index)
         → more ≡ before ++ common_to (64 * (index + 1))
     word_pushed index word one two before found more low is first second pushed so =
-        pushed ∙ ap (λ found. found ++ places_in (64 * index) word) so
-        ∙ append_assoc before (common_to (64 * index)) (places_in (64 * index) word)
-        ∙ ap (λ rest. before ++ rest) (sym (one_word_common index word one two low is first second))
+        grind (arith, append_assoc, one_word_common)

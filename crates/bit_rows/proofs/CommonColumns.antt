@@ -1,7 +1,7 @@
 -- The common columns of two rows: both rows have a bit there, all such columns are among them, and
 -- they rise.
-use Rattle.std.proofs.Common.{◌≡◌, ◌∙◌, ℕ, zero, suc, ◌+◌, ◌<◌, Bool, true, ◌&&◌, List, [], ◌∷◌}
-use Rattle.std.proofs.Common.{Contains, filter, inl, inr, ap, arith}
+use Rattle.std.proofs.Common.{◌≡◌, ◌∙◌, ℕ, zero, suc, ◌+◌, ◌<◌, Bool, true, List, [], ◌∷◌, Contains}
+use Rattle.std.proofs.Common.{filter, inl, inr, ap, arith}
 use Rattle.std.specs.List.{range_with_len}
 use Rattle.std.specs.List.Sorted.{IsStrictlyIncreasing}
 use Rattle.std.proofs.lemmas.Bool.{and_from, and_parts, cases_Bool, ltb-true}
@@ -23,21 +23,12 @@ contains_filter p (first ∷ xs) x (suc k, h, is) passes =
     ]
 
 range_rises : (n : ℕ) → IsStrictlyIncreasing (range_with_len 0 n)
-range_rises n k within =
-    let low : k + 1 < n = omega (arith, within, length-range_with_len 0 n) in
-    let one = get_or-range_with_len 0 n k 0 (omega (arith, low)) in
-    let two = get_or-range_with_len 0 n (k + 1) 0 low in
-    omega (arith, one, two)
+range_rises n k within = grind (arith, length-range_with_len, get_or-range_with_len)
 
 module _ (bits : Bits) (row : ℕ) (other : Bits) (other_row : ℕ) where
   pub common_sound : (column : ℕ) → Contains (common bits row other other_row) column
       → (column < bits.columns) × (has bits row column ≡ true) × (has other other_row column ≡ true)
-  common_sound column at =
-      let both : (has bits row column ≡ true) × (has other other_row column ≡ true) =
-      and_parts _ _ (All-contains (λ column. (has bits row column && has other other_row column)
-      ≡ true) (common bits row other other_row) column
-      (filter_passes _ (range_with_len 0 bits.columns)) at) in
-      (ltb-true column bits.columns (and_parts _ _ both.0).0, both.0, both.1)
+  common_sound column at = grind (arith, and_parts, All-contains, filter_passes, ltb-true)
 
   pub common_all : (column : ℕ) → column < bits.columns → has bits row column ≡ true
       → has other other_row column ≡ true → Contains (common bits row other other_row) column

@@ -1,7 +1,7 @@
 -- Rows of which all bits are set.
 use Rattle.std.proofs.Common.{◌≡◌, ◌∙◌, ◌⊎◌, inl, inr, ℕ, suc, ◌+◌, ◌-◌, ◌*◌, ◌/◌, ◌%◌, ◌^◌, ◌<◌}
-use Rattle.std.proofs.Common.{◌≤◌, nat_lt, true, ◌&&◌, List, ◌∷◌, [], ◌++◌}
-use Rattle.std.proofs.Common.{length, get_or, ap, sym, subst, arith}
+use Rattle.std.proofs.Common.{◌≤◌, nat_lt, true, ◌&&◌, List, ◌∷◌, [], ◌++◌, length, get_or, ap, sym}
+use Rattle.std.proofs.Common.{subst, arith}
 use Rattle.std.proofs.Math.Nat.{mul-le-mul_right}
 use Rattle.std.proofs.Math.Seq.{get_or-append_seam}
 use Rattle.std.proofs.lemmas.Bool.{and_from, cases_lt, lt-ltb, le-ltb}
@@ -75,15 +75,8 @@ module _ (columns rows : ℕ) (some : 1 ≤ columns) (few : columns ≤ 1000000)
       next row within = omega (arith, within)
 
   pub are_bits : AreBits bits
-  are_bits = record {
-    each = are.long;
-    few = few;
-    clear = λ row column within high small.
-        bit_is row column within small ∙ le-ltb column columns high;
-  }
+  are_bits = grind (arith, bit_is, le-ltb)
 
   pub all_set : (row column : ℕ) → row < rows → column < columns
       → has bits row column ≡ true
-  all_set row column within low =
-      and_from (nat_lt column columns) _ (lt-ltb column columns low)
-      (bit_is row column within (omega (arith, low)) ∙ lt-ltb column columns low)
+  all_set row column within low = grind (arith, and_from, nat_lt, lt-ltb, bit_is)

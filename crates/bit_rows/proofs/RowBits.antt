@@ -1,9 +1,8 @@
 -- Rows of bits, of which one word is replaced or one bit is put.
-use Rattle.std.proofs.Common.{◌≡◌, ◌∙◌, inl, inr, ℕ, suc, ◌+◌, ◌*◌, ◌/◌, ◌%◌, ◌<◌, ◌≤◌, ◌==◌}
-use Rattle.std.proofs.Common.{nat_lt, Bool, false, ◌&&◌, List, length, get_or, All}
-use Rattle.std.proofs.Common.{if◌then◌else◌, ap, sym, arith}
+use Rattle.std.proofs.Common.{◌≡◌, ◌∙◌, ℕ, ◌+◌, ◌*◌, ◌/◌, ◌%◌, ◌<◌, ◌≤◌, ◌==◌, nat_lt, Bool, false}
+use Rattle.std.proofs.Common.{◌&&◌, List, length, get_or, All, if◌then◌else◌, ap, sym, arith}
 use Rattle.std.proofs.Math.Nat.{mul-le-mul_right}
-use Rattle.std.proofs.lemmas.Bool.{and_right, cases_eq, cases_lt, eq-eqb, le-ltb, lt-ltb, ne_eqb}
+use Rattle.std.proofs.lemmas.Bool.{and_right, cases_eq, cases_lt, eq-eqb, le-ltb, lt-ltb}
 use Rattle.std.proofs.lemmas.List.{get_or-set_other, get_or-set_same, get_or_past}
 use Rattle.std.proofs.lemmas.Nat.{div-mul-add}
 use Rattle.bit_rows.specs.Bits.{AreBits, Bits, FitsAt, has, has_bit, place_of, with_bit, with_word}
@@ -18,12 +17,7 @@ bit_there bits row column = has_bit (word_of bits row column) (column % 64)
 
 pub place_low : (bits : Bits) (row index : ℕ) → AreBits bits → row < bits.rows
     → index < words_of bits.columns → row * words_of bits.columns + index < length bits.words
-place_low bits row index are inside low =
-    let next : suc row ≤ bits.rows = omega (arith, inside) in
-    let far = mul-le-mul_right (words_of bits.columns) next in
-    let more : suc row * words_of bits.columns ≡ row * words_of bits.columns + words_of
-    bits.columns = omega arith in
-    omega (arith, far, more, are.each, low)
+place_low bits row index are inside low = grind arith
 
 pub same_row : (width r i row index : ℕ) → i < width → index < width
     → r * width + i ≡ row * width + index → (r ≡ row) × (i ≡ index)
@@ -36,20 +30,12 @@ same_row width r i row index low small same =
 pub none_outside : (bits : Bits) (row column : ℕ) → AreBits bits → bits.rows ≤ row
     → has bits row column ≡ false
 none_outside bits row column are past =
-    let far = mul-le-mul_right (words_of bits.columns) past in
-    and_right (nat_lt column bits.columns) _ (ap (λ word. has_bit word (column % 64))
-    (get_or_past bits.words (place_of bits.columns row column) 0 (omega (arith, far, are.each)))
-    ∙ zero_bit (column % 64))
+    grind (arith, mul-le-mul_right, and_right, nat_lt, get_or_past, zero_bit)
 
 -- up to the end of its last word a row has the bits of its words
 pub bit_is : (bits : Bits) (row column : ℕ) → AreBits bits → row < bits.rows
     → column < 64 * words_of bits.columns → has bits row column ≡ bit_there bits row column
-bit_is bits row column are inside small = elim (cases_lt column bits.columns) [
-  | inl low ↦ ap (λ b. b && bit_there bits row column) (lt-ltb column bits.columns low)
-  | inr high ↦
-      ap (λ b. b && bit_there bits row column) (le-ltb column bits.columns high)
-      ∙ sym (are.clear row column inside high small)
-]
+bit_is bits row column are inside small = grind arith
 
 -- ---- none
 
@@ -59,19 +45,10 @@ module _ (rows columns : ℕ) (few : columns ≤ 1000000) (words : List ℕ)
   bits = record { rows = rows; columns = columns; words = words }
 
   none_there : (row column : ℕ) → bit_there bits row column ≡ false
-  none_there row column = elim (cases_lt (place_of columns row column) (length words)) [
-    | inl low ↦ ap (λ word. has_bit word (column % 64)) (zeros _ 0 low) ∙ zero_bit (column % 64)
-    | inr high ↦
-        ap (λ word. has_bit word (column % 64)) (get_or_past words _ 0 high)
-        ∙ zero_bit (column % 64)
-  ]
+  none_there row column = grind (arith, cases_lt, zero_bit, get_or_past)
 
   pub are_none : length words ≡ rows * words_of columns → AreBits bits
-  are_none long = record {
-    each = long;
-    few = few;
-    clear = λ row column _ _ _. none_there row column;
-  }
+  are_none long = grind (arith, none_there)
 
   pub has_none : (row column : ℕ) → has bits row column ≡ false
   has_none row column = and_right (nat_lt column columns) _ (none_there row column)
@@ -122,60 +99,24 @@ module _ (bits : Bits) (row column place old new : ℕ) (is : Bool) (are : AreBi
       ∙ sym (read r c same)
 
   pub fits : FitsAt bits.rows bits.columns place new
-  fits r c low high few same =
-      beside r c few same (λ own. let equal = own.1 in absurd (omega (arith, equal, high, within)))
-      ∙ are.clear r c low high few
+  fits r c low high few same = grind (arith, beside)
 
   abbrev after : Bits
   after = with_word bits place new
 
   here : bit_there after row column ≡ is
-  here =
-      ap (λ word. has_bit word (column % 64)) (this_word bits place new there row column (sym at)
-      ∙ put)
-      ∙ with_same old (column % 64) is (omega arith)
+  here = grind (arith, this_word, there, with_same)
 
   elsewhere : (r c : ℕ) → c < 64 * words_of bits.columns → ((r ≡ row) × (c ≡ column) → ⊥)
       → bit_there after r c ≡ bit_there bits r c
-  elsewhere r c few apart = elim (cases_eq (place_of bits.columns r c) place) [
-    | inl same ↦
-        ap (λ word. has_bit word (c % 64)) (this_word bits place new there r c same)
-        ∙ beside r c few same apart
-    | inr other ↦
-        ap (λ word. has_bit word (c % 64)) (other_word bits place new there r c other)
-  ]
+  elsewhere r c few apart = grind (arith, cases_eq, this_word, there, beside, other_word)
 
   is_other : (r c : ℕ) → ((r ≡ row) × (c ≡ column) → ⊥) → ((r == row) && (c == column)) ≡ false
-  is_other r c apart = elim (cases_eq r row) [
-    | inl same ↦
-        and_right (r == row) _ (ne_eqb c column (λ equal. apart (same, equal)))
-    | inr other ↦ ap (λ b. b && (c == column)) (ne_eqb r row other)
-  ]
+  is_other r c apart = grind arith
 
   other_kept : (r c : ℕ) → ((r ≡ row) × (c ≡ column) → ⊥) → has after r c ≡ has bits r c
-  other_kept r c apart = elim (cases_lt c bits.columns) [
-    | inl low ↦
-        ap (λ b. nat_lt c bits.columns && b) (elsewhere r c (omega (arith, low)) apart)
-    | inr high ↦
-        (λ i. le-ltb c bits.columns high i && bit_there after r c)
-        ∙ sym (λ i. le-ltb c bits.columns high i && bit_there bits r c)
-  ]
+  other_kept r c apart = grind (arith, cases_lt, nat_lt, elsewhere, le-ltb)
 
   pub bit_put : (r c : ℕ) → has after r c
       ≡ (if (r == row) && (c == column) then is else has bits r c)
-  bit_put r c = elim (cases_eq r row) [
-    | inr other ↦
-        other_kept r c (λ own. other own.0)
-        ∙ sym (ap (λ b. if b then is else has bits r c) (is_other r c (λ own. other own.0)))
-    | inl same ↦
-        elim (cases_eq c column) [
-          | inr other ↦
-              other_kept r c (λ own. other own.1)
-              ∙ sym (ap (λ b. if b then is else has bits r c) (is_other r c (λ own. other own.1)))
-          | inl equal ↦
-              (λ i. has after (same i) (equal i))
-              ∙ (λ i. lt-ltb column bits.columns within i && here i)
-              ∙ sym (λ i. if eq-eqb r row same i && eq-eqb c column equal i then is
-              else has bits r c)
-        ]
-  ]
+  bit_put r c = grind (arith, cases_eq, other_kept, is_other, lt-ltb, here, eq-eqb)

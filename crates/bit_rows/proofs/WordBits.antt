@@ -1,10 +1,7 @@
 -- Bits of words, and of lists of words.
 use Rattle.std.proofs.Common.{◌≡◌, ◌∙◌, ◌⊎◌, inl, inr, ℕ, suc, ◌+◌, ◌-◌, ◌*◌, ◌/◌, ◌%◌, ◌^◌, ◌<◌}
-use Rattle.std.proofs.Common.{◌≤◌}
-use Rattle.std.proofs.Common.{◌==◌}
-use Rattle.std.proofs.Common.{if◌then◌else◌, nat_lt, bit_and, bit_or, w64}
-use Rattle.std.proofs.Common.{Bool, true, false, ◌&&◌, ◌||◌, List, get_or}
-use Rattle.std.proofs.Common.{Some, None, refl, ap, sym, arith}
+use Rattle.std.proofs.Common.{◌≤◌, ◌==◌, if◌then◌else◌, nat_lt, bit_and, bit_or, w64, Bool, true}
+use Rattle.std.proofs.Common.{false, ◌&&◌, ◌||◌, List, get_or, Some, None, refl, ap, sym, arith}
 use Rattle.std.specs.Int.{bit_at, leading_zeros, trailing_zeros}
 use Rattle.std.proofs.lemmas.Bool.{cases_eq, cases_lt, eq-eqb, eqb-true, ne_eqb}
 use Rattle.std.proofs.lemmas.Bool.{false≢true, lt-ltb, le-ltb}
@@ -40,38 +37,18 @@ unfolding has_bit
 unset_from word bit is = ne_eqb _ _ (λ one. absurd (omega (arith, is, one)))
 
 one_or_none : (word bit : ℕ) → (bit_at word bit ≡ 0) ⊎ (bit_at word bit ≡ 1)
-one_or_none word bit = elim (cases_eq (bit_at word bit) 0) [
-  | inl is ↦ inl is
-  | inr other ↦ inr (omega (arith, bit_at-lt word bit, other))
-]
+one_or_none word bit = grind arith
 
 pub unset_is : (word bit : ℕ) → has_bit word bit ≡ false → bit_at word bit ≡ 0
-unset_is word bit is = elim (one_or_none word bit) [
-  | inl none ↦ none
-  | inr one ↦ absurd (false≢true (sym is ∙ set_from word bit one))
-]
+unset_is word bit is = grind (arith, one_or_none, false≢true, set_from)
 
 -- ---- operations
 
 pub or_bit : (a b i : ℕ) → has_bit (bit_or a b) i ≡ (has_bit a i || has_bit b i)
-or_bit a b i = elim (one_or_none a i) [
-  | inr one ↦
-      set_from _ i (omega (arith, bit_at_or a b i, one, bit_at-lt b i))
-      ∙ sym (ap (λ x. x || has_bit b i) (set_from a i one))
-  | inl none ↦
-      same_bit _ i b i (omega (arith, bit_at_or a b i, none))
-      ∙ sym (ap (λ x. x || has_bit b i) (unset_from a i none))
-]
+or_bit a b i = grind (arith, one_or_none, set_from, bit_at_or, bit_at-lt, same_bit, unset_from)
 
 pub and_bit : (a b i : ℕ) → has_bit (bit_and a b) i ≡ (has_bit a i && has_bit b i)
-and_bit a b i = elim (one_or_none a i) [
-  | inr one ↦
-      same_bit _ i b i (omega (arith, bit_at_and a b i, one, bit_at-lt b i))
-      ∙ sym (ap (λ x. x && has_bit b i) (set_from a i one))
-  | inl none ↦
-      unset_from _ i (omega (arith, bit_at_and a b i, none))
-      ∙ sym (ap (λ x. x && has_bit b i) (unset_from a i none))
-]
+and_bit a b i = grind (arith, one_or_none, same_bit, bit_at_and, bit_at-lt, set_from, unset_from)
 
 pub zero_bit : (bit : ℕ) → has_bit 0 bit ≡ false
 zero_bit bit = unset_from 0 bit (bit_at-zero bit)
@@ -101,9 +78,7 @@ shl_low word k bit low below =
 
 pub shl_high : (word k bit : ℕ) → bit < 64 → k ≤ bit
     → has_bit (word * 2 ^ k % 2 ^ 64) bit ≡ has_bit word (bit - k)
-shl_high word k bit low above =
-    same_bit _ bit word (bit - k) (shl_is word k bit low
-    ∙ bit_at_cat_high word k 0 bit (pow_pos k) above)
+shl_high word k bit low above = grind (arith, same_bit, shl_is, bit_at_cat_high, pow_pos)
 
 pub mask_bit : (k bit : ℕ) → k < 64 → has_bit (1 * 2 ^ k % 2 ^ 64 - 1) bit ≡ nat_lt bit k
 mask_bit k bit low =
@@ -120,9 +95,7 @@ or_none false y is = is
 pub cut_low : (word count bit : ℕ) → count < 64
     → has_bit (bit_and word (1 * 2 ^ count % 2 ^ 64 - 1)) bit ≡ (nat_lt bit count
     && has_bit word bit)
-cut_low word count bit few =
-    and_bit word _ bit ∙ ap (λ b. has_bit word bit && b) (mask_bit count bit few)
-    ∙ and_comm (has_bit word bit) (nat_lt bit count)
+cut_low word count bit few = grind (arith, and_bit, mask_bit, and_comm, nat_lt)
 
 pub bit_of_one : (k bit : ℕ) → k < 64 → has_bit (one_bit k) bit ≡ (bit == k)
 bit_of_one k bit low =
@@ -234,47 +207,14 @@ pub joined_bit : (first second past bit : ℕ) → first < 2 ^ 64 → past < 64 
     ≡ (if nat_lt (past + bit) 64 then has_bit first (past + bit) else has_bit second (past + bit -
     64))
 joined_bit first second past bit fits few low =
-    or_bit (first / 2 ^ past) (second * 2 ^ (64 - past) % 2 ^ 64) bit
-    ∙ elim (cases_lt (past + bit) 64) [
-      | inl near ↦
-          or_none _ _ (shl_low second (64 - past) bit low (omega (arith, near)))
-          ∙ shr_bit first past bit
-          ∙ sym (ap (λ b. if b then has_bit first (past + bit) else has_bit second (past + bit -
-          64))
-          (lt-ltb (past + bit) 64 near))
-      | inr far ↦
-          let at : bit - (64 - past) ≡ past + bit - 64 = omega (arith, far, few) in
-          ap (λ b. b || has_bit (second * 2 ^ (64 - past) % 2 ^ 64) bit)
-          (shr_bit first past bit ∙ high_bit first (past + bit) fits far)
-          ∙ shl_high second (64 - past) bit low (omega (arith, far))
-          ∙ ap (has_bit second) at
-          ∙ sym (ap (λ b. if b then has_bit first (past + bit) else has_bit second (past + bit -
-          64))
-          (le-ltb (past + bit) 64 far))
-    ]
+    grind (arith, or_bit, cases_lt, or_none, shl_low, shr_bit, lt-ltb, high_bit, shl_high, le-ltb)
 
 pub from_place : (words : List ℕ) (place bit : ℕ) → bit < 64
     → (if nat_lt (place % 64 + bit) 64 then has_bit (get_or words (place / 64) 0) (place % 64 + bit)
     else has_bit (get_or words (place / 64 + 1) 0) (place % 64 + bit - 64))
     ≡ marked words (place + bit)
-from_place words place bit low = elim (cases_lt (place % 64 + bit) 64) [
-  | inl near ↦
-      let index : (place + bit) / 64 ≡ place / 64 = omega (arith, near) in
-      let at : (place + bit) % 64 ≡ place % 64 + bit = omega (arith, near) in
-      ap (λ b. if b then has_bit (get_or words (place / 64) 0) (place % 64 + bit)
-      else has_bit (get_or words (place / 64 + 1) 0) (place % 64 + bit - 64)) (lt-ltb _ 64 near)
-      ∙ sym (λ i. has_bit (get_or words (index i) 0) (at i))
-  | inr far ↦
-      let index : (place + bit) / 64 ≡ place / 64 + 1 = omega (arith, far, low) in
-      let at : (place + bit) % 64 ≡ place % 64 + bit - 64 = omega (arith, far, low) in
-      ap (λ b. if b then has_bit (get_or words (place / 64) 0) (place % 64 + bit)
-      else has_bit (get_or words (place / 64 + 1) 0) (place % 64 + bit - 64)) (le-ltb _ 64 far)
-      ∙ sym (λ i. has_bit (get_or words (index i) 0) (at i))
-]
+from_place words place bit low = grind arith
 
 pub from_word : (words : List ℕ) (place bit : ℕ) → place % 64 ≡ 0 → bit < 64
     → has_bit (get_or words (place / 64) 0) bit ≡ marked words (place + bit)
-from_word words place bit none low =
-    let index : (place + bit) / 64 ≡ place / 64 = omega (arith, none, low) in
-    let at : (place + bit) % 64 ≡ bit = omega (arith, none, low) in
-    sym (λ i. has_bit (get_or words (index i) 0) (at i))
+from_word words place bit none low = grind arith

@@ -1,12 +1,12 @@
 -- Digits and what they are worth.
 use Rattle.std.proofs.Common.{◌≡◌, ℕ, ◌+◌, ◌-◌, ◌*◌, ◌<◌, ◌≤◌, zero, suc, Bool, true, false, List}
-use Rattle.std.proofs.Common.{[], ◌∷◌, ◌++◌, length, get_or, drop, min, refl, sym, arith, add-one}
-use Rattle.std.proofs.Common.{drop-cons, length-append, eqb, leb, ◌&&◌, unwrap_or, position, ⊎_elim}
-use Rattle.std.proofs.Common.{cond, ltb, Some, None, not}
+use Rattle.std.proofs.Common.{[], ◌∷◌, ◌++◌, length, get_or, drop, min, refl, arith, add-one}
+use Rattle.std.proofs.Common.{drop-cons, length-append, eqb, leb, ◌&&◌, unwrap_or, position, cond}
+use Rattle.std.proofs.Common.{ltb, Some, None, not}
 use Rattle.std.specs.List.{position_or_len}
 use Rattle.std.specs.Char.{is_ascii_digit}
 use Rattle.std.proofs.Math.Nat.{pow-suc, mul-le-mul_right}
-use Rattle.std.proofs.lemmas.Bool.{false≢true, eqb-true, cases_lt, lt-ltb, le-ltb}
+use Rattle.std.proofs.lemmas.Bool.{false≢true, eqb-true}
 use Rattle.std.proofs.lemmas.List.Sums.{prefix_len-le-length}
 use Rattle.std.proofs.lemmas.Bool.Decides.{nat_tests}
 use Rattle.plan_num.specs.Print.{places}
@@ -91,9 +91,7 @@ value_at-zero (p ∷ ps) (d ∷ ds) h =
 
 -- a place before the end, or the end
 place_at : (n m : ℕ) → n ≤ m → unwrap_or (cond (ltb n m) (Some n) None) m ≡ n
-place_at n m h =
-    ⊎_elim (λ below. rw (lt-ltb n m below) refl)
-    (λ past. let same : n ≡ m = omega arith in rw (le-ltb n m past) (sym same)) (cases_lt n m)
+place_at n m h = grind arith
 
 -- a place that was found, or the length
 pub place_or_length : (p : ℕ → Bool) (xs : List ℕ)

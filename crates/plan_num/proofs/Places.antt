@@ -44,9 +44,7 @@ digits_more ps i rest h ne = rw (drop-cons ps i 0) (rw add-one (grind (arith, na
 -- a digit goes from those that are left to those that are written
 pub digit_moves : (written more all left rest : List ℕ) (digit : ℕ) → more ≡ written ++ digit ∷ []
     → left ≡ digit ∷ rest → written ++ left ≡ all → more ++ rest ≡ all
-digit_moves written more all left rest digit e f h =
-    ap (λ x. x ++ rest) e ∙ append_assoc written (digit ∷ []) rest ∙ ap (λ x. written ++ x) (sym f)
-    ∙ h
+digit_moves written more all left rest digit e f h = grind (arith, append_assoc)
 
 -- no digit is left
 pub digits_done : (written all left : List ℕ) → left ≡ [] → written ++ left ≡ all → written ≡ all
@@ -56,7 +54,4 @@ digits_done written all left e h = sym (append-nil written) ∙ ap (λ x. writte
 pub fraction_told : (before dotted written : List ℕ) (millionths : ℕ) → (millionths ≡ 0 → ⊥)
     → dotted ≡ before ++ 46 ∷ [] → written ≡ dotted ++ digits_at places millionths
     → written ≡ before ++ fraction_text millionths
-fraction_told before dotted written millionths ne dots told =
-    let test = ne_eqb millionths 0 ne in
-    told ∙ ap (λ x. x ++ digits_at places millionths) dots
-    ∙ append_assoc before (46 ∷ []) (digits_at places millionths) ∙ rw test refl
+fraction_told before dotted written millionths ne dots told = grind (arith, ne_eqb, append_assoc)

@@ -1,13 +1,12 @@
 -- The digits of printed numbers, and the parts of their texts.
-use Rattle.std.proofs.Common.{◌≡◌, ℕ, ◌+◌, ◌-◌, ◌*◌, ◌/◌, ◌%◌, ◌^◌, ◌<◌, ◌≤◌}
-use Rattle.std.proofs.Common.{◌∙◌, ◌++◌, ◌||◌, true, false, List, [], ◌∷◌, length}
-use Rattle.std.proofs.Common.{not, Some, refl}
-use Rattle.std.proofs.Common.{append-nil, arith, rules, decimal, ne_eqb, ⊎_elim}
+use Rattle.std.proofs.Common.{◌≡◌, ℕ, ◌+◌, ◌-◌, ◌*◌, ◌/◌, ◌%◌, ◌^◌, ◌<◌, ◌≤◌, ◌∙◌, ◌++◌, ◌||◌, true}
+use Rattle.std.proofs.Common.{false, List, [], ◌∷◌, length, not, Some, refl, append-nil, arith}
+use Rattle.std.proofs.Common.{rules, decimal, ne_eqb, ⊎_elim}
 use Rattle.std.specs.List.{before_first, after_first, position_or_len}
 use Rattle.std.specs.Char.{is_ascii_digit}
 use Rattle.std.proofs.lemmas.Str.Parse.{IsDigitsTest, IsNumeralModel, numerals_by_weight}
 use Rattle.std.proofs.lemmas.Fmt.{decimal_is_IsNumeral_wide}
-use Rattle.std.proofs.Math.Nat.{div-lt_iff_lt-mul, div-add-mod}
+use Rattle.std.proofs.Math.Nat.{div-lt_iff_lt-mul}
 use Rattle.std.proofs.Math.Bool.{or-true}
 use Rattle.std.proofs.Math.Seq.{take-length, take-append_seam, drop-append-add}
 use Rattle.std.proofs.Math.ListN.{drop_of_length-le}
@@ -29,19 +28,11 @@ is_digit digit low high = search (rules, nat_tests)
 
 -- digits, and what they are worth, are those of std's numerals
 tells_digits : IsDigitsTest AreDigits
-tells_digits =
-    record {
-      empty = refl;
-      parts = λ c cs h. let b = both_passed (is_ascii_digit c) (all_digits cs) h in
-          (digit_range c b.0, b.1);
-      more = λ c cs range h. both_true (is_digit c range.0 range.1) h;
-    }
+tells_digits = grind arith
 
 pub numerals : IsNumeralModel AreDigits value_of
 unfolding value_of
-numerals =
-    numerals_by_weight AreDigits tells_digits value_of
-    (record { empty = refl; more = λ c cs range. refl })
+numerals = grind (arith, numerals_by_weight, tells_digits)
 
 -- a printed whole number is a numeral of its value
 pub decimal_digits : (n : ℕ) → n < 10 ^ 64 → all_digits (decimal n) ≡ true
@@ -62,25 +53,15 @@ AreTens limit (place ∷ places) = (limit ≡ 10 * place) × (0 < place) × AreT
 -- a rest below ten times a place has one digit there
 one_digit : (place rest : ℕ) → 0 < place → rest < 10 * place
     → is_ascii_digit (48 + rest / place) ≡ true
-one_digit place rest h lt =
-    let less : rest / place < 10 = (div-lt_iff_lt-mul h).1 (omega arith) in
-    is_digit (48 + rest / place) (omega arith) (omega arith)
+one_digit place rest h lt = grind (arith, div-lt_iff_lt-mul, is_digit)
 
 -- a digit at its place and what is left make the rest
 digit_and_rest : (place rest more : ℕ) → 0 < place → more ≡ rest % place
     → (48 + rest / place - 48) * place + more ≡ rest
-digit_and_rest place rest more h e =
-    let same : 48 + rest / place - 48 ≡ rest / place = omega arith in
-    rw same (omega (arith, e, div-add-mod rest place))
+digit_and_rest place rest more h e = grind arith
 
 pub tens : AreTens 1000000 places
-tens =
-    let unit : AreTens 10 (1 ∷ []) = (refl, omega arith, refl) in
-    let ten : AreTens 100 (10 ∷ 1 ∷ []) = (refl, omega arith, unit) in
-    let hundred : AreTens 1000 (100 ∷ 10 ∷ 1 ∷ []) = (refl, omega arith, ten) in
-    let more : AreTens 100000 (10000 ∷ 1000 ∷ 100 ∷ 10 ∷ 1 ∷ []) =
-    (refl, omega arith, (refl, omega arith, hundred)) in
-    (refl, omega arith, more)
+tens = grind arith
 
 -- the digits that are printed behind a point are digits
 pub digits_at-digits : (ps : List ℕ) (limit rest : ℕ) → AreTens limit ps → rest < limit
@@ -88,11 +69,15 @@ pub digits_at-digits : (ps : List ℕ) (limit rest : ℕ) → AreTens limit ps �
 unfolding digits_at
 digits_at-digits [] limit rest tens h = refl
 digits_at-digits (p ∷ ps) limit rest tens h =
-    ⊎_elim
-    (λ more. rw (ne_eqb rest 0 (omega arith))
-    (both_true (one_digit p rest tens.1 (omega (arith, tens.0)))
-    (digits_at-digits ps p (rest % p) tens.2 (omega (arith, tens.1)))))
-    (λ none. let zero_rest : rest ≡ 0 = omega arith in rw zero_rest refl) (cases_lt 0 rest)
+    grind (
+      arith,
+      ⊎_elim,
+      ne_eqb,
+      one_digit,
+      tens,
+      cases_lt,
+      digits_at-digits ps p (rest % p) tens.2 (omega (arith, tens.1)),
+    )
 
 -- and are worth what they were printed of
 pub value_at-digits_at : (ps : List ℕ) (limit rest : ℕ) → AreTens limit ps → rest < limit
@@ -100,11 +85,15 @@ pub value_at-digits_at : (ps : List ℕ) (limit rest : ℕ) → AreTens limit ps
 unfolding digits_at value_at
 value_at-digits_at [] limit rest tens h = omega arith
 value_at-digits_at (p ∷ ps) limit rest tens h =
-    ⊎_elim
-    (λ more. rw (ne_eqb rest 0 (omega arith))
-    (digit_and_rest p rest _ tens.1
-    (value_at-digits_at ps p (rest % p) tens.2 (omega (arith, tens.1)))))
-    (λ none. let zero_rest : rest ≡ 0 = omega arith in rw zero_rest refl) (cases_lt 0 rest)
+    grind (
+      arith,
+      ⊎_elim,
+      ne_eqb,
+      digit_and_rest,
+      tens,
+      cases_lt,
+      value_at-digits_at ps p (rest % p) tens.2 (omega (arith, tens.1)),
+    )
 
 -- a digit is no point
 not_point : (digit : ℕ) → is_ascii_digit digit ≡ true → is_point digit ≡ false
@@ -142,28 +131,20 @@ parts_are bytes whole fraction e f n h = rw (e, f) (rw (both_true n h) refl)
 pub parts_of-digits : (digits : List ℕ) → all_digits digits ≡ true → 0 < length digits
     → parts_of digits ≡ Some (digits, [])
 parts_of-digits digits h some =
-    parts_are digits digits [] (rw (no_point digits h) (take-length digits))
-    (rw (no_point digits h) (drop_of_length-le digits (omega arith))) (numeral digits h some)
-    (rw (no_point digits h) (rw (le-ltb (length digits) (length digits) (omega arith)) refl))
+    grind (arith, parts_are, no_point, take-length, drop_of_length-le, numeral, le-ltb)
 
 -- the parts of digits, a point and digits
 pub parts_of-pointed : (whole fraction : List ℕ) → all_digits whole ≡ true → 0 < length whole
     → all_digits fraction ≡ true → 0 < length fraction
     → parts_of (whole ++ 46 ∷ fraction) ≡ Some (whole, fraction)
 parts_of-pointed whole fraction w some f more =
-    parts_are (whole ++ 46 ∷ fraction) whole fraction
-    (rw (point_behind whole fraction w) (take-append_seam whole (46 ∷ fraction)))
-    (rw (point_behind whole fraction w) (rw (drop-append-add whole (46 ∷ fraction) 1) refl))
-    (numeral whole w some)
-    (rw (numeral fraction f more) (or-true (not (has_point (whole ++ 46 ∷ fraction)))))
+    grind (arith, parts_are, point_behind, take-append_seam, drop-append-add, numeral, or-true)
 
 -- what begins with a digit has no minus in front
 pub no_minus : (digits rest : List ℕ) → all_digits digits ≡ true → 0 < length digits
     → has_minus (digits ++ rest) ≡ false
 no_minus [] rest h some = absurd (omega arith)
-no_minus (d ∷ ds) rest h some =
-    let range = digit_range d (both_passed (is_ascii_digit d) (all_digits ds) h).0 in
-    ne_eqb d 45 (λ e. omega (arith, range))
+no_minus (d ∷ ds) rest h some = grind arith
 
 -- a rest that is not 0 has a digit
 digits_some : (p : ℕ) (ps : List ℕ) (rest : ℕ) → 0 < rest → 0 < length (digits_at (p ∷ ps) rest)
@@ -175,11 +156,16 @@ pub parts_of-printed : (whole : List ℕ) (fraction : ℕ) → all_digits whole 
     → fraction < 1000000
     → parts_of (whole ++ fraction_text fraction) ≡ Some (whole, digits_at places fraction)
 parts_of-printed whole fraction w some small =
-    ⊎_elim
-    (λ more. rw (ne_eqb fraction 0 (omega arith))
-    (parts_of-pointed whole (digits_at places fraction) w some
-    (digits_at-digits places 1000000 fraction tens small) (digits_some 100000 _ fraction more)))
-    (λ none. let zero_fraction : fraction ≡ 0 = omega arith in
-    rw zero_fraction
-    (rw (append-nil whole, digits_of_zero places) (parts_of-digits whole w some)))
-    (cases_lt 0 fraction)
+    grind (
+      arith,
+      ⊎_elim,
+      ne_eqb,
+      parts_of-pointed,
+      digits_at-digits,
+      tens,
+      digits_some,
+      append-nil,
+      digits_of_zero,
+      parts_of-digits,
+      cases_lt,
+    )

@@ -1,8 +1,8 @@
 -- A printed number is read back.
 use Rattle.std.proofs.Common.{◌≡◌, ℕ, ℤ, pos, neg_ℤ, negsuc, ◌+◌, ◌*◌, ◌/◌, ◌%◌, ◌^◌, ◌<◌, ◌≤◌}
-use Rattle.std.proofs.Common.{◌≤ℤ◌, ◌∙◌, ◌++◌, suc, Bool, true, false, List, [], ◌∷◌}
-use Rattle.std.proofs.Common.{eqb, Option, Some, option_map, option_and_then, refl, ap}
-use Rattle.std.proofs.Common.{append-nil, add-one, arith, decimal, ne_eqb, ⊎_elim}
+use Rattle.std.proofs.Common.{◌≤ℤ◌, ◌∙◌, ◌++◌, suc, Bool, true, false, List, [], ◌∷◌, Option, Some}
+use Rattle.std.proofs.Common.{option_map, option_and_then, refl, ap, append-nil, add-one, arith}
+use Rattle.std.proofs.Common.{decimal, ne_eqb, ⊎_elim}
 use Rattle.std.specs.List.{list_all}
 use Rattle.std.specs.Char.{is_ascii_digit}
 use Rattle.std.specs.Fmt.{signed_decimal}
@@ -37,11 +37,7 @@ with_sign minus parts =
 
 printed_parts : (minus : Bool) (n : ℕ) → n < 10 ^ 64
     → with_sign minus (parts_of (magnitude_text n)) ≡ Some (printed minus n)
-printed_parts minus n h =
-    let fits : n / 1000000 < 10 ^ 64 = omega arith in
-    rw
-    (parts_of-printed (decimal (n / 1000000)) (n % 1000000) (decimal_digits (n / 1000000) fits)
-    (decimal_some (n / 1000000) fits) (omega arith)) refl
+printed_parts minus n h = grind (arith, parts_of-printed, decimal_digits, decimal_some)
 
 -- a printed number has these parts
 spelling_positive : (n : ℕ) → n < 10 ^ 64
@@ -71,22 +67,13 @@ worth_back minus n h =
 pub number_back : (n : ℤ) → neg_ℤ (pos (10 ^ 37)) ≤ℤ n → n ≤ℤ pos (10 ^ 37)
     → number_of (fixed_text n) ≡ Some n
 unfolding number_of
-number_back (pos n) low high =
-    let fits : n < 10 ^ 64 = omega (arith, ints) in
-    rw (spelling_positive n fits) (ap Some (worth_back false n fits))
-number_back (negsuc n) low high =
-    let fits : n + 1 < 10 ^ 64 = omega (arith, ints) in
-    rw (spelling_negative n fits) (ap Some (worth_back true (n + 1) fits ∙ rw add-one refl))
+number_back (pos n) low high = grind (arith, ints, spelling_positive, worth_back)
+number_back (negsuc n) low high = grind (arith, ints, spelling_negative, worth_back, add-one)
 
 -- no more than the limit is within it
 not_beyond : (minus : Bool) (n : ℕ) → n ≤ 1000000000000000000 → is_beyond (printed minus n) ≡ false
 not_beyond minus n h =
-    rw (decimal_value (n / 1000000) (omega arith))
-    (rw (le-ltb 1000000000000 (n / 1000000) (omega arith))
-    (⊎_elim (λ less. rw (ne_eqb (n / 1000000) 1000000000000 (omega arith)) refl)
-    (λ most. let none : n % 1000000 ≡ 0 = omega arith in
-    rw none (rw (digits_of_zero places) (and-false (eqb (n / 1000000) 1000000000000))))
-    (cases_lt (n / 1000000) 1000000000000)))
+    grind (arith, decimal_value, le-ltb, ⊎_elim, ne_eqb, digits_of_zero, and-false, cases_lt)
 
 -- a printed number of millionths is read back
 pub fixed_back : (millionths : ℤ) → neg_ℤ (pos 1000000000000000000) ≤ℤ millionths
@@ -158,10 +145,7 @@ fraction_bytes fraction small =
 -- a printed number of millionths without a sign has digits and a point
 pub magnitude_bytes : (millionths : ℕ) → millionths < 10 ^ 64
     → list_all is_number_byte (magnitude_text millionths) ≡ true
-magnitude_bytes millionths fits =
-    digits_bytes (decimal (millionths / 1000000)) _
-    (decimal_digits (millionths / 1000000) (omega arith))
-    (fraction_bytes (millionths % 1000000) (omega arith))
+magnitude_bytes millionths fits = grind (arith, digits_bytes, decimal_digits, fraction_bytes)
 
 -- a printed number of millionths has digits, a minus in front, and a point
 pub fixed_bytes : (millionths : ℤ) → neg_ℤ (pos 1000000000000000000) ≤ℤ millionths

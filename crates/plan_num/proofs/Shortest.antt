@@ -1,15 +1,15 @@
 -- No field that spells a number is shorter than the number as it is printed.
-use Rattle.std.proofs.Common.{◌≡◌, ℕ, ℤ, pos, neg_ℤ, ◌≤ℤ◌, ◌+◌, ◌-◌, ◌*◌, ◌^◌, ◌<◌, ◌≤◌, zero}
-use Rattle.std.proofs.Common.{suc, Bool, true, false, List, [], ◌∷◌, length, length-append, cond}
-use Rattle.std.proofs.Common.{Option, Some, None, option_map, refl, ap, sym, arith, add-one, not}
-use Rattle.std.proofs.Common.{ne_eqb, ⊎_elim, decimal, eqb, ltb, subst, if◌then◌else◌, ◌==◌}
-use Rattle.std.specs.List.{position_or_len, before_first, after_first}
+use Rattle.std.proofs.Common.{◌≡◌, ℕ, ℤ, pos, neg_ℤ, ◌≤ℤ◌, ◌+◌, ◌-◌, ◌*◌, ◌^◌, ◌<◌, ◌≤◌, zero, suc}
+use Rattle.std.proofs.Common.{Bool, true, false, List, [], ◌∷◌, length, length-append, cond, Option}
+use Rattle.std.proofs.Common.{Some, None, option_map, refl, arith, add-one, ⊎_elim, decimal, eqb}
+use Rattle.std.proofs.Common.{subst, if◌then◌else◌, ◌==◌}
+use Rattle.std.specs.List.{before_first, after_first}
 use Rattle.std.specs.Char.{is_ascii_digit}
 use Rattle.std.proofs.lemmas.List.{length-take, length-drop}
 use Rattle.std.proofs.lemmas.List.Sums.{prefix_len-le-length}
 use Rattle.std.proofs.lemmas.Option.{cond_some}
 use Rattle.std.proofs.lemmas.Int.{ints}
-use Rattle.std.proofs.lemmas.Bool.{cases_lt, ltb-true, lt-ltb}
+use Rattle.std.proofs.lemmas.Bool.{cases_lt, lt-ltb}
 use Rattle.std.proofs.Math.Nat.{mul-le-mul_right}
 use Rattle.std.proofs.lemmas.Nat.{div-mul-add, mod-mul-add}
 use Rattle.std.proofs.Math.ListN.{drop_of_length-le}
@@ -50,10 +50,7 @@ value_at-limit (p ∷ ps) limit (d ∷ ds) tens h =
 -- a list with a first digit, or none, is no longer
 one_longer : (value : ℕ) (first : ℕ) (more : List ℕ) (n : ℕ) → length more ≤ n
     → length (cond (eqb value 0) [] (first ∷ more)) ≤ suc n
-one_longer value first more n h =
-    ⊎_elim (λ some. rw (ne_eqb value 0 (omega arith)) (omega arith))
-    (λ none. let zero_value : value ≡ 0 = omega arith in rw zero_value (omega arith))
-    (cases_lt 0 value)
+one_longer value first more n h = grind arith
 
 digits_at-short : (ps : List ℕ) (limit : ℕ) (digits : List ℕ) → AreTens limit ps
     → all_digits digits ≡ true → length (digits_at ps (value_at ps digits)) ≤ length digits
@@ -70,8 +67,7 @@ digits_at-short (p ∷ ps) limit (d ∷ ds) tens h =
 decimal_short : (whole : List ℕ) → all_digits whole ≡ true → 0 < length whole
     → value_of whole < 10 ^ 64 → length (decimal (value_of whole)) ≤ length whole
 decimal_short whole h some fits =
-    length-decimal-le_wide (length whole) (value_of whole) some
-    (digits_value_short numerals whole (length whole) h (omega arith)) fits
+    grind (arith, length-decimal-le_wide, digits_value_short, numerals)
 
 -- nor is the fraction
 fraction_short : (fraction : List ℕ) → all_digits fraction ≡ true
@@ -89,31 +85,25 @@ dotted_le (d ∷ ds) = omega arith
 -- a numeral is digits, and at least one
 numeral_parts : (digits : List ℕ) → is_numeral digits ≡ true → (0 < length digits)
     × (all_digits digits ≡ true)
-numeral_parts digits h =
-    let b = both_passed (ltb 0 (length digits)) (all_digits digits) h in
-    (ltb-true 0 (length digits) b.0, b.1)
+numeral_parts digits h = grind arith
 
 -- the parts of a magnitude
 magnitude_parts : (bytes : List ℕ) → is_magnitude bytes ≡ true
     → Parts bytes (before_first is_point bytes) (after_first is_point bytes)
 magnitude_parts bytes h =
-    let place = position_or_len is_point bytes in
-    let within : place ≤ length bytes = prefix_len-le-length (λ x. not (is_point x)) bytes in
-    let b = both_passed (is_numeral (before_first is_point bytes)) _ h in
-    let w = numeral_parts (before_first is_point bytes) b.0 in
-    let front = length-take place bytes in
-    let back = length-drop (place + 1) bytes in
-    ⊎_elim
-    (λ inside. let f =
-    numeral_parts (after_first is_point bytes)
-    (rw (lt-ltb place (length bytes) inside) at b.1) in
-    let longer = dotted_le (after_first is_point bytes) in
-    record { digits = w.1; some = w.0; behind = f.1; long = omega (arith, front, back, longer) })
-    (λ past. let nothing : after_first is_point bytes ≡ [] =
-    drop_of_length-le bytes (omega arith) in
-    let behind : all_digits (after_first is_point bytes) ≡ true = rw nothing refl in
-    record { digits = w.1; some = w.0; behind = behind; long = rw nothing (omega (arith, front)) })
-    (cases_lt place (length bytes))
+    grind (
+      arith,
+      prefix_len-le-length,
+      both_passed,
+      numeral_parts,
+      length-take,
+      length-drop,
+      ⊎_elim,
+      lt-ltb,
+      dotted_le,
+      drop_of_length-le,
+      cases_lt,
+    )
 
 -- the parts of what has some
 parts_in : (bytes whole fraction : List ℕ) → parts_of bytes ≡ Some (whole, fraction)
@@ -169,11 +159,7 @@ signed_within true (suc n) low high = omega (arith, ints)
 spelled_parts : (parts : Option (List ℕ × List ℕ)) (minus : Bool) (s : Spelling)
     → with_sign minus parts ≡ Some s → (parts ≡ Some (s.whole, s.fraction)) × (s.minus ≡ minus)
 spelled_parts None minus s e = cc
-spelled_parts (Some p) minus s e =
-    let made : Spelling = record { minus = minus; whole = p.0; fraction = p.1 } in
-    let same : made ≡ s = cc in
-    let parts = ap (λ (w : Spelling). Some (w.whole, w.fraction)) same in
-    (parts, sym (ap (λ (w : Spelling). w.minus) same))
+spelled_parts (Some p) minus s e = grind arith
 
 -- the number of a spelling is no longer, as it is printed, than the text that has it
 spelling_short : (text : List ℕ) (s : Spelling) → spelling_of text ≡ Some s
@@ -203,11 +189,4 @@ spelling_with (Some s) n e = (s, refl, cc)
 pub number_shortest : (text : List ℕ) (n : ℤ) → neg_ℤ (pos (10 ^ 37)) ≤ℤ n → n ≤ℤ pos (10 ^ 37)
     → number_of text ≡ Some n → length (fixed_text n) ≤ length text
 unfolding number_of
-number_shortest text n low high e =
-    let w = spelling_with (spelling_of text) n e in
-    let s = w.0 in
-    let within =
-    signed_within s.minus (value_of s.whole * 1000000 + value_at places s.fraction) (rw w.2 low)
-    (rw w.2 high) in
-    subst (λ (m : ℤ). length (fixed_text m) ≤ length text) w.2
-    (spelling_short text s w.1 (omega (arith, within)))
+number_shortest text n low high e = grind (arith, spelling_with, signed_within, spelling_short)

@@ -6,15 +6,7 @@ use Rattle.plan_num.proofs.Digits.{value_at-turn, value_at-end, value_at-small, 
 use Rattle.plan_num.proofs.number.millionths.Goals as goal
 
 pub overflow_add-sum : goal.overflow_add-sum
-overflow_add-sum c =
-    let t =
-    zip_turn places c.args.fraction.now c.loop-place.yielded c.into_iter-place-iterator.result
-    c.loop-place.place-iterator c.next.new.self c.next.result (cc)
-    (cc) c.loop-place.yielded_by _ c.in-Some.is c.next.ensures.steps in
-    let step = value_at-turn places c.args.fraction.now _ _ _ t.0 t.1 (t.2 0) (t.3 0) in
-    rw (c.from-in-loop-place.ensures, c.from.ensures)
-    (omega
-    (arith, step, value_at-small places c.args.fraction.now c.requires, c.loop-place.invariant))
+overflow_add-sum c = grind (arith, zip_turn, value_at-turn, value_at-small)
 
 pub loop-place-preserved : goal.loop-place-preserved
 loop-place-preserved c =

@@ -1,4 +1,4 @@
-use Rattle.std.proofs.Common.{◌∙◌, ◌≡◌, ◌*◌, arith, ap, subst}
+use Rattle.std.proofs.Common.{◌*◌, arith}
 use Rattle.bit_rows.proofs.FullRows.{AreFull, all_set, are_bits, one_word_more}
 use Rattle.bit_rows.proofs.rows.BitRows.all.Goals as goal
 use Rattle.bit_rows.specs.Bits.{words_of}
@@ -10,11 +10,7 @@ loop-place-preserved c =
 
 are_full : (c : goal.After-loop-place)
     → AreFull c.args.columns c.loop-place.words.items (c.args.rows * words_of c.args.columns)
-are_full c =
-    let all : c.loop-place.place ≡ c.args.rows * c.words_of.result =
-    omega (arith, c.loop-place-test.false, c.loop-place.auto.place-end) in
-    subst (AreFull c.args.columns c.loop-place.words.items)
-    (all ∙ ap (λ width. c.args.rows * width) c.words_of.ensures.value) c.loop-place.invariant
+are_full c = grind (arith, AreFull)
 
 pub invariant_of-result : goal.invariant_of-result
 invariant_of-result c =

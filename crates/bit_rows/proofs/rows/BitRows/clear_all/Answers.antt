@@ -1,16 +1,10 @@
-use Rattle.std.proofs.Common.{◌∙◌, ◌≡◌, All, ap, length, subst, sym}
+use Rattle.std.proofs.Common.{◌∙◌, ◌≡◌, All, subst, sym, arith}
 use Rattle.std.proofs.lemmas.List.{with_items_is}
 use Rattle.bit_rows.proofs.rows.BitRows.clear_all.Goals as goal
 use Rattle.bit_rows.proofs.RowBits.{are_none, has_none}
 
 pub invariant_of-self : goal.invariant_of-self
-invariant_of-self c =
-    let size = c.put_zeros.ensures.each ∙ c.deref_mut.ensures.len in
-    let are = with_items_is c.self.inside.words c.put_zeros.new.words size in
-    are_none c.self.inside.rows c.self.inside.columns c.self.invariant.few _
-    (subst (All (λ word. word ≡ 0)) (sym are) c.put_zeros.ensures.zeros)
-    (ap length are ∙ c.put_zeros.ensures.each ∙ ap length c.deref_mut.ensures.value
-    ∙ c.self.invariant.each)
+invariant_of-self c = grind (arith, with_items_is, are_none)
 
 pub returns-clause-none : goal.returns-clause-none
 returns-clause-none c =
