@@ -13,7 +13,7 @@ ghost use Rattle.delay_management.specs.Links.{IsLinked};
 ghost use Rattle.delay_management.specs.Problems.{IsForward, Joins, earliest_at, planned_at, problem_over};
 ghost use Rattle.delay_management.specs.Waiting.{chosen_changes};
 
-use crate::delays::{delayed_activities, earliest_times};
+use crate::delays::{RidesAndChanges, delayed_activities, earliest_times};
 use crate::inputs::{
     activities_of, activity_delays_of, event_delays_of, events_of, schedule_of, turnover_of,
 };
@@ -108,8 +108,11 @@ impl Propagation {
             schedule.now event_rows.now activity_rows.now) }
     {
         let earliest = earliest_times(alloc, &events, event_rows)?;
-        let rides = delayed_activities(alloc, activities, activity_rows, false)?;
-        let changes = delayed_activities(alloc, activities, activity_rows, true)?;
+        let RidesAndChanges { rides, changes } = delayed_activities(
+            alloc,
+            activities,
+            activity_rows,
+        )?;
         let turns = turns_of(alloc, schedule, turnover)?;
         let links = links_in_order(alloc, &events, &rides, &turns, &changes)?;
         Ok(Propagation {

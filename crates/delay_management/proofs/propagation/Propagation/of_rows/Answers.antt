@@ -6,13 +6,13 @@ use Rattle.delay_management.proofs.propagation.Propagation.of_rows.Goals as goal
 
 pub links_in_order-requires-clause-few_changes : goal.links_in_order-requires-clause-few_changes
 links_in_order-requires-clause-few_changes c =
-    subst (λ (all : List Activity). length all ≤ 500000) (sym (c.deref-5.ensures.value ∙ c.in_ok-changes.ensures))
+    subst (λ (all : List Activity). length all ≤ 500000) (sym (c.deref-5.ensures.value ∙ c.in_ok-rides.ensures.changes))
     (few_of c.args.turnover c.args.events.items c.args.activities.now c.args.schedule.now c.args.event_rows.now c.args.activity_rows.now c.requires.events c.requires.activities c.requires.schedule true)
 
 pub links_in_order-requires-clause-rides : goal.links_in_order-requires-clause-rides
 links_in_order-requires-clause-rides c =
     subst (λ (events : List _). All (λ at. at.step.from < length events) c.deref-3.result.now) (sym c.deref-2.ensures.value)
-    (subst (All (λ at. at.step.from < length c.args.events.items)) (sym (c.deref-3.ensures.value ∙ c.in_ok-rides.ensures))
+    (subst (All (λ at. at.step.from < length c.args.events.items)) (sym (c.deref-3.ensures.value ∙ c.in_ok-rides.ensures.rides))
     (rides_start c.args.turnover c.args.events.items c.args.activities.now c.args.schedule.now c.args.event_rows.now c.args.activity_rows.now c.requires.events c.requires.activities c.requires.schedule false))
 
 pub links_in_order-requires-clause-turns : goal.links_in_order-requires-clause-turns
@@ -24,14 +24,14 @@ links_in_order-requires-clause-turns c =
 pub links_in_order-requires-clause-changes : goal.links_in_order-requires-clause-changes
 links_in_order-requires-clause-changes c =
     subst (λ (events : List _). All (λ at. at.step.from < length events) c.deref-5.result.now) (sym c.deref-2.ensures.value)
-    (subst (All (λ at. at.step.from < length c.args.events.items)) (sym (c.deref-5.ensures.value ∙ c.in_ok-changes.ensures))
+    (subst (All (λ at. at.step.from < length c.args.events.items)) (sym (c.deref-5.ensures.value ∙ c.in_ok-rides.ensures.changes))
     (rides_start c.args.turnover c.args.events.items c.args.activities.now c.args.schedule.now c.args.event_rows.now c.args.activity_rows.now c.requires.events c.requires.activities c.requires.schedule true))
 
 pub invariant_of-result : goal.invariant_of-result
 invariant_of-result c =
     linked_as c.args.turnover c.args.events.items c.args.activities.now c.args.schedule.now c.args.event_rows.now c.args.activity_rows.now
-    c.requires.events c.requires.activities c.requires.schedule c.requires.activity_delays c.requires.turnover c.in_ok-earliest.earliest.items c.in_ok-rides.rides.items
-    c.in_ok-changes.changes.items c.in_ok-turns.turns.items c.deref-2.result.now c.deref-3.result.now c.deref-4.result.now c.deref-5.result.now
+    c.requires.events c.requires.activities c.requires.schedule c.requires.activity_delays c.requires.turnover c.in_ok-earliest.earliest.items c.in_ok-rides.field-0.rides.items
+    c.in_ok-rides.field-0.changes.items c.in_ok-turns.turns.items c.deref-2.result.now c.deref-3.result.now c.deref-4.result.now c.deref-5.result.now
     c.in_ok-links.links.items
-    (c.in_ok-earliest.ensures.times ∙ ap (map (earliest_of c.args.event_rows.now)) c.deref.ensures.value) c.in_ok-rides.ensures c.in_ok-changes.ensures c.in_ok-turns.ensures c.deref-2.ensures.value c.deref-3.ensures.value
+    (c.in_ok-earliest.ensures.times ∙ ap (map (earliest_of c.args.event_rows.now)) c.deref.ensures.value) c.in_ok-rides.ensures.rides c.in_ok-rides.ensures.changes c.in_ok-turns.ensures c.deref-2.ensures.value c.deref-3.ensures.value
     c.deref-4.ensures.value c.deref-5.ensures.value c.in_ok-earliest.ensures.soon c.in_ok-links.ensures.all c.in_ok-links.ensures.in_order
