@@ -1,5 +1,5 @@
 -- The changes that are chosen, one after the other.
-use Rattle.std.proofs.Common.{◌≡◌, ◌∙◌, ℕ, ℤ, zero, suc, ◌+◌, ◌<◌, ◌≤◌, Bool, true, false, cond, List, [], ◌∷◌, length, map, filter, drop, get_or, Result, Ok, Err, IfOk, refl, ap, sym, arith}
+use Rattle.std.proofs.Common.{◌≡◌, ◌∙◌, ℕ, ℤ, zero, suc, ◌+◌, ◌<◌, ◌≤◌, Bool, true, false, cond, List, [], ◌∷◌, ◌++◌, length, map, filter, take, drop, get_or, Result, Ok, Err, IfOk, refl, ap, sym, arith}
 use Rattle.std.specs.List.{items_where_true}
 use Rattle.std.proofs.lemmas.List.{drop_all}
 use Rattle.event_tables.specs.declared.expanded_event.ExpandedEvent.{ExpandedEvent}
@@ -8,7 +8,7 @@ use Rattle.delay_management.specs.LeastTimes.{least_times, time_at}
 use Rattle.delay_management.specs.Problems.{DelayProblem, planned_at}
 use Rattle.delay_management.specs.Waiting.{chosen_changes, is_kept, kept_changes, times_alone, waits}
 
-none_left : {X : Type 0} (kept : List Bool) → items_where_true {X = X} kept [] ≡ []
+pub none_left : {X : Type 0} (kept : List Bool) → items_where_true {X = X} kept [] ≡ []
 none_left [] = refl
 none_left (b ∷ kept) = refl
 
@@ -32,6 +32,18 @@ module _ {X : Type 0} where
   passed_at zero (true ∷ kept) (x ∷ xs) is = let e : true ≡ false = is in absurd (cc)
   passed_at zero (false ∷ kept) (x ∷ xs) is = refl
   passed_at (suc i) (b ∷ kept) (x ∷ xs) is = passed_at i kept xs is
+
+  -- the chosen ones of the first, and of one more
+  pub taken_at : (i : ℕ) (kept : List Bool) (xs : List X) (d : X) → i < length xs
+      → items_where_true kept (take (suc i) xs)
+      ≡ items_where_true kept (take i xs) ++ cond (get_or kept i false) (get_or xs i d ∷ []) []
+  taken_at i [] xs d inside = refl
+  taken_at i (b ∷ kept) [] d inside = absurd (omega (arith, inside))
+  taken_at zero (true ∷ kept) (x ∷ xs) d inside = ap (λ rest. x ∷ rest) (none_left kept)
+  taken_at zero (false ∷ kept) (x ∷ xs) d inside = none_left kept
+  taken_at (suc i) (true ∷ kept) (x ∷ xs) d inside =
+      ap (λ rest. x ∷ rest) (taken_at i kept xs d (omega (arith, inside)))
+  taken_at (suc i) (false ∷ kept) (x ∷ xs) d inside = taken_at i kept xs d (omega (arith, inside))
 
   module _ (i : ℕ) (kept : List Bool) (xs : List X) where
     abbrev left_from : ℕ → List X

@@ -1,30 +1,26 @@
 -- What is known of inputs without a fault.
-use Rattle.std.proofs.Common.{◌≡◌, ℕ, suc, ◌≤◌, Bool, true, false, cond, List, [], ◌∷◌, ◌++◌, length, map, filter, get_or, eqb, All, refl, sym, subst, arith}
+use Rattle.std.proofs.Common.{◌≡◌, ◌≤◌, Bool, true, false, List, [], ◌++◌, length, map, filter, get_or, All, refl, sym, subst, arith}
 use Rattle.std.proofs.lemmas.Int.{ints}
 use Rattle.std.proofs.lemmas.List.Elements.{All-append, All-filter, All-map}
 use Rattle.giv_files.specs.declared.file_id.FileId.TheVariants as file
 use Rattle.giv_files.specs.declared.row_why.RowWhy.TheVariants as why
 use Rattle.giv_files.specs.declared.key.Key.TheVariants as key
 use Rattle.giv_files.specs.declared.stage.Stage.TheVariants as stage
-use Rattle.giv_files.specs.Columns.{delays_columns}
 use Rattle.giv_files.specs.Inputs.{input_faults, records_of}
 use Rattle.giv_files.specs.Settings.{BundleParts, Fits, SettingsFit}
 use Rattle.giv_files.specs.StageCalls.{input_text}
-use Rattle.giv_files.specs.Writing.{InColumns}
 use Rattle.giv_files.proofs.Ranges.{back_none, front_none}
 use Rattle.giv_files.proofs.SettingFacts.{amount_within}
-use Rattle.event_tables.specs.declared.delay_row.DelayRow.{DelayRow}
 use Rattle.event_tables.specs.declared.expanded_activity.ExpandedActivity.{ExpandedActivity}
 use Rattle.event_tables.specs.declared.expanded_event.ExpandedEvent.{ExpandedEvent}
 use Rattle.event_tables.specs.declared.schedule_row.ScheduleRow.{ScheduleRow}
-use Rattle.event_tables.specs.Cells.{delay_cells}
 use Rattle.event_tables.specs.Delays.{AreDelays, activity_delay_input, event_delay_input}
-use Rattle.event_tables.specs.ExpandedFiles.{AreExpandedActivities, AreExpandedEvents, expanded_activity_ids, expanded_activity_input, expanded_event_ids, expanded_event_input}
-use Rattle.event_tables.specs.Schedules.{AreScheduleRows, is_empty_row, schedule_input}
+use Rattle.event_tables.specs.ExpandedFiles.{AreExpandedActivities, AreExpandedEvents}
+use Rattle.event_tables.specs.Schedules.{AreScheduleRows, is_empty_row}
 use Rattle.event_tables.proofs.SoundFiles.{expanded_activities_sound, expanded_events_sound}
 use Rattle.event_tables.proofs.SoundTrips.{delays_sound, schedule_rows_sound}
 use Rattle.delay_management.specs.DispositionStage.{activities_in, activity_delay_faults, activity_delays_in, activity_faults, delay_faults, disposition_faults, event_delay_faults, event_delays_in, event_faults, events_in, made_faults, problem_in, schedule_faults, schedule_in, turnover_in}
-use Rattle.delay_management.specs.Problems.{IsForward, activities_of, delay_of, delayed, earliest_of, is_of, minutes, steps_with, turn_of}
+use Rattle.delay_management.specs.Problems.{IsForward, activities_of, delayed, earliest_of, is_of, minutes, steps_with, turn_of}
 use Rattle.delay_management.proofs.SoonInputs.{delay_below}
 use Rattle.delay_management.proofs.ForwardInputs.{inputs_go_forward, some_ids}
 use Rattle.delay_management.proofs.PassIsLeast.{steps_all}

@@ -1,4 +1,5 @@
 mod Apart
+mod ByKeys
 mod Canonical
 mod ChosenChanges
 mod DelaysByPlace
@@ -17,6 +18,8 @@ mod JudgedFaults
 mod JudgedTexts
 mod Late
 mod Later
+mod LinksByRank
+mod LinksOut
 mod MarksTell
 mod OnTrialFacts
 mod PassIsLeast

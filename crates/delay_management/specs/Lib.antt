@@ -9,6 +9,7 @@ pub mod Links
 pub mod Markings
 pub mod Marks
 pub mod OnTrial
+pub mod Outgoing
 pub mod Problems
 pub mod Reasons
 pub mod RightDispositions

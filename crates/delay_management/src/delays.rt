@@ -1,8 +1,8 @@
 // Delays by their places, and what they delay.
-ghost use Rattle.std.specs.Prelude.{◌≡◌, ◌+◌, ◌-◌, ◌≤◌, length, map, All, IfOk};
+ghost use Rattle.std.specs.Prelude.{◌≡◌, ◌+◌, ◌-◌, ◌≤◌, true, false, length, map, All, IfOk};
 ghost use Rattle.std.specs.List.{range_with_len};
 ghost use Rattle.event_tables.specs.Places.{AreNumbered, IsOneOf};
-ghost use Rattle.delay_management.specs.Problems.{activities_of, delay_of, delayed, earliest_of, is_change_kind, is_of};
+ghost use Rattle.delay_management.specs.Problems.{activities_of, delay_of, delayed, earliest_of, is_change_kind};
 
 use crate::step::{Activity, Step};
 use event_tables::{ActivityKind, DelayRow, ExpandedActivity, ExpandedEvent};
@@ -36,34 +36,39 @@ fn delayed_time(event: &ExpandedEvent, delay: u32) -> u64
     u64::from(event.time) + u64::from(delay)
 }
 
-/// The changes among activities that are numbered, or all others, with their delays by the rows of
-/// these.
+/// Activities with their delays: the drives and waits, and the changes.
+#[derive(Drop)]
+pub(crate) struct RidesAndChanges {
+    pub(crate) rides: Vec<Activity>,
+    pub(crate) changes: Vec<Activity>,
+}
+
+/// Activities that are numbered, with their delays by the rows of these.
 pub(crate) fn delayed_activities(
     alloc: Global,
     activities: &[ExpandedActivity],
     rows: &[DelayRow],
-    changes: bool,
-) -> Result<Vec<Activity>, NoMemory>
+) -> Result<RidesAndChanges, NoMemory>
     requires numbered { AreNumbered (λ activity. activity.id) activities.now }
     requires there { All (λ row. IsOneOf (length activities.now) row.id) rows.now }
     requires ends { All (λ activity. (1 ≤ activity.from) × (1 ≤ activity.to)) activities.now }
-    ensures { IfOk result (λ all. all.items ≡ activities_of changes rows.now activities.now) }
+    ensures rides { IfOk result
+        (λ all. all.rides.items ≡ activities_of false rows.now activities.now) }
+    ensures changes { IfOk result
+        (λ all. all.changes.items ≡ activities_of true rows.now activities.now) }
 {
     let delays = delays_by_place(alloc, rows, activities.len())?;
-    let mut all = Vec::new(alloc);
+    let mut rides = Vec::new(alloc);
+    let mut changes = Vec::new(alloc);
     for (index, activity) in activities.iter().enumerate() {
-        if is_of(activity, changes) {
-            all.push(delayed(activity, delays[index]))?;
+        let delayed = delayed(activity, delays[index]);
+        if is_change(activity.kind) {
+            changes.push(delayed)?;
+        } else {
+            rides.push(delayed)?;
         }
     }
-    Ok(all)
-}
-
-// Whether an activity is a change, or whether it is none.
-fn is_of(activity: &ExpandedActivity, changes: bool) -> bool
-    ensures { result ≡ is_of changes activity.now }
-{
-    is_change(activity.kind) == changes
+    Ok(RidesAndChanges { rides, changes })
 }
 
 // Whether activities of a kind are changes.

@@ -17,6 +17,7 @@ mod marking;
 mod marks;
 mod moved;
 mod on_trial;
+mod outgoing;
 mod pass;
 mod propagation;
 mod reason;

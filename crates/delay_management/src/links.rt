@@ -1,9 +1,12 @@
 // Steps in the forward order of their first events.
-ghost use Rattle.std.specs.Prelude.{◌≡◌, ◌<◌, ◌≤◌, ◌++◌, length, All, IfOk, OnOk};
-ghost use Rattle.std.specs.List.Sorted.{IsNonDecreasingBy, IsPermutation};
+ghost use Rattle.std.specs.Prelude.{◌≡◌, ◌<◌, ◌≤◌, ◌++◌, length, map, All, IfOk, OnOk};
+ghost use Rattle.std.specs.List.{range_with_len};
+ghost use Rattle.std.specs.List.Sorted.{IsNonDecreasing, IsNonDecreasingBy, IsPermutation};
+ghost use Rattle.event_tables.specs.ForwardRanks.{forward_rank};
 ghost use Rattle.delay_management.specs.ChangeEnds.{IsFirst};
 ghost use Rattle.delay_management.specs.Links.{change_links, link_of, ride_links, turn_links};
 
+use crate::outgoing::Outgoing;
 use crate::step::{Activity, Step};
 use event_tables::{ExpandedEvent, forward_rank};
 use plan_num::NoMemory;
@@ -36,9 +39,26 @@ pub(crate) fn links_in_order(
         ++ change_links events.now 0 changes.now)) links.items) }
     ensures in_order { IfOk result (λ links. IsNonDecreasingBy (λ link. link.rank) links.items) }
 {
-    let mut links = all_links(alloc, events, rides, turns, changes)?;
-    links.sort_unstable_by_key(|link| link.rank);
+    let all = all_links(alloc, events, rides, turns, changes)?;
+    let ranks = ranks_in_order(alloc, events)?;
+    let outgoing = Outgoing::of_links(alloc, &all, events.len())?;
+    let links = outgoing.by_ranks(alloc, &all, &ranks)?;
     Ok(links)
+}
+
+// The ranks of all events, the least one first.
+fn ranks_in_order(alloc: Global, events: &[ExpandedEvent]) -> Result<Vec<u64>, NoMemory>
+    requires { length events.now ≤ 100000 }
+    ensures all { IfOk result (λ ranks. IsPermutation
+        (map (forward_rank events.now) (range_with_len 0 (length events.now))) ranks.items) }
+    ensures in_order { IfOk result (λ ranks. IsNonDecreasing ranks.items) }
+{
+    let mut ranks = Vec::with_capacity(alloc, events.len())?;
+    for event in 0..events.len() as u32 {
+        ranks.push(forward_rank(events, event))?;
+    }
+    ranks.sort_unstable();
+    Ok(ranks)
 }
 
 /// Where the links of events of at least a rank begin.

@@ -13,7 +13,7 @@ ghost use Rattle.delay_management.specs.Links.{IsLinked};
 ghost use Rattle.delay_management.specs.Problems.{IsForward, Joins, earliest_at, planned_at, problem_over};
 ghost use Rattle.delay_management.specs.Waiting.{chosen_changes};
 
-use crate::delays::{delayed_activities, earliest_times};
+use crate::delays::{RidesAndChanges, delayed_activities, earliest_times};
 use crate::inputs::{
     activities_of, activity_delays_of, event_delays_of, events_of, schedule_of, turnover_of,
 };
@@ -79,7 +79,7 @@ impl Propagation {
         let problem = Propagation::of_rows(
             alloc,
             events,
-            &activities,
+            activities,
             &schedule,
             &event_rows,
             &activity_rows,
@@ -92,24 +92,25 @@ impl Propagation {
     fn of_rows(
         alloc: Global,
         events: Vec<ExpandedEvent>,
-        activities: &[ExpandedActivity],
+        activities: Vec<ExpandedActivity>,
         schedule: &[ScheduleRow],
         event_rows: &[DelayRow],
         activity_rows: &[DelayRow],
         turnover: u32,
     ) -> Result<Propagation, NoMemory>
         requires events { AreExpandedEvents events.items }
-        requires activities { AreExpandedActivities events.items activities.now }
+        requires activities { AreExpandedActivities events.items activities.items }
         requires schedule { AreScheduleRows events.items schedule.now }
         requires event_delays { AreDelays (length events.items) event_rows.now }
-        requires activity_delays { AreDelays (length activities.now) activity_rows.now }
+        requires activity_delays { AreDelays (length activities.items) activity_rows.now }
         requires turnover { turnover ≤ 10000 }
-        ensures { IfOk result (λ problem. problem ≡ problem_over turnover events.items activities.now
+        ensures { IfOk result (λ problem. problem ≡ problem_over turnover events.items activities.items
             schedule.now event_rows.now activity_rows.now) }
     {
         let earliest = earliest_times(alloc, &events, event_rows)?;
-        let rides = delayed_activities(alloc, activities, activity_rows, false)?;
-        let changes = delayed_activities(alloc, activities, activity_rows, true)?;
+        let parted = delayed_activities(alloc, &activities, activity_rows)?;
+        drop(activities);
+        let RidesAndChanges { rides, changes } = parted;
         let turns = turns_of(alloc, schedule, turnover)?;
         let links = links_in_order(alloc, &events, &rides, &turns, &changes)?;
         Ok(Propagation {

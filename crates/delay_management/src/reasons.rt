@@ -1,6 +1,6 @@
 // Why events are not earlier.
-ghost use Rattle.std.specs.Prelude.{◌≡◌, ◌≤◌, ◌<◌, length, map, nat_eq, get_or, slice_set, if◌then◌else◌, All, IfOk, Some, None};
-ghost use Rattle.std.specs.List.{range_with_len, reduce};
+ghost use Rattle.std.specs.Prelude.{◌≡◌, ◌≤◌, ◌<◌, ◌&&◌, ◌++◌, false, length, map, nat_eq, get_or, slice_set, if◌then◌else◌, All, IfOk, Some, None};
+ghost use Rattle.std.specs.List.{items_where_true, range_with_len, reduce};
 ghost use Rattle.delay_management.specs.declared.reason.Reason.TheVariants as reasons;
 ghost use Rattle.delay_management.specs.DispositionStage.{named_activity};
 ghost use Rattle.delay_management.specs.LeastTimes.{asked, time_at};
@@ -12,7 +12,7 @@ ghost use Rattle.delay_management.specs.Waiting.{chosen_changes};
 use crate::propagation::Propagation;
 use crate::reason::Reason;
 use crate::step::{Activity, Step};
-use crate::waiting::kept_activities;
+use crate::waiting::is_chosen;
 use plan_num::NoMemory;
 use std::alloc::Global;
 
@@ -31,26 +31,30 @@ pub(crate) fn canonical_reasons(
         (λ reasons. All (λ reason. named_activity reason ≤ 500000) reasons.items) }
     ensures few { IfOk result (λ reasons. length reasons.items ≤ 100000) }
 {
-    let activities = kept_activities(alloc, problem, kept)?;
-    written_reasons(alloc, problem.earliest(), &activities, times)
+    let (rides, changes) = (problem.rides(), problem.changes());
+    written_reasons(alloc, problem.earliest(), rides, changes, kept, times)
 }
 
-// The reasons that are written of times, by the earliest times and by the activities that count.
+// The reasons that are written of times, by the earliest times, and by drives, waits and chosen
+// changes.
 fn written_reasons(
     alloc: Global,
     earliest: &[u64],
-    activities: &[Activity],
+    rides: &[Activity],
+    changes: &[Activity],
+    kept: &[bool],
     times: &[u64],
 ) -> Result<Vec<Reason>, NoMemory>
     requires each { length times.now ≡ length earliest.now }
-    requires ends { All (λ activity. Joins (length times.now) activity.step) activities.now }
+    requires rides { All (λ ride. Joins (length times.now) ride.step) rides.now }
+    requires changes { All (λ change. Joins (length times.now) change.step) changes.now }
     requires small { All (λ time. time ≤ 1000000000000000000) times.now }
     ensures { IfOk result (λ reasons. reasons.items ≡ map
-        (λ event. reason_by earliest.now times.now event
-        (reduce lesser (tight_among times.now event activities.now)))
+        (λ event. reason_by earliest.now times.now event (reduce lesser
+        (tight_among times.now event (rides.now ++ items_where_true kept.now changes.now))))
         (range_with_len 0 (length times.now))) }
 {
-    let ids = least_tight(alloc, activities, times)?;
+    let ids = least_tight(alloc, rides, changes, kept, times)?;
     reasons_by(alloc, earliest, times, &ids)
 }
 
@@ -87,25 +91,43 @@ fn reason_by(earliest: u64, time: u64, id: Option<u32>) -> Reason
     }
 }
 
-// The least id of a tight activity into each event.
+// The least id of a tight drive, wait or chosen change into each event.
 fn least_tight(
     alloc: Global,
-    activities: &[Activity],
+    rides: &[Activity],
+    changes: &[Activity],
+    kept: &[bool],
     times: &[u64],
 ) -> Result<Vec<Option<u32>>, NoMemory>
-    requires ends { All (λ activity. Joins (length times.now) activity.step) activities.now }
+    requires rides { All (λ ride. Joins (length times.now) ride.step) rides.now }
+    requires changes { All (λ change. Joins (length times.now) change.step) changes.now }
     requires small { All (λ time. time ≤ 1000000000000000000) times.now }
-    ensures { IfOk result (λ ids. ids.items ≡ map
-        (λ event. reduce lesser (tight_among times.now event activities.now))
+    ensures { IfOk result (λ ids. ids.items ≡ map (λ event. reduce lesser
+        (tight_among times.now event (rides.now ++ items_where_true kept.now changes.now)))
         (range_with_len 0 (length times.now))) }
 {
     let mut ids = no_ids(alloc, times.len())?;
-    for activity in activities {
-        if is_tight(times, &activity.step) {
-            note(&mut ids, activity);
+    for ride in rides {
+        if is_tight(times, &ride.step) {
+            note(&mut ids, ride);
+        }
+    }
+    for (index, change) in changes.iter().enumerate() {
+        if is_chosen_tight(kept, index, times, &change.step) {
+            note(&mut ids, change);
         }
     }
     Ok(ids)
+}
+
+// Whether the change at an index is chosen, and its step is tight.
+fn is_chosen_tight(kept: &[bool], index: usize, times: &[u64], step: &Step) -> bool
+    requires ends { Joins (length times.now) step.now }
+    requires small { All (λ time. time ≤ 1000000000000000000) times.now }
+    ensures { result ≡ (get_or kept.now index false
+        && nat_eq (asked times.now step.now) (time_at times.now step.now.to)) }
+{
+    is_chosen(kept, index) && is_tight(times, step)
 }
 
 // No id for each of so many events.

@@ -103,8 +103,8 @@ fn counted_activities(
     Ok(all)
 }
 
-// Whether the change at an index is chosen.
-fn is_chosen(kept: &[bool], change: usize) -> bool
+/// Whether the change at an index is chosen.
+pub(crate) fn is_chosen(kept: &[bool], change: usize) -> bool
     ensures { result ≡ get_or kept.now change false }
 {
     kept.get(change).copied().unwrap_or(false)

@@ -1,9 +1,8 @@
 -- Numbers of inputs without a fault that are not too great.
-use Rattle.std.proofs.Common.{◌≡◌, ◌≤◌, ◌≤ℤ◌, ℕ, ℤ, pos, negsuc, ◌*◌, true, false, cond, List, [], ◌∷◌, length, get_or, refl, ◌∙◌, arith, All, Some, option_map, unwrap_or, unsigned_abs}
+use Rattle.std.proofs.Common.{◌≡◌, ◌≤◌, ◌≤ℤ◌, ℕ, ℤ, pos, negsuc, ◌*◌, true, false, cond, List, [], ◌∷◌, length, get_or, refl, arith, All, Some, option_map, unwrap_or, unsigned_abs}
 use Rattle.std.specs.List.{sum_by}
 use Rattle.std.specs.Ordering.{int_eq}
 use Rattle.std.proofs.lemmas.Int.{ints}
-use Rattle.std.proofs.lemmas.List.{length-map}
 use Rattle.std.proofs.lemmas.List.Elements.{All-cons, All-head, All-tail, All-map, All-filter}
 use Rattle.std.proofs.lemmas.List.Filters.{length-filter_both}
 use Rattle.std.proofs.lemmas.List.Sums.{sum_by-le}
@@ -13,14 +12,10 @@ use Rattle.giv_files.specs.Tables.{TableRow}
 use Rattle.giv_files.specs.Writing.{InColumns}
 use Rattle.giv_files.proofs.Inputs.{few_rows, sound_rows}
 use Rattle.event_tables.specs.declared.disposed_time.DisposedTime.{DisposedTime}
-use Rattle.event_tables.specs.declared.expanded_activity.ExpandedActivity.{ExpandedActivity}
 use Rattle.event_tables.specs.declared.expanded_event.ExpandedEvent.{ExpandedEvent}
 use Rattle.event_tables.specs.declared.schedule_row.ScheduleRow.{ScheduleRow}
 use Rattle.event_tables.specs.DisposedTimes.{AreDisposedTimes}
-use Rattle.event_tables.specs.ExpandedFiles.{AreExpandedActivities}
 use Rattle.event_tables.specs.Schedules.{AreScheduleRows, is_empty_row, is_trip_row}
-use Rattle.delay_management.specs.declared.step.Activity.{Activity}
-use Rattle.delay_management.specs.Problems.{Joins, activities_of, delayed, is_of}
 use Rattle.evaluators.specs.declared.rows.CostRow.{CostRow}
 use Rattle.evaluators.specs.declared.rows.LineRow.{LineRow}
 use Rattle.evaluators.specs.FirstRows.{firsts}
@@ -119,19 +114,6 @@ pub times_below : (count : ℕ) (rows : List DisposedTime) → AreDisposedTimes 
 times_below count rows are =
     All-map (λ (time : ℕ). time ≤ 1000000000000000000) (λ (row : DisposedTime). row.time) rows
     (λ k d inside. let fit = are.fit k d inside in omega (arith, ints, fit.1.0.1))
-
-pub times_each : (count : ℕ) (rows : List DisposedTime) → AreDisposedTimes count rows
-    → length (times_of rows) ≡ count
-times_each count rows are = length-map rows (λ row. row.time) ∙ are.each_event
-
-pub changes_join : (events : List ExpandedEvent) (activities : List ExpandedActivity)
-    → AreExpandedActivities events activities
-    → All (λ change. Joins (length events) change.step) (activities_of true [] activities)
-changes_join events activities are =
-    All-map (λ (change : Activity). Joins (length events) change.step) (delayed []) _
-    (All-filter (is_of true) (λ row. Joins (length events) (delayed [] row).step) activities
-    (λ k d inside. let one = are.each k d inside in
-    (omega (arith, one.from.0, one.from.1), omega (arith, one.to.0, one.to.1))))
 
 pub rows_few : (events : List ExpandedEvent) (rows : List ScheduleRow) → AreScheduleRows events rows
     → length rows ≤ 4000

@@ -1,6 +1,6 @@
 -- The rules of the file of the line concept, row by row.
 use Rattle.std.proofs.Common.{◌≡◌, ℕ, ℤ, ◌+◌, ◌<◌, not, Bool, true, false, cond, eqb, List, [], ◌∷◌, ◌++◌, length, map, take, drop, get_or, slice_get, refl, ap, sym, ◌∙◌, Option, Some, None, option_map, is_some, arith}
-use Rattle.std.specs.List.{find, list_any}
+use Rattle.std.specs.List.{find}
 use Rattle.std.specs.Option.{option_or}
 use Rattle.std.specs.Ordering.{int_eq}
 use Rattle.std.proofs.lemmas.Bool.{eq-eqb}
@@ -15,7 +15,7 @@ use Rattle.evaluators.specs.declared.costed_line.CostedLine.{CostedLine}
 use Rattle.evaluators.specs.declared.rows.CostRow.{CostRow}
 use Rattle.evaluators.specs.declared.rows.LineRow.{LineRow}
 use Rattle.evaluators.specs.CostedLines.{broken_by, costed}
-use Rattle.evaluators.specs.StatisticInputs.{concept_input, cost_input, cost_with, differs, first_row, line_row, lines_of}
+use Rattle.evaluators.specs.StatisticInputs.{concept_input, cost_with, differs, first_row, line_row, lines_of}
 use Rattle.evaluators.proofs.FirstRowFacts.{find_firsts}
 
 -- the first row of the line of a row among rows that have it is before it, or it is that row

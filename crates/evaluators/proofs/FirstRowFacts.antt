@@ -37,6 +37,21 @@ find_passing {X} p test passes (x ∷ xs) = by (p x) (test x) refl refl (find_pa
     by false true e f rest = ap (λ c. cond c (Some x) (find p (filter test xs))) e ∙ rest
     by false false e f rest = rest
 
+-- whether an item passes a test, where there is one more
+pub any_push : {X : Type 0} (p : X → Bool) (xs : List X) (x : X)
+    → list_any p (xs ++ x ∷ []) ≡ (list_any p xs || p x)
+any_push p [] x = by (p x)
+  where
+    by : (b : Bool) → (b || false) ≡ b
+    by true = refl
+    by false = refl
+any_push p (y ∷ xs) x = by (p y) (any_push p xs x)
+  where
+    by : (b : Bool) → list_any p (xs ++ x ∷ []) ≡ (list_any p xs || p x)
+        → (b || list_any p (xs ++ x ∷ [])) ≡ ((b || list_any p xs) || p x)
+    by true e = refl
+    by false e = e
+
 module _ {X : Type 0} (key : X → ℤ) where
   -- no rows have no first ones
   pub no_firsts : firsts key [] ≡ []

@@ -2,10 +2,10 @@
 use Rattle.std.proofs.Common.{◌≡◌, ℕ, ℤ, ◌+◌, ◌<◌, ◌||◌, not, Bool, true, false, cond, List, [], ◌∷◌, ◌++◌, length, map, take, get_or, refl, ap, sym, ◌∙◌}
 use Rattle.std.specs.List.{list_any}
 use Rattle.std.specs.Ordering.{int_eq}
-use Rattle.std.proofs.lemmas.List.{map_more}
+use Rattle.std.proofs.lemmas.List.{map_more, take_more}
 use Rattle.giv_files.specs.Tables.{TableRow}
 use Rattle.evaluators.specs.FirstRows.{firsts}
-use Rattle.evaluators.proofs.FirstRowFacts.{firsts_push, is_old}
+use Rattle.evaluators.proofs.FirstRowFacts.{any_push, firsts_push, is_old, new_counts, old_counts}
 
 -- an answer and its negation
 pub turned : (test new answer : Bool) → new ≡ not test → new ≡ not answer → test ≡ answer
@@ -13,20 +13,6 @@ turned true new true is e = refl
 turned true new false is e = cc
 turned false new true is e = cc
 turned false new false is e = refl
-
-any_push : {X : Type 0} (p : X → Bool) (xs : List X) (x : X)
-    → list_any p (xs ++ x ∷ []) ≡ (list_any p xs || p x)
-any_push p [] x = by (p x)
-  where
-    by : (b : Bool) → (b || false) ≡ b
-    by true = refl
-    by false = refl
-any_push p (y ∷ xs) x = by (p y) (any_push p xs x)
-  where
-    by : (b : Bool) → list_any p (xs ++ x ∷ []) ≡ (list_any p xs || p x)
-        → (b || list_any p (xs ++ x ∷ [])) ≡ ((b || list_any p xs) || p x)
-    by true e = refl
-    by false e = e
 
 module _ {X : Type 0} (key : X → ℤ) (of : TableRow → X) (rows : List TableRow) (i : ℕ) (d :
     TableRow)
@@ -76,3 +62,30 @@ module _ {X : Type 0} (key : X → ℤ) (of : TableRow → X) (rows : List Table
     first_passed some so_far new =
         so_far ∙ sym (ap (firsts key) more ∙ firsts_push key before row
         ∙ ap (λ b. cond b (firsts key before) (firsts key before ++ row ∷ [])) (was_there true new))
+
+-- ---- a row whose key is noted
+
+module _ {X : Type 0} (key : X → ℤ) (rows : List X) (i : ℕ) (d : X) (inside : i < length rows)
+    (old : ℤ → Bool) (noted : ℤ) (is : noted ≡ key (get_or rows i d))
+    (known : (id : ℤ) → old id ≡ list_any (λ row. int_eq id (key row)) (take i rows)) where
+  -- the keys that are known then
+  pub noted_more : (new : ℤ → Bool) → ((id : ℤ) → new id ≡ (old id || int_eq id noted))
+      → (id : ℤ) → new id ≡ list_any (λ row. int_eq id (key row)) (take (i + 1) rows)
+  noted_more new adds id =
+      adds id ∙ (λ j. known id j || int_eq id (is j))
+      ∙ sym (ap (list_any (λ row. int_eq id (key row))) (take_more rows i d inside)
+      ∙ any_push (λ row. int_eq id (key row)) (take i rows) (get_or rows i d))
+
+  module _ (fresh : Bool) (told : fresh ≡ not (old noted)) (count : ℕ)
+      (counted : count ≡ length (firsts key (take i rows))) where
+    was_noted : (answer : Bool) → fresh ≡ not answer
+        → is_old key (take i rows) (get_or rows i d) ≡ answer
+    was_noted answer e =
+        sym (known (key (get_or rows i d))) ∙ ap old (sym is)
+        ∙ turned (old noted) fresh answer told e
+
+    pub new_noted : fresh ≡ true → count + 1 ≡ length (firsts key (take (i + 1) rows))
+    new_noted new = new_counts key rows i d inside count counted (was_noted false new)
+
+    pub old_noted : fresh ≡ false → count ≡ length (firsts key (take (i + 1) rows))
+    old_noted new = old_counts key rows i d inside count counted (was_noted true new)

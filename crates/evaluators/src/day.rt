@@ -1,17 +1,19 @@
 // The values of a day.
-ghost use Rattle.std.specs.Prelude.{◌≡◌, ◌≤◌, true, [], length, All, IfOk};
+ghost use Rattle.std.specs.Prelude.{◌≡◌, ◌≤◌, ◌&&◌, true, [], length, All, IfOk};
 ghost use Rattle.giv_files.specs.Inputs.{UnlessFault};
 ghost use Rattle.event_tables.specs.DisposedTimes.{AreDisposedTimes};
 ghost use Rattle.event_tables.specs.ExpandedFiles.{AreExpandedActivities, AreExpandedEvents};
+ghost use Rattle.event_tables.specs.Places.{IsOneOf};
 ghost use Rattle.event_tables.specs.Schedules.{AreScheduleRows};
-ghost use Rattle.delay_management.specs.Problems.{activities_of, delayed, is_change_kind};
+ghost use Rattle.delay_management.specs.Lateness.{is_missed, missed_at};
+ghost use Rattle.delay_management.specs.Problems.{activities_of, delayed, is_change_kind, is_of};
 ghost use Rattle.evaluators.specs.Statistic.{day_values, greatest_delay, minutes_late, times_of};
 ghost use Rattle.evaluators.specs.StatisticStage.{day_faults, day_in, faults_over, values_over};
 
 use crate::day_values::DayValues;
 use crate::first_rows::vehicle_count;
 use crate::schedule::empty_minutes;
-use delay_management::{Activity, Step, delay_at, missed_at};
+use delay_management::delay_at;
 use event_tables::{
     ActivityKind, DisposedTime, ExpandedActivity, ExpandedEvent, ScheduleRow, disposed_times,
     expanded_activities, expanded_events, schedule_rows,
@@ -79,13 +81,12 @@ fn values_of(
         ≡ day_values events.now activities.now schedule.now disposed.now) }
 {
     let times = times_of(alloc, disposed)?;
-    let changes = changes_of(alloc, activities)?;
     Ok(DayValues {
-        vehicles: vehicle_count(schedule),
+        vehicles: vehicle_count(alloc, schedule)?,
         empty_minutes: empty_minutes(schedule),
         delay: delay_at(events, &times),
         greatest: greatest_delay(events, &times),
-        missed: missed_at(&changes, &times) as u64,
+        missed: missed_changes(activities, &times),
     })
 }
 
@@ -100,18 +101,33 @@ fn times_of(alloc: Global, rows: &[DisposedTime]) -> Result<Vec<u64>, NoMemory>
     Ok(times)
 }
 
-// The changes among activities, without delays of their own.
-fn changes_of(alloc: Global, activities: &[ExpandedActivity]) -> Result<Vec<Activity>, NoMemory>
-    requires { All (λ activity. (1 ≤ activity.from) × (1 ≤ activity.to)) activities.now }
-    ensures { IfOk result (λ changes. changes.items ≡ activities_of true [] activities.now) }
+// How many changes are missed by their least minutes as planned.
+fn missed_changes(activities: &[ExpandedActivity], times: &[u64]) -> u64
+    requires from { All (λ activity. IsOneOf (length times.now) activity.from) activities.now }
+    requires to { All (λ activity. IsOneOf (length times.now) activity.to) activities.now }
+    requires small { All (λ time. time ≤ 1000000000000000000) times.now }
+    ensures { result ≡ missed_at (activities_of true [] activities.now) times.now }
 {
-    let mut changes = Vec::new(alloc);
+    let mut missed = 0;
     for activity in activities {
-        if is_change(activity.kind) {
-            changes.push(undelayed(activity))?;
+        if is_missed(activity, times) {
+            missed += 1;
         }
     }
-    Ok(changes)
+    missed
+}
+
+// Whether an activity is a change that is missed.
+fn is_missed(activity: &ExpandedActivity, times: &[u64]) -> bool
+    requires from { IsOneOf (length times.now) activity.now.from }
+    requires to { IsOneOf (length times.now) activity.now.to }
+    requires small { All (λ time. time ≤ 1000000000000000000) times.now }
+    ensures { result
+        ≡ (is_of true activity.now && is_missed times.now (delayed [] activity.now)) }
+{
+    is_change(activity.kind)
+        && times[activity.to as usize - 1]
+            < times[activity.from as usize - 1] + u64::from(activity.lower)
 }
 
 // Whether activities of a kind are changes.
@@ -119,23 +135,6 @@ fn is_change(kind: ActivityKind) -> bool
     ensures { result ≡ is_change_kind kind }
 {
     matches!(kind, ActivityKind::Change)
-}
-
-// An activity without a delay of its own.
-fn undelayed(activity: &ExpandedActivity) -> Activity
-    requires from { 1 ≤ activity.now.from }
-    requires to { 1 ≤ activity.now.to }
-    ensures { result ≡ delayed [] activity.now }
-{
-    Activity {
-        id: activity.id,
-        step: Step {
-            from: activity.from - 1,
-            to: activity.to - 1,
-            lower: activity.lower,
-            extra: 0,
-        },
-    }
 }
 
 // The greatest delay of an event, 0 where none is late.

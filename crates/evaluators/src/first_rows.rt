@@ -30,24 +30,17 @@ pub(crate) fn first_rows(alloc: Global, table: &Table<4>) -> Result<Vec<LineRow>
 }
 
 /// How many different vehicles rows have.
-pub(crate) fn vehicle_count(rows: &[ScheduleRow]) -> u64
-    ensures count { result ≡ length (firsts (λ row. pos row.vehicle) rows.now) }
-    ensures few { result ≤ length rows.now }
+pub(crate) fn vehicle_count(alloc: Global, rows: &[ScheduleRow]) -> Result<u64, NoMemory>
+    ensures count { IfOk result
+        (λ count. count ≡ length (firsts (λ row. pos row.vehicle) rows.now)) }
+    ensures few { IfOk result (λ count. count ≤ length rows.now) }
 {
+    let mut seen = HashSet::new(alloc);
     let mut count = 0;
-    for i in 0..rows.len() {
-        if !has_vehicle(&rows[..i], &rows[i]) {
+    for row in rows {
+        if note(&mut seen, i64::from(row.vehicle))? {
             count += 1;
         }
     }
-    count
-}
-
-// Whether one of some rows has the vehicle of a row.
-fn has_vehicle(rows: &[ScheduleRow], row: &ScheduleRow) -> bool
-    ensures { result
-        ≡ list_any (λ other. int_eq (pos row.now.vehicle) (pos other.vehicle)) rows.now }
-{
-    rows.iter()
-        .any(|other| i64::from(row.vehicle) == i64::from(other.vehicle))
+    Ok(count)
 }

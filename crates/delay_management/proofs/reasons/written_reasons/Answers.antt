@@ -1,5 +1,5 @@
-use Rattle.std.proofs.Common.{◌∙◌, length, ap}
-use Rattle.std.specs.List.{reduce}
+use Rattle.std.proofs.Common.{◌∙◌, ◌++◌, length, ap}
+use Rattle.std.specs.List.{items_where_true, reduce}
 use Rattle.std.proofs.lemmas.List.FromFn.{length-map-range_with_len}
 use Rattle.delay_management.specs.Reasons.{lesser, tight_among}
 use Rattle.delay_management.proofs.WrittenBy.{told_by_ids}
@@ -9,9 +9,9 @@ pub reasons_by-requires-clause-ids : goal.reasons_by-requires-clause-ids
 reasons_by-requires-clause-ids c =
     let times = c.args.times.now in
     ap length (c.deref.ensures.value ∙ c.in_ok-ids.ensures)
-    ∙ length-map-range_with_len (λ event. reduce lesser (tight_among times event c.args.activities.now)) 0 (length times)
+    ∙ length-map-range_with_len (λ event. reduce lesser (tight_among times event (c.args.rides.now ++ items_where_true c.args.kept.now c.args.changes.now))) 0 (length times)
 
 pub returns : goal.returns
 returns c =
-    told_by_ids c.args.earliest.now c.args.times.now c.args.activities.now c.deref.result.now (λ reasons. reasons.items)
+    told_by_ids c.args.earliest.now c.args.times.now (c.args.rides.now ++ items_where_true c.args.kept.now c.args.changes.now) c.deref.result.now (λ reasons. reasons.items)
     (c.deref.ensures.value ∙ c.in_ok-ids.ensures) c.reasons_by.result c.reasons_by.ensures

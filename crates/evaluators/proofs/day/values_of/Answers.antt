@@ -1,11 +1,10 @@
-use Rattle.std.proofs.Common.{◌≡◌, ◌≤◌, length, All, ap, subst, sym, ◌∙◌}
+use Rattle.std.proofs.Common.{◌≤◌, true, [], All, ap, subst, sym, ◌∙◌}
 use Rattle.std.proofs.lemmas.Int.{to_z-of_z}
 use mir.Syntax.{w128}
-use Rattle.delay_management.specs.declared.step.Activity.{Activity}
 use Rattle.delay_management.specs.Lateness.{delay_at, missed_at}
-use Rattle.delay_management.specs.Problems.{Joins}
+use Rattle.delay_management.specs.Problems.{activities_of}
 use Rattle.evaluators.specs.Statistic.{greatest_delay}
-use Rattle.evaluators.proofs.Bounded.{changes_join, rows_few, times_below, times_each}
+use Rattle.evaluators.proofs.Bounded.{rows_few, times_below}
 use Rattle.evaluators.proofs.Parts.{day_are}
 use Rattle.evaluators.proofs.day.values_of.Goals as goal
 
@@ -18,19 +17,9 @@ delay_at-requires-clause-small c =
     c.in_ok-times.ensures))
     (times_below _ c.args.disposed.now c.requires.disposed)
 
-pub missed_at-requires-clause-ends : goal.missed_at-requires-clause-ends
-missed_at-requires-clause-ends c =
-    let each : length c.deref-4.result.now ≡ length c.args.events.now =
-    ap length (c.deref-4.ensures.value ∙ c.in_ok-times.ensures)
-    ∙ times_each _ c.args.disposed.now c.requires.disposed in
-    subst (λ n. All (λ change. Joins n change.step) c.deref-3.result.now) (sym each)
-    (subst (All (λ (change : Activity). Joins (length c.args.events.now) change.step))
-    (sym (c.deref-3.ensures.value ∙ c.in_ok-changes.ensures))
-    (changes_join c.args.events.now c.args.activities.now c.requires.activities))
-
-pub missed_at-requires-clause-small : goal.missed_at-requires-clause-small
-missed_at-requires-clause-small c =
-    subst (All (λ time. time ≤ 1000000000000000000)) (sym (c.deref-4.ensures.value ∙
+pub missed_changes-requires-clause-small : goal.missed_changes-requires-clause-small
+missed_changes-requires-clause-small c =
+    subst (All (λ time. time ≤ 1000000000000000000)) (sym (c.deref-3.ensures.value ∙
     c.in_ok-times.ensures))
     (times_below _ c.args.disposed.now c.requires.disposed)
 
@@ -39,11 +28,10 @@ returns c =
     let events = c.args.events.now in
     let first = c.deref.ensures.value ∙ c.in_ok-times.ensures in
     let second = c.deref-2.ensures.value ∙ c.in_ok-times.ensures in
-    let third = c.deref-4.ensures.value ∙ c.in_ok-times.ensures in
-    let changes = c.deref-3.ensures.value ∙ c.in_ok-changes.ensures in
+    let third = c.deref-3.ensures.value ∙ c.in_ok-times.ensures in
     day_are events c.args.activities.now c.args.schedule.now c.args.disposed.now _ _ _ _ _
-    c.vehicle_count.ensures.count c.empty_minutes.ensures.value
+    c.in_ok-vehicle_count.ensures.count c.empty_minutes.ensures.value
     (to_z-of_z w128 c.delay_at.result (record { sfits = c.delay_at.type_inv }) ∙ c.delay_at.ensures
     ∙ ap (delay_at events) first)
     (c.greatest_delay.ensures ∙ ap (greatest_delay events) second)
-    (c.missed_at.ensures ∙ (λ i. missed_at (changes i) (third i)))
+    (c.missed_changes.ensures ∙ ap (missed_at (activities_of true [] c.args.activities.now)) third)

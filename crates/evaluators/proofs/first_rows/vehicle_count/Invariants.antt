@@ -1,10 +1,15 @@
--- The count is that of the rows so far.
-use Rattle.std.proofs.Common.{◌≡◌, ◌≤◌, length, pos, take}
+-- The vehicles of the rows so far are known, and they are counted.
+use Rattle.std.proofs.Common.{◌≡◌, ◌≤◌, ℤ, length, pos, take}
+use Rattle.std.specs.HashSet.{contains}
+use Rattle.std.specs.List.{list_any}
+use Rattle.std.specs.Ordering.{int_eq}
 use Rattle.evaluators.specs.FirstRows.{firsts}
 use Rattle.evaluators.proofs.first_rows.vehicle_count.Given as goal
 
-abbrev pub invariant-loop-i : goal.invariant-loop-i
-invariant-loop-i l = record {
-  told : l.count ≡ length (firsts (λ row. pos row.vehicle) (take l.i l.rows));
-  few : l.count ≤ l.i;
+abbrev pub invariant-loop-row : goal.invariant-loop-row
+invariant-loop-row l = record {
+  seen : (id : ℤ) → contains int_eq l.seen id
+      ≡ list_any (λ row. int_eq id (pos row.vehicle)) (take l.row-index l.rows);
+  told : l.count ≡ length (firsts (λ row. pos row.vehicle) (take l.row-index l.rows));
+  few : l.count ≤ l.row-index;
 }

@@ -59,7 +59,7 @@ returns c =
       read = (
         no_faults b events.0 activities.0 schedule.0 event_rows.0 activity_rows.0,
         c.in_ok-problem.ensures ∙ problem_is b _ _ _ _ _ _ c.turnover_of-turnover.ensures.minutes
-            events.1 (c.deref-5.ensures.value ∙ activities.1) (c.deref-6.ensures.value ∙ schedule.1)
-            (c.deref-7.ensures.value ∙ event_rows.1) (c.deref-8.ensures.value ∙ activity_rows.1),
+            events.1 activities.1 (c.deref-5.ensures.value ∙ schedule.1)
+            (c.deref-6.ensures.value ∙ event_rows.1) (c.deref-7.ensures.value ∙ activity_rows.1),
       );
     }
