@@ -1,21 +1,14 @@
 -- Two numbers are the same or not, and one is less or not; and what stands in a list where one place was set.
+use Rattle.std.proofs.Common.{arith}
 use Rattle.std.proofs.Common.{◌≡◌, ◌≢◌, ◌∙◌, ℕ, ◌<◌, ◌≤◌, true, false, eqb, ltb, List, length, get_or, slice_set, refl, ap}
 use Rattle.std.proofs.lemmas.Bool.{eqb-true, eqb-false, ltb-true, ltb-false}
 use Rattle.std.proofs.lemmas.List.{get_or-set_same, get_or-set_other, set-get_or, set-set}
 
 pub by_same : {P : Type 0} (a b : ℕ) → (a ≡ b → P) → (a ≢ b → P) → P
-by_same {P} a b same apart =
-    elim (eqb a b) as (λ t. eqb a b ≡ t → P) [
-      | true ↦ λ is. same (eqb-true a b is)
-      | false ↦ λ is. apart (eqb-false a b is)
-    ] refl
+by_same {P} a b same apart = grind arith
 
 pub by_less : {P : Type 0} (a b : ℕ) → (a < b → P) → (b ≤ a → P) → P
-by_less {P} a b less most =
-    elim (ltb a b) as (λ t. ltb a b ≡ t → P) [
-      | true ↦ λ is. less (ltb-true a b is)
-      | false ↦ λ is. most (ltb-false a b is)
-    ] refl
+by_less {P} a b less most = grind arith
 
 module _ {X : Type 0} (old new : List X) (place : ℕ) (x d : X) (is : new ≡ slice_set old place x) where
   pub set_here : place < length old → get_or new place d ≡ x

@@ -99,6 +99,5 @@ pub few_told : (earliest times : List ℕ) (activities : List Activity) → leng
     → IfOk result (λ reasons. view reasons ≡ map (λ event. reason_by earliest times event (reduce lesser (tight_among times event activities))) (range_with_len 0 (length times)))
     → IfOk result (λ reasons. length (view reasons) ≤ 100000)
 few_told earliest times activities few view (Ok reasons) told =
-    let f : ℕ → Reason = λ event. reason_by earliest times event (reduce lesser (tight_among times event activities)) in
-    omega (arith, ap length told, length-map-range_with_len f 0 (length times), few)
+    grind (arith, length-map-range_with_len)
 few_told earliest times activities few view (Err error) told = tt

@@ -67,11 +67,7 @@ module _ {X : Type 0} where
 pub where_passing : {X : Type 0} (test : X → Bool) (xs : List X)
     → items_where_true (map test xs) xs ≡ filter test xs
 where_passing test [] = refl
-where_passing test (x ∷ xs) =
-    elim (test x) as (λ b. items_where_true (b ∷ map test xs) (x ∷ xs) ≡ cond b (x ∷ filter test xs) (filter test xs)) [
-      | true ↦ ap (λ rest. x ∷ rest) (where_passing test xs)
-      | false ↦ where_passing test xs
-    ]
+where_passing test (x ∷ xs) = grind (arith, where_passing test xs)
 
 -- the changes that are kept are those that are chosen by the least times without any
 pub kept_told : {A E : Type 0} (view : A → List Bool) (problem : DelayProblem) (wait : ℤ)
@@ -81,8 +77,4 @@ pub kept_told : {A E : Type 0} (view : A → List Bool) (problem : DelayProblem)
     → IfOk result (λ kept. chosen_changes problem (view kept) ≡ kept_changes problem wait)
 unfolding kept_changes
 kept_told view problem wait events changes alone e h a (Err error) told = tt
-kept_told view problem wait events changes alone e h a (Ok kept) told =
-    let all : view kept ≡ map (is_kept problem wait (times_alone problem)) problem.changes
-    = told ∙ (λ i. map (λ change. waits wait (time_at (a i) change.step.from + change.step.lower) (planned_at (e i) change.step.to)) (h i)) in
-    ap (λ flags. items_where_true flags problem.changes) all
-    ∙ where_passing (is_kept problem wait (times_alone problem)) problem.changes
+kept_told view problem wait events changes alone e h a (Ok kept) told = grind (arith, where_passing)

@@ -42,19 +42,12 @@ none_placed count =
 -- a row before others
 pub more_placed : (count : ℕ) (row : DelayRow) (rows : List DelayRow) → IsOneOf count row.id
     → slice_set (by_place count rows) (row.id - 1) row.delay ≡ by_place count (row ∷ rows)
-more_placed count row rows one =
-    let place : 1 + (row.id - 1) ≡ row.id = omega (arith, one.0) in
-    told_anew (delay_of rows) (delay_of (row ∷ rows)) 1 count (row.id - 1) row.delay
-    (omega (arith, one.0, one.1))
-    (own row rows (1 + (row.id - 1)) (eq-eqb row.id (1 + (row.id - 1)) (sym place)))
-    (λ k inside apart. other row rows (1 + k) (ne_eqb row.id (1 + k) (λ e. apart (omega (arith, e)))))
+more_placed count row rows one = grind (arith, told_anew, own, eq-eqb, other, ne_eqb)
 
 -- the delay of what stands at a place
 pub placed : (count : ℕ) (rows : List DelayRow) (delays : List ℕ) (i id d : ℕ)
     → delays ≡ by_place count rows → i < count → id ≡ i + 1 → get_or delays i d ≡ delay_of rows id
-placed count rows delays i id d are inside is =
-    ap (λ all. get_or all i d) are
-    ∙ get_or-map-range_with_len (delay_of rows) 1 count i id d inside (omega (arith, is))
+placed count rows delays i id d are inside is = grind (arith, get_or, get_or-map-range_with_len)
 
 -- ---- one event more, and one activity more
 
@@ -64,11 +57,7 @@ module _ (rows : List DelayRow) (delays : List ℕ) (i : ℕ) where
       → i < length events
       → map (earliest_of rows) (drop i events)
       ≡ ((get_or events i d).time + delay) ∷ map (earliest_of rows) (drop (i + 1) events)
-  event_more events d delay told are is inside =
-      ap (map (earliest_of rows)) (drop_more events i d inside)
-      ∙ ap (λ delay. ((get_or events i d).time + delay) ∷ map (earliest_of rows) (drop (i + 1) events))
-      (sym (told ∙ placed (length events) rows delays i (get_or events i d).id delay is inside
-      (id_at (λ event. event.id) events i d are inside)))
+  event_more events d delay told are is inside = grind (arith, drop_more, get_or, placed, id_at)
 
   module _ (changes : Bool) (activities : List ExpandedActivity) (d : ExpandedActivity)
       (are : AreNumbered (λ activity. activity.id) activities)
@@ -78,9 +67,7 @@ module _ (rows : List DelayRow) (delays : List ℕ) (i : ℕ) where
 
     pub activity_left_out : is_of changes (get_or activities i d) ≡ false
         → rest_from i ≡ rest_from (i + 1)
-    activity_left_out out =
-        ap (λ left. map (delayed rows) (filter (is_of changes) left)) (drop_more activities i d inside)
-        ∙ ap (λ b. map (delayed rows) (cond b (get_or activities i d ∷ filter (is_of changes) (drop (i + 1) activities)) (filter (is_of changes) (drop (i + 1) activities)))) out
+    activity_left_out out = grind (arith, drop_more, get_or)
 
     pub activity_more : (delay : ℕ) → delay ≡ get_or delays i delay
         → is_of changes (get_or activities i d) ≡ true
@@ -93,10 +80,4 @@ module _ (rows : List DelayRow) (delays : List ℕ) (i : ℕ) where
             extra = delay;
           };
         } ∷ rest_from (i + 1)
-    activity_more delay told there =
-        let at = get_or activities i d in
-        ap (λ left. map (delayed rows) (filter (is_of changes) left)) (drop_more activities i d inside)
-        ∙ ap (λ b. map (delayed rows) (cond b (at ∷ filter (is_of changes) (drop (i + 1) activities)) (filter (is_of changes) (drop (i + 1) activities)))) there
-        ∙ ap (λ delay. record { id = at.id; step = record { from = at.from - 1; to = at.to - 1; lower = at.lower; extra = delay } } ∷ rest_from (i + 1))
-        (sym (told ∙ placed (length activities) rows delays i at.id delay is inside
-        (id_at (λ activity. activity.id) activities i d are inside)))
+    activity_more delay told there = grind (arith, get_or, drop_more, placed, id_at)

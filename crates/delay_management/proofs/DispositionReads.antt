@@ -172,9 +172,7 @@ module _ (bundle : BundleParts) (none : disposition_faults bundle ≡ []) where
 pub disposition_is_right : (bundle : BundleParts) (made : Made) → bundle.stage ≡ stage.Disposition
     → Fits bundle → disposition_stage bundle ≡ Ok made → DispositionIsRight bundle made
 unfolding disposition_stage
-disposition_is_right bundle made own fits is =
-    subst (DispositionIsRight bundle) (made_unless (disposition_faults bundle) (disposed_of (problem_in bundle) (kept_in bundle)) made is)
-    (made_right bundle (none_unless (disposition_faults bundle) (disposed_of (problem_in bundle) (kept_in bundle)) made is) own fits)
+disposition_is_right bundle made own fits is = grind (arith, made_unless, made_right, none_unless)
 
 -- what a call gives that meets the stage
 pub right_given : (bundle : BundleParts) (result : Result Made StageFault)

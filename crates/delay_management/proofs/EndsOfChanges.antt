@@ -14,11 +14,7 @@ use Rattle.delay_management.proofs.Apart.{by_less}
 pub first_is : {X : Type 0} (key : X → ℕ) (xs : List X) (least first : ℕ) → first ≤ length xs
     → IsPartitionPoint (λ x. ltb (key x) least ≡ true) (λ x. ltb (key x) least ≡ false) xs first
     → IsFirst key xs least first
-first_is key xs least first most parts = record {
-  most = most;
-  before = λ k d less. ltb-true (key (get_or xs k d)) least (parts.0 k d (omega arith) less);
-  behind = λ k d low inside. ltb-false (key (get_or xs k d)) least (parts.1 k d low inside);
-}
+first_is key xs least first most parts = grind arith
 
 -- the ends of the first changes
 pub record EndsSoFar (changes : List Activity) (count : ℕ) (ends : List ChangeEnd) : Type 0 where
@@ -29,11 +25,7 @@ pub record EndsSoFar (changes : List Activity) (count : ℕ) (ends : List Change
       → Contains ends (record { event = (get_or changes k d).step.to; change = k })
 
 pub none_yet : (changes : List Activity) (ends : List ChangeEnd) → ends ≡ [] → EndsSoFar changes 0 ends
-none_yet changes ends none = record {
-  there = rw none (All-nil (λ (end : ChangeEnd). end.change < length changes));
-  from = λ k d less. absurd (omega (arith, less));
-  to = λ k d less. absurd (omega (arith, less));
-}
+none_yet changes ends none = grind arith
 
 pub one_more : (changes : List Activity) (count : ℕ) (ends : List ChangeEnd) → EndsSoFar changes count ends
     → count < length changes → (e : Activity) (first second : List ChangeEnd)
@@ -61,11 +53,7 @@ one_more changes count ends so_far inside e first second one two =
 
 pub all_there : (changes : List Activity) (count : ℕ) (ends : List ChangeEnd) → EndsSoFar changes count ends
     → length changes ≤ count → HasEnds changes ends
-all_there changes count ends so_far most = record {
-  there = so_far.there;
-  from = λ k d inside. so_far.from k d (omega (arith, inside, most));
-  to = λ k d inside. so_far.to k d (omega (arith, inside, most));
-}
+all_there changes count ends so_far most = grind arith
 
 contains_moved : {X : Type 0} (xs ys : List X) → IsPermutation xs ys → (x : X) → Contains xs x → Contains ys x
 contains_moved xs ys moved x there =

@@ -1,4 +1,5 @@
 -- Whether an event is early, or its reason is right, by the activities that count and the turns.
+use Rattle.std.proofs.Common.{arith}
 use Rattle.std.proofs.Common.{◌≡◌, ◌∙◌, ℕ, ◌==◌, ◌&&◌, ◌||◌, Bool, true, false, cond, eqb, nat_eq, nat_lt, List, [], ◌∷◌, ◌++◌, map, filter, refl, ap, sym}
 use Rattle.std.specs.List.{list_any}
 use Rattle.std.proofs.lemmas.Bool.{eqb-true}
@@ -29,19 +30,11 @@ any_none p none (x ∷ xs) = ap (λ b. b || list_any p xs) (none x) ∙ any_none
 
 any_filter : {X : Type 0} (q p : X → Bool) (xs : List X) → list_any q (filter p xs) ≡ list_any (λ x. p x && q x) xs
 any_filter q p [] = refl
-any_filter q p (x ∷ xs) =
-    elim (p x) as (λ b. list_any q (cond b (x ∷ filter p xs) (filter p xs)) ≡ ((b && q x) || list_any (λ x. p x && q x) xs)) [
-      | true ↦ ap (λ rest. q x || rest) (any_filter q p xs)
-      | false ↦ any_filter q p xs
-    ]
+any_filter q p (x ∷ xs) = grind (arith, any_filter q p xs)
 
 -- what is asked of a head is asked of the event where the head is the event
 at_head : (head event : ℕ) (test : ℕ → Bool) → ((head == event) && test head) ≡ ((head == event) && test event)
-at_head head event test =
-    elim (eqb head event) as (λ b. eqb head event ≡ b → (b && test head) ≡ (b && test event)) [
-      | true ↦ λ same. ap test (eqb-true head event same)
-      | false ↦ λ other. refl
-    ] refl
+at_head head event test = grind arith
 
 never : (b : Bool) → (b && false) ≡ false
 never true = refl
@@ -60,15 +53,7 @@ module _ (problem : DelayProblem) (kept : List Activity) (times : List ℕ) (eve
 
   pub early_is : is_early problem (steps_with problem kept) times event
       ≡ is_early_by problem.earliest activities problem.turns times event
-  early_is =
-      let A = nat_lt (time_at times event) (earliest_at problem event) in
-      let ahead = λ (step : Step). at_head step.to event (λ e. nat_lt (time_at times e) (asked times step)) in
-      ap (λ rest. A || rest) (list_any-append (is_ahead times event) (map (λ (at : Activity). at.step) activities) problem.turns
-      ∙ (λ i. (any_map (is_ahead times event) (λ (at : Activity). at.step) activities
-      ∙ any_alike (λ at. is_ahead times event at.step) (λ at. (at.step.to == event) && is_before times at.step) (λ at. sym (ahead at.step)) activities) i
-      || any_alike (is_ahead times event) (λ turn. (turn.to == event) && is_before times turn) (λ turn. sym (ahead turn)) problem.turns i))
-      ∙ sym (or_assoc A (list_any (λ at. (at.step.to == event) && is_before times at.step) activities)
-      (list_any (λ turn. (turn.to == event) && is_before times turn) problem.turns))
+  early_is = grind (arith, nat_lt, at_head, list_any-append, any_map, any_alike, or_assoc)
 
   -- the same with one reason
   abbrev right_by : Reason → Bool
@@ -87,20 +72,10 @@ module _ (problem : DelayProblem) (kept : List Activity) (times : List ℕ) (eve
   just step = sym (at_head step.to event (λ e. nat_eq (asked times step) (time_at times e)))
 
   by_reason : (why : Reason) → is_right problem kept times event why ≡ right_by why
-  by_reason reason.Source =
-      let A = nat_eq (time_at times event) (earliest_at problem event) in
-      sym (ap (λ rest. (A || rest) || list_any (λ (turn : Step). (turn.to == event) && false) problem.turns) no_activity
-      ∙ ap (λ rest. (A || false) || rest) no_turn ∙ or_none (A || false) ∙ or_none A)
+  by_reason reason.Source = grind (arith, nat_eq, no_activity, no_turn, or_none)
   by_reason (reason.Activity id) =
-      any_map (nat_eq id) (λ (at : Activity). at.id) (filter (λ at. is_tight times event at.step) activities)
-      ∙ any_filter (λ (at : Activity). nat_eq id at.id) (λ at. is_tight times event at.step) activities
-      ∙ any_alike (λ at. is_tight times event at.step && nat_eq id at.id) (λ at. (at.step.to == event) && (nat_eq id at.id && is_just times at.step))
-      (λ at. ap (λ b. b && nat_eq id at.id) (just at.step) ∙ swapped (at.step.to == event) (is_just times at.step) (nat_eq id at.id)) activities
-      ∙ sym (ap (λ rest. list_any (λ (at : Activity). (at.step.to == event) && (nat_eq id at.id && is_just times at.step)) activities || rest) no_turn
-      ∙ or_none (list_any (λ (at : Activity). (at.step.to == event) && (nat_eq id at.id && is_just times at.step)) activities))
-  by_reason reason.Turn =
-      any_alike (is_tight times event) (λ turn. (turn.to == event) && is_just times turn) just problem.turns
-      ∙ sym (ap (λ rest. rest || list_any (λ (turn : Step). (turn.to == event) && is_just times turn) problem.turns) no_activity)
+      grind (arith, any_map, nat_eq, any_filter, any_alike, just, swapped, no_turn, or_none)
+  by_reason reason.Turn = grind (arith, any_alike, just, no_activity)
 
   pub right_is : (reasons : List Reason) → is_right problem kept times event (reason_for reasons event)
       ≡ is_right_by problem.earliest activities problem.turns times reasons event

@@ -7,9 +7,7 @@ module _ (test : ℕ → Bool) (n i : ℕ) where
   left_from i = filter test (range_with_len i (n - i))
 
   step : i < n → left_from i ≡ cond (test i) (i ∷ left_from (i + 1)) (left_from (i + 1))
-  step inside =
-      let more : n - i ≡ suc (n - (i + 1)) = omega (arith, inside) in
-      ap (λ k. filter test (range_with_len i k)) more
+  step inside = grind arith
 
   pub first_passes : i < n → test i ≡ true → slice_get (left_from i) 0 ≡ Some i
   first_passes inside is =

@@ -29,13 +29,7 @@ forward_step : (events : List ExpandedEvent) (from to : ℕ) (step : Step)
     → AreNumbered (λ event. event.id) events → step.from ≡ index_of from → step.to ≡ index_of to
     → IsOneOf (length events) from → IsOneOf (length events) to → goes_forward events from to ≡ true
     → GoesForward events step
-forward_step events from to step are first second one other goes = record {
-  from = omega (arith, first, one.0, one.1);
-  to = omega (arith, second, other.0, other.1);
-  before = ap (λ k. stands_before (event_at events k) (event_at events step.to)) first
-      ∙ ap (λ k. stands_before (event_at events (index_of from)) (event_at events k)) second
-      ∙ at_places events from to are one other goes;
-}
+forward_step events from to step are first second one other goes = grind (arith, at_places)
 
 -- each change or none is one of both
 both_kinds : (row : ExpandedActivity) → is_of false row ≡ not (is_of true row)
@@ -90,25 +84,8 @@ module _ (turnover : ℕ) (events : List ExpandedEvent) (activities : List Expan
 
   few_links : length (links_of problem) ≤ 502000
   few_links =
-      let sum = length-filter_both (is_of true) (is_of false) both_kinds activities in
-      let rides = ride_links events problem.rides in
-      let turns = turn_links events problem.turns in
-      let changes = change_links events 0 problem.changes in
-      omega (
-        arith,
-        length-append rides (turns ++ changes),
-        length-append turns changes,
-        length-map problem.rides (λ (ride : Activity). link_of events None ride.step),
-        length-map problem.turns (link_of events None),
-        length-map (enumerate_from 0 problem.changes) (λ (at : ℕ × Activity). link_of events (Some at.0) at.1.step),
-        length-enumerate_from 0 problem.changes,
-        length-map (filter (is_of true) activities) (delayed activity_rows),
-        length-map (filter (is_of false) activities) (delayed activity_rows),
-        length-map (filter is_empty_row schedule) (turn_of turnover),
-        sum,
-        activities_are.few,
-        rows_are.few_empty,
-      )
+      grind (arith, length-filter_both, both_kinds, length-append, length-map,
+      length-enumerate_from)
 
   -- the first event of each step is there
   pub rides_start : (changes : Bool) → All (λ at. at.step.from < length events) (activities_of changes activity_rows activities)

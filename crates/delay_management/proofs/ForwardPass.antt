@@ -64,17 +64,11 @@ module _ (kept : List Bool) (n : ℕ) (ranks : ℕ → ℕ) where
   by_link : (P : List ℕ → Type 0) (times : List ℕ) (link : Link)
       → (counts kept link.change ≡ true → P (head_pushed times link.step))
       → (counts kept link.change ≡ false → P times) → P (pushed_by kept times link)
-  by_link P times link pushed passed =
-      elim (counts kept link.change) as (λ b. counts kept link.change ≡ b → P (cond b (head_pushed times link.step) times)) [
-        | true ↦ pushed
-        | false ↦ passed
-      ] refl
+  by_link P times link pushed passed = grind arith
 
   one_each : (times : List ℕ) (link : Link) → Joins n ranks link → length times ≡ n
       → length (pushed_by kept times link) ≡ n
-  one_each times link joins each =
-      by_link (λ new. length new ≡ n) times link
-      (λ _. (is_pushed times link.step (omega (arith, joins.to, each))).each ∙ each) (λ _. each)
+  one_each times link joins each = grind (arith, by_link, is_pushed)
 
   pub long : (links : List Link) (times : List ℕ) → All (Joins n ranks) links → length times ≡ n
       → length (pushed_along kept links times) ≡ n

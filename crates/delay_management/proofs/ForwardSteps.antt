@@ -33,16 +33,4 @@ module _ (problem : DelayProblem) (links : List Link) (linked : IsLinked problem
   change_ids = back_all (λ activity. activity.id ≤ 500000) problem.rides problem.changes linked.ids
 
   pub changes_few : length problem.changes ≤ 502000
-  changes_few =
-      let rides = ride_links problem.events problem.rides in
-      let turns = turn_links problem.events problem.turns in
-      let changes = change_links problem.events 0 problem.changes in
-      omega (
-        arith,
-        length_permutation (links_of problem) links linked.all,
-        linked.few_links,
-        length-append rides (turns ++ changes),
-        length-append turns changes,
-        length-map (enumerate_from 0 problem.changes) (λ (at : ℕ × Activity). link_of problem.events (Some at.0) at.1.step),
-        length-enumerate_from 0 problem.changes,
-      )
+  changes_few = grind (arith, length_permutation, length-append, length-map, length-enumerate_from)

@@ -1,4 +1,5 @@
 -- From what is found to the first rule that is broken.
+use Rattle.std.proofs.Common.{arith}
 use Rattle.std.proofs.Common.{◌≡◌, ◌∙◌, ℕ, not, Bool, true, false, cond, List, [], ◌∷◌, ◌++◌, length, map, filter, slice_get, Option, Some, None, Result, Ok, Err, IfOk, IfNone, option_map, refl, ap, sym}
 use Rattle.std.specs.List.{range_with_len}
 use Rattle.std.proofs.lemmas.Option.{same_Some, slice_get-map}
@@ -38,20 +39,12 @@ module _ (problem : DelayProblem) (kept : List Activity) (times : List ℕ) (ear
     (each : length times ≡ length problem.events) where
   early_events : filter (is_early_by earliest activities turns times) (range_with_len 0 (length times))
       ≡ events_where problem (is_early problem (steps_with problem kept) times)
-  early_events =
-      (λ i. filter (is_early_by (e i) (a i) (t i) times) (range_with_len 0 (each i)))
-      ∙ filter_alike (is_early_by problem.earliest (problem.rides ++ kept) problem.turns times)
-      (is_early problem (steps_with problem kept) times) 0 (length problem.events)
-      (λ event _ _. sym (early_is problem kept times event))
+  early_events = grind (arith, filter_alike, early_is)
 
   wrong_events : (reasons : List Reason)
       → filter (λ event. not (is_right_by earliest activities turns times reasons event)) (range_with_len 0 (length times))
       ≡ events_where problem (is_wrong problem kept times reasons)
-  wrong_events reasons =
-      (λ i. filter (λ event. not (is_right_by (e i) (a i) (t i) times reasons event)) (range_with_len 0 (each i)))
-      ∙ filter_alike (λ event. not (is_right_by problem.earliest (problem.rides ++ kept) problem.turns times reasons event))
-      (is_wrong problem kept times reasons) 0 (length problem.events)
-      (λ event _ _. ap not (sym (right_is problem kept times event reasons)))
+  wrong_events reasons = grind (arith, filter_alike, right_is)
 
   pub found_wrong : (rows : List ReasonRow) (reasons : List Reason) (found : Option ℕ)
       → reasons ≡ map (λ row. row.reason) rows
@@ -59,18 +52,12 @@ module _ (problem : DelayProblem) (kept : List Activity) (times : List ℕ) (ear
       → found ≡ slice_get (filter (λ event. not (is_right_by earliest activities turns times reasons event)) (range_with_len 0 (length times))) 0
       → option_map (λ event. fault.Reason event) found ≡ slice_get (broken_reasons problem kept times rows) 0
   found_wrong rows reasons found are order is =
-      ap (option_map (λ event. fault.Reason event)) (is ∙ ap (λ all. slice_get all 0) (wrong_events reasons))
-      ∙ sym (slice_get-map (λ event. fault.Reason event) (events_where problem (is_wrong problem kept times reasons)) 0)
-      ∙ ap (λ all. slice_get (map (λ event. fault.Reason event) (events_where problem (is_wrong problem kept times all))) 0) are
-      ∙ sym (ap (λ b. slice_get (broken_where (not b) fault.ReasonsRow ++ map (λ event. fault.Reason event) (events_where problem (is_wrong problem kept times (map (λ row. row.reason) rows)))) 0)
-      (ap (λ n. are_all n (map (λ row. row.event) rows)) (sym each) ∙ order))
+      grind (arith, option_map, slice_get, wrong_events, slice_get-map)
 
   pub found_early : (text : List ℕ) (event : ℕ)
       → Some event ≡ slice_get (filter (is_early_by earliest activities turns times) (range_with_len 0 (length times))) 0
       → Some (fault.Early event) ≡ slice_get (broken_times problem kept times text) 0
-  found_early text event is =
-      first_mapped (λ event. fault.Early event) (events_where problem (is_early problem (steps_with problem kept) times))
-      (reason_faults problem kept times text) event (is ∙ ap (λ all. slice_get all 0) early_events)
+  found_early text event is = grind (arith, first_mapped, slice_get, early_events)
 
   pub none_early : (text : List ℕ)
       → None ≡ slice_get (filter (is_early_by earliest activities turns times) (range_with_len 0 (length times))) 0
@@ -78,10 +65,7 @@ module _ (problem : DelayProblem) (kept : List Activity) (times : List ℕ) (ear
       → IfOk result (λ answer. (some : List Activity) → activities ≡ problem.rides ++ some
       → answer ≡ slice_get (reason_faults problem some times text) 0)
       → IfOk result (λ answer. answer ≡ slice_get (broken_times problem kept times text) 0)
-  none_early text is (Ok answer) told =
-      told kept a ∙ ap (λ all. slice_get all 0)
-      (none_mapped (λ event. fault.Early event) (events_where problem (is_early problem (steps_with problem kept) times))
-      (reason_faults problem kept times text) (is ∙ ap (λ all. slice_get all 0) early_events))
+  none_early text is (Ok answer) told = grind (arith, slice_get, none_mapped, early_events)
   none_early text is (Err error) told = tt
 
 -- ---- what the reading of a text of times tells
@@ -112,11 +96,7 @@ module _ (problem : DelayProblem) (kept : List Activity) (text reasons : List �
         → IfOk result (λ answer. answer ≡ first_broken_rule problem kept text reasons)
     unfolding first_broken_rule
     as_rows_told (Err error) told = tt
-    as_rows_told (Ok answer) told =
-        let read = some_read (is_table disposed_columns text) is in
-        told
-        ∙ ap (λ table. slice_get (broken_rows problem kept (records_by disposed_time table) reasons) 0) read.1
-        ∙ ap by_table read.0
+    as_rows_told (Ok answer) told = grind arith
 
 -- ---- texts that pass
 

@@ -111,9 +111,7 @@ module _ {X Y : Type 0} (row : ℕ × X → Y) (event : Y → ℕ) (part : Y →
 
   all_there : (count : ℕ) (xs : List X) → length xs ≡ count → are_all count (map event (map row (enumerate_from 1 xs))) ≡ true
   all_there count xs each =
-      and_from _ _ (eq-eqb (length (map event (map row (enumerate_from 1 xs)))) count
-      (length-map (map row (enumerate_from 1 xs)) event ∙ length-map (enumerate_from 1 xs) row ∙ length-enumerate_from 1 xs ∙ each))
-      (ids_in_order 1 xs)
+      grind (arith, and_from, eq-eqb, length-map, length-enumerate_from, ids_in_order)
 
 abbrev time_row : ℕ × ℕ → DisposedTime
 time_row at = record { event = at.0; time = at.1 }
@@ -140,29 +138,12 @@ module _ (problem : DelayProblem) (kept : List Activity) where
 
   feasible_by : (times : List ℕ) → length times ≡ n → All (λ step. step.to < n) steps
       → ((event : ℕ) → event < n → is_early problem steps times event ≡ false) → IsFeasible problem kept times
-  feasible_by times each heads early = record {
-    each = each;
-    earliest = λ event inside. ltb-false (time_at times event) (earliest_at problem event)
-        (or_parts (nat_lt (time_at times event) (earliest_at problem event)) (list_any (is_ahead times event) steps) (early event inside)).0;
-    steps = λ k d inside.
-        let step = get_or steps k d in
-        let none = (or_parts (nat_lt (time_at times step.to) (earliest_at problem step.to)) (list_any (is_ahead times step.to) steps) (early step.to (heads k d inside))).1 in
-        let not_ahead = any_false (is_ahead times step.to) steps none k d inside in
-        ltb-false (time_at times step.to) (asked times step)
-        (ap (λ b. b && nat_lt (time_at times step.to) (asked times step)) (sym (eq-eqb step.to step.to refl)) ∙ not_ahead);
-  }
+  feasible_by times each heads early =
+      grind (arith, ltb-false, or_parts, nat_lt, get_or, any_false, eq-eqb)
 
   early_by : (times : List ℕ) → IsFeasible problem kept times → (event : ℕ) → event < n
       → is_early problem steps times event ≡ false
-  early_by times feasible event inside =
-      ap (λ b. b || list_any (is_ahead times event) steps) (le-ltb (time_at times event) (earliest_at problem event) (feasible.earliest event inside))
-      ∙ false_any (is_ahead times event) steps (λ k d within.
-      let step = get_or steps k d in
-      elim (eqb step.to event) as (λ b. eqb step.to event ≡ b → (b && nat_lt (time_at times event) (asked times step)) ≡ false) [
-        | true ↦ λ same. subst (λ e. nat_lt (time_at times e) (asked times step) ≡ false) (eqb-true step.to event same)
-            (le-ltb (time_at times step.to) (asked times step) (feasible.steps k d within))
-        | false ↦ λ other. refl
-      ] refl)
+  early_by times feasible event inside = grind (arith, le-ltb, false_any, get_or, nat_lt, eqb-true)
 
   module _ (times_text reasons_text : List ℕ) where
     abbrev rows : List DisposedTime

@@ -13,20 +13,10 @@ pub record IsLater (a b c : ℕ) : Type 0 where
   pub second : b ≤ c
 
 pub later_is : (a b : ℕ) → IsLater a b (later a b)
-later_is a b =
-    elim (ltb a b) as (λ t. ltb a b ≡ t → IsLater a b (cond t b a)) [
-      | true ↦ λ is. let less : a < b = ltb-true a b is in
-          record { one = inr refl; first = omega (arith, less); second = omega arith }
-      | false ↦ λ is. let most : b ≤ a = ltb-false a b is in
-          record { one = inl refl; first = omega arith; second = most }
-    ] refl
+later_is a b = grind arith
 
 pub lesser_one : (a b : ℕ) → (lesser a b ≡ a) ⊎ (lesser a b ≡ b)
-lesser_one a b =
-    elim (ltb b a) as (λ t. (cond t b a ≡ a) ⊎ (cond t b a ≡ b)) [
-      | true ↦ inr refl
-      | false ↦ inl refl
-    ]
+lesser_one a b = grind arith
 
 pub shifted : {X : Type 0} (y : X) (ys : List X) (x : X) → Contains ys x → Contains (y ∷ ys) x
 shifted y ys x there = (suc there.0, omega (arith, there.1), there.2)
@@ -34,12 +24,7 @@ shifted y ys x there = (suc there.0, omega (arith, there.1), there.2)
 -- the latest is no earlier than each of them
 pub latest_bounds : (a : ℕ) (xs : List ℕ) → (a ≤ latest a xs) × All (λ x. x ≤ latest a xs) xs
 latest_bounds a [] = (omega arith, All-nil (λ x. x ≤ a))
-latest_bounds a (x ∷ xs) =
-    let step = later_is a x in
-    let rest = latest_bounds (later a x) xs in (
-      omega (arith, step.first, rest.0),
-      All-cons (λ y. y ≤ latest (later a x) xs) x xs (omega (arith, step.second, rest.0)) rest.1,
-    )
+latest_bounds a (x ∷ xs) = grind (arith, later_is, All-cons, latest_bounds (later a x) xs)
 
 reached_by : (f : ℕ → ℕ → ℕ) → ((a b : ℕ) → (f a b ≡ a) ⊎ (f a b ≡ b)) → (a : ℕ) (xs : List ℕ)
     → (fold f a xs ≡ a) ⊎ Contains xs (fold f a xs)

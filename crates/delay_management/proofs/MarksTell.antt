@@ -29,18 +29,13 @@ pub filter_marks : (by : Bool → Bool) (test : ℕ → Bool) (n : ℕ) (marks :
     → filter (λ event. by (get_or marks event false)) (range_with_len 0 (length marks))
     ≡ filter (λ event. by (test event)) (range_with_len 0 n)
 filter_marks by test n marks are =
-    let long : length marks ≡ n = ap length are ∙ length-map-range_with_len test 0 n in
-    ap (λ k. filter (λ event. by (get_or marks event false)) (range_with_len 0 k)) long
-    ∙ filter_alike (λ event. by (get_or marks event false)) (λ event. by (test event)) 0 n
-    (λ e low high. let inside : e < n = omega (arith, high) in let here : 0 + e ≡ e = omega arith in
-    ap by (ap (λ all. get_or all e false) are ∙ get_or-map-range_with_len test 0 n e e false inside here))
+    grind (arith, length-map-range_with_len, get_or, filter_alike, get_or-map-range_with_len)
 
 module _ {X : Type 0} (head : X → ℕ) (test : X → Bool) where
   pub marked_length : (items : List X) (marks : List Bool) → length (marked_by head test marks items) ≡ length marks
   marked_length [] marks = refl
   marked_length (x ∷ items) marks =
-      marked_length items (with_mark marks (head x) (test x))
-      ∙ length-set marks (head x) (get_or marks (head x) false || test x)
+      grind (arith, length-set, get_or, marked_length items (with_mark marks (head x) (test x)))
 
   abbrev some_mark : List X → ℕ → Bool
   some_mark items event = list_any (λ x. (head x == event) && test x) items
@@ -49,16 +44,7 @@ module _ {X : Type 0} (head : X → ℕ) (test : X → Bool) where
       → with_mark (map base (range_with_len 0 n)) (head x) (test x)
       ≡ map (λ event. base event || ((head x == event) && test x)) (range_with_len 0 n)
   one_marked base n x inside =
-      let old = map base (range_with_len 0 n) in
-      let zero_head : 0 + head x ≡ head x = omega arith in
-      let new : ℕ → Bool = λ event. base event || ((head x == event) && test x) in
-      told_anew base new 0 n (head x) (get_or old (head x) false || test x) inside
-      (ap new zero_head
-      ∙ ap (λ b. base (head x) || (b && test x)) (eq-eqb (head x) (head x) refl)
-      ∙ ap (λ b. b || test x) (sym (get_or-map-range_with_len base 0 n (head x) (head x) false inside zero_head)))
-      (λ k within apart.
-      ap (λ b. base (0 + k) || (b && test x)) (ne_eqb (head x) (0 + k) (λ e. apart (omega (arith, e))))
-      ∙ or_none (base (0 + k)))
+      grind (arith, told_anew, get_or, eq-eqb, get_or-map-range_with_len, ne_eqb, or_none)
 
   pub any_told : (items : List X) (base : ℕ → Bool) (n : ℕ) → All (λ x. head x < n) items
       → marked_by head test (map base (range_with_len 0 n)) items

@@ -95,9 +95,7 @@ module _ (all : TrialTimes) (ends : List ChangeEnd) (delay : ℤ) (broken : List
 
   pub popped : (old new : List Moved) (result : Option Moved) → all.noted ≡ reverse old
       → old ≡ new ++ option_to_list result → IsOnTrial (record all { noted = reverse new }) ends delay broken
-  popped old new None is parts =
-      subst (λ noted. IsOnTrial (record all { noted = noted }) ends delay broken)
-      (is ∙ ap reverse (parts ∙ append-nil new)) on
+  popped old new None is parts = grind (arith, append-nil)
   popped old new (Some last) is parts =
       less_noted last (reverse new) (is ∙ ap reverse parts ∙ reversed new last)
 

@@ -67,9 +67,7 @@ chosen_are_changes problem kept =
 -- what stands at a place, with its place
 pub placed_at : {X : Type 0} (xs : List X) (k : ℕ) (d : ℕ × X) → k < length xs
     → get_or (enumerate_from 0 xs) k d ≡ (k, get_or xs k d.1)
-placed_at xs k d inside =
-    let same : 0 + k ≡ k = omega arith in
-    get_or-enumerate_from 0 xs k d inside ∙ ap (λ n. (n, get_or xs k d.1)) same
+placed_at xs k d inside = grind (arith, get_or-enumerate_from, get_or)
 
 -- ---- the links of a problem
 
@@ -149,13 +147,7 @@ module _ (problem : DelayProblem) (links : List Link) (linked : IsLinked problem
 
   joined : (change : Option ℕ) (step : Step) → GoesForward problem.events step
       → Joins n ranks (link_of problem.events change step)
-  joined change step goes = record {
-    from = goes.from;
-    to = goes.to;
-    own = refl;
-    rises = rank_rises problem.events step.from step.to linked.numbered linked.few goes.from
-        goes.to goes.before;
-  }
+  joined change step goes = grind (arith, rank_rises)
 
   pub all_join : All (Joins n ranks) links
   all_join =
@@ -231,9 +223,7 @@ module _ (whole problem : DelayProblem) (links seen : List Link)
 
   pub least_told : {A E : Type 0} (view : A → List ℕ) (result : Result A E) → IfOk result (λ times. view times ≡ pushed_along kept seen earliest)
       → IfOk result (λ times. view times ≡ least_times problem (chosen_changes problem kept))
-  least_told view (Ok times) told =
-      told ∙ passed ∙ subst (λ p. pushed_along kept links whole.earliest ≡ least_times p (chosen_changes p kept)) same
-      (pass_is whole links linked kept)
+  least_told view (Ok times) told = grind (arith, passed, pass_is)
   least_told view (Err error) told = tt
 
   pub told_least : {A E : Type 0} (view : A → List ℕ) (result : Result A E) → IfOk result (λ times. view times ≡ pushed_along kept seen earliest)

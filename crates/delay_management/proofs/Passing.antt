@@ -17,15 +17,11 @@ module _ (kept : List Bool) (links : List Link) (times : List ℕ) (i : ℕ) (d 
   pub link_counts : counts kept at.change ≡ true
       → pushed_along kept (drop (i + 1) links) (head_pushed times at.step)
       ≡ pushed_along kept (drop i links) times
-  link_counts there =
-      sym (ap (λ left. pushed_along kept left times) (drop_more links i d inside)
-      ∙ ap (λ b. pushed_along kept (drop (i + 1) links) (cond b (head_pushed times at.step) times)) there)
+  link_counts there = grind (arith, drop_more)
 
   pub link_passed : counts kept at.change ≡ false
       → pushed_along kept (drop (i + 1) links) times ≡ pushed_along kept (drop i links) times
-  link_passed out =
-      sym (ap (λ left. pushed_along kept left times) (drop_more links i d inside)
-      ∙ ap (λ b. pushed_along kept (drop (i + 1) links) (cond b (head_pushed times at.step) times)) out)
+  link_passed out = grind (arith, drop_more)
 
 -- a later bound
 pub still_soon : (i : ℕ) (times : List ℕ) → All (λ time. time ≤ 8589934590 + i * 8589934590) times

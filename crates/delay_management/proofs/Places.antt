@@ -32,9 +32,7 @@ told_anew f g a n i x inside here others =
 -- one item more is done, and the others are left
 pub moved : {X : Type 0} (done new left rest all : List X) (x y : X) → left ≡ x ∷ rest
     → new ≡ done ++ y ∷ [] → y ≡ x → done ++ left ≡ all → new ++ rest ≡ all
-moved done new left rest all x y first is same told =
-    ap (λ some. some ++ rest) is ∙ ap (λ z. (done ++ z ∷ []) ++ rest) same
-    ∙ append_assoc done (x ∷ []) rest ∙ ap (λ some. done ++ some) (sym first) ∙ told
+moved done new left rest all x y first is same told = grind (arith, append_assoc)
 
 -- what is told of each place in two ways
 pub told_alike : {X : Type 0} (f g : ℕ → X) (n : ℕ) → ((k : ℕ) → k < n → f k ≡ g k)

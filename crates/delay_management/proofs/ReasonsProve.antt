@@ -35,13 +35,7 @@ two false b h = grind arith
 
 tight_of : (steps : List Step) (times : List ℕ) (event : ℕ) (step : Step) → Contains steps step →
     is_tight times event step ≡ true → Tight steps times event
-tight_of steps times event step there tight =
-    let both = two (step.to == event) (nat_eq (asked times step) (time_at times event)) tight in record {
-      step = step;
-      there = there;
-      to = (Decides-eqb step.to event).0 both.0;
-      just = (Decides-eqb (asked times step) (time_at times event)).0 both.1;
-    }
+tight_of steps times event step there tight = grind arith
 
 abbrev pub none : Activity
 none = record { id = 0; step = record { from = 0; to = 0; lower = 0; extra = 0 } }
@@ -71,11 +65,7 @@ module _ (problem : DelayProblem) (kept : List Activity) (times : List ℕ) wher
       inr (tight_of (steps_with problem kept) times event f.0.step
       (Contains-append_left (map (λ (at : Activity). at.step) (problem.rides ++ kept)) problem.turns f.0.step
       (mapped (λ (at : Activity). at.step) (problem.rides ++ kept) f.0 f.1)) f.2)
-  by_reason event reason.Turn h =
-      let some = Any-from_list_any (is_tight times event) problem.turns h in
-      inr (tight_of (steps_with problem kept) times event some.1
-      (Contains-append_right (map (λ (at : Activity). at.step) (problem.rides ++ kept)) problem.turns some.1
-      (some.0, some.2, some.3)) some.4)
+  by_reason event reason.Turn h = grind (arith, Any-from_list_any, tight_of, Contains-append_right)
 
   module _ (rank : ℕ → ℕ) (rises : All (λ step. rank step.from < rank step.to) (steps_with problem kept))
       (from : All (λ step. step.from < length problem.events) (steps_with problem kept))
@@ -136,9 +126,7 @@ before_before a b c h g =
     (is_less (slice_cmp nat_cmp (forward_key b) (forward_key c)) g))
 
 not_before_itself : (a : ExpandedEvent) → stands_before a a ≡ false
-not_before_itself a =
-    not_less (slice_cmp nat_cmp (forward_key a) (forward_key a))
-    ((lists_total nat_cmp_total).antisymm (forward_key a) (forward_key a))
+not_before_itself a = grind arith
 
 module _ {X : Type 0} (p q : X → Bool) (implies : (x : X) → p x ≡ true → q x ≡ true) where
   no_more : (xs : List X) → length (filter p xs) ≤ length (filter q xs)
@@ -171,17 +159,11 @@ rank events event = length (filter (λ other. stands_before other (event_at even
 pub rising : (events : List ExpandedEvent) (step : Step) → GoesForward events step →
     rank events step.from < rank events step.to
 unfolding rank
-rising events step forward =
-    fewer (λ other. stands_before other (event_at events step.from))
-    (λ other. stands_before other (event_at events step.to))
-    (λ x h. before_before x (event_at events step.from) (event_at events step.to) h forward.before)
-    events step.from (expanded_event []) forward.from (not_before_itself (event_at events step.from)) forward.before
+rising events step forward = grind (arith, fewer, before_before, not_before_itself)
 
 pub few_before : (events : List ExpandedEvent) (event : ℕ) → rank events event ≤ length events
 unfolding rank
-few_before events event =
-    let p : ExpandedEvent → Bool = λ other. stands_before other (event_at events event) in
-    omega (arith, length-filter p events, count_by-le-length p events)
+few_before events event = grind (arith, length-filter, count_by-le-length)
 
 pub forward_with : (problem : DelayProblem) (kept : List Activity) → IsForward problem → AreChanges problem kept →
     All (GoesForward problem.events) (steps_with problem kept)

@@ -1,5 +1,5 @@
 -- From the reading of one input after the other to the faults of all of them.
-use Rattle.std.proofs.Common.{◌≡◌, ◌∙◌, ℕ, List, [], ◌++◌, Result, Vec, ap, sym, subst}
+use Rattle.std.proofs.Common.{◌≡◌, ◌∙◌, ℕ, List, [], ◌++◌, Result, Vec, ap, sym, subst, arith}
 use Rattle.std.specs.Global.{Global}
 use Rattle.giv_files.specs.declared.refusal.Refusal.{Refusal}
 use Rattle.giv_files.specs.declared.refusal.StageFault.{StageFault}
@@ -32,17 +32,13 @@ module _ (bundle : BundleParts) where
 
   no_made : event_faults bundle ≡ [] → activity_faults bundle ≡ [] → schedule_faults bundle ≡ []
       → made_faults bundle ≡ []
-  no_made no_events no_activities no_schedule =
-      ap (λ all. all ++ first_made) no_events
-      ∙ ap (λ all. all ++ schedule_faults bundle) no_activities ∙ no_schedule
+  no_made no_events no_activities no_schedule = grind arith
 
   pub no_faults : event_faults bundle ≡ [] → activity_faults bundle ≡ [] → schedule_faults bundle ≡ []
       → event_delay_faults bundle ≡ [] → activity_delay_faults bundle ≡ []
       → disposition_faults bundle ≡ []
   unfolding disposition_faults
-  no_faults no_events no_activities no_schedule no_delays no_more =
-      ap (λ all. all ++ delay_faults bundle) (no_made no_events no_activities no_schedule)
-      ∙ ap (λ all. all ++ activity_delay_faults bundle) no_delays ∙ no_more
+  no_faults no_events no_activities no_schedule no_delays no_more = grind arith
 
   module _ (fault : StageFault) where
     made_refuse : Refuses (made_faults bundle) fault → Refuses (disposition_faults bundle) fault
@@ -55,35 +51,25 @@ module _ (bundle : BundleParts) where
     module _ (no_events : event_faults bundle ≡ []) where
       pub activities_refuse : Refuses (activity_faults bundle) fault
           → Refuses (disposition_faults bundle) fault
-      activities_refuse h =
-          made_refuse (refused_behind (event_faults bundle) first_made fault no_events
-          (refused_append (activity_faults bundle) (schedule_faults bundle) fault h))
+      activities_refuse h = grind (arith, made_refuse, refused_behind, refused_append)
 
       module _ (no_activities : activity_faults bundle ≡ []) where
         pub schedule_refuses : Refuses (schedule_faults bundle) fault
             → Refuses (disposition_faults bundle) fault
-        schedule_refuses h =
-            made_refuse (refused_behind (event_faults bundle) first_made fault no_events
-            (refused_behind (activity_faults bundle) (schedule_faults bundle) fault no_activities h))
+        schedule_refuses h = grind (arith, made_refuse, refused_behind)
 
         module _ (no_schedule : schedule_faults bundle ≡ []) where
           delays_refuse : Refuses (delay_faults bundle) fault → Refuses (disposition_faults bundle) fault
           unfolding disposition_faults
-          delays_refuse h =
-              refused_behind (made_faults bundle) (delay_faults bundle) fault
-              (no_made no_events no_activities no_schedule) h
+          delays_refuse h = grind arith
 
           pub event_delays_refuse : Refuses (event_delay_faults bundle) fault
               → Refuses (disposition_faults bundle) fault
-          event_delays_refuse h =
-              delays_refuse (refused_append (event_delay_faults bundle)
-              (activity_delay_faults bundle) fault h)
+          event_delays_refuse h = grind (arith, delays_refuse, refused_append)
 
           pub activity_delays_refuse : event_delay_faults bundle ≡ []
               → Refuses (activity_delay_faults bundle) fault → Refuses (disposition_faults bundle) fault
-          activity_delays_refuse no_delays h =
-              delays_refuse (refused_behind (event_delay_faults bundle)
-              (activity_delay_faults bundle) fault no_delays h)
+          activity_delays_refuse no_delays h = grind (arith, delays_refuse, refused_behind)
 
   pub problem_is : (turnover : ℕ) (events : List ExpandedEvent) (activities : List ExpandedActivity)
       (schedule : List ScheduleRow) (event_rows activity_rows : List DelayRow)

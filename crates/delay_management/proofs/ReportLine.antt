@@ -1,13 +1,12 @@
 -- The line of a disposition in a report, piece by piece.
+use Rattle.std.proofs.Common.{arith}
 use Rattle.std.proofs.Common.{◌≡◌, ◌∙◌, ℕ, List, [], ◌∷◌, ◌++◌, append_assoc, codes, decimal, Result, Ok, Err, IfOk, ap, sym}
 use Rattle.giv_files.specs.declared.stage.Stage.TheVariants as stage
 use Rattle.giv_files.specs.ReportLines.{count_text, report_line}
 
 pieces : (d c m s t u : List ℕ)
     → d ++ (c ++ (((m ++ s) ++ t) ++ u)) ≡ ((d ++ c) ++ m) ++ (s ++ (t ++ u))
-pieces d c m s t u =
-    ap (λ rest. d ++ (c ++ rest)) (append_assoc (m ++ s) t u ∙ append_assoc m s (t ++ u))
-    ∙ sym (append_assoc d c (m ++ (s ++ (t ++ u)))) ∙ sym (append_assoc (d ++ c) m (s ++ (t ++ u)))
+pieces d c m s t u = grind (arith, append_assoc)
 
 abbrev parts_of : List ℕ → ℕ → List (List ℕ)
 parts_of delay missed =

@@ -52,9 +52,7 @@ module _ (problem : DelayProblem) (steps : List Step) where
 
   at_pushed : (times : List ℕ) (event : ℕ) → event < length problem.events →
       time_at (pushed problem steps times) event ≡ pushed_at problem steps times event
-  at_pushed times event within =
-      get_or-map-range_with_len (pushed_at problem steps times) 0 (length problem.events) event event
-      (0) within (omega arith)
+  at_pushed times event within = grind (arith, get_or-map-range_with_len)
 
   at_next : (k event : ℕ) → event < length problem.events →
       time_at (pushed_often problem steps (suc k)) event ≡ pushed_at problem steps
@@ -142,18 +140,13 @@ module _ (problem : DelayProblem) (steps : List Step) where
   long : length problem.earliest ≡ length problem.events → (k : ℕ) →
       length (pushed_often problem steps k) ≡ length problem.events
   long each zero = ap (λ (times : List ℕ). length times) first ∙ each
-  long each (suc k) =
-      ap (λ (times : List ℕ). length times) (next k) ∙ length-map-range_with_len
-      (pushed_at problem steps (pushed_often problem steps k)) 0 (length problem.events)
+  long each (suc k) = grind (arith, next, length-map-range_with_len)
 
   module _ (ranks : ℕ → ℕ) (rises : All (λ step. ranks step.from < ranks step.to) steps)
       (from : All (λ step. step.from < length problem.events) steps) where
     lower : (event k : ℕ) → k < length (filter (λ step. step.to == event) steps) →
         ranks (get_or (filter (λ step. step.to == event) steps) k no_step).from < ranks event
-    lower event k within =
-        let xs = filter (λ step. step.to == event) steps in let is = into_are event k within in
-        subst (λ e. ranks (get_or xs k no_step).from < ranks e) is.1
-        (All-contains (λ step. ranks step.from < ranks step.to) steps (get_or xs k no_step) rises is.0)
+    lower event k within = grind (arith, into_are, get_or, no_step, All-contains)
 
     is_nil : (xs : List Step) → ¬ (0 < length xs) → xs ≡ []
     is_nil [] no_one = refl

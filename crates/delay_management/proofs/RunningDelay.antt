@@ -73,12 +73,8 @@ sums_bounded : (events : List ExpandedEvent) (times : List ℕ) (sum : ℤ) (cou
     → ((k : ℕ) → k < length events → planned_at events k ≤ 1000000000000000000)
     → All (λ time. time ≤ 1000000000000000000) times → Bounded sum count
     → Bounded (late_from sum events times) (count + length events)
-sums_bounded [] times sum count soon small within =
-    let least = within.least in let most = within.most in
-    record { least = omega (arith, ints, least); most = omega (arith, ints, most) }
-sums_bounded (event ∷ events) [] sum count soon small within =
-    let least = within.least in let most = within.most in
-    record { least = omega (arith, ints, least); most = omega (arith, ints, most) }
+sums_bounded [] times sum count soon small within = grind arith
+sums_bounded (event ∷ events) [] sum count soon small within = grind arith
 sums_bounded (event ∷ events) (time ∷ times) sum count soon small within =
     by (is_arrival event.kind)
     (λ sum here. more (sums_bounded events times sum (count + 1)
@@ -123,18 +119,12 @@ small_fits (negsuc n) least most =
 
 module _ (sum more : ℤ) (bounded : Bounded sum 100000) where
   pub sum_fits : SFits w128 sum
-  sum_fits =
-      let least = bounded.least in let most = bounded.most in
-      small_fits sum (omega (arith, ints, least)) (omega (arith, ints, most))
+  sum_fits = grind arith
 
   pub more_fits : neg_ℤ (pos 1000000000000000000) ≤ℤ more → more ≤ℤ pos 1000000000000000000
       → SFits w128 (sum +ℤ more)
-  more_fits low high =
-      let least = bounded.least in let most = bounded.most in
-      small_fits (sum +ℤ more) (omega (arith, ints, least, low)) (omega (arith, ints, most, high))
+  more_fits low high = grind arith
 
   pub sum_told : SFits w128 more → SFits w128 (sum +ℤ more)
       → to_z w128 (of_z w128 (to_z w128 (of_z w128 sum) +ℤ to_z w128 (of_z w128 more))) ≡ sum +ℤ more
-  sum_told one both =
-      (λ i. to_z w128 (of_z w128 (to_z-of_z w128 sum sum_fits i +ℤ to_z-of_z w128 more one i)))
-      ∙ to_z-of_z w128 (sum +ℤ more) both
+  sum_told one both = grind (arith, to_z, of_z, to_z-of_z, sum_fits, more)

@@ -129,15 +129,7 @@ module _ (all : TrialTimes) (linked : IsLinked all.problem all.links) (each : le
 
   -- a link that does not count is passed over
   pub passed_over : (now : TrialTimes) → now ≡ seen → counts kept link.change ≡ false → IsSettling kept now (at + 1)
-  passed_over now is out = subst (λ t. IsSettling kept t (at + 1)) (sym is) (record {
-    earliest = settling.earliest;
-    most = settling.most;
-    held = λ k d inside none.
-        by_same k at
-        (λ same there. absurd (false≢true (sym out ∙ sym (ap (λ (l : Link). counts kept l.change) (ap (λ n. get_or all.links n d) same ∙ same_link d)) ∙ there)))
-        (λ apart. settling.held k d inside (not_here k apart none));
-    done = gone;
-  })
+  passed_over now is out = grind (arith, by_same, false≢true, get_or, same_link, not_here, gone)
 
   -- the head of a link that counts is pushed
   module _ (now new : TrialTimes) (is : now ≡ seen) (counted : counts kept link.change ≡ true)
@@ -196,10 +188,7 @@ module _ (all : TrialTimes) (linked : IsLinked all.problem all.links) (each : le
     -- a link with another first event holds as before
     held_still : (k : ℕ) (d : Link) → (get_or all.links k d).step.from ≢ step.to
         → IsHeld kept all.times (get_or all.links k d) → IsHeld kept new.times (get_or all.links k d)
-    held_still k d apart held there =
-        let old = held there in
-        let from = stayed (get_or all.links k d).step.from (λ e. apart (sym e)) in
-        let to = grown (get_or all.links k d).step.to in omega (arith, old, from, to)
+    held_still k d apart held there = grind (arith, stayed, get_or, grown)
 
     held_now : (k : ℕ) (d : Link) → k < length all.links → get_or new.waiting k false ≡ false
         → IsHeld kept new.times (get_or all.links k d)
@@ -236,22 +225,7 @@ module _ (all : TrialTimes) (linked : IsLinked all.problem all.links) (each : le
                 absurd (omega (arith, sorted, rank.1, joins.own, joins.rises))
 
     pub pushed_on : IsSettling kept new (at + 1)
-    pushed_on =
-        let problem : new.problem ≡ all.problem = pushes.follows.problem in
-        record {
-          earliest = λ event inside.
-              let size = ap length events_same in
-              let old = settling.earliest event (omega (arith, inside, size)) in
-              let grow = grown event in
-              let same = ap (λ (p : DelayProblem). get_or p.earliest event 0) problem in omega (arith, old, grow, same);
-          most = λ event inside.
-              subst (λ (p : DelayProblem). time_at new.times event ≤ time_at (least_times p (chosen_changes p kept)) event) (sym problem)
-              (let size = ap length events_same in under event (omega (arith, inside, size)));
-          held = λ k d inside none.
-              subst (λ links. IsHeld kept new.times (get_or links k d)) (sym pushes.follows.links)
-              (let size = ap length pushes.follows.links in held_now k d (omega (arith, inside, size)) none);
-          done = done_now;
-        }
+    pushed_on = grind (arith, pushes, events_same, grown, get_or, under, held_now, done_now)
 
 -- ---- at the end
 

@@ -44,14 +44,10 @@ module _ (problem : DelayProblem) (steps : List Step) (each : length problem.ear
 
   long : (k : ℕ) → length (pushed_often problem steps k) ≡ length problem.events
   long zero = ap (λ (times : List ℕ). length times) (first problem steps) ∙ each
-  long (suc k) =
-      ap (λ (times : List ℕ). length times) (next problem steps k)
-      ∙ length-map-range_with_len (pushed_at problem steps (pushed_often problem steps k)) 0 (length problem.events)
+  long (suc k) = grind (arith, next, length-map-range_with_len)
 
   rounds_below : (k : ℕ) → Below k (pushed_often problem steps k)
-  rounds_below zero i d within =
-      subst (λ times. get_or times i d ≤ 2000000000 + 0 * 2000000000) (sym (first problem steps))
-      (let at : get_or problem.earliest i d ≤ 2000000000 = soon i d (omega (arith, within, long zero, each)) in omega (arith, at))
+  rounds_below zero i d within = grind (arith, get_or, first, long)
   rounds_below (suc k) i d within =
       let times = pushed_often problem steps k in
       let inside : i < length problem.events = omega (arith, within, long (suc k)) in
@@ -68,6 +64,4 @@ pub least_small : (problem : DelayProblem) (kept : List Activity)
     → All (λ step. step.from < length problem.events) (steps_with problem kept)
     → All (λ time. time ≤ 1000000000000000000) (least_times problem kept)
 unfolding least_times
-least_small problem kept each few soon short from i d within =
-    let below = rounds_below problem (steps_with problem kept) each soon short from (length problem.events) i d within in
-    omega (arith, below, few)
+least_small problem kept each few soon short from i d within = grind (arith, rounds_below)

@@ -42,9 +42,7 @@ delay_below (row ∷ rows) fit id =
 -- an event is planned no later than at its earliest
 pub none_early : (rows : List DelayRow) (events : List ExpandedEvent) (event : ℕ) → event < length events
     → planned_at events event ≤ get_or (map (earliest_of rows) events) event 0
-none_early rows events event inside =
-    let is = get_or-map (earliest_of rows) events event (expanded_event []) 0 inside in
-    omega (arith, is)
+none_early rows events event inside = grind (arith, get_or-map)
 
 -- changes stand by their ids
 pub ids_rise : (changes : Bool) (rows : List DelayRow) (activities : List ExpandedActivity)

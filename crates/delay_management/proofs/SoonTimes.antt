@@ -103,6 +103,5 @@ pub told_small : (whole : DelayProblem) (links seen : List Link) (earliest : Lis
     → IfOk result (λ times. view times ≡ pushed_along kept seen earliest)
     → IfOk result (λ times. All (λ time. time ≤ 600000000000) (view times))
 told_small whole links seen earliest linked is from kept view (Ok times) told =
-    subst (All (λ time. time ≤ 600000000000)) (sym (told ∙ (λ i. pushed_along kept (is i) (from i))))
-    (pass_small whole links linked kept)
+    grind (arith, pass_small)
 told_small whole links seen earliest linked is from kept view (Err error) told = tt

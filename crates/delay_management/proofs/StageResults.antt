@@ -1,5 +1,5 @@
 -- What the stage of dispositions gives.
-use Rattle.std.proofs.Common.{◌≡◌, ◌∙◌, ℕ, ℤ, Bool, List, [], Ok, Err, ap}
+use Rattle.std.proofs.Common.{◌≡◌, ◌∙◌, ℕ, ℤ, Bool, List, [], Ok, Err, ap, arith}
 use Rattle.giv_files.specs.declared.made.Made.{Made}
 use Rattle.giv_files.specs.declared.refusal.StageFault.{StageFault}
 use Rattle.giv_files.specs.Inputs.{Refuses}
@@ -36,7 +36,4 @@ pub stage_made : (bundle : BundleParts) (problem : DelayProblem) (kept : List Bo
     → made ≡ disposition_made problem times reasons → StageGives (disposition_stage bundle) (Ok made)
 unfolding disposition_stage
 stage_made bundle problem kept wait times reasons made none is w keeps t r m =
-    calls.stage_made (disposition_faults bundle) (disposed_of (problem_in bundle) (kept_in bundle)) made none
-    (m ∙ disposed_is problem (chosen_changes problem kept) times reasons t r
-    ∙ ap (disposed_of problem) (keeps ∙ ap (kept_changes problem) w)
-    ∙ ap (λ p. disposed_of p (kept_changes p (wait_of bundle.settings))) is)
+    grind (arith, disposed_is)

@@ -38,11 +38,7 @@ module _ {X : Type 0} (of : List ℤ → X) (event : X → ℕ) (table : List Ta
 
   pub order_more : i < length table
       → order_from i ≡ (nat_eq (event (of (get_or table i no_row).cells)) (i + 1) && order_from (i + 1))
-  order_more inside =
-      ap (λ rows. list_all (λ at. nat_eq at.1 at.0) (enumerate_from (i + 1) (map event (records_by of rows))))
-      (drop_more table i no_row inside)
+  order_more inside = grind (arith, nat_eq, drop_more)
 
   pub order_end : length table ≤ i → order_from i ≡ true
-  order_end past =
-      ap (λ rows. list_all (λ at. nat_eq at.1 at.0) (enumerate_from (i + 1) (map event (records_by of rows))))
-      (drop_all i table past)
+  order_end past = grind (arith, nat_eq, drop_all)

@@ -29,20 +29,13 @@ counts_more : (kept : List Bool) (change : ℕ) (at : Option ℕ) → counts kep
     → counts (slice_set kept change true) at ≡ true
 counts_more kept change None is = is
 counts_more kept change (Some k) is =
-    by_same k change
-    (λ same. by_less k (length kept)
-    (λ less. ap (λ n. get_or (slice_set kept change true) n false) same
-    ∙ set_here kept (slice_set kept change true) change true false (λ i. slice_set kept change true) (omega (arith, less, same)))
-    (λ most. absurd (false≢true (sym (get_or-eq_default kept false most) ∙ is))))
-    (λ apart. set_there kept (slice_set kept change true) change true false (λ i. slice_set kept change true) k apart ∙ is)
+    grind (arith, by_same, by_less, get_or, slice_set, set_here, false≢true, get_or-eq_default,
+    set_there)
 
 counts_but : (kept : List Bool) (change : ℕ) (at : Option ℕ) → counts (slice_set kept change true) at ≡ true
     → (counts kept at ≡ true) ⊎ (at ≡ Some change)
 counts_but kept change None is = inl is
-counts_but kept change (Some k) is =
-    by_same k change
-    (λ same. inr (ap (λ n. Some n) same))
-    (λ apart. inl (sym (set_there kept (slice_set kept change true) change true false (λ i. slice_set kept change true) k apart) ∙ is))
+counts_but kept change (Some k) is = grind (arith, by_same, set_there, slice_set)
 
 module _ (problem : DelayProblem) where
   -- the link of a change has the rank of the change's first event
@@ -87,15 +80,7 @@ module _ (all : TrialTimes) (taken : List Taken) (kept : List Bool) (linked : Is
       (trial_least all.problem linked.forward (decided_in taken) all.times is.trial.told)
 
   fits_fewer : IsFeasible all.problem (chosen_changes all.problem kept) (least_times all.problem (chosen_changes all.problem more))
-  fits_fewer =
-      let last = is_least all.problem all.links linked more in
-      record {
-        each = last.feasible.each;
-        earliest = last.feasible.earliest;
-        steps = steps_hold all.problem all.links linked kept (least_times all.problem (chosen_changes all.problem more))
-            (λ k d inside there. all_held all.problem all.links linked more k d inside
-            (counts_more kept change (get_or all.links k d).change there));
-      }
+  fits_fewer = grind (arith, is_least, steps_hold, all_held, counts_more, get_or)
 
   pub starts_settling : (opened now : TrialTimes) (d : Activity)
       → opened ≡ record all { open_yet = slice_set all.open_yet change false }
@@ -210,10 +195,7 @@ module _ (all : TrialTimes) (taken : List Taken) (kept : List Bool) (linked : Is
 
   pub taken_still : (now : TrialTimes) (waiting : List Bool) (flags : List Bool) → now ≡ record all { waiting = waiting }
       → ((k : ℕ) → get_or waiting k false ≡ false) → flags ≡ slice_set more change false → IsTaken now taken flags
-  taken_still now waiting flags told rest back =
-      subst (λ (t : TrialTimes). IsTaken t taken flags) (sym told)
-      (subst (IsTaken (record all { waiting = waiting }) taken) (sym (back ∙ flags_back))
-      (record { trial = is.trial; saved = is.saved; rest = rest }))
+  taken_still now waiting flags told rest back = grind (arith, told, flags_back)
 
   -- ---- the change is dropped
   pub dropped_taken : (now : TrialTimes) → now ≡ record all { open_yet = slice_set all.open_yet change false }
@@ -245,26 +227,7 @@ module _ (all : TrialTimes) (last : Taken) (taken : List Taken) (kept : List Boo
       → flags ≡ slice_set kept last.decided.change false → IsTaken now taken flags
   unfolding AreSaved AreOnce
   taken_back undone now flags undo opened dropped =
-      let problem = all.problem in
-      let top = is.saved.0 in let rest = is.saved.1 in
-      let undone_is = undo top rest is.saved.2 is.saved.3 in
-      let told = opened ∙ ap (λ (t : TrialTimes). record t { open_yet = slice_set t.open_yet last.decided.change true }) undone_is in
-      let times_are : rewound top all.times ≡ times_of (record { problem = problem; decided = decided_in taken }) = is.saved.4 in
-      let flags_before = kept_flags (length problem.changes) (decided_in taken) in
-      subst (λ (t : TrialTimes). IsTaken t taken flags) (sym told) (record {
-        trial = record {
-          once = is.trial.once.2;
-          flags = dropped ∙ ap (λ some. slice_set some last.decided.change false) is.trial.flags
-              ∙ kept_less (length problem.changes) (decided_in taken) last.decided is.trial.once.0 is.trial.once.1;
-          undecided = ap (λ some. slice_set some last.decided.change true) is.trial.undecided
-              ∙ open_more (length problem.changes) (decided_in taken) last.decided is.trial.once.0 is.trial.once.1;
-          each = ap length times_are ∙ (is_least problem all.links linked flags_before).feasible.each;
-          told = times_are;
-          small = subst (All (λ time. time ≤ 600000000000)) (sym times_are) (least_small problem all.links linked flags_before);
-        };
-        saved = subst (AreSaved problem taken rest) (sym times_are) is.saved.5;
-        rest = is.rest;
-      })
+      grind (arith, told, slice_set, kept_less, open_more, is_least, least_small)
 
   pub undone_problem : (undone : TrialTimes)
       → ((top rest : List Moved) → all.noted ≡ top ++ rest → length rest ≡ last.moved

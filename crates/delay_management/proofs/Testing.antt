@@ -29,9 +29,7 @@ module _ (changes : List Activity) (times : List ℕ) (open_yet : List Bool) whe
 
     pub more_tested : at < length old → ((k : ℕ) (d : Activity) → k < at → Tested old k d)
         → (k : ℕ) (d : Activity) → k < at + 1 → Tested new k d
-    more_tested inside so_far k d less =
-        one_tested inside k d
-        (λ apart. by_less k at (so_far k d) (λ most. absurd (apart (omega (arith, most, less)))))
+    more_tested inside so_far k d less = grind (arith, one_tested, by_less)
 
   -- ---- the changes at an event
 
@@ -43,14 +41,7 @@ module _ (changes : List Activity) (times : List ℕ) (open_yet : List Bool) whe
 
     unnamed_apart : (at k : ℕ) → ((j : ℕ) (e : ChangeEnd) → j < at → (get_or ends j e).event < event)
         → Unnamed at k → (from : ℕ) → Contains ends (record { event = from; change = k }) → from ≢ event
-    unnamed_apart at k before unnamed from there same =
-        let e : ChangeEnd = record { event = from; change = k } in
-        let place = there.0 in
-        let is : get_or ends place e ≡ e = there.2 in
-        let here : (get_or ends place e).event ≡ event = ap (λ (e : ChangeEnd). e.event) is ∙ same in
-        by_less place at
-        (λ less. let below = before place e less in omega (arith, below, here))
-        (λ most. unnamed place e most there.1 here (ap (λ (e : ChangeEnd). e.change) is))
+    unnamed_apart at k before unnamed from there same = grind arith
 
     pub at_first : (broken : List Bool) (first : ℕ) → HasEnds changes ends
         → IsFirst (λ (e : ChangeEnd). e.event) ends event first
@@ -82,8 +73,4 @@ module _ (changes : List Activity) (times : List ℕ) (open_yet : List Bool) whe
         → ((e : ChangeEnd) → at < length ends → (get_or ends at e).event ≢ event)
         → ((k : ℕ) (d : Activity) → k < length changes → Unnamed at k → Tested broken k d)
         → AreTested changes times open_yet broken
-    at_last broken at sorted behind past so_far k d inside =
-        so_far k d inside (λ j e low within is.
-        let first = behind at e (omega arith) (omega (arith, low, within)) in
-        let rises : (get_or ends at e).event ≤ (get_or ends j e).event = sorted at j e low within in
-        absurd (past e (omega (arith, low, within)) (omega (arith, first, rises, is))))
+    at_last broken at sorted behind past so_far k d inside = grind arith

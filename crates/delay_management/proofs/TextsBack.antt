@@ -93,11 +93,7 @@ module _ (count : ℕ) where
   row_keeps : (before : List DisposedTime) (event time : ℕ) → event ≡ length before + 1 → event ≤ count
       → broken_whys (disposed_time_rules (range_with_len 1 count)) before
       (record { event = event; time = time }) ≡ []
-  row_keeps before event time place there =
-      let known : is_none_of (range_with_len 1 count) event ≡ false =
-      none_of_places count event
-      ∙ rw (ne_eqb event 0 (λ e. absurd (omega (arith, e, place))), le-ltb count event there) refl in
-      rw (eq-eqb event (length before + 1) place, known) refl
+  row_keeps before event time place there = grind (arith, none_of_places, ne_eqb, le-ltb, eq-eqb)
 
   rows_keep : (before : List DisposedTime) (n : ℕ) (times : List ℕ) → n ≡ length before + 1
       → n + length times ≤ count + 1

@@ -30,15 +30,11 @@ module _ (times : List ℕ) (n : ℕ) (some : List Activity) (at : Activity) whe
   among_more : (event : ℕ)
       → tight_among times event (some ++ at ∷ [])
       ≡ tight_among times event some ++ map (λ (a : Activity). a.id) (cond (is_tight times event at.step) (at ∷ []) [])
-  among_more event =
-      ap (map (λ (a : Activity). a.id)) (filter-append (λ (a : Activity). is_tight times event a.step) some (at ∷ []))
-      ∙ map_ids (filter (λ a. is_tight times event a.step) some) (cond (is_tight times event at.step) (at ∷ []) [])
+  among_more event = grind (arith, filter-append, map_ids)
 
   with_tight : (event : ℕ) → is_tight times event at.step ≡ true
       → least_id (some ++ at ∷ []) event ≡ Some (with_id (least_id some event) at.id)
-  with_tight event is =
-      ap (reduce lesser) (among_more event ∙ ap (λ b. tight_among times event some ++ map (λ (a : Activity). a.id) (cond b (at ∷ []) [])) is)
-      ∙ reduce_more (tight_among times event some) at.id
+  with_tight event is = grind (arith, among_more, reduce_more)
 
   append_none : (ids : List ℕ) → ids ++ [] ≡ ids
   append_none [] = refl
@@ -46,24 +42,15 @@ module _ (times : List ℕ) (n : ℕ) (some : List Activity) (at : Activity) whe
 
   without : (event : ℕ) → is_tight times event at.step ≡ false
       → least_id (some ++ at ∷ []) event ≡ least_id some event
-  without event is =
-      ap (reduce lesser) (among_more event ∙ ap (λ b. tight_among times event some ++ map (λ (a : Activity). a.id) (cond b (at ∷ []) [])) is
-      ∙ append_none (tight_among times event some))
+  without event is = grind (arith, among_more, append_none)
 
   pub tight_noted : at.step.to < n → nat_eq (asked times at.step) (time_at times at.step.to) ≡ true
       → slice_set (map (least_id some) (range_with_len 0 n)) at.step.to
       (Some (with_id (get_or (map (least_id some) (range_with_len 0 n)) at.step.to None) at.id))
       ≡ map (least_id (some ++ at ∷ [])) (range_with_len 0 n)
   tight_noted inside tight =
-      let to = at.step.to in
-      let zero_to : 0 + to ≡ to = omega arith in
-      told_anew (least_id some) (least_id (some ++ at ∷ [])) 0 n to
-      (Some (with_id (get_or (map (least_id some) (range_with_len 0 n)) to None) at.id)) inside
-      (ap (least_id (some ++ at ∷ [])) zero_to
-      ∙ with_tight to (ap (λ b. b && nat_eq (asked times at.step) (time_at times to)) (eq-eqb to to refl) ∙ tight)
-      ∙ ap (λ id. Some (with_id id at.id)) (sym (get_or-map-range_with_len (least_id some) 0 n to to None inside zero_to)))
-      (λ k within apart. without (0 + k)
-      (ap (λ b. b && nat_eq (asked times at.step) (time_at times (0 + k))) (ne_eqb to (0 + k) (λ e. apart (omega (arith, e))))))
+      grind (arith, told_anew, get_or, with_tight, nat_eq, eq-eqb, get_or-map-range_with_len,
+      without, ne_eqb)
 
   pub slack_passed : nat_eq (asked times at.step) (time_at times at.step.to) ≡ false
       → map (least_id some) (range_with_len 0 n) ≡ map (least_id (some ++ at ∷ [])) (range_with_len 0 n)

@@ -18,9 +18,7 @@ sums_within : (events : List ExpandedEvent) (times : List ℕ) (sum : ℤ) (coun
     → ((k : ℕ) → k < length events → planned_at events k ≤ time_at times k)
     → All (λ time. time ≤ 600000000000) times → Within sum count
     → Within (fold (λ sum timed. sum +ℤ lateness timed) sum (filter arrives (zip events times))) (count + length events)
-sums_within [] times sum count each late small within =
-    let least = within.least in let most = within.most in
-    record { least = least; most = omega (arith, ints, most) }
+sums_within [] times sum count each late small within = grind arith
 sums_within (event ∷ events) [] sum count each late small within = absurd (omega (arith, each))
 sums_within (event ∷ events) (time ∷ times) sum count each late small within =
     by (is_arrival event.kind)

@@ -104,25 +104,15 @@ module _ (count : ℕ) (decided : List Decided) (last : Decided) (there : last.c
   -- the flags before the last decision
   pub kept_less : is_decided decided last.change ≡ false
       → slice_set (kept_flags count (last ∷ decided)) last.change false ≡ kept_flags count decided
-  kept_less none =
-      told_anew (is_kept (last ∷ decided)) (is_kept decided) 0 count last.change false there
-      (ap (is_kept decided) zeroed ∙ not_kept decided last.change none)
-      (λ k inside other. at_zero (is_kept decided) (is_kept (last ∷ decided)) (λ k other. sym (kept_apart k other)) k other)
+  kept_less none = grind (arith, told_anew, zeroed, not_kept, at_zero, kept_apart)
 
   pub open_more : is_decided decided last.change ≡ false
       → slice_set (open_flags count (last ∷ decided)) last.change true ≡ open_flags count decided
-  open_more none =
-      told_anew (λ k. not (is_decided (last ∷ decided) k)) (λ k. not (is_decided decided k)) 0 count last.change true there
-      (ap (λ k. not (is_decided decided k)) zeroed ∙ ap not none)
-      (λ k inside other. at_zero (λ k. not (is_decided decided k)) (λ k. not (is_decided (last ∷ decided) k)) (λ k other. sym (apart k other)) k other)
+  open_more none = grind (arith, told_anew, zeroed, at_zero, apart)
 
   -- the flags behind one decision more
   pub open_less : slice_set (open_flags count decided) last.change false ≡ open_flags count (last ∷ decided)
-  open_less =
-      told_anew (λ k. not (is_decided decided k)) (λ k. not (is_decided (last ∷ decided) k)) 0 count last.change false there
-      (ap (λ k. not (is_decided (last ∷ decided) k)) zeroed
-      ∙ ap (λ b. not (b || is_decided decided last.change)) (eq-eqb last.change last.change refl))
-      (λ k inside other. at_zero (λ k. not (is_decided (last ∷ decided) k)) (λ k. not (is_decided decided k)) apart k other)
+  open_less = grind (arith, told_anew, zeroed, eq-eqb, at_zero, apart)
 
 -- ---- decisions on trial
 
@@ -132,9 +122,7 @@ module _ (problem : DelayProblem) where
 
   pub least_each : IsForward problem → (kept : List Bool) (times : List ℕ)
       → times ≡ least_times problem (chosen_changes problem kept) → length times ≡ length problem.events
-  least_each forward kept times is =
-      ap length is
-      ∙ (least_times_are_least problem (chosen_changes problem kept) forward (chosen_are_changes problem kept)).feasible.each
+  least_each forward kept times is = grind (arith, least_times_are_least, chosen_are_changes)
 
   pub starts : (kept open_yet : List Bool) (times : List ℕ) → kept ≡ replicate n false → open_yet ≡ replicate n true
       → length times ≡ length problem.events
@@ -209,10 +197,7 @@ module _ {X : Type 0} (test : X → Bool) where
 
   pub first_found : (xs : List X) (i : ℕ) (d : X) → i < length xs → ((k : ℕ) → k < i → test (get_or xs k d) ≡ false)
       → test (get_or xs i d) ≡ true → Some i ≡ position test xs
-  first_found xs i d inside fails is =
-      let place = place_is xs i d inside fails is in
-      sym (ap (λ n. cond (nat_lt n (length xs)) (Some n) None) place
-      ∙ ap (λ b. cond b (Some i) None) (lt-ltb i (length xs) inside))
+  first_found xs i d inside fails is = grind (arith, place_is, nat_lt, lt-ltb)
 
   none_place : (xs : List X) (d : X) → ((k : ℕ) → k < length xs → test (get_or xs k d) ≡ false)
       → prefix_len (λ x. not (test x)) xs ≡ length xs
@@ -275,10 +260,7 @@ module _ (problem : DelayProblem) (decided : List Decided) (kept open_yet : List
   open_size = ap length is.undecided ∙ length-map-range_with_len (λ change. not (is_decided decided change)) 0 (length problem.changes)
 
   pub open_flag : (change : ℕ) → change < length problem.changes → get_or open_yet change false ≡ not (is_decided decided change)
-  open_flag change there =
-      let here : 0 + change ≡ change = omega arith in
-      ap (λ flags. get_or flags change false) is.undecided
-      ∙ get_or-map-range_with_len (λ change. not (is_decided decided change)) 0 (length problem.changes) change change false there here
+  open_flag change there = grind (arith, get_or, get_or-map-range_with_len)
 
 pub not_twice : (a b : Bool) → a ≡ not b → not a ≡ b
 not_twice a true is = ap not is

@@ -17,18 +17,5 @@ undone_one left first old popped new last is moved timed top rest parts size =
         → rewound more old.times ≡ rewound top first.times
         → (more : List Moved) × (new ≡ record first { times = new.times; noted = more ++ rest })
         × (rewound more new.times ≡ rewound top first.times)
-    by [] same told =
-        let length_is = ap (λ (t : TrialTimes). length t.noted) same in
-        absurd (omega (arith, length_is, moved.0, size))
-    by (m ∷ more) same told =
-        let noted : last ∷ popped.noted ≡ m ∷ (more ++ rest) = ap (λ (t : TrialTimes). t.noted) (sym moved.3 ∙ same) in
-        let rests : popped.noted ≡ more ++ rest = ap (drop 1) noted in
-        let step : TrialTimes → TrialTimes =
-        λ t. record t { times = slice_set t.times last.event last.before; noted = popped.noted } in
-        let from : new ≡ step old = timed ∙ ap step (sym moved.3) in
-        let times : new.times ≡ slice_set old.times last.event last.before = ap (λ (t : TrialTimes). t.times) from in
-        let first_note : last ≡ m = ap (λ ms. get_or ms 0 m) noted in (
-          more,
-          from ∙ ap step same ∙ (λ i. record first { times = sym times i; noted = rests i }),
-          ap (rewound more) (times ∙ (λ i. slice_set old.times (first_note i).event (first_note i).before)) ∙ told,
-        )
+    by [] same told = grind arith
+    by (m ∷ more) same told = grind arith

@@ -17,9 +17,5 @@ module _ (earliest times : List ℕ) (activities : List Activity) (ids : List (O
       → IfOk result (λ reasons. view reasons ≡ map (λ event. reason_by earliest times event (get_or ids event None)) (range_with_len 0 (length times)))
       → IfOk result (λ reasons. view reasons ≡ map (λ event. reason_by earliest times event (least_id event)) (range_with_len 0 (length times)))
   told_by_ids view is (Ok reasons) told =
-      told ∙ told_alike (λ event. reason_by earliest times event (get_or ids event None))
-      (λ event. reason_by earliest times event (least_id event)) (length times)
-      (λ event inside. ap (reason_by earliest times event)
-      (ap (λ all. get_or all event None) is
-      ∙ get_or-map-range_with_len least_id 0 (length times) event event None inside (omega arith)))
+      grind (arith, told_alike, get_or, get_or-map-range_with_len)
   told_by_ids view is (Err error) told = tt

@@ -56,9 +56,7 @@ module _ (problem : DelayProblem) (kept : List Activity) (times : List ℕ) wher
       (steps_with problem kept) times event) where
     tight_is : (step : Step) → step.to ≡ event → asked times step ≡ time_at times event →
         is_tight times event step ≡ true
-    tight_is step to just =
-        rw ((Decides-eqb step.to event).1 to)
-        ((Decides-eqb (asked times step) (time_at times event)).1 just)
+    tight_is step to just = grind arith
 
     -- a tight step that is no turn has an activity, whose id is then among those of the tight ones
     no_ids : (a : Activity) → Contains (problem.rides ++ kept) a → is_tight times event a.step ≡ true →

@@ -9,9 +9,7 @@ use Rattle.demo_dataset.specs.Grid.{one_to}
 range_more : (first count : ℕ) →
     range_with_len first (suc count) ≡ range_with_len first count ++ (first + count) ∷ []
 range_more first zero = ap (λ n. n ∷ []) (omega arith)
-range_more first (suc count) =
-    ap (λ rest. first ∷ rest) (range_more (first + 1) count
-    ∙ ap (λ n. range_with_len (first + 1) count ++ n ∷ []) (omega arith))
+range_more first (suc count) = grind (arith, range_more (first + 1) count)
 
 -- the numbers up to one are those below it, and it
 one_more : (i last : ℕ) → 1 ≤ i → last ≡ i → one_to last ≡ one_to (i - 1) ++ i ∷ []
@@ -23,18 +21,13 @@ one_more i last some here =
 -- an item for each number up to one, from those below it
 pub pushed : {X : Type 0} (f : ℕ → X) (i last : ℕ) (old now new : List X) → 1 ≤ i → last ≡ i →
     now ≡ old ++ map f (one_to (i - 1)) → new ≡ now ++ f i ∷ [] → new ≡ old ++ map f (one_to last)
-pushed f i last old now new some here told step =
-    step ∙ ap (λ xs. xs ++ f i ∷ []) told ∙ append_assoc old (map f (one_to (i - 1))) (f i ∷ [])
-    ∙ ap (λ xs. old ++ xs) (sym (map-append f (one_to (i - 1)) (i ∷ [])))
-    ∙ ap (λ xs. old ++ map f xs) (sym (one_more i last some here))
+pushed f i last old now new some here told step = grind (arith, append_assoc, map-append, one_more)
 
 -- items for each number up to one, from those below it
 pub appended : {X : Type 0} (f : ℕ → List X) (i last : ℕ) (old now new : List X) → 1 ≤ i →
     last ≡ i → now ≡ old ++ flat_map f (one_to (i - 1)) → new ≡ now ++ f i →
     new ≡ old ++ flat_map f (one_to last)
-appended f i last old now new some here told step =
-    step ∙ ap (λ xs. xs ++ f i) told ∙ flat_map_more f old (one_to (i - 1)) i
-    ∙ ap (λ xs. old ++ flat_map f xs) (sym (one_more i last some here))
+appended f i last old now new some here told step = grind (arith, flat_map_more, one_more)
 
 -- what is told of the numbers below the first one that is too large is told of all
 pub ended : {X : Type 0} (told_of : List ℕ → List X) (i last : ℕ) (now : List X) → i ≡ last + 1 →
@@ -46,9 +39,7 @@ ended told_of i last now past told =
 number_more : {X : Type 0} (first : ℕ) (xs : List X) (x : X) →
     enumerate_from first (xs ++ x ∷ []) ≡ enumerate_from first xs ++ (first + length xs, x) ∷ []
 number_more first [] x = ap (λ n. (n, x) ∷ []) (omega arith)
-number_more first (y ∷ ys) x =
-    ap (λ rest. (first, y) ∷ rest) (number_more (first + 1) ys x
-    ∙ ap (λ n. enumerate_from (first + 1) ys ++ (n, x) ∷ []) (omega arith))
+number_more first (y ∷ ys) x = grind (arith, number_more (first + 1) ys x)
 
 -- items for one item more of a list, which is numbered from 1 on
 pub numbered : {X Y : Type 0} (f : ℕ × X → List Y) (xs : List X) (i : ℕ) (d : X)

@@ -1,5 +1,7 @@
 -- Sums over the lines of an edge.
-use Rattle.std.proofs.Common.{◌≡◌, ℕ, zero, suc, ◌+◌, ◌≤◌, ◌<◌, Bool, true, false, if◌then◌else◌, cond, List, [], ◌∷◌, length, get_or, map, filter, take, refl, arith, sum_by, All, sym, ap, ◌∙◌}
+use Rattle.std.proofs.Common.{◌≡◌, ℕ, zero, suc, ◌+◌, ◌≤◌, ◌<◌, Bool, true, false, if◌then◌else◌}
+use Rattle.std.proofs.Common.{cond, List, [], ◌∷◌, length, get_or, map, filter, take, refl, arith}
+use Rattle.std.proofs.Common.{sum_by, All, sym, ap, ◌∙◌}
 use Rattle.std.specs.List.{AllByRecursion, enumerate_from}
 use Rattle.std.proofs.lemmas.List.{take_all, length-map, get_or-map}
 use Rattle.std.proofs.lemmas.List.Sums.{sum_by-cons}
@@ -61,9 +63,7 @@ within_from : (first most : ℕ) (lines : List CostedLine) (edge : ℕ) → firs
     → AllByRecursion (λ line. line < most) (over_from first lines edge)
 within_from first most [] edge h = tt
 within_from first most (line ∷ lines) edge h =
-    each_gated (λ line. line < most) (goes_over edge line) first line
-    (filter (λ at. goes_over edge at.1) (enumerate_from (first + 1) lines)) (omega (arith, h))
-    (within_from (first + 1) most lines edge (omega (arith, h)))
+    grind (arith, each_gated, within_from (first + 1) most lines edge (omega (arith, h)))
 
 pub over_within : (lines : List CostedLine) (edge : ℕ) → All (λ line. line < length lines) (lines_over lines edge)
 unfolding lines_over

@@ -1,14 +1,16 @@
 -- Multipliers within the costs of open lines bound the costs of a region.
-use Rattle.std.proofs.Common.{◌≡◌, ℕ, ◌+◌, ◌*◌, ◌-◌, ◌≤◌, Bool, true, false, if◌then◌else◌, List, [], ◌∷◌, map, cond, filter, refl, arith, sum_by, zip, nat_le, slice_get, Some, None, option_map, unwrap_or, inl, inr, ◌⊎◌, zero, suc}
+use Rattle.std.proofs.Common.{◌≡◌, ℕ, ◌+◌, ◌*◌, ◌-◌, ◌≤◌, Bool, true, false, if◌then◌else◌, List}
+use Rattle.std.proofs.Common.{[], ◌∷◌, map, cond, filter, refl, arith, sum_by, zip, nat_le}
+use Rattle.std.proofs.Common.{slice_get, Some, option_map, unwrap_or, inl, inr, ◌⊎◌, zero, suc}
 use Rattle.std.proofs.Math.Nat.{mul-le-mul_left}
 use Rattle.std.proofs.lemmas.List.Sums.{sum_by-cons}
-use Rattle.std.proofs.lemmas.Bool.{and_parts, leb-true, ltb-false, cases_Bool, cases_lt, false≢true}
+use Rattle.std.proofs.lemmas.Bool.{and_parts, leb-true, ltb-false, cases_Bool, false≢true}
 use Rattle.std.specs.List.{AllByRecursion, list_all}
 use Rattle.line_cost_model.specs.declared.multipliers.Multiplier.{Multiplier}
 use Rattle.line_cost_model.specs.declared.range.LineRange.{LineRange}
 use Rattle.line_cost_model.specs.Problems.{CostedLine, ProblemParts}
 use Rattle.line_cost_model.specs.Concepts.{IsFeasible, goes_over, frequency_on}
-use Rattle.line_cost_model.specs.DualBounds.{shortfall, taken_off, open_lines, are_within, bound_by, shortfall_at, CostsAtLeastIn}
+use Rattle.line_cost_model.specs.DualBounds.{taken_off, open_lines, are_within, bound_by, shortfall_at, CostsAtLeastIn}
 use Rattle.line_cost_model.specs.Regions.{IsWithin, LiesIn, HasNoFeasible, IsEmptyAt, least_in, greatest_in, has_several, part_up_to, part_from}
 use Rattle.line_cost_model.specs.declared.edge.BoundedEdge.{BoundedEdge}
 use Rattle.line_cost_model.specs.declared.side.Side.{Side}
@@ -119,13 +121,7 @@ filled : (problem : ProblemParts) (region : List LineRange) (fs : List ℕ) (e :
     → shortfall_at problem region e + frequency_on problem.lines (least_in region) e
     ≤ frequency_on problem.lines fs e
 filled problem region fs e feasible inside =
-    elim (slice_get problem.edges e) as (λ o. slice_get problem.edges e ≡ o
-    → unwrap_or (option_map (shortfall problem.lines region e) o) 0 + frequency_on problem.lines
-    (least_in region) e ≤ frequency_on problem.lines fs e) [
-      | None ↦ λ _. omega (arith, more_driven problem.lines region fs e inside)
-      | Some bounds ↦ λ there. omega
-          (arith, more_driven problem.lines region fs e inside, (feasible.bounds e bounds there).enough)
-    ] refl
+    grind (arith, slice_get, unwrap_or, option_map, more_driven)
 
 weighed : (a s lo f x y z : ℕ) → s + lo ≤ f → x + y ≤ z → (a * s + x) + (a * lo + y) ≤ a * f + z
 weighed a s lo f x y z h k = omega (arith, mul-le-mul_left a h, k)
@@ -178,12 +174,7 @@ pub empty_is_none : (problem : ProblemParts) (region : List LineRange) (e : ℕ)
 empty_is_none problem region e bounds side.Over there empty fs feasible inside =
     omega (arith, empty, more_driven problem.lines region fs e inside, (feasible.bounds e bounds there).few)
 empty_is_none problem region e bounds side.Under there empty fs feasible inside =
-    omega (
-      arith,
-      empty,
-      less_driven problem.lines region fs e inside,
-      (feasible.bounds e bounds there).enough,
-    )
+    grind (arith, less_driven)
 
 -- a concept of a region lies in one of the two parts of a split
 pub split_covers : (region : List LineRange) (fs : List ℕ) (line at : ℕ) → LiesIn region fs
@@ -191,14 +182,9 @@ pub split_covers : (region : List LineRange) (fs : List ℕ) (line at : ℕ) →
 split_covers [] [] line at inside = inl inside
 split_covers [] (f ∷ fs) line at inside = absurd inside
 split_covers (range ∷ region) [] line at inside = absurd inside
-split_covers (range ∷ region) (f ∷ fs) zero at inside = elim (cases_lt at f) [
-  | inl above ↦ inr (record { low = omega (arith, above); high = inside.0.high }, inside.1)
-  | inr below ↦ inl (record { low = inside.0.low; high = below }, inside.1)
-]
-split_covers (range ∷ region) (f ∷ fs) (suc line) at inside = elim (split_covers region fs line at inside.1) [
-  | inl lower ↦ inl (inside.0, lower)
-  | inr upper ↦ inr (inside.0, upper)
-]
+split_covers (range ∷ region) (f ∷ fs) zero at inside = grind arith
+split_covers (range ∷ region) (f ∷ fs) (suc line) at inside =
+    grind (arith, split_covers region fs line at inside.1)
 
 -- a region of single values has one concept
 pub one_concept : (region : List LineRange) (fs : List ℕ)
@@ -207,5 +193,4 @@ one_concept [] [] one inside = refl
 one_concept [] (f ∷ fs) one inside = absurd inside
 one_concept (range ∷ region) [] one inside = absurd inside
 one_concept (range ∷ region) (f ∷ fs) one inside =
-    let first : f ≡ range.lo = omega (arith, one.0, inside.0.low, inside.0.high) in
-    λ i. first i ∷ one_concept region fs one.1 inside.1 i
+    grind (arith, one_concept region fs one.1 inside.1)

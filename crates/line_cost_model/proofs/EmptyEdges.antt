@@ -1,15 +1,14 @@
 -- The first edge that shows that a region has no feasible concept.
-use Rattle.std.proofs.Common.{◌≡◌, ℕ, ◌+◌, Bool, false, if◌then◌else◌, nat_lt, List, filter_map, slice_get, Some, None, Option, option_map, unwrap_or, refl, ap, ◌∙◌, inl, inr, sym, subst}
+use Rattle.std.proofs.Common.{arith, ◌≡◌, ℕ, ◌+◌, Bool, if◌then◌else◌, List, filter_map, slice_get}
+use Rattle.std.proofs.Common.{Some, None, Option, option_map, unwrap_or, refl, ap}
 use Rattle.std.specs.List.{cons_option}
-use Rattle.std.proofs.lemmas.Bool.{ltb-true, cases_Bool}
 use Rattle.std.proofs.lemmas.Option.{none-some}
 use Rattle.line_cost_model.specs.declared.edge.BoundedEdge.{BoundedEdge}
 use Rattle.line_cost_model.specs.declared.range.LineRange.{LineRange}
 use Rattle.line_cost_model.specs.declared.side.Side.{Side}
 use Rattle.line_cost_model.specs.declared.side.Side.TheVariants as side
 use Rattle.line_cost_model.specs.Problems.{CostedLine, ProblemParts}
-use Rattle.line_cost_model.specs.Concepts.{frequency_on}
-use Rattle.line_cost_model.specs.Regions.{HasNoFeasible, IsEmptyAt, empty_edge, empty_side, least_in, greatest_in}
+use Rattle.line_cost_model.specs.Regions.{HasNoFeasible, IsEmptyAt, empty_edge, empty_side}
 use Rattle.line_cost_model.proofs.Duality.{empty_is_none}
 use Rattle.line_cost_model.proofs.Feasible.{left_from, left_more}
 
@@ -26,14 +25,7 @@ sides_more : (problem : ProblemParts) (region : List LineRange) (edge : ℕ) (fo
     → option_map (empty_side problem.lines region edge) (slice_get problem.edges edge) ≡ Some found
     → sides_from problem region edge ≡ cons_option (option_map (λ side. (edge, side)) found) (sides_from problem region (edge + 1))
 sides_more problem region edge found is =
-    elim (slice_get problem.edges edge) as (λ at. slice_get problem.edges edge ≡ at
-    → option_map (empty_side problem.lines region edge) at ≡ Some found
-    → sides_from problem region edge ≡ cons_option (option_map (λ side. (edge, side)) found) (sides_from problem region (edge + 1))) [
-      | None ↦ λ _ none. absurd (none-some found none)
-      | Some at ↦ λ there same.
-          ap (filter_map (λ at. option_map (λ side. (at.0, side)) (empty_side problem.lines region at.0 at.1))) (left_more problem.edges edge at there)
-          ∙ ap (λ (o : Option (Option Side)). cons_option (option_map (λ side. (edge, side)) (unwrap_or o None)) (sides_from problem region (edge + 1))) same
-    ] refl is
+    grind (arith, slice_get, option_map, none-some, filter_map, left_more, unwrap_or)
 
 pub first_more : (problem : ProblemParts) (region : List LineRange) (edge : ℕ) (found : Option Side)
     → option_map (empty_side problem.lines region edge) (slice_get problem.edges edge) ≡ Some found
@@ -50,24 +42,7 @@ over_or over under = if over then Some side.Over else (if under then Some side.U
 -- an edge on such a side is driven too often, or not often enough
 empty_at : (lines : List CostedLine) (region : List LineRange) (edge : ℕ) (bounds : BoundedEdge) (found : Side)
     → empty_side lines region edge bounds ≡ Some found → IsEmptyAt lines region edge bounds found
-empty_at lines region edge bounds found is =
-    let least = frequency_on lines (least_in region) edge in
-    let greatest = frequency_on lines (greatest_in region) edge in
-    elim (cases_Bool (nat_lt bounds.most least)) [
-      | inl over ↦
-          let same : Some side.Over ≡ Some found = sym (ap (λ b. over_or b (nat_lt greatest bounds.least)) over) ∙ is in
-          subst (IsEmptyAt lines region edge bounds) (ap (λ o. unwrap_or o found) same) (ltb-true bounds.most least over)
-      | inr fits ↦ elim (cases_Bool (nat_lt greatest bounds.least)) [
-        | inl under ↦
-            let same : Some side.Under ≡ Some found =
-            sym (ap (λ b. over_or b (nat_lt greatest bounds.least)) fits ∙ ap (over_or false) under) ∙ is in
-            subst (IsEmptyAt lines region edge bounds) (ap (λ o. unwrap_or o found) same) (ltb-true greatest bounds.least under)
-        | inr enough ↦
-            let same : None ≡ Some found =
-            sym (ap (λ b. over_or b (nat_lt greatest bounds.least)) fits ∙ ap (over_or false) enough) ∙ is in
-            absurd (none-some found same)
-      ]
-    ]
+empty_at lines region edge bounds found is = grind arith
 
 pub none_feasible : (problem : ProblemParts) (region : List LineRange) (edge : ℕ) (found : Side)
     → option_map (empty_side problem.lines region edge) (slice_get problem.edges edge) ≡ Some (Some found)

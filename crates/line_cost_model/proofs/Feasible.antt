@@ -1,8 +1,10 @@
 -- The test of feasible concepts, edge by edge.
-use Rattle.std.proofs.Common.{◌≡◌, ℕ, ◌+◌, ◌≤◌, ◌&&◌, ◌==◌, ◌↔◌, Bool, true, false, List, [], ◌∷◌, length, drop, slice_get, Some, None, option_map, unwrap_or, IsTrue, nat_le, zero, suc, refl, arith, sym, ap, subst, ◌∙◌}
+use Rattle.std.proofs.Common.{◌≡◌, ℕ, ◌+◌, ◌≤◌, ◌&&◌, ◌==◌, ◌↔◌, Bool, true, List, [], ◌∷◌, length}
+use Rattle.std.proofs.Common.{drop, slice_get, Some, option_map, unwrap_or, IsTrue, zero, suc, refl}
+use Rattle.std.proofs.Common.{arith, sym, ap, subst, ◌∙◌}
 use Rattle.std.specs.List.{list_all, enumerate_from}
 use Rattle.std.proofs.lemmas.List.{drop_more, drop_all}
-use Rattle.std.proofs.lemmas.Bool.{eq-eqb, eqb-true, and_parts, leb-true, le-leb}
+use Rattle.std.proofs.lemmas.Bool.{eq-eqb, eqb-true, and_parts, le-leb}
 use Rattle.std.proofs.lemmas.Option.{slice_get_within, get_or_from_slice_get, none-some}
 use Rattle.line_cost_model.specs.declared.edge.BoundedEdge.{BoundedEdge}
 use Rattle.line_cost_model.specs.Problems.{ProblemParts}
@@ -33,12 +35,7 @@ KeepFrom problem f first edges = (edge : ℕ) (at : BoundedEdge) → slice_get e
 
 kept : (problem : ProblemParts) (f : List ℕ) (edge : ℕ) (at : BoundedEdge)
     → keeps_bounds problem.lines f (edge, at) ≡ true → KeepsBounds problem.lines f edge at
-kept problem f edge at h =
-    let both = and_parts (nat_le at.least (frequency_on problem.lines f edge)) (nat_le (frequency_on problem.lines f edge) at.most) h in
-    record {
-      enough = leb-true at.least (frequency_on problem.lines f edge) both.0;
-      few = leb-true (frequency_on problem.lines f edge) at.most both.1;
-    }
+kept problem f edge at h = grind arith
 
 shown : (problem : ProblemParts) (f : List ℕ) (edge : ℕ) (at : BoundedEdge)
     → KeepsBounds problem.lines f edge at → keeps_bounds problem.lines f (edge, at) ≡ true
@@ -47,10 +44,7 @@ shown problem f edge at keeps = rw (le-leb at.least (frequency_on problem.lines 
 tested_from : (problem : ProblemParts) (f : List ℕ) (first : ℕ) (edges : List BoundedEdge)
     → list_all (keeps_bounds problem.lines f) (enumerate_from first edges) ≡ true → KeepFrom problem f first edges
 tested_from problem f first [] h edge at there = absurd (none-some at there)
-tested_from problem f first (one ∷ edges) h zero at there =
-    let both = and_parts (keeps_bounds problem.lines f (first, one)) (list_all (keeps_bounds problem.lines f) (enumerate_from (first + 1) edges)) h in
-    kept problem f (first + 0) at (ap (λ n. keeps_bounds problem.lines f (n, at)) (omega arith)
-    ∙ ap (λ o. keeps_bounds problem.lines f (first, unwrap_or o at)) (sym there) ∙ both.0)
+tested_from problem f first (one ∷ edges) h zero at there = grind arith
 tested_from problem f first (one ∷ edges) h (suc edge) at there =
     let both = and_parts (keeps_bounds problem.lines f (first, one)) (list_all (keeps_bounds problem.lines f) (enumerate_from (first + 1) edges)) h in
     subst (λ n. KeepsBounds problem.lines f n at) (omega arith) (tested_from problem f (first + 1) edges both.1 edge at there)
@@ -86,13 +80,7 @@ pub tested_more : (test : ℕ × BoundedEdge → Bool) (edges : List BoundedEdge
     → option_map (λ at. test (edge, at)) (slice_get edges edge) ≡ Some answer
     → list_all test (left_from edges edge) ≡ (answer && list_all test (left_from edges (edge + 1)))
 tested_more test edges edge answer is =
-    elim (slice_get edges edge) as (λ at. slice_get edges edge ≡ at
-    → option_map (λ at. test (edge, at)) at ≡ Some answer
-    → list_all test (left_from edges edge) ≡ (answer && list_all test (left_from edges (edge + 1)))) [
-      | None ↦ λ _ none. absurd (none-some answer none)
-      | Some at ↦ λ there same. ap (list_all test) (left_more edges edge at there)
-          ∙ ap (λ o. unwrap_or o false && list_all test (left_from edges (edge + 1))) same
-    ] refl is
+    grind (arith, slice_get, option_map, none-some, left_more, unwrap_or)
 
 pub tested_end : (test : ℕ × BoundedEdge → Bool) (edges : List BoundedEdge) (edge : ℕ) → length edges ≤ edge
     → list_all test (left_from edges edge) ≡ true

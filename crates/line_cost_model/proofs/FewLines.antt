@@ -1,5 +1,8 @@
 -- A line problem has no more lines than there are ids, and what a concept of it costs fits.
-use Rattle.std.proofs.Common.{◌≡◌, ℕ, ℤ, pos, ◌+◌, ◌*◌, ◌≤◌, ◌<◌, ◌≤ℤ◌, ◌<ℤ◌, Bool, true, false, cond, T, int_lt, List, [], ◌∷◌, length, get_or, map, take, sum_by, suc, zip, slice_get, refl, Some, None, option_map, unwrap_or, All, arith, sym, ap, ◌∙◌}
+use Rattle.std.proofs.Common.{◌≡◌, ℕ, ℤ, pos, ◌+◌, ◌*◌, ◌≤◌, ◌<◌, ◌≤ℤ◌, ◌<ℤ◌, Bool, true, false}
+use Rattle.std.proofs.Common.{cond, T, int_lt, List, [], ◌∷◌, length, get_or, map, take, sum_by}
+use Rattle.std.proofs.Common.{suc, zip, slice_get, Some, option_map, unwrap_or, All, arith, sym, ap}
+use Rattle.std.proofs.Common.{◌∙◌}
 use Rattle.std.specs.List.{AllByRecursion}
 use Rattle.std.specs.List.Sorted.{IsStrictlySortedBy}
 use Rattle.std.specs.Ordering.{int_cmp}
@@ -31,8 +34,7 @@ behind : (low high : ℕ) (id : ℤ) (ids : List ℤ) → LiesBetween low high i
     → AllByRecursion (LiesBetween (low + 1) high) ids
 behind low high id [] own rise all = tt
 behind low high id (other ∷ ids) own rise all =
-    let less = is_less id other rise.0 in
-    ((omega (arith, ints, own.0, less), all.0.1), behind low high id ids own rise.1 all.1)
+    grind (arith, is_less, ints, behind low high id ids own rise.1 all.1)
 
 -- ids that rise between two bounds are no more than there are numbers between these
 few_between : (low high : ℕ) (ids : List ℤ) → low ≤ high + 1 → IsStrictlySortedBy int_cmp ids
@@ -67,13 +69,7 @@ bounded_ids (edge ∷ edges) all =
     ((first.id.low, first.id.high), bounded_ids edges (λ k d h. all (suc k) d (omega (arith, h))))
 
 pub few_edges : (problem : ProblemParts) → IsProblem problem → length problem.edges ≤ 1000000000
-few_edges problem sound =
-    omega (
-      arith,
-      few_between 1 1000000000 (map (λ edge. edge.id) problem.edges) (omega arith) sound.edges_rise
-          (bounded_ids problem.edges sound.edges),
-      length-map problem.edges (λ edge. edge.id),
-    )
+few_edges problem sound = grind (arith, few_between, bounded_ids, length-map)
 
 -- ---- costs
 
@@ -85,21 +81,20 @@ no_line = record { id = pos 0; cost = 0; edges = [] }
 there_with : (lines : List CostedLine) (line cost : ℕ) → option_map (λ at. at.cost) (slice_get lines line) ≡ Some cost
     → (line < length lines) × ((get_or lines line no_line).cost ≡ cost)
 there_with lines line cost is =
-    elim (slice_get lines line) as (λ at. slice_get lines line ≡ at
-    → option_map (λ at. at.cost) at ≡ Some cost → (line < length lines) × ((get_or lines line no_line).cost ≡ cost)) [
-      | None ↦ λ _ none. absurd (none-some cost none)
-      | Some at ↦ λ there same. (
-        slice_get_within lines line at there,
-        ap (λ (at : CostedLine). at.cost) (get_or_from_slice_get lines line at no_line there) ∙ ap (λ o. unwrap_or o 0) same,
-      )
-    ] refl is
+    grind (
+      arith,
+      slice_get,
+      option_map,
+      get_or,
+      none-some,
+      slice_get_within,
+      get_or_from_slice_get,
+      unwrap_or,
+    )
 
 cheap_line : (problem : ProblemParts) (line cost : ℕ) → IsProblem problem
     → option_map (λ at. at.cost) (slice_get problem.lines line) ≡ Some cost → cost ≤ 1000000000000000000
-cheap_line problem line cost sound is =
-    let at = there_with problem.lines line cost is in
-    let cheap : (get_or problem.lines line no_line).cost ≤ 1000000000000000000 = (sound.lines line no_line at.0).cheap in
-    omega (arith, cheap, at.1)
+cheap_line problem line cost sound is = grind (arith, there_with, get_or)
 
 -- what one line adds to the cost of a concept
 pub adds_little : (problem : ProblemParts) (line cost times : ℕ) → IsProblem problem

@@ -1,5 +1,7 @@
 -- The least that is left of the costs of the open lines over an edge.
-use Rattle.std.proofs.Common.{◌≡◌, ℕ, suc, ◌+◌, ◌≤◌, ◌<◌, Bool, true, false, cond, if◌then◌else◌, min, List, [], ◌∷◌, ◌++◌, length, get_or, map, filter, filter_map, take, zip, unwrap_or, Option, Some, None, refl, arith, ap, sym, ◌∙◌}
+use Rattle.std.proofs.Common.{◌≡◌, ℕ, suc, ◌+◌, ◌≤◌, ◌<◌, Bool, true, false, cond, if◌then◌else◌}
+use Rattle.std.proofs.Common.{min, List, [], ◌∷◌, ◌++◌, length, get_or, map, filter, filter_map}
+use Rattle.std.proofs.Common.{take, zip, unwrap_or, Option, Some, None, refl, arith, ap, sym, ◌∙◌}
 use Rattle.std.specs.List.{enumerate_from, reduce, cons_option}
 use Rattle.std.specs.Option.{option_map_or}
 use Rattle.std.proofs.lemmas.List.{take_more, take_all, append-nil}
@@ -63,14 +65,7 @@ pub picked_whole : (problem : ProblemParts) (region ranges : List LineRange)
     ≡ map (left_of multipliers) (open_over problem region edge)
 unfolding lines_over
 picked_whole problem region ranges multipliers left over edge ranges_are left_is over_is same =
-    let lines = problem.lines in
-    let cost = left_of multipliers in
-    ap (filter_map (left_at ranges left)) over_is
-    ∙ ap (λ (ranges : List LineRange). filter_map (left_at ranges left) (over_from 0 lines edge))
-    ranges_are
-    ∙ ap (λ (left : List ℕ). filter_map (left_at region left) (over_from 0 lines edge)) left_is
-    ∙ picked_from (left_at region (map cost lines)) 0 lines region edge cost same
-    (λ i within. ap (left_at region (map cost lines)) (omega arith))
+    grind (arith, filter_map, over_from, picked_from)
 
 -- the least over all lines of the edge
 pub least_whole : (problem : ProblemParts) (region ranges : List LineRange) (multipliers : List Multiplier) (left over : List ℕ)
@@ -79,20 +74,12 @@ pub least_whole : (problem : ProblemParts) (region ranges : List LineRange) (mul
     → least ≡ reduce min (filter_map (left_at ranges left) (take index over))
     → unwrap_or least 0 ≡ least_left problem region multipliers edge
 least_whole problem region ranges multipliers left over edge index least ranges_are left_is over_is past same is =
-    ap (λ least. unwrap_or least 0)
-    (is ∙ ap (λ some. reduce min (filter_map (left_at ranges left) some)) (take_all index over past)
-    ∙ ap (reduce min)
-    (picked_whole problem region ranges multipliers left over edge ranges_are left_is over_is same))
+    grind (arith, unwrap_or, filter_map, take_all, picked_whole)
 
 -- one line more
 least_taken : (some : List ℕ) (range : LineRange) (left : ℕ) → reduce min (some ++ cons_option (if_open range left) [])
     ≡ (if has_several range then Some (option_map_or (λ least. min least left) (reduce min some) left) else reduce min some)
-least_taken some range left =
-    elim (has_several range) as (λ several. reduce min (some ++ cons_option (if several then Some left else None) [])
-    ≡ (if several then Some (option_map_or (λ least. min least left) (reduce min some) left) else reduce min some)) [
-      | true ↦ reduce_push some left
-      | false ↦ ap (reduce min) (append-nil some)
-    ]
+least_taken some range left = grind (arith, reduce_push, append-nil)
 
 pub least_more : (ranges : List LineRange) (left over : List ℕ) (index line own : ℕ) (least after : Option ℕ) → index < length over
     → line ≡ get_or over index 0 → own ≡ get_or left line 0

@@ -1,5 +1,8 @@
 -- An amount is taken off what is left of the costs of the lines over an edge, line by line.
-use Rattle.std.proofs.Common.{◌≡◌, ℕ, zero, suc, ◌+◌, ◌-◌, ◌<◌, ◌≤◌, Bool, true, false, ◌||◌, cond, if◌then◌else◌, nat_eq, List, [], ◌∷◌, ◌++◌, length, get_or, set, map, filter, take, refl, ap, subst, sym, ◌∙◌, arith, inl, inr, get_or-set_other, get_or-set_same}
+use Rattle.std.proofs.Common.{◌≡◌, ℕ, zero, suc, ◌+◌, ◌-◌, ◌<◌, ◌≤◌, Bool, true, false, ◌||◌, cond}
+use Rattle.std.proofs.Common.{nat_eq, List, [], ◌∷◌, ◌++◌, length, get_or, set, map, filter, take}
+use Rattle.std.proofs.Common.{refl, ap, subst, sym, ◌∙◌, arith, inl, inr, get_or-set_other}
+use Rattle.std.proofs.Common.{get_or-set_same}
 use Rattle.std.specs.List.{AllByRecursion, IsDistinct, enumerate_from, list_any}
 use Rattle.std.proofs.lemmas.Bool.{ne_eqb, eq-eqb, cases_eq}
 use Rattle.std.proofs.lemmas.Cmp.{nat_eq_equiv}
@@ -24,9 +27,13 @@ later : (before first : ℕ) (lines : List CostedLine) (edge : ℕ) → before <
     → AllByRecursion (λ line. nat_eq before line ≡ false) (over_from first lines edge)
 later before first [] edge h = tt
 later before first (line ∷ lines) edge h =
-    each_gated (λ line. nat_eq before line ≡ false) (goes_over edge line) first line
-    (filter (λ at. goes_over edge at.1) (enumerate_from (first + 1) lines)) (ne_eqb before first (λ same. omega (arith, h, same)))
-    (later before (first + 1) lines edge (omega (arith, h)))
+    grind (
+      arith,
+      each_gated,
+      nat_eq,
+      ne_eqb,
+      later before (first + 1) lines edge (omega (arith, h)),
+    )
 
 none_apart : IsDistinct nat_eq []
 unfolding IsDistinct
@@ -73,9 +80,13 @@ any_from first (one ∷ lines) edge zero d h =
     ∙ any_first (goes_over edge one) first one (filter (λ at. goes_over edge at.1) (enumerate_from (first + 1) lines))
     (later first (first + 1) lines edge (omega arith))
 any_from first (one ∷ lines) edge (suc line) d h =
-    any_behind (goes_over edge one) first (first + suc line) one (filter (λ at. goes_over edge at.1) (enumerate_from (first + 1) lines)) (omega arith)
-    ∙ ap (λ n. list_any (nat_eq n) (over_from (first + 1) lines edge)) (omega arith)
-    ∙ any_from (first + 1) lines edge line d (omega (arith, h))
+    grind (
+      arith,
+      any_behind,
+      nat_eq,
+      over_from,
+      any_from (first + 1) lines edge line d (omega (arith, h)),
+    )
 
 pub is_over : (lines : List CostedLine) (edge line : ℕ) (d : CostedLine) → line < length lines
     → list_any (nat_eq line) (lines_over lines edge) ≡ goes_over edge (get_or lines line d)
@@ -104,10 +115,7 @@ module _ (over : List ℕ) (k : ℕ) (apart : IsDistinct nat_eq over) (h : k < l
   module _ (left old : List ℕ) (amount value : ℕ) (size : length left ≡ length old) (there : get_or over k 0 < length old) (so_far : (at : ℕ) → at < length old → get_or left at 0 ≡ get_or old at 0 - cond (list_any (nat_eq at) (take k over)) amount 0) (read : value ≡ get_or left (get_or over k 0) value) where
     -- what was left of its cost before
     value_is : value ≡ get_or old (get_or over k 0) 0
-    value_is =
-        let line = get_or over k 0 in
-        read ∙ get_or_default_zero left line value (omega arith) ∙ so_far line there
-        ∙ ap (λ b. get_or old line 0 - cond b amount 0) is_new ∙ omega arith
+    value_is = grind (arith, get_or, get_or_default_zero, is_new)
 
     pub line_lowered : (at : ℕ) → at < length old → get_or (set left (get_or over k 0) (value - amount)) at 0 ≡ get_or old at 0 - cond (list_any (nat_eq at) (take (k + 1) over)) amount 0
     line_lowered at within =
@@ -138,9 +146,7 @@ all_lowered lines edge amount index over before after is past so_far at within =
 off_more : (multipliers : List Multiplier) (edge amount : ℕ) (line : CostedLine)
     → left_of (multipliers ++ record { edge = edge; amount = amount } ∷ []) line
     ≡ left_of multipliers line - cond (goes_over edge line) amount 0
-off_more multipliers edge amount line =
-    let more = sum_by-append (λ (multiplier : Multiplier). if goes_over multiplier.edge line then multiplier.amount else 0) multipliers (record { edge = edge; amount = amount } ∷ []) in
-    omega (arith, more)
+off_more multipliers edge amount line = grind (arith, sum_by-append)
 
 pub left_more : (lines : List CostedLine) (multipliers : List Multiplier) (edge amount : ℕ) (before after : List ℕ)
     → before ≡ map (left_of multipliers) lines → length after ≡ length before → AreLowered lines edge amount before after

@@ -1,5 +1,8 @@
 -- How many edges show that a region has no feasible concept.
-use Rattle.std.proofs.Common.{◌≡◌, ◌≢◌, ℕ, zero, suc, ◌+◌, ◌-◌, ◌≤◌, ◌<◌, ◌∙◌, All, filter_map, Bool, true, false, ◌||◌, cond, if◌then◌else◌, nat_eq, nat_lt, List, [], ◌∷◌, ◌++◌, length, get_or, slice_get, Some, None, option_map, Option, sum_by, refl, ap, sym, arith, inl, inr}
+use Rattle.std.proofs.Common.{◌≡◌, ◌≢◌, ℕ, zero, suc, ◌+◌, ◌-◌, ◌≤◌, ◌<◌, ◌∙◌, All, filter_map}
+use Rattle.std.proofs.Common.{Bool, true, false, ◌||◌, cond, if◌then◌else◌, nat_eq, nat_lt, List}
+use Rattle.std.proofs.Common.{[], ◌∷◌, ◌++◌, length, get_or, slice_get, Some, None, option_map}
+use Rattle.std.proofs.Common.{Option, sum_by, refl, ap, sym, arith, inl, inr}
 use Rattle.std.specs.List.{AllByRecursion, IsDistinct, list_any, range_with_len}
 use Rattle.std.proofs.lemmas.Bool.{ne_eqb, eq-eqb, cases_eq, cases_lt}
 use Rattle.std.proofs.lemmas.List.{get_or_past}
@@ -21,10 +24,7 @@ use Rattle.line_cost_model.proofs.Feasible.{left_none}
 
 pub range_more : (a n : ℕ) → range_with_len a (n + 1) ≡ range_with_len a n ++ (a + n) ∷ []
 range_more a zero = ap (λ n. n ∷ []) (omega arith)
-range_more a (suc n) =
-    let next : suc n + 1 ≡ suc (n + 1) = omega arith in
-    ap (range_with_len a) next
-    ∙ ap (λ rest. a ∷ rest) (range_more (a + 1) n ∙ ap (λ m. range_with_len (a + 1) n ++ m ∷ []) (omega arith))
+range_more a (suc n) = grind (arith, range_more (a + 1) n)
 
 pub zero_plus : (n : ℕ) → 0 + n ≡ n
 zero_plus n = omega arith
@@ -104,13 +104,8 @@ sums_differ f g n (p ∷ ps) apart within same =
 same_value : (edges : List ℕ) (before after : ℕ) (old now : List ℕ) → length now ≡ length old
     → AreMoved edges before after old now → (e : ℕ) → list_any (nat_eq e) edges ≡ false
     → get_or now e 0 ≡ get_or old e 0
-same_value edges before after old now size moved e apart = elim (cases_lt e (length old)) [
-  | inl within ↦
-      let own : cond (list_any (nat_eq e) edges) before 0 ≡ 0 = ap (λ b. cond b before 0) apart in
-      let later : cond (list_any (nat_eq e) edges) after 0 ≡ 0 = ap (λ b. cond b after 0) apart in
-      omega (arith, moved e within, own, later)
-  | inr past ↦ get_or_past now e 0 (omega (arith, size, past)) ∙ sym (get_or_past old e 0 past)
-]
+same_value edges before after old now size moved e apart =
+    grind (arith, cases_lt, nat_eq, get_or_past)
 
 all_below : (n : ℕ) (ps : List ℕ) → All (λ p. p < n) ps → AllByRecursion (λ p. p < n) ps
 all_below n [] all = tt
@@ -162,8 +157,7 @@ pub counted_here : (bounds : List BoundedEdge) (least greatest : List ℕ) (e re
     → slice_get bounds e ≡ Some at → result ≡ missed at (get_or least e 0) (get_or greatest e 0)
     → result ≡ missed_at bounds least greatest e
 counted_here bounds least greatest e result at there is =
-    is ∙ ap (λ at. missed at (get_or least e 0) (get_or greatest e 0))
-    (sym (get_or_from_slice_get bounds e at no_bounds there))
+    grind (arith, get_or, get_or_from_slice_get)
 
 one_at_most : (b : Bool) → one_where b ≤ 1
 one_at_most true = omega arith
@@ -202,9 +196,7 @@ none_from : (problem : ProblemParts) (ranges : List LineRange) (n edge : ℕ)
     → empty_side problem.lines ranges e (get_or problem.edges e no_bounds) ≡ None)
     → edge + n ≡ length problem.edges → first_from problem ranges edge ≡ None
 none_from problem ranges zero edge none all =
-    ap (λ edges. slice_get (filter_map
-    (λ at. option_map (λ side. (at.0, side)) (empty_side problem.lines ranges at.0 at.1)) edges) 0)
-    (left_none problem.edges edge (omega (arith, all)))
+    grind (arith, slice_get, filter_map, option_map, left_none)
 none_from problem ranges (suc n) edge none all =
     let within : edge < length problem.edges = omega (arith, all) in
     first_more problem ranges edge None

@@ -1,5 +1,7 @@
 -- The pass over the edges: before the first one, one edge more, and after the last one.
-use Rattle.std.proofs.Common.{◌≡◌, ◌≢◌, ℕ, suc, ◌+◌, ◌*◌, ◌≤◌, ◌<◌, nat_lt, Bool, true, false, if◌then◌else◌, List, [], ◌∷◌, ◌++◌, length, map, fold, slice_get, unwrap_or, Some, None, option_map, All, refl, arith, ap, sym, ◌∙◌}
+use Rattle.std.proofs.Common.{◌≡◌, ◌≢◌, ℕ, suc, ◌+◌, ◌*◌, ◌≤◌, ◌<◌, nat_lt, Bool, true, false}
+use Rattle.std.proofs.Common.{if◌then◌else◌, List, [], ◌∷◌, ◌++◌, length, map, fold, slice_get}
+use Rattle.std.proofs.Common.{unwrap_or, Some, option_map, All, refl, arith, ap, ◌∙◌}
 use Rattle.std.specs.List.{AllByRecursion}
 use Rattle.std.proofs.lemmas.Bool.{ne_eqb}
 use Rattle.std.proofs.lemmas.List.{append-nil}
@@ -11,7 +13,7 @@ use Rattle.line_cost_model.specs.declared.multipliers.Multiplier.{Multiplier}
 use Rattle.line_cost_model.specs.declared.range.LineRange.{LineRange}
 use Rattle.line_cost_model.specs.Problems.{CostedLine, ProblemParts, IsCostedLine, IsProblem}
 use Rattle.line_cost_model.specs.Concepts.{cost_of}
-use Rattle.line_cost_model.specs.DualBounds.{bound_by, dual_bound, least_left, left_of, multipliers_of, next_multiplier, shortfall, shortfall_at, unless_zero, with_next}
+use Rattle.line_cost_model.specs.DualBounds.{bound_by, dual_bound, least_left, left_of, multipliers_of, next_multiplier, shortfall, unless_zero, with_next}
 use Rattle.line_cost_model.specs.Multipliers.{IsAfter, IsAmount}
 use Rattle.line_cost_model.specs.Passes.{AreLowered, IsPass}
 use Rattle.line_cost_model.specs.Regions.{least_in}
@@ -32,14 +34,8 @@ pub pass_first : (problem : ProblemParts) (region : List LineRange) (left : List
     → left ≡ map (λ line. line.cost) problem.lines → value ≡ cost_of problem (least_in region)
     → value ≤ 5000000000000000000000000000000000000 → IsPass problem region [] left value 0
 unfolding bound_by multipliers_of
-pass_first problem region left value left_is value_is few = record {
-  left_is = left_is ∙ costs_left problem.lines;
-  value_is = omega (arith, value_is);
-  few = omega (arith, few);
-  within = within_none problem region;
-  after = All-nil (λ multiplier. multiplier.edge < 0);
-  rest = refl;
-}
+pass_first problem region left value left_is value_is few =
+    grind (arith, costs_left, within_none, All-nil)
 
 -- ---- one edge more
 
@@ -48,16 +44,7 @@ fold_more : (problem : ProblemParts) (region : List LineRange) (multipliers : Li
     → fold (with_next problem region) multipliers (left_from problem.edges edge)
     ≡ fold (with_next problem region) (multipliers ++ unless_zero edge amount) (left_from problem.edges (edge + 1))
 fold_more problem region multipliers edge amount is =
-    elim (slice_get problem.edges edge) as (λ at. slice_get problem.edges edge ≡ at
-    → option_map (λ at. next_multiplier problem region multipliers (edge, at)) at ≡ Some amount
-    → fold (with_next problem region) multipliers (left_from problem.edges edge)
-    ≡ fold (with_next problem region) (multipliers ++ unless_zero edge amount) (left_from problem.edges (edge + 1))) [
-      | None ↦ λ _ none. absurd (none-some amount none)
-      | Some at ↦ λ there same.
-          ap (fold (with_next problem region) multipliers) (left_more problem.edges edge at there)
-          ∙ ap (λ amount. fold (with_next problem region) (multipliers ++ unless_zero edge amount) (left_from problem.edges (edge + 1)))
-          (ap (λ o. unwrap_or o 0) same)
-    ] refl is
+    grind (arith, slice_get, option_map, left_from, none-some, left_more, unwrap_or)
 
 later : (multipliers : List Multiplier) (edge : ℕ) → IsAfter multipliers edge → IsAfter multipliers (edge + 1)
 later multipliers edge after k d h = let before = after k d h in omega (arith, before)
@@ -82,14 +69,7 @@ next_is : (problem : ProblemParts) (region : List LineRange) (multipliers : List
     → option_map (shortfall problem.lines region edge) (slice_get problem.edges edge) ≡ Some missing
     → option_map (λ at. next_multiplier problem region multipliers (edge, at)) (slice_get problem.edges edge) ≡ Some amount
     → amount ≡ (if nat_lt 0 missing then least_left problem region multipliers edge else 0)
-next_is problem region multipliers edge missing amount short next =
-    elim (slice_get problem.edges edge) as (λ at. option_map (shortfall problem.lines region edge) at ≡ Some missing
-    → option_map (λ at. next_multiplier problem region multipliers (edge, at)) at ≡ Some amount
-    → amount ≡ (if nat_lt 0 missing then least_left problem region multipliers edge else 0)) [
-      | None ↦ λ none _. absurd (none-some missing none)
-      | Some at ↦ λ short next. sym (ap (λ o. unwrap_or o 0) next)
-          ∙ ap (λ missing. if nat_lt 0 missing then least_left problem region multipliers edge else 0) (ap (λ o. unwrap_or o 0) short)
-    ] short next
+next_is problem region multipliers edge missing amount short next = grind arith
 
 some_left : (missing : Bool) (least amount : ℕ) → amount ≡ (if missing then least else 0) → amount ≢ 0 → amount ≡ least
 some_left true least amount is some = is
@@ -124,10 +104,7 @@ module _ (problem : ProblemParts) (region : List LineRange) (multipliers : List 
   value_more : (value : ℕ) → value ≡ bound_by problem region multipliers
       → value + amount * missing ≡ bound_by problem region (multipliers ++ record { edge = edge; amount = amount } ∷ [])
   unfolding bound_by
-  value_more value is =
-      let more = sum_by-append (λ (multiplier : Multiplier). multiplier.amount * shortfall_at problem region multiplier.edge) multipliers (record { edge = edge; amount = amount } ∷ []) in
-      let own : amount * shortfall_at problem region edge ≡ amount * missing = ap (λ o. amount * unwrap_or o 0) short in
-      omega (arith, is, more, own)
+  value_more value is = grind (arith, sum_by-append, unwrap_or)
 
   unless_some : (amount : ℕ) → amount ≢ 0 → unless_zero edge amount ≡ record { edge = edge; amount = amount } ∷ []
   unless_some amount some = ap (λ none. if none then [] else record { edge = edge; amount = amount } ∷ []) (ne_eqb amount 0 some)
@@ -152,7 +129,4 @@ module _ (problem : ProblemParts) (region : List LineRange) (multipliers : List 
 pub pass_last : (problem : ProblemParts) (region : List LineRange) (multipliers : List Multiplier) (left : List ℕ)
     (value edge : ℕ) → IsPass problem region multipliers left value edge → length problem.edges ≤ edge
     → (multipliers ≡ multipliers_of problem region) × (value ≡ dual_bound problem region)
-pass_last problem region multipliers left value edge pass past =
-    let all : multipliers ≡ multipliers_of problem region =
-    sym (pass.rest ∙ ap (fold (with_next problem region) multipliers) (left_none problem.edges edge past)) in
-    (all, pass.value_is ∙ ap (bound_by problem region) all)
+pass_last problem region multipliers left value edge pass past = grind (arith, left_none)

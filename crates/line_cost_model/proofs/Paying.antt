@@ -1,6 +1,9 @@
 -- Whether the open lines over an edge can pay a multiplier, and whether the multipliers so far are
 -- within their costs.
-use Rattle.std.proofs.Common.{◌≡◌, ℕ, ◌+◌, ◌-◌, ◌≤◌, ◌<◌, Bool, true, false, ◌&&◌, cond, if◌then◌else◌, nat_le, List, [], ◌∷◌, ◌++◌, length, get_or, map, filter, filter_map, take, drop, slice_get, Some, None, inl, inr, refl, arith, ap, sym, ◌∙◌}
+use Rattle.std.proofs.Common.{◌≡◌, ℕ, ◌+◌, ◌-◌, ◌≤◌, ◌<◌, Bool, true, false, ◌&&◌, cond}
+use Rattle.std.proofs.Common.{if◌then◌else◌, nat_le, List, [], ◌∷◌, ◌++◌, length, get_or, map}
+use Rattle.std.proofs.Common.{filter, filter_map, take, drop, slice_get, Some, None, inl, inr, refl}
+use Rattle.std.proofs.Common.{arith, ap, sym, ◌∙◌}
 use Rattle.std.specs.List.{list_all, cons_option}
 use Rattle.std.proofs.lemmas.Bool.{and_parts, leb-true, le-leb, cases_Bool, false≢true}
 use Rattle.std.proofs.lemmas.List.{take_more, take-append-drop, drop_more}
@@ -125,12 +128,7 @@ fewer_paid before rest (line ∷ lines) paid =
 
 pub none_within : (problem : ProblemParts) (region : List LineRange) (before rest : List Multiplier)
     → are_within problem region before ≡ false → are_within problem region (before ++ rest) ≡ false
-none_within problem region before rest over = elim
-    (cases_Bool (are_within problem region (before ++ rest))) [
-      | inl within ↦ absurd
-          (false≢true (sym over ∙ fewer_paid before rest (open_lines problem.lines region) within))
-      | inr is ↦ is
-    ]
+none_within problem region before rest over = grind (arith, cases_Bool, false≢true, fewer_paid)
 
 module _ (problem : ProblemParts) (region : List LineRange) (multipliers : List Multiplier)
     (place : ℕ) (one : Multiplier)

@@ -1,5 +1,7 @@
 -- What multipliers prove, one by one: each is of an edge that is there, and there are not too many.
-use Rattle.std.proofs.Common.{◌≡◌, ℕ, zero, suc, ◌+◌, ◌*◌, ◌≤◌, ◌<◌, List, [], ◌∷◌, length, get_or, map, take, slice_get, Some, option_map, unwrap_or, All, sum_by, arith, ap, subst, ◌∙◌}
+use Rattle.std.proofs.Common.{◌≡◌, ℕ, zero, suc, ◌+◌, ◌*◌, ◌≤◌, ◌<◌, List, [], ◌∷◌, length, get_or}
+use Rattle.std.proofs.Common.{map, take, slice_get, Some, option_map, unwrap_or, All, sum_by, arith}
+use Rattle.std.proofs.Common.{ap, subst, ◌∙◌}
 use Rattle.std.specs.List.Sorted.{IsStrictlyIncreasing}
 use Rattle.std.proofs.lemmas.List.{take_all, length-map, get_or-map}
 use Rattle.std.proofs.lemmas.List.Sums.{sum_by-append}
@@ -24,10 +26,7 @@ holds_at P xs i x all there = subst P (get_or_from_slice_get xs i x x there)
 not_below : (xs : List ℕ) → IsStrictlyIncreasing xs → (k : ℕ) → k < length xs → k ≤ get_or xs k 0
 not_below xs rise zero within = omega arith
 not_below xs rise (suc k) within =
-    let before = not_below xs rise k (omega (arith, within)) in
-    let step : get_or xs k 0 < get_or xs (k + 1) 0 = rise k (omega (arith, within)) in
-    let same : get_or xs (k + 1) 0 ≡ get_or xs (suc k) 0 = ap (λ k. get_or xs k 0) (omega arith) in
-    omega (arith, before, step, same)
+    grind (arith, get_or, not_below xs rise k (omega (arith, within)))
 
 pub few_places : (multipliers : List Multiplier) (place : ℕ) (one : Multiplier)
     → AreMultipliers multipliers

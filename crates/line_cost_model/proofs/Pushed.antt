@@ -1,5 +1,8 @@
 -- What always holds of multipliers and of a line problem, with one more at the end.
-use Rattle.std.proofs.Common.{◌≡◌, get_or-set_same, get_or-set_other, set, ℕ, ℤ, ◌+◌, ◌<◌, ◌<ℤ◌, Bool, true, false, cond, T, nat_eq, int_lt, List, [], ◌∷◌, ◌++◌, length, get_or, map, filter, slice_get, refl, ap, subst, sym, ◌∙◌, arith, inl, inr, ◌⊎◌, ◌||◌, zero, suc, Some}
+use Rattle.std.proofs.Common.{◌≡◌, get_or-set_same, get_or-set_other, set, ℕ, ℤ, ◌+◌, ◌<◌, ◌<ℤ◌}
+use Rattle.std.proofs.Common.{Bool, true, false, cond, T, nat_eq, int_lt, List, [], ◌∷◌, ◌++◌}
+use Rattle.std.proofs.Common.{length, get_or, map, filter, slice_get, refl, ap, subst, sym, ◌∙◌}
+use Rattle.std.proofs.Common.{arith, inl, inr, ◌⊎◌, ◌||◌, zero, suc, Some}
 use Rattle.std.specs.List.{All, list_any, enumerate_from}
 use Rattle.std.specs.List.Sorted.{IsStrictlySortedBy, IsStrictlyIncreasing}
 use Rattle.std.specs.Ordering.{int_cmp}
@@ -72,11 +75,7 @@ filtered_push p [] x = last (p x)
     last : (b : Bool) → cond b (x ∷ []) [] ≡ [] ++ cond b (x ∷ []) []
     last true = refl
     last false = refl
-filtered_push p (y ∷ xs) x =
-    elim (p y) as (λ b. cond b (y ∷ filter p (xs ++ x ∷ [])) (filter p (xs ++ x ∷ [])) ≡ cond b (y ∷ filter p xs) (filter p xs) ++ cond (p x) (x ∷ []) []) [
-      | true ↦ ap (λ rest. y ∷ rest) (filtered_push p xs x)
-      | false ↦ filtered_push p xs x
-    ]
+filtered_push p (y ∷ xs) x = grind (arith, filtered_push p xs x)
 
 -- a line more goes over an edge, or not
 pub over_push : (lines : List CostedLine) (line : CostedLine) (edge : ℕ) → lines_over (lines ++ line ∷ []) edge ≡ cond (goes_over edge line) (lines_over lines edge ++ length lines ∷ []) (lines_over lines edge)
@@ -104,11 +103,7 @@ crossed_none edge at there = cc
 -- before there are lines none goes over an edge
 pub crossed_by_none : (edges : List CrossedEdge) (bounds : BoundedEdge) → AreCrossed [] edges → AreCrossed [] (edges ++ record { bounds = bounds; lines = [] } ∷ [])
 unfolding lines_over
-crossed_by_none edges bounds are edge at there =
-    elim (pushed_there edges (record { bounds = bounds; lines = [] }) edge at there) [
-      | inl old ↦ are edge at old
-      | inr new ↦ ap (λ (at : CrossedEdge). at.lines) new
-    ]
+crossed_by_none edges bounds are edge at there = grind (arith, pushed_there)
 
 -- ---- a line more over its edges
 

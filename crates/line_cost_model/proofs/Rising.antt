@@ -1,5 +1,5 @@
 -- Lists that rise, with one item more.
-use Rattle.std.proofs.Common.{◌≡◌, ℕ, ◌+◌, ◌<◌, List, [], ◌∷◌, ◌++◌, length, get_or, arith, inl, inr}
+use Rattle.std.proofs.Common.{◌≡◌, ℕ, ◌<◌, List, [], ◌∷◌, ◌++◌, get_or, arith}
 use Rattle.std.specs.List.{All, AllByRecursion}
 use Rattle.std.specs.List.Sorted.{IsStrictlySortedBy, IsStrictlyIncreasing}
 use Rattle.std.specs.declared.cmp.Ordering.{Ordering}
@@ -12,19 +12,7 @@ use Rattle.std.proofs.Math.ListN.{get_or-append}
 -- numbers that rise, and one above them all
 pub increasing_push : (xs : List ℕ) (x : ℕ) → IsStrictlyIncreasing xs → All (λ y. y < x) xs → IsStrictlyIncreasing (xs ++ x ∷ [])
 increasing_push xs x rise below k within =
-    let size = length_push xs x in
-    elim (cases_lt (k + 1) (length xs)) [
-      | inl inner ↦
-          let low = get_or-append xs (x ∷ []) 0 k (omega arith) in
-          let high = get_or-append xs (x ∷ []) 0 (k + 1) inner in
-          let here : get_or xs k 0 < get_or xs (k + 1) 0 = rise k inner in
-          omega (arith, low, high)
-      | inr outer ↦
-          let low = get_or-append xs (x ∷ []) 0 k (omega arith) in
-          let high = get_or_push xs x 0 (k + 1) (omega arith) in
-          let here : get_or xs k 0 < x = All-get_or (λ y. y < x) xs k 0 (omega arith) below in
-          omega (arith, low, high)
-    ]
+    grind (arith, length_push, cases_lt, get_or-append, get_or, get_or_push, All-get_or)
 
 each_push : {X : Type 0} (P : X → Type 0) (xs : List X) (x : X) → AllByRecursion P xs → P x → AllByRecursion P (xs ++ x ∷ [])
 each_push P [] x all own = (own, tt)

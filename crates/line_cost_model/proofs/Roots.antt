@@ -1,5 +1,8 @@
 -- The root region has every feasible concept.
-use Rattle.std.proofs.Common.{◌≡◌, ℕ, zero, suc, ◌+◌, ◌≤◌, ◌<◌, Bool, true, false, ◌||◌, if◌then◌else◌, nat_eq, min, List, [], ◌∷◌, length, get_or, map, fold, filter_map, refl, arith, slice_get, Some, None, option_map, take, ◌++◌, unwrap_or, All, sym, ap, ◌∙◌, Option}
+use Rattle.std.proofs.Common.{◌≡◌, ℕ, zero, suc, ◌+◌, ◌≤◌, ◌<◌, Bool, true, false, ◌||◌}
+use Rattle.std.proofs.Common.{if◌then◌else◌, nat_eq, min, List, [], ◌∷◌, length, get_or, map, fold}
+use Rattle.std.proofs.Common.{filter_map, refl, arith, slice_get, Some, None, option_map, take}
+use Rattle.std.proofs.Common.{◌++◌, unwrap_or, All, sym, ap, ◌∙◌, Option}
 use Rattle.std.proofs.lemmas.Bool.{false≢true, eq-eqb}
 use Rattle.std.specs.List.{AllByRecursion, cons_option, list_any, reduce}
 use Rattle.line_cost_model.specs.declared.edge.BoundedEdge.{BoundedEdge}
@@ -125,9 +128,7 @@ each_range range sound (line ∷ lines) zero d h = sound line
 each_range range sound (line ∷ lines) (suc k) d h = each_range range sound lines k d (omega (arith, h))
 
 pub root_sound : (problem : ProblemParts) → IsProblem problem → All IsRange (root_of problem)
-root_sound problem sound = each_range (λ line. from_zero (most_of problem.edges line))
-    (λ line. record { in_order = omega arith; few = few_of problem.edges sound.edges line.edges })
-    problem.lines
+root_sound problem sound = grind (arith, each_range, few_of)
 
 range_to : (most : CostedLine → ℕ) (line : Option CostedLine) (hi : ℕ) → option_map most line ≡ Some hi
     → option_map (λ line. from_zero (most line)) line ≡ Some (from_zero hi)
@@ -138,9 +139,7 @@ range_to most (Some line) hi is = ap (option_map from_zero) is
 pub root_more : (problem : ProblemParts) (line hi : ℕ)
     → option_map (most_of problem.edges) (slice_get problem.lines line) ≡ Some hi
     → take (line + 1) (root_of problem) ≡ take line (root_of problem) ++ from_zero hi ∷ []
-root_more problem line hi at =
-    map_more (λ line. from_zero (most_of problem.edges line)) problem.lines line (from_zero hi)
-    (range_to (most_of problem.edges) (slice_get problem.lines line) hi at)
+root_more problem line hi at = grind (arith, map_more, range_to, slice_get)
 
 pub root_whole : (problem : ProblemParts) (ranges : List LineRange) (count line : ℕ)
     → ranges ≡ take line (root_of problem) → count ≤ line → count ≡ length problem.lines

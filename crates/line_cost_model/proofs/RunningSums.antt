@@ -1,5 +1,9 @@
 -- Running sums: what another frequency of a line changes, and how great they are.
-use Rattle.std.proofs.Common.{◌≡◌, ℕ, zero, suc, ◌+◌, ◌*◌, ◌≤◌, ◌<◌, ◌∙◌, Bool, true, false, ◌||◌, cond, if◌then◌else◌, nat_eq, List, [], ◌∷◌, length, get_or, set, map, take, replicate, zip, sum_by, slice_get, Some, None, option_map, unwrap_or, All, refl, ap, subst, sym, arith, inl, inr, get_or-set_other, get_or-set_same}
+use Rattle.std.proofs.Common.{◌≡◌, ℕ, zero, suc, ◌+◌, ◌*◌, ◌≤◌, ◌<◌, ◌∙◌, Bool, true, false, ◌||◌}
+use Rattle.std.proofs.Common.{cond, if◌then◌else◌, nat_eq, List, [], ◌∷◌, length, get_or, set, map}
+use Rattle.std.proofs.Common.{take, replicate, zip, sum_by, slice_get, Some, option_map, unwrap_or}
+use Rattle.std.proofs.Common.{All, refl, ap, subst, sym, arith, inl, inr, get_or-set_other}
+use Rattle.std.proofs.Common.{get_or-set_same}
 use Rattle.std.specs.List.{IsDistinct, list_any}
 use Rattle.std.proofs.lemmas.Bool.{ne_eqb, eq-eqb, cases_eq}
 use Rattle.std.proofs.lemmas.Grind.{get_or_default_zero}
@@ -26,15 +30,9 @@ sum_moved : (term : CostedLine × ℕ → ℕ) (lines : List CostedLine) (fs : L
     ≡ sum_by term (zip lines fs) + term (get_or lines k no_line, f)
 sum_moved term [] fs k f h same = absurd (omega (arith, h))
 sum_moved term (line ∷ lines) [] k f h same = absurd (omega (arith, same))
-sum_moved term (line ∷ lines) (g ∷ fs) zero f h same =
-    let new = sum_by-cons term (line, f) (zip lines fs) in
-    let old = sum_by-cons term (line, g) (zip lines fs) in
-    omega (arith, new, old)
+sum_moved term (line ∷ lines) (g ∷ fs) zero f h same = grind (arith, sum_by-cons)
 sum_moved term (line ∷ lines) (g ∷ fs) (suc k) f h same =
-    let new = sum_by-cons term (line, g) (zip lines (set fs k f)) in
-    let old = sum_by-cons term (line, g) (zip lines fs) in
-    let more = sum_moved term lines fs k f (omega (arith, h)) (omega (arith, same)) in
-    omega (arith, new, old, more)
+    grind (arith, sum_by-cons, sum_moved term lines fs k f (omega (arith, h)) (omega (arith, same)))
 
 abbrev of_edge : ℕ → CostedLine × ℕ → ℕ
 of_edge edge at = if goes_over edge at.0 then at.1 else 0
@@ -81,9 +79,7 @@ gated_few false f most few = omega arith
 
 pub few_driven : (lines : List CostedLine) (fs : List ℕ) (edge : ℕ) → length fs ≡ length lines
     → All (λ f. f ≤ 1000) fs → frequency_on lines fs edge ≤ length lines * 1000
-few_driven lines fs edge same few = few_sum (of_edge edge) 1000 lines fs same (λ k h.
-    gated_few (goes_over edge (get_or lines k no_line)) (get_or fs k 0) 1000
-    (few k 0 (omega (arith, h, same))))
+few_driven lines fs edge same few = grind (arith, few_sum, gated_few, get_or, no_line)
 
 few_cost : (problem : ProblemParts) (fs : List ℕ) → IsProblem problem
     → length fs ≡ length problem.lines → All (λ f. f ≤ 1000) fs
@@ -175,18 +171,7 @@ module _ (edges : List ℕ) (k : ℕ) (apart : IsDistinct nat_eq edges) (h : k <
     ≡ get_or old at 0 + cond (list_any (nat_eq at) (take k edges)) after 0)
     (read : value ≡ get_or now (get_or edges k 0) value) where
   pub value_is : value ≡ get_or old (get_or edges k 0) 0
-  value_is =
-      let edge = get_or edges k 0 in
-      let new = is_new edges k apart h in
-      let own : cond (list_any (nat_eq edge) (take k edges)) before 0 ≡ 0 = ap (λ b. cond b before 0) new in
-      let later : cond (list_any (nat_eq edge) (take k edges)) after 0 ≡ 0 = ap (λ b. cond b after 0) new in
-      omega (
-        arith,
-        read ∙ get_or_default_zero now edge value (omega (arith, size, there)),
-        so_far edge there,
-        own,
-        later,
-      )
+  value_is = grind (arith, get_or, is_new, nat_eq, get_or_default_zero)
 
   pub edge_moved : (moved : ℕ) → moved + before ≡ value + after → (at : ℕ) → at < length old
       → get_or (set now (get_or edges k 0) moved) at 0
@@ -225,9 +210,7 @@ pub all_moved : (edges : List ℕ) (k : ℕ) (before after : ℕ) (now old : Lis
     → get_or now at 0 + cond (list_any (nat_eq at) (take k edges)) before 0
     ≡ get_or old at 0 + cond (list_any (nat_eq at) (take k edges)) after 0)
     → AreMoved edges before after old now
-all_moved edges k before after now old past so_far =
-    subst (λ some. (at : ℕ) → at < length old → get_or now at 0 + cond (list_any (nat_eq at) some) before 0
-    ≡ get_or old at 0 + cond (list_any (nat_eq at) some) after 0) (take_all k edges past) so_far
+all_moved edges k before after now old past so_far = grind (arith, get_or, nat_eq, take_all)
 
 -- ---- the sums of a region
 
@@ -235,27 +218,22 @@ driven_after : (problem : ProblemParts) (fs sums now : List ℕ) (line f : ℕ) 
     → length fs ≡ length problem.lines → line < length problem.lines → length now ≡ length sums
     → AreMoved (get_or problem.lines line no_line).edges (get_or fs line 0) f sums now
     → AreDriven problem (set fs line f) now
-driven_after problem fs sums now line f are same there size moved = record {
-  size = size ∙ are.size;
-  told = λ edge h.
-      omega (
-        arith,
-        are.told edge h,
-        moved edge (omega (arith, h, are.size)),
-        driven_moved problem.lines fs line there same f edge,
-      );
-}
+driven_after problem fs sums now line f are same there size moved = grind (arith, driven_moved)
 
 -- what the line at an index has
 read_at : {X : Type 0} (of : CostedLine → X) (lines : List CostedLine) (line : ℕ) (x : X)
     → option_map of (slice_get lines line) ≡ Some x → x ≡ of (get_or lines line no_line)
 read_at of lines line x is =
-    elim (slice_get lines line) as (λ at. slice_get lines line ≡ at → option_map of at ≡ Some x
-    → x ≡ of (get_or lines line no_line)) [
-      | None ↦ λ _ none. absurd (none-some x none)
-      | Some at ↦ λ there same. ap (λ o. unwrap_or o x) (sym same)
-          ∙ sym (ap of (get_or_from_slice_get lines line at no_line there))
-    ] refl is
+    grind (
+      arith,
+      slice_get,
+      option_map,
+      get_or,
+      no_line,
+      none-some,
+      unwrap_or,
+      get_or_from_slice_get,
+    )
 
 pub region_moved : (problem : ProblemParts) (ranges : List LineRange)
     (least greatest least_now greatest_now edges : List ℕ)
@@ -319,30 +297,18 @@ sums_count : (problem : ProblemParts) (fs sums edges : List ℕ) (line before : 
     → option_map (λ at. at.edges) (slice_get problem.lines line) ≡ Some edges → before ≡ get_or fs line 0
     → AreCounted before sums edges
 sums_count problem fs sums edges line before are sound same few within edges_are before_is =
-    let at = get_or problem.lines line no_line in
-    let edges_of : edges ≡ at.edges = read_at (λ (at : CostedLine). at.edges) problem.lines line edges edges_are in
-    let line_is = sound.lines line no_line within in
-    subst (λ edges. AreCounted before sums edges) (sym edges_of) (record {
-      there = λ k d h. omega (arith, line_is.there k d h, are.size);
-      distinct = line_is.distinct;
-      counted = λ k d h.
-          let edge = get_or at.edges k d in
-          let over : goes_over edge at ≡ true = list_any_at (nat_eq edge) at.edges k d h (eq-eqb edge edge refl) in
-          omega (
-            arith,
-            before_is,
-            own_driven problem.lines fs line within same edge over,
-            are.told edge (line_is.there k d h),
-          );
-      few = λ k d h.
-          let edge = get_or at.edges k d in
-          omega (
-            arith,
-            few_driven problem.lines fs edge same few,
-            are.told edge (line_is.there k d h),
-            few_lines problem sound,
-          );
-    })
+    grind (
+      arith,
+      get_or,
+      no_line,
+      read_at,
+      list_any_at,
+      nat_eq,
+      eq-eqb,
+      own_driven,
+      few_driven,
+      few_lines,
+    )
 
 cost_counts : (problem : ProblemParts) (fs : List ℕ) (cost line price before : ℕ)
     → cost ≡ cost_of problem fs → length fs ≡ length problem.lines → line < length problem.lines
@@ -360,12 +326,7 @@ pub least_cost_few : (problem : ProblemParts) (ranges : List LineRange) (least g
     (empty : ℕ) → IsSummed problem ranges least greatest cost empty
     → cost ≤ 5000000000000000000000000000000000000
 least_cost_few problem ranges least greatest cost empty summed =
-    omega (
-      arith,
-      summed.cost_is,
-      few_cost problem (least_in ranges) summed.problem_is (length-map ranges (λ range. range.lo) ∙ summed.each)
-          (least_few ranges summed.sound),
-    )
+    grind (arith, few_cost, length-map, least_few)
 
 -- what another range of a line takes off was counted before
 module _ (problem : ProblemParts) (ranges : List LineRange) (least greatest edges : List ℕ) (cost empty line : ℕ)
@@ -388,20 +349,14 @@ pub least_cost_counts : (problem : ProblemParts) (ranges : List LineRange) (leas
     → option_map (λ at. at.cost) (slice_get problem.lines line) ≡ Some price
     → price * (range_of ranges line).lo ≤ cost
 least_cost_counts problem ranges least greatest cost empty line price summed there price_is =
-    cost_counts problem (least_in ranges) cost line price (range_of ranges line).lo summed.cost_is
-    (length-map ranges (λ range. range.lo) ∙ summed.each) (omega (arith, there, summed.each)) price_is
-    (sym (get_or-map (λ range. range.lo) ranges line no_range 0 there))
+    grind (arith, cost_counts, length-map, get_or-map)
 
 -- the edges of a line are there, and each of them once
 pub line_edges : (problem : ProblemParts) (line : ℕ) (edges : List ℕ) → IsProblem problem
     → line < length problem.lines
     → option_map (λ at. at.edges) (slice_get problem.lines line) ≡ Some edges
     → All (λ edge. edge < length problem.edges) edges × IsDistinct nat_eq edges
-line_edges problem line edges sound within edges_are =
-    let line_is = sound.lines line no_line within in
-    subst (λ edges. All (λ edge. edge < length problem.edges) edges × IsDistinct nat_eq edges)
-    (sym (read_at (λ (at : CostedLine). at.edges) problem.lines line edges edges_are))
-    (line_is.there, line_is.distinct)
+line_edges problem line edges sound within edges_are = grind (arith, no_line, nat_eq, read_at)
 
 -- one line more has the range that it has in a region
 pub range_taken : (ranges region now : List LineRange) (line lo hi : ℕ) → line < length ranges
@@ -409,15 +364,5 @@ pub range_taken : (ranges region now : List LineRange) (line lo hi : ℕ) → li
     → lo ≡ (range_of region line).lo → hi ≡ (range_of region line).hi
     → now ≡ set ranges line (record { lo = lo; hi = hi }) → (at : ℕ) → at < line + 1
     → range_of now at ≡ range_of region at
-range_taken ranges region now line lo hi there done lo_is hi_is now_is at before = elim (cases_eq at line) [
-  | inl same ↦
-      let taken : range_of now line ≡ range_of region line =
-      ap (λ (ranges : List LineRange). range_of ranges line) now_is
-      ∙ get_or-set_same ranges line (record { lo = lo; hi = hi }) no_range there
-      ∙ (λ i. record { lo = lo_is i; hi = hi_is i }) in
-      subst (λ at. range_of now at ≡ range_of region at) (sym same) taken
-  | inr other ↦
-      ap (λ (ranges : List LineRange). range_of ranges at) now_is
-      ∙ get_or-set_other ranges line at (record { lo = lo; hi = hi }) no_range other
-      ∙ done at (omega (arith, before, other))
-]
+range_taken ranges region now line lo hi there done lo_is hi_is now_is at before =
+    grind (arith, cases_eq, get_or-set_same, get_or-set_other)

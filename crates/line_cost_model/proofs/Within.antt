@@ -1,5 +1,6 @@
 -- The multipliers of the pass are within the costs of the open lines.
-use Rattle.std.proofs.Common.{◌≡◌, ℕ, ◌+◌, ◌-◌, ◌≤◌, Bool, true, false, cond, if◌then◌else◌, nat_le, min, List, [], ◌∷◌, ◌++◌, map, fold, filter, zip, unwrap_or, refl, arith, subst, sym}
+use Rattle.std.proofs.Common.{◌≡◌, ℕ, ◌+◌, ◌-◌, ◌≤◌, Bool, true, false, cond, nat_le, min, List, []}
+use Rattle.std.proofs.Common.{◌∷◌, ◌++◌, map, fold, filter, zip, unwrap_or, refl, arith, subst, sym}
 use Rattle.std.specs.List.{AllByRecursion, list_all, reduce}
 use Rattle.std.proofs.lemmas.Bool.{and_parts, leb-true, le-leb}
 use Rattle.std.proofs.lemmas.List.Sums.{sum_by-append}
@@ -7,16 +8,13 @@ use Rattle.line_cost_model.specs.declared.multipliers.Multiplier.{Multiplier}
 use Rattle.line_cost_model.specs.declared.range.LineRange.{LineRange}
 use Rattle.line_cost_model.specs.Problems.{CostedLine, ProblemParts}
 use Rattle.line_cost_model.specs.Concepts.{goes_over}
-use Rattle.line_cost_model.specs.Regions.{has_several}
 use Rattle.line_cost_model.specs.DualBounds.{are_within, least_left, left_of, open_lines, open_over, taken_off}
 
 -- ---- the least of numbers is below each of them
 
 below_fold : (xs : List ℕ) (a : ℕ) → (fold min a xs ≤ a) × AllByRecursion (λ x. fold min a xs ≤ x) xs
 below_fold [] a = (omega arith, tt)
-below_fold (x ∷ xs) a =
-    let rest = below_fold xs (min a x) in
-    (omega (arith, rest.0), (omega (arith, rest.0), rest.1))
+below_fold (x ∷ xs) a = grind (arith, below_fold xs (min a x))
 
 below_each : (xs : List ℕ) → AllByRecursion (λ x. unwrap_or (reduce min xs) 0 ≤ x) xs
 below_each [] = tt
@@ -32,10 +30,7 @@ of_each f least (x ∷ xs) all = (all.0, of_each f least xs all.1)
 pub taken_more : (multipliers : List Multiplier) (edge amount : ℕ) (line : CostedLine)
     → taken_off (multipliers ++ record { edge = edge; amount = amount } ∷ []) line
     ≡ taken_off multipliers line + cond (goes_over edge line) amount 0
-taken_more multipliers edge amount line =
-    let more = sum_by-append (λ (multiplier : Multiplier). if goes_over multiplier.edge line then multiplier.amount else 0)
-    multipliers (record { edge = edge; amount = amount } ∷ []) in
-    omega (arith, more)
+taken_more multipliers edge amount line = grind (arith, sum_by-append)
 
 -- a line pays for what is left of its cost
 pays_more : (goes : Bool) (taken cost amount : ℕ) → taken ≤ cost → (goes ≡ true → amount ≤ cost - taken)
@@ -89,11 +84,7 @@ IsCheap line = line.cost ≤ 1000000000000000000
 
 filter_each : {X : Type 0} (P : X → Type 0) (test : X → Bool) (xs : List X) → AllByRecursion P xs → AllByRecursion P (filter test xs)
 filter_each P test [] all = tt
-filter_each P test (x ∷ xs) all =
-    elim (test x) as (λ keep. AllByRecursion P (cond keep (x ∷ filter test xs) (filter test xs))) [
-      | true ↦ (all.0, filter_each P test xs all.1)
-      | false ↦ filter_each P test xs all.1
-    ]
+filter_each P test (x ∷ xs) all = grind (arith, filter_each P test xs all.1)
 
 zip_each : (lines : List CostedLine) (region : List LineRange) → AllByRecursion IsCheap lines
     → AllByRecursion (λ at. IsCheap at.0) (zip lines region)
@@ -108,14 +99,9 @@ map_each (x ∷ xs) all = (all.0, map_each xs all.1)
 least_cheap : (multipliers : List Multiplier) (lines : List CostedLine) → AllByRecursion IsCheap lines
     → unwrap_or (reduce min (map (left_of multipliers) lines)) 0 ≤ 1000000000000000000
 least_cheap multipliers [] all = omega arith
-least_cheap multipliers (line ∷ lines) all =
-    let least = (below_fold (map (left_of multipliers) lines) (left_of multipliers line)).0 in
-    omega (arith, least, all.0)
+least_cheap multipliers (line ∷ lines) all = grind (arith, below_fold)
 
 pub few_left : (problem : ProblemParts) (region : List LineRange) (multipliers : List Multiplier) (edge : ℕ)
     → AllByRecursion IsCheap problem.lines → least_left problem region multipliers edge ≤ 1000000000000000000
 few_left problem region multipliers edge cheap =
-    least_cheap multipliers (open_over problem region edge)
-    (filter_each IsCheap (goes_over edge) (open_lines problem.lines region)
-    (map_each (filter (λ at. has_several at.1) (zip problem.lines region))
-    (filter_each (λ at. IsCheap at.0) (λ at. has_several at.1) (zip problem.lines region) (zip_each problem.lines region cheap))))
+    grind (arith, least_cheap, filter_each, map_each, zip_each)
