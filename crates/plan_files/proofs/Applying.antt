@@ -1,7 +1,7 @@
 -- Writes that are made one after the other, up to a fault.
-use Rattle.std.proofs.Common.{◌≡◌, ℕ, suc, ◌+◌, ◌<◌, ◌≤◌, List, [], ◌∷◌, ◌++◌, length, take, drop}
-use Rattle.std.proofs.Common.{get_or, Option, Some, None, refl, ap, sym, subst, ◌∙◌, append-nil}
-use Rattle.std.proofs.Common.{append_assoc}
+use Rattle.std.proofs.Common.{arith, ◌≡◌, ℕ, suc, ◌+◌, ◌<◌, ◌≤◌, List, [], ◌∷◌, ◌++◌, length, take}
+use Rattle.std.proofs.Common.{drop, get_or, Option, Some, None, refl, ap, sym, subst, ◌∙◌}
+use Rattle.std.proofs.Common.{append-nil, append_assoc}
 use Rattle.std.specs.Option.{option_map}
 use Rattle.std.proofs.lemmas.List.{take_more, take_all}
 use Rattle.std.proofs.Math.Seq.{split_at}
@@ -45,16 +45,7 @@ pub more_applied : (writes : List Write) (i : ℕ) (write : Write) (old mid new 
     → new ≡ option_map (after_write write) mid → now ≡ option_map (λ made. made ++ write ∷ []) noted
     → AreApplied (take (i + 1) writes) old new before now
 more_applied writes i write old mid new before noted now inside is h left told =
-    let front : take (i + 1) writes ≡ take i writes ++ write ∷ [] = take_more writes i write inside
-    ∙ ap (λ w. take i writes ++ w ∷ []) (sym is) in
-    record {
-      folder = left ∙ ap (option_map (after_write write)) h.folder
-          ∙ next_folder (take i writes) write old
-          ∙ ap (λ ws. option_map (folder_after ws) old) (sym front);
-      noted = told ∙ ap (option_map (λ made. made ++ write ∷ [])) h.noted
-          ∙ next_writes (take i writes) write before
-          ∙ ap (λ ws. option_map (λ made. made ++ ws) before) (sym front);
-    }
+    grind (arith, take_more, next_folder, next_writes)
 
 -- a write that was not finished
 pub cut_short : (fault : FileFault) (writes : List Write) (i : ℕ) (write : Write)

@@ -1,5 +1,5 @@
 -- What a failed write to a sink leaves, as the trait says it.
-use Rattle.std.proofs.Common.{◌≡◌, ℕ, List, ◌++◌, Option, Some, None, ap, sym, ◌∙◌, take}
+use Rattle.std.proofs.Common.{◌≡◌, ℕ, List, ◌++◌, Option, Some, None, ap, sym, ◌∙◌, take, arith}
 use Rattle.std.proofs.Common.{append-nil, ⊎_elim}
 use Rattle.plan_files.specs.Planned.{Planned, LeavesFront}
 
@@ -8,6 +8,4 @@ pub front_appended : (kept : Option ℕ) (old new piece : List ℕ) (called now 
     → LeavesFront (λ count. old ++ take count piece) kept old new called now
     → (count : ℕ) × (Some new ≡ Some (old ++ take count piece))
 front_appended None old new piece called now h = (0, ap Some (h.0 ∙ sym (append-nil old)))
-front_appended (Some kept) old new piece called now h =
-    ⊎_elim (λ part. (kept, ap Some part.0))
-    (λ same. (0, ap Some (same.0 ∙ sym (append-nil old)))) h
+front_appended (Some kept) old new piece called now h = grind (arith, ⊎_elim, append-nil)

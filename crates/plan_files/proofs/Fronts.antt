@@ -1,5 +1,7 @@
 -- Pieces at the front of bytes, one after the other.
-use Rattle.std.proofs.Common.{◌≡◌, ℕ, ◌<◌, ◌+◌, List, ◌∷◌, ◌++◌, length, drop, get_or, flat_map, ap, sym, ◌∙◌, arith, suc, append_assoc, Option, Some, None, IfSome, IfNone, MatchOption}
+use Rattle.std.proofs.Common.{◌≡◌, ℕ, ◌<◌, ◌+◌, List, ◌∷◌, ◌++◌, length, drop, get_or, flat_map, ap}
+use Rattle.std.proofs.Common.{◌∙◌, arith, suc, append_assoc, Option, Some, None, IfSome, IfNone}
+use Rattle.std.proofs.Common.{MatchOption}
 use Rattle.std.proofs.Math.Seq.{drop-cons}
 use Rattle.std.proofs.lemmas.List.{append_cancel_left}
 
@@ -16,13 +18,7 @@ module _ {X : Type 0} (f : X → List ℕ) (xs : List X) (i : ℕ) (d : X) (insi
       → (more ≡ flat_map f (drop (i + 1) xs) ++ behind → rest ≡ flat_map f (drop i xs) ++ behind)
       × (rest ≡ flat_map f (drop i xs) ++ behind → more ≡ flat_map f (drop (i + 1) xs) ++ behind)
   passed rest more behind split =
-      let piece = f (get_or xs i d) in
-      let later = flat_map f (drop (i + 1) xs) in
-      let whole : flat_map f (drop i xs) ++ behind ≡ piece ++ (later ++ behind) =
-      ap (λ (front : List ℕ). front ++ behind) pieces_at ∙ append_assoc piece later behind in (
-        λ is. split ∙ ap (λ (bytes : List ℕ). piece ++ bytes) is ∙ sym whole,
-        λ is. append_cancel_left piece more (later ++ behind) (sym split ∙ is ∙ whole),
-      )
+      grind (arith, get_or, flat_map, pieces_at, append_assoc, append_cancel_left)
 
 -- what holds where something is found, and where nothing is
 pub if_some : {X : Type 0} (found : Option X) (none : Type 0) (some : X → Type 0)

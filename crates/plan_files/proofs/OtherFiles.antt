@@ -1,6 +1,6 @@
 -- A call on a file leaves every other one as it was.
-use Rattle.std.proofs.Common.{◌≡◌, ◌≢◌, ℕ, Bool, true, false, List, [], ◌∷◌, ◌++◌, Option, Some}
-use Rattle.std.proofs.Common.{None, refl, ap, sym, subst, ◌∙◌, cond, take, nat_cmp, ⊎_elim}
+use Rattle.std.proofs.Common.{arith, ◌≡◌, ◌≢◌, ℕ, Bool, true, false, List, [], ◌∷◌, ◌++◌, Option}
+use Rattle.std.proofs.Common.{Some, None, refl, ap, sym, subst, ◌∙◌, cond, take, nat_cmp, ⊎_elim}
 use Rattle.std.proofs.Common.{Result, Ok, Err, unwrap_or}
 use Rattle.std.specs.Str.{bytes_eq}
 use Rattle.std.specs.Ordering.{eq_by_cmp}
@@ -27,9 +27,7 @@ different true other name h ne = absurd (ne (h refl))
 different false other name h ne = refl
 
 not_equal : (other name : List ℕ) → other ≢ name → eq_by_cmp (slice_cmp nat_cmp) other name ≡ false
-not_equal other name ne =
-    is_eq-slice_cmp other name
-    ∙ different (bytes_eq other name) other name (bytes_eq-Decides other name).0 ne
+not_equal other name ne = grind (arith, is_eq-slice_cmp, different, bytes_eq-Decides)
 
 pub insert_keeps : (folder : Folder) (name bytes : List ℕ)
     → SameBut name folder (map.insert folder name bytes)
@@ -79,9 +77,7 @@ absent_removed folder name absent =
 
 pub remove_absent : (writes : List Write) (name : List ℕ) → map.get (folder_of writes) name ≡ None
     → folder_of (writes ++ Removal name ∷ []) ≡ folder_of writes
-remove_absent writes name absent =
-    folder_after_push writes (Removal name) map.empty
-    ∙ absent_removed (folder_of writes) name absent
+remove_absent writes name absent = grind (arith, folder_after_push, absent_removed)
 
 -- so it does after a call that removes the name and does not fail
 pub absent_left : (result : Result Unit FileFault) (folder new : Folder) (name : List ℕ)
@@ -103,11 +99,7 @@ part_kept test name old new out same false other is = refl
 -- a part is as before where every file but one that is not in it is
 pub part_stays : (test : List ℕ → Bool) (name : List ℕ) (old new : Folder) → test name ≡ false
     → SameBut name old new → part_of test new ≡ part_of test old
-part_stays test name old new out same =
-    same_folder (part_of test new) (part_of test old)
-    (λ other. get_part test new other
-    ∙ part_kept test name old new out same (test other) other refl
-    ∙ sym (get_part test old other))
+part_stays test name old new out same = grind (arith, same_folder, get_part, part_kept)
 
 pub part_after_write : (test : List ℕ → Bool) (write : Write) (folder : Folder)
     → test (write_name write) ≡ false
@@ -137,8 +129,7 @@ pub part_after : (test : List ℕ → Bool) (writes : List Write) (folder : Fold
     → AreOutside test writes → part_of test (folder_after writes folder) ≡ part_of test folder
 part_after test [] folder out = refl
 part_after test (write ∷ writes) folder out =
-    part_after test writes (after_write write folder) out.1
-    ∙ part_after_write test write folder out.0
+    grind (arith, part_after_write, part_after test writes (after_write write folder) out.1)
 
 told_part : (test : List ℕ → Bool) (writes : List Write) (old : Option Folder)
     → AreOutside test writes

@@ -1,7 +1,6 @@
 -- Calls that only read, one after the other.
-use Rattle.std.proofs.Common.{ℕ, Bool, false, List, Option, refl, subst, ◌∙◌}
+use Rattle.std.proofs.Common.{ℕ, Bool, false, List, Option, refl, arith}
 use Rattle.plan_files.specs.declared.write.Write.{Write}
-use Rattle.plan_files.specs.Counts.{Counts}
 use Rattle.plan_files.specs.Folder.{Folder}
 use Rattle.plan_files.specs.Reads.{OnlyReads}
 
@@ -15,8 +14,4 @@ module _ {S : Type 0} (contents : S → Option Folder) (writes : S → Option (L
   pub both_read : (old mid new : S) (failed : Bool) → OnlyReads contents writes faults old mid false
       → OnlyReads contents writes faults mid new failed
       → OnlyReads contents writes faults old new failed
-  both_read old mid new failed first then = record {
-    contents = then.contents ∙ first.contents;
-    writes = then.writes ∙ first.writes;
-    faults = subst (λ (n : ℕ). Counts failed n (faults new)) first.faults then.faults;
-  }
+  both_read old mid new failed first then = grind arith

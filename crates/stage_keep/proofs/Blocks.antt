@@ -1,5 +1,8 @@
 -- Blocks at the front of bytes.
-use Rattle.std.proofs.Common.{◌≡◌, ◌≢◌, ℕ, ◌<◌, ◌≤◌, ◌+◌, ◌^◌, List, [], ◌∷◌, ◌++◌, length, take, drop, get_or, refl, ap, sym, subst, ◌∙◌, arith, All, Bool, true, false, not, cond, eqb, nat_eq, nat_le, zero, suc, Option, Some, None, decimal, codes, slice_get, append_assoc, inl, inr, ◌⊎◌, unwrap_or}
+use Rattle.std.proofs.Common.{◌≡◌, ◌≢◌, ℕ, ◌<◌, ◌≤◌, ◌+◌, ◌^◌, List, [], ◌∷◌, ◌++◌, length, take}
+use Rattle.std.proofs.Common.{drop, get_or, refl, ap, sym, subst, ◌∙◌, arith, All, Bool, true}
+use Rattle.std.proofs.Common.{false, not, cond, eqb, nat_eq, nat_le, zero, suc, Option, Some, None}
+use Rattle.std.proofs.Common.{decimal, codes, slice_get, append_assoc, inl, inr, ◌⊎◌, unwrap_or}
 use Rattle.std.specs.List.{filter_map, position, prefix_len, range_with_len, starts_with}
 use Rattle.std.specs.Prelude.{option_and_then}
 use Rattle.std.specs.Str.{IsUtf8}
@@ -53,9 +56,7 @@ drop_front (x ∷ front) rest = drop_front front rest
 
 -- what is behind a front
 pub front_is : (front rest : List ℕ) → behind front (front ++ rest) ≡ Some rest
-front_is front rest =
-    rw ((starts_is Decides-eqb (front ++ rest) front (starts_with nat_eq (front ++ rest) front) refl).1 rest refl)
-    (ap Some (drop_front front rest))
+front_is front rest = grind (arith, starts_is, Decides-eqb, nat_eq, drop_front)
 
 pub front_back : (front bytes rest : List ℕ) → behind front bytes ≡ Some rest
     → bytes ≡ front ++ rest
@@ -96,22 +97,13 @@ line_is text rest none = rw (end_place text rest none) (ap Some (take-append_sea
 
 pub spread_line : (head ds rest : List ℕ)
     → (((head ++ codes " ") ++ ds) ++ 10 ∷ []) ++ rest ≡ head ++ (32 ∷ (ds ++ 10 ∷ rest))
-spread_line head ds rest =
-    append_assoc ((head ++ codes " ") ++ ds) (10 ∷ []) rest
-    ∙ append_assoc (head ++ codes " ") ds (10 ∷ rest)
-    ∙ append_assoc head (codes " ") (ds ++ 10 ∷ rest)
+spread_line head ds rest = grind (arith, append_assoc)
 
 -- the line of an opening
 pub opening_line : (head : List ℕ) (size : ℕ) (rest : List ℕ) → size < 2 ^ 64
     → line_behind head (opening head size ++ rest) ≡ Some (decimal size)
 unfolding line_behind
-opening_line head size rest small =
-    let ds = decimal size in
-    let found = λ (o : Option (List ℕ)). option_and_then line_of (option_and_then (behind (codes " ")) o) in
-    ap (λ (bs : List ℕ). found (behind head bs)) (spread_line head ds rest)
-    ∙ ap found (front_is head (32 ∷ (ds ++ 10 ∷ rest)))
-    ∙ ap (option_and_then line_of) (front_is (codes " ") (ds ++ 10 ∷ rest))
-    ∙ line_is ds rest (decimal_no_feed size small)
+opening_line head size rest small = grind (arith, spread_line, front_is, line_is, decimal_no_feed)
 
 -- where a block of a length stands, its line does, with so many bytes behind it
 abbrev StandsAt : List ℕ → List ℕ → ℕ → Type 0
@@ -131,21 +123,11 @@ sized head bytes size block = by (behind (opening head size) bytes) refl
         → option_and_then (cut size) found ≡ Some block
         → (rest : List ℕ) × (bytes ≡ opening head size ++ rest) × (size ≤ length rest)
     by None is none = cc
-    by (Some rest) is found = (
-      rest,
-      front_back (opening head size) bytes rest is,
-      enough rest (nat_le size (length rest)) refl found,
-    )
+    by (Some rest) is found = grind (arith, front_back, nat_le)
 
 opening_some : (head rest : List ℕ) (size : ℕ) → size ≤ length rest
     → size < length (opening head size ++ rest)
-opening_some head rest size few =
-    omega (
-      arith,
-      few,
-      length-append (opening head size) rest,
-      length-append ((head ++ codes " ") ++ decimal size) (10 ∷ []),
-    )
+opening_some head rest size few = grind (arith, length-append)
 
 at_small : (head bytes : List ℕ) (n : ℕ) → StandsAt head bytes n → n < length bytes
 at_small head bytes n at =
@@ -186,9 +168,7 @@ module _ (head bytes : List ℕ) (short : length bytes < 2 ^ 64) where
 
       by : (found : Option (List ℕ × List ℕ)) → block_of_size head bytes size ≡ found
           → block_at head bytes ≡ found
-      by None is =
-          none_given (block_of_size head bytes) (λ n. each is n (cases_eq n size))
-          (length bytes) 0
+      by None is = grind (arith, none_given, each, cases_eq)
       by (Some block) is =
           one_given (block_of_size head bytes) size block is other (length bytes) 0
           (omega arith) (omega (arith, at_small head bytes size (sized head bytes size block is)))

@@ -1,5 +1,8 @@
 -- Blocks are read back, and what is read are blocks.
-use Rattle.std.proofs.Common.{◌≡◌, ℕ, ◌<◌, ◌≤◌, ◌+◌, ◌^◌, List, [], ◌∷◌, ◌++◌, length, map, take, drop, refl, ap, sym, subst, ◌∙◌, arith, Bool, true, false, cond, nat_le, suc, Option, Some, None, option_map, option_and_then, decimal, slice_get, append_assoc, take-append-drop}
+use Rattle.std.proofs.Common.{◌≡◌, ℕ, ◌<◌, ◌≤◌, ◌+◌, ◌^◌, List, [], ◌∷◌, ◌++◌, length, map, take}
+use Rattle.std.proofs.Common.{drop, refl, ap, sym, subst, ◌∙◌, arith, Bool, true, false, cond}
+use Rattle.std.proofs.Common.{nat_le, suc, Option, Some, None, option_map, option_and_then}
+use Rattle.std.proofs.Common.{slice_get, append_assoc, take-append-drop}
 use Rattle.std.specs.List.{Contains, cons_option, filter_map, flat_map, range_with_len}
 use Rattle.std.specs.Str.{bytes_eq}
 use Rattle.std.proofs.lemmas.Bool.Decides.{nat_tests}
@@ -16,10 +19,7 @@ use Rattle.stage_keep.proofs.Reading.{block_some}
 same_size : (head : List ℕ) (n m : ℕ) (a b : List ℕ) → n < 2 ^ 64 → m < 2 ^ 64
     → opening head n ++ a ≡ opening head m ++ b → n ≡ m
 same_size head n m a b small low e =
-    (sizes n m a b small low
-    (tail_same 32 32 (decimal n ++ 10 ∷ a) (decimal m ++ 10 ∷ b)
-    (append_cancel_left head (32 ∷ (decimal n ++ 10 ∷ a)) (32 ∷ (decimal m ++ 10 ∷ b))
-    (sym (spread_line head (decimal n) a) ∙ e ∙ spread_line head (decimal m) b)))).0
+    grind (arith, sizes, tail_same, append_cancel_left, spread_line)
 
 cut_front : (text rest : List ℕ) → cut (length text) (text ++ rest) ≡ Some (text, rest)
 cut_front text rest =

@@ -1,5 +1,8 @@
 -- What is read of bytes are the bytes of an entry, and an entry is read back.
-use Rattle.std.proofs.Common.{◌≡◌, ◌≢◌, ℕ, ◌<◌, ◌≤◌, ◌+◌, ◌^◌, List, [], ◌∷◌, ◌++◌, length, map, take, drop, get_or, refl, ap, sym, subst, ◌∙◌, arith, zero, suc, Result, Ok, Err, IfOk, Option, Some, None, option_map, option_and_then, codes, slice_get, append_assoc, append-nil}
+use Rattle.std.proofs.Common.{◌≡◌, ◌≢◌, ℕ, ◌<◌, ◌≤◌, ◌+◌, ◌^◌, List, [], ◌∷◌, ◌++◌, length, map}
+use Rattle.std.proofs.Common.{take, drop, get_or, refl, ap, sym, subst, ◌∙◌, arith, zero, suc}
+use Rattle.std.proofs.Common.{Result, Ok, Err, IfOk, Option, Some, None, option_map}
+use Rattle.std.proofs.Common.{option_and_then, codes, slice_get, append_assoc, append-nil}
 use Rattle.std.specs.List.{Contains, cons_option, filter_map, flat_map, zip}
 use Rattle.std.proofs.lemmas.List.{get_or-drop, length-append, length-drop, length-map, length-take-le}
 use Rattle.std.proofs.lemmas.Option.{same_Some}
@@ -57,16 +60,7 @@ blocks_last (t ∷ u ∷ ts) one = absurd (omega (arith, one))
 
 heads_size : (at : Stage) (files : List FileId)
     → length (heads at files) ≡ 2 + length (stage_inputs at) + length files
-heads_size at files =
-    let I = map (λ (_ : FileId). codes "input") (stage_inputs at) in
-    let F = map made_head files in
-    omega (
-      arith,
-      length-append (I ++ F) (codes "report" ∷ []),
-      length-append I F,
-      length-map (stage_inputs at) (λ (_ : FileId). codes "input"),
-      length-map files made_head,
-    )
+heads_size at files = grind (arith, length-append, length-map)
 
 blocks_entry : (at : Stage) (files : List FileId) (texts : List (List ℕ))
     → length texts ≡ 2 + length (stage_inputs at) + length files
@@ -118,18 +112,7 @@ read_texts : (at : Stage) (bytes : List ℕ) (files : List FileId) (rest : List 
     → IsRead at bytes files (entry_of at files texts)
 unfolding entry_bytes
 read_texts at bytes files rest texts is each told =
-    let size = each ∙ heads_size at files in
-    let blocks = flat_map block_bytes (entry_blocks (entry_of at files texts)) in
-    record {
-      bytes_are = is ∙ ap (λ (r : List ℕ). first_line at ++ r)
-          (told ∙ ap (λ (bl : List Block). flat_map block_bytes bl ++ last_line)
-          (blocks_entry at files texts size))
-          ∙ sym (append_assoc (first_line at) blocks last_line);
-      made = ids_zip files (drop (1 + length (stage_inputs at)) texts)
-          (omega (arith, size, length-drop (1 + length (stage_inputs at)) texts));
-      inputs = length-take-le (length (stage_inputs at)) (drop 1 texts)
-          (omega (arith, size, length-drop 1 texts));
-    }
+    grind (arith, heads_size, blocks_entry, append_assoc, ids_zip, length-drop, length-take-le)
 
 entry_told : (at : Stage) (bytes : List ℕ) (files : List FileId) (entry : EntryParts)
     → entry_with at bytes files ≡ Some entry → IsRead at bytes files entry
@@ -162,10 +145,7 @@ const_heads (f ∷ files) (t ∷ texts) each =
 
 heads_are : (at : Stage) (entry : EntryParts) → length entry.inputs ≡ length (stage_inputs at)
     → heads at (ids_of entry.made.files) ≡ heads_in (entry_blocks entry)
-heads_are at entry each =
-    ap (λ (l : List (List ℕ)). codes "settings" ∷ ((l ++ map made_head (ids_of entry.made.files)) ++ (codes "report" ∷ [])))
-    (const_heads (stage_inputs at) entry.inputs each)
-    ∙ sym (heads_of entry)
+heads_are at entry each = grind (arith, const_heads, heads_of)
 
 there : (at : Stage) (entry : EntryParts) → IsEntryOf at entry
     → (other : EntryParts) × (entry_with at (entry_bytes at entry) (ids_of entry.made.files) ≡ Some other)
@@ -294,6 +274,4 @@ pub back_of : (bundle : BundleParts) (made : Made) (text : List ℕ)
     → IsEntryOf bundle.stage (entry_for bundle made)
     → text ≡ entry_bytes bundle.stage (entry_for bundle made)
     → read_entry bundle.stage text ≡ Some (entry_for bundle made)
-back_of bundle made text entry is =
-    ap (read_entry bundle.stage) is
-    ∙ entries_are_read_back bundle.stage (entry_for bundle made) entry
+back_of bundle made text entry is = grind (arith, entries_are_read_back)

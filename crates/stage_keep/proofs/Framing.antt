@@ -1,5 +1,7 @@
 -- Bytes that do not begin and end as the entry of a bundle keep nothing for it.
-use Rattle.std.proofs.Common.{◌≡◌, ◌≢◌, ◌<◌, ◌^◌, ℕ, List, [], ◌∷◌, ◌++◌, length, map, codes, refl, ap, sym, subst, ◌∙◌, Bool, true, false, cond, Option, Some, None, option_and_then, append_assoc}
+use Rattle.std.proofs.Common.{arith, ◌≡◌, ◌≢◌, ◌<◌, ◌^◌, ℕ, List, [], ◌∷◌, ◌++◌, length, map, codes}
+use Rattle.std.proofs.Common.{refl, subst, ◌∙◌, Bool, true, false, cond, Option, Some, None}
+use Rattle.std.proofs.Common.{option_and_then}
 use Rattle.std.specs.List.{flat_map}
 use Rattle.std.specs.Cmp.Lexicographic.{pointwise}
 use Rattle.std.specs.Str.{bytes_eq}
@@ -7,7 +9,7 @@ use Rattle.std.proofs.lemmas.Bool.{and_parts}
 use Rattle.std.proofs.lemmas.Slice.Eq.{bytes_eq-Decides}
 use Rattle.giv_files.specs.Settings.{BundleParts}
 use Rattle.giv_files.specs.SettingsText.{settings_text}
-use Rattle.stage_keep.specs.Entries.{EntryParts, block_bytes, entry_bytes, entry_front, first_line, input_block, last_line, made_block}
+use Rattle.stage_keep.specs.Entries.{EntryParts, block_bytes, entry_bytes, entry_front, input_block, last_line, made_block}
 use Rattle.stage_keep.specs.EntryReading.{ReadsEntry, read_entry}
 use Rattle.stage_keep.specs.Honest.{held_for, kept_for, matches}
 use Rattle.stage_keep.proofs.EntriesRead.{reading_is_exact}
@@ -22,13 +24,7 @@ behind_settings entry =
 pub framed : (bundle : BundleParts) (entry : EntryParts) → entry.settings ≡ settings_text bundle.settings
     → entry_bytes bundle.stage entry ≡ entry_front bundle ++ behind_settings entry ++ last_line
 unfolding entry_bytes behind_settings
-framed bundle entry same =
-    let first = first_line bundle.stage in
-    let block = λ (text : List ℕ). block_bytes (record { head = codes "settings"; text = text }) in
-    let rest = behind_settings entry in
-    ap (λ (text : List ℕ). first ++ (block text ++ rest) ++ last_line) same
-    ∙ ap (λ (front : List ℕ). front ++ last_line)
-    (sym (append_assoc first (block (settings_text bundle.settings)) rest))
+framed bundle entry same = grind arith
 
 -- bytes without such ends are no entry of the bundle
 pub unframed_is_unkept : (bundle : BundleParts) (bytes : List ℕ) → length bytes < 2 ^ 64

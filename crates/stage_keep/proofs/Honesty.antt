@@ -1,5 +1,6 @@
 -- What is written is honest, fronts of it are, and what an honest keep holds is made.
-use Rattle.std.proofs.Common.{◌≡◌, ℕ, List, refl, ap, sym, subst, ◌∙◌, Bool, true, false, cond, Option, Some, None, option_and_then, Result, Ok}
+use Rattle.std.proofs.Common.{arith, ◌≡◌, ℕ, List, refl, ap, sym, subst, ◌∙◌, Bool, true, false}
+use Rattle.std.proofs.Common.{cond, Option, Some, None, option_and_then, Result, Ok}
 use Rattle.std.specs.Cmp.Lexicographic.{pointwise}
 use Rattle.std.specs.Str.{bytes_eq}
 use Rattle.std.proofs.lemmas.Bool.{and_parts}
@@ -23,10 +24,7 @@ texts_decide xs ys = slice_eq-Decides bytes_eq-Decides xs ys (pointwise bytes_eq
 
 -- the entry of a bundle is one of it
 pub own_entry : (bundle : BundleParts) (made : Made) → matches (entry_for bundle made) bundle ≡ true
-own_entry bundle made = rw (
-  (bytes_eq-Decides (settings_text bundle.settings) (settings_text bundle.settings)).1 refl,
-  (texts_decide bundle.inputs bundle.inputs).1 refl,
-) refl
+own_entry bundle made = grind (arith, bytes_eq-Decides, texts_decide)
 
 pub written_is_entry : WrittenIsEntry
 written_is_entry bundle made fits makes short =
@@ -107,9 +105,7 @@ honest_is_made makes kept honest bundle made fits = by (kept bundle.stage) refl
         → read_entry bundle.stage bytes ≡ entry
         → option_and_then (held_for bundle) entry ≡ Some made → makes bundle ≡ Ok made
     read bytes None at none found = cc
-    read bytes (Some entry) at some found =
-        held entry (matches entry bundle) refl
-        (λ same. honest bundle.stage bytes at entry bundle some refl fits same) found
+    read bytes (Some entry) at some found = grind arith
 
     by : (text : Option (List ℕ)) → kept bundle.stage ≡ text
         → option_and_then (held_for bundle) (option_and_then (read_entry bundle.stage) text) ≡ Some made

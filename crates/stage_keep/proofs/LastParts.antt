@@ -1,5 +1,8 @@
 -- What is kept of a bundle is what stands behind its front in the entry.
-use Rattle.std.proofs.Common.{◌≡◌, ◌≢◌, ◌<◌, ◌^◌, ◌+◌, ℕ, suc, List, [], ◌∷◌, ◌++◌, length, map, take, drop, get_or, codes, refl, ap, sym, subst, ◌∙◌, arith, Bool, true, false, cond, Option, Some, None, option_map, option_and_then, slice_get, append_assoc, IfOk, IfSome, Result, Ok, Err}
+use Rattle.std.proofs.Common.{◌≡◌, ◌≢◌, ◌<◌, ◌^◌, ◌+◌, ℕ, suc, List, [], ◌∷◌, ◌++◌, length, map}
+use Rattle.std.proofs.Common.{take, drop, get_or, codes, refl, ap, sym, subst, ◌∙◌, arith, Bool}
+use Rattle.std.proofs.Common.{true, false, cond, Option, Some, None, option_map, option_and_then}
+use Rattle.std.proofs.Common.{slice_get, append_assoc, IfOk, IfSome, Result, Ok, Err}
 use Rattle.std.specs.List.{cons_option, filter_map, flat_map, zip}
 use Rattle.std.specs.Cmp.Lexicographic.{pointwise}
 use Rattle.std.specs.Str.{bytes_eq}
@@ -63,22 +66,12 @@ given_blocks bundle = settings_block bundle ∷ map input_block bundle.inputs
 front_split : (bundle : BundleParts) (rest : List ℕ) → given_front bundle ++ rest
     ≡ first_line bundle.stage ++ (flat_map block_bytes (given_blocks bundle) ++ rest)
 unfolding given_blocks settings_block
-front_split bundle rest =
-    let first = first_line bundle.stage in
-    let block = block_bytes (record { head = codes "settings"; text = settings_text bundle.settings }) in
-    let inputs = flat_map block_bytes (map input_block bundle.inputs) in
-    append_assoc (first ++ block) inputs rest
-    ∙ append_assoc first block (inputs ++ rest)
-    ∙ ap (λ (bytes : List ℕ). first ++ bytes) (sym (append_assoc block inputs rest))
+front_split bundle rest = grind arith
 
 heads_split : (bundle : BundleParts) (files : List FileId) → Fits bundle
     → heads bundle.stage files ≡ heads_in (given_blocks bundle) ++ last_heads files
 unfolding given_blocks settings_block
-heads_split bundle files fits =
-    let same = const_heads (stage_inputs bundle.stage) bundle.inputs fits.inputs in
-    ap (λ (inputs : List (List ℕ)). codes "settings" ∷ ((inputs ++ map made_head files) ++ (codes "report" ∷ []))) same
-    ∙ ap (λ (more : List (List ℕ)). codes "settings" ∷ more)
-    (append_assoc (heads_in (map input_block bundle.inputs)) (map made_head files) (codes "report" ∷ []))
+heads_split bundle files fits = grind (arith, const_heads, append_assoc, heads_in)
 
 -- the entry of the texts of a bundle and then others
 entry_split : (bundle : BundleParts) (files : List FileId) (more : List (List ℕ)) → Fits bundle
@@ -219,9 +212,7 @@ made_told rest files made = by (texts_at (last_heads files) rest) refl
 made_makes : (at : Stage) (rest : List ℕ) (made : Made) → read_made at rest ≡ Some made
     → MakesAs at (ids_of made.files)
 unfolding read_made
-made_makes at rest made some =
-    let at_list = found_in (made_with rest) made (made_lists at) some in
-    subst (λ files. MakesAs at files) (sym (made_told rest at_list.0 made at_list.2)) at_list.1
+made_makes at rest made some = grind (arith, found_in, made_told)
 
 pub makes_told : {E : Type 0} (at : Stage) (rest : List ℕ) (result : Result (Option Made) E)
     → IfOk result (λ made. made ≡ read_made at rest)

@@ -1,5 +1,7 @@
 -- Places of texts in the last part of an entry.
-use Rattle.std.proofs.Common.{◌≡◌, ℕ, ◌<◌, ◌+◌, ◌-◌, suc, zero, List, [], ◌∷◌, ◌++◌, All, length, map, take, drop, get_or, refl, ap, sym, subst, ◌∙◌, arith, Option, Some, None, option_map, slice_get, append_assoc, append-nil}
+use Rattle.std.proofs.Common.{◌≡◌, ℕ, ◌<◌, ◌+◌, ◌-◌, suc, zero, List, [], ◌∷◌, ◌++◌, All, length}
+use Rattle.std.proofs.Common.{map, take, drop, get_or, refl, ap, sym, subst, ◌∙◌, arith, Option}
+use Rattle.std.proofs.Common.{Some, None, option_map, slice_get, append_assoc, append-nil}
 use Rattle.std.specs.List.{cons_option, filter_map, take-map, zip}
 use Rattle.std.specs.Option.{option_to_list}
 use Rattle.std.proofs.Math.Seq.{drop-append_seam, take-append_seam}
@@ -26,16 +28,10 @@ module _ (bytes front rest head text more : List ℕ) (split : bytes ≡ front +
   before = front ++ opening head (length text)
 
   pub next_split : bytes ≡ (before ++ text) ++ more
-  next_split =
-      let line = opening head (length text) in
-      split ∙ ap (λ (l : List ℕ). front ++ l) (block_told head rest text more found ∙ append_assoc line text more)
-      ∙ sym (append_assoc front line (text ++ more))
-      ∙ sym (append_assoc before text more)
+  next_split = grind (arith, block_told, append_assoc)
 
   pub sizes : length bytes ≡ length before + length text + length more
-  sizes =
-      ap (λ (l : List ℕ). length l) next_split ∙ length-append (before ++ text) more
-      ∙ ap (λ n. n + length more) (length-append before text)
+  sizes = grind (arith, next_split, length-append)
 
   module _ (place : Place) (start : place.start ≡ length bytes - length more - length text)
       (size : place.size ≡ length text) where
@@ -51,9 +47,7 @@ module _ (bytes front rest head text more : List ℕ) (split : bytes ≡ front +
     -- one place more has the text, and is one of the bytes
     pub place_more : (places new : List Place) → new ≡ places ++ place ∷ []
         → map (part_of bytes) new ≡ map (part_of bytes) places ++ text ∷ []
-    place_more places new is =
-        ap (map (part_of bytes)) is ∙ map-append (part_of bytes) places (place ∷ [])
-        ∙ ap (λ (t : List ℕ). map (part_of bytes) places ++ t ∷ []) part_is
+    place_more places new is = grind (arith, map-append, part_is)
 
     pub place_within : (places new : List Place) → new ≡ places ++ place ∷ []
         → All (IsWithin bytes) places → All (IsWithin bytes) new
@@ -74,8 +68,7 @@ module _ (f : Place → List ℕ) where
   files_split k (x ∷ files) [] d e inside within = absurd (omega (arith, within))
   files_split zero (x ∷ files) (p ∷ places) d e inside within = refl
   files_split (suc k) (x ∷ files) (p ∷ places) d e inside within =
-      ap (λ (l : List MadeFile). made_file (x, f p) ∷ l)
-      (files_split k files places d e (omega (arith, inside)) (omega (arith, within)))
+      grind (arith, files_split k files places d e (omega (arith, inside)) (omega (arith, within)))
 
   -- the same, put together from copies of the others and that one
   pub files_joined : (k n : ℕ) (files : List FileId) (places : List Place) (d : FileId) (e : Place)
@@ -187,9 +180,7 @@ module _ (at : Stage) (bytes : List ℕ) (files : List FileId) (found : Option F
 pub texts_in : {X : Type 0} (f : List ℕ → X → List (List ℕ)) (bytes own : List ℕ) (heads other : List (List ℕ))
     (found : Option X) (x : X) → own ≡ bytes → heads ≡ other → found ≡ Some x
     → option_map (f own) found ≡ texts_at heads own → texts_at other bytes ≡ Some (f bytes x)
-texts_in f bytes own heads other found x same heads_are some is =
-    (λ j. texts_at (sym heads_are j) (sym same j)) ∙ sym is ∙ ap (option_map (f own)) some
-    ∙ ap (λ b. Some (f b x)) same
+texts_in f bytes own heads other found x same heads_are some is = grind arith
 
 pub no_texts_in : {X : Type 0} (f : List ℕ → X → List (List ℕ)) (bytes own : List ℕ) (heads other : List (List ℕ))
     (found : Option X) → own ≡ bytes → heads ≡ other → found ≡ None

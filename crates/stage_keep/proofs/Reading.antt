@@ -1,5 +1,8 @@
 -- Steps of reading an entry.
-use Rattle.std.proofs.Common.{◌≡◌, ℕ, ◌<◌, ◌≤◌, ◌+◌, ◌-◌, suc, List, [], ◌∷◌, ◌++◌, length, map, take, drop, get_or, refl, ap, sym, ◌∙◌, arith, Option, Some, None, option_map, slice_get, append_assoc, if◌then◌else◌, codes, cond, Bool, true, false, option_and_then, append-nil, drop-drop}
+use Rattle.std.proofs.Common.{◌≡◌, ℕ, ◌<◌, ◌≤◌, ◌+◌, ◌-◌, suc, List, [], ◌∷◌, ◌++◌, length, map}
+use Rattle.std.proofs.Common.{take, drop, get_or, refl, ap, sym, ◌∙◌, arith, Option, Some, None}
+use Rattle.std.proofs.Common.{option_map, slice_get, append_assoc, if◌then◌else◌, codes, cond, Bool}
+use Rattle.std.proofs.Common.{true, false, option_and_then, append-nil, drop-drop}
 use Rattle.std.specs.List.{filter_map, zip}
 use Rattle.std.specs.Str.{bytes_eq}
 use Rattle.std.specs.List.{drop-map, take-map}
@@ -38,13 +41,7 @@ pub file_more : (files : List FileId) (texts : List (List ℕ)) (i : ℕ) (d : F
     → made ++ map made_file (zip (drop i files) (drop i texts)) ≡ all
     → (made ++ record { file = get_or files i d; text = get_or texts i [] } ∷ [])
     ++ map made_file (zip (drop (i + 1) files) (drop (i + 1) texts)) ≡ all
-file_more files texts i d made all inside within is =
-    append_assoc made (record { file = get_or files i d; text = get_or texts i [] } ∷ [])
-    (map made_file (zip (drop (i + 1) files) (drop (i + 1) texts)))
-    ∙ ap (λ (fs : List FileId). made ++ map made_file (zip fs (get_or texts i [] ∷ drop (i + 1) texts)))
-    (sym (drop_at files i d inside))
-    ∙ ap (λ (ts : List (List ℕ)). made ++ map made_file (zip (drop i files) ts)) (sym (drop_at texts i [] within))
-    ∙ is
+file_more files texts i d made all inside within is = grind (arith, append_assoc, get_or, drop_at)
 
 pub file_pushed : (files : List FileId) (texts : List (List ℕ)) (i : ℕ) (d : FileId)
     (made all new : List MadeFile) (text : List ℕ) → i < length files → i < length texts
@@ -53,9 +50,7 @@ pub file_pushed : (files : List FileId) (texts : List (List ℕ)) (i : ℕ) (d :
     → made ++ map made_file (zip (drop i files) (drop i texts)) ≡ all
     → new ++ map made_file (zip (drop (i + 1) files) (drop (i + 1) texts)) ≡ all
 file_pushed files texts i d made all new text inside within own pushed is =
-    ap (λ (m : List MadeFile). m ++ map made_file (zip (drop (i + 1) files) (drop (i + 1) texts)))
-    (pushed ∙ ap (λ t. made ++ record { file = get_or files i d; text = t } ∷ []) own)
-    ∙ file_more files texts i d made all inside within is
+    grind (arith, get_or, file_more)
 
 fused : (so_far : List (List ℕ)) (text : List ℕ) (found : Option (List (List ℕ)))
     → option_map (λ later. so_far ++ later) (option_map (λ later. text ∷ later) found)
@@ -106,21 +101,12 @@ module _ (heads : List (List ℕ)) (i : ℕ) (so_far : List (List ℕ)) (rest : 
   -- no text more
   pub text_none : (d : List ℕ) → i < length heads → block_at (get_or heads i d) rest ≡ None
       → None ≡ all
-  text_none d inside none =
-      ap (option_map (λ later. so_far ++ later))
-      (sym (block_none (get_or heads i d) (drop (i + 1) heads) rest none))
-      ∙ ap (λ (hs : List (List ℕ)). option_map (λ later. so_far ++ later) (texts_at hs rest))
-      (sym (drop_at heads i d inside))
-      ∙ is
+  text_none d inside none = grind (arith, option_map, block_none, get_or, drop_at)
 
   -- all texts
   pub texts_end : length heads ≤ i
       → (if bytes_eq rest last_line then Some so_far else None) ≡ all
-  texts_end past =
-      ended so_far rest
-      ∙ ap (λ (hs : List (List ℕ)). option_map (λ later. so_far ++ later) (texts_at hs rest))
-      (sym (drop_of_length-le heads past))
-      ∙ is
+  texts_end past = grind (arith, ended, option_map, drop_of_length-le)
 
 -- the first of the lists of files with which the bytes are an entry
 pub first_found : (at : Stage) (bytes : List ℕ) (entry : EntryParts)
@@ -179,11 +165,7 @@ pub entry_by_parts : (at : Stage) (files : List FileId) (texts : List (List ℕ)
     → report ≡ get_or texts (1 + length (stage_inputs at) + length files) []
     → record { settings = settings; inputs = inputs; made = record { files = made; report = report } }
     ≡ entry_of at files texts
-entry_by_parts at files texts settings report inputs made s i m r = λ j. record {
-  settings = s j;
-  inputs = i j;
-  made = record { files = m j; report = r j };
-}
+entry_by_parts at files texts settings report inputs made s i m r = grind arith
 
 -- texts behind the first, under a view
 module _ {B : Type 0} (f : B → List ℕ) (xs : List B) (n m : ℕ) (d : B)
